@@ -16,7 +16,7 @@ use Rattle.archive_records.specs.declared.buffer.Buffer.{Buffer}
 use Rattle.archive_records.specs.Reader.{bytes_so_far, seen_as, Over}
 use Rattle.archive_records.proofs.Laid.{cmp_parts, length-bytes_so_far}
 use Rattle.archive_records.specs.declared.format.Format.{Format}
-use Rattle.archive_records.specs.declared.format.Format.TheVariants.{Archive, OldArchive, Operations, Summary}
+use Rattle.archive_records.specs.declared.format.Format.TheVariants.{Operations}
 
 not_less : (o : Ordering) (xs : List ℕ) → is_lt (ordering_then o (slice_cmp nat_cmp xs [])) ≡ is_lt o
 not_less Less xs = refl
@@ -26,10 +26,8 @@ not_less Greater xs = refl
 
 not_after : (file : Format) (o : Ordering) (xs : List ℕ) → allows file (ordering_then o (slice_cmp nat_cmp xs [])) ≡ allows file o
 unfolding allows
-not_after Archive o xs = not_less o xs
-not_after OldArchive o xs = not_less o xs
 not_after Operations o xs = refl
-not_after Summary o xs = not_less o xs
+not_after _ o xs = not_less o xs
 
 module _ (file : Format) where
   -- What is left of the last record changes nothing.

@@ -1,5 +1,5 @@
 -- Records of an archive's text none of which another covers, and what their retirements cover.
-use Rattle.std.proofs.Common.{◌≡◌, ℕ, Bool, true, false, ◌&&◌, ◌||◌, List, [], ◌∷◌, ◌++◌, refl, sym, ap, ◌∙◌, subst, inl, inr, ◌⊎◌, append_assoc}
+use Rattle.std.proofs.Common.{◌≡◌, ℕ, Bool, true, false, ◌&&◌, ◌||◌, List, [], ◌∷◌, ◌++◌, refl, sym, ap, ◌∙◌, subst, inl, inr, append_assoc, arith}
 use Rattle.std.proofs.lemmas.Bool.{false≢true, eqb-true}
 use Rattle.std.proofs.lemmas.List.Elements.{Contains-append_left, Contains-push, Contains-push_cases}
 use Rattle.std.specs.Ordering.{eq_by_cmp}
@@ -11,13 +11,13 @@ use Rattle.archive_core.specs.Content.{Operations, IsContent, IsMade, is_admissi
 use Rattle.archive_core.proofs.Made.{made_of_uncovered, uncovered_of_made, made_part}
 use Rattle.join_core.specs.Listing.{listing}
 use Rattle.archive_records.specs.declared.format.Format.{Format}
-use Rattle.archive_records.specs.declared.format.Format.TheVariants.{Archive, OldArchive, Operations as Operations_file, Summary as Summary_file}
+use Rattle.archive_records.specs.declared.format.Format.TheVariants.{Archive, OldArchive}
 use Rattle.archive_records.specs.Kind.{may_follow}
 use Rattle.archive_records.specs.Text.{InOrder, AreApart, last_of}
 use Rattle.archive_records.specs.Reader.{set_of, RetireAlike, Keeps, KeepsIn, AreRetired, DropsLast}
 use Rattle.archive_records.proofs.Puts.{bytes_same}
 use Rattle.archive_records.proofs.Ascending.{below-less, below-trans, up_to_last}
-use Rattle.archive_records.proofs.Contents.{order, contained, containing, content_is}
+use Rattle.archive_records.proofs.Contents.{order, contained, containing, content_is, same_bytes}
 
 pub in_set : (xs : List (List ℕ)) (r : List ℕ) → Contains xs r → contains (set_of xs) r ≡ true
 in_set xs r c = contains-from_list nat_list_cmp_total xs r ∙ contained xs r c
@@ -26,53 +26,42 @@ pub from_set : (xs : List (List ℕ)) (r : List ℕ) → contains (set_of xs) r 
 from_set xs r h = containing xs r (sym (contains-from_list nat_list_cmp_total xs r) ∙ h)
 
 pub and_first : (a b : Bool) → (a && b) ≡ true → a ≡ true
-and_first true b h = refl
-and_first false b h = absurd (false≢true h)
+and_first a b h = grind arith
 
 pub and_second : (a b : Bool) → (a && b) ≡ true → b ≡ true
-and_second true b h = h
-and_second false b h = absurd (false≢true h)
+and_second a b h = grind arith
 
 pub both_true : (a b : Bool) → a ≡ true → b ≡ true → (a && b) ≡ true
-both_true true b p q = q
-both_true false b p q = absurd (false≢true p)
+both_true a b p q = grind arith
 
 pub is_false : (a : Bool) → (a ≡ true → ⊥) → a ≡ false
-is_false true h = absurd (h refl)
-is_false false h = refl
+is_false a h = grind arith
 
 -- two tests that follow from each other are one
 pub one_test : (a b : Bool) → (a ≡ true → b ≡ true) → (b ≡ true → a ≡ true) → a ≡ b
-one_test true b f g = sym (f refl)
-one_test false true f g = g refl
-one_test false false f g = refl
+one_test a b f g = grind arith
+
+or_more : (a b c : Bool) → (b ≡ true → c ≡ true) → (a || b) ≡ true → (a || c) ≡ true
+or_more a b c f h = grind arith
+
+pub and_same : (a b c : Bool) → (a ≡ true → b ≡ c) → (a && b) ≡ (a && c)
+and_same a b c h = grind arith
 
 -- ---- fronts
 
 pub apart_front : (file : Format) (xs more : List (List ℕ)) → AreApart file (xs ++ more) → AreApart file xs
 apart_front Archive xs more is = made_part (set_of xs) (set_of (xs ++ more)) is (λ r h. in_set (xs ++ more) r (Contains-append_left xs more r (from_set xs r h)))
-apart_front OldArchive xs more is = tt
-apart_front Operations_file xs more is = tt
-apart_front Summary_file xs more is = tt
+apart_front _ xs more is = tt
 
 pub apart_part : (file : Format) (ys xs : List (List ℕ)) (x : List ℕ) (more : List (List ℕ)) → ys ≡ xs ++ x ∷ more → AreApart file ys → AreApart file (xs ++ x ∷ [])
 apart_part file ys xs x more e is = apart_front file (xs ++ x ∷ []) more (subst (AreApart file) (e ∙ sym (append_assoc xs (x ∷ []) more)) is)
 
 pub apart_none : (file : Format) → AreApart file []
 apart_none Archive = made_of_uncovered (set_of []) (λ r h. absurd (false≢true (sym (contains-empty order r) ∙ h)))
-apart_none OldArchive = tt
-apart_none Operations_file = tt
-apart_none Summary_file = tt
+apart_none _ = tt
 
 pub apart_listing : (o : Operations) → IsContent o → AreApart Archive (listing o)
 apart_listing o c = subst IsMade (content_is o) c.itself
-
--- a record that an earlier one covers is not apart
-pub covered_apart : (xs : List (List ℕ)) (x : List ℕ) → AreApart Archive (xs ++ x ∷ []) → is_covered (set_of xs) x ≡ true → ⊥
-covered_apart xs x is c =
-    let here : contains (set_of (xs ++ x ∷ [])) x ≡ true = in_set (xs ++ x ∷ []) x (Contains-push xs x) in
-    let by : contains (set_of (xs ++ x ∷ [])) (covering x) ≡ true = in_set (xs ++ x ∷ []) (covering x) (Contains-append_left xs (x ∷ []) (covering x) (from_set xs (covering x) (and_second _ _ c))) in
-    false≢true (sym (uncovered_of_made (set_of (xs ++ x ∷ [])) is x here) ∙ both_true (is_admission x) (contains (set_of (xs ++ x ∷ [])) (covering x)) (and_first _ _ c) by)
 
 -- a retirement stands before what it covers
 pub covering_below : (r : List ℕ) → is_admission r ≡ true → may_follow Archive (covering r) r ≡ true
@@ -85,27 +74,37 @@ covering_below (t ∷ ts) a =
 pub not_covering : (r q : List ℕ) → is_admission r ≡ true → r ≡ 1 ∷ q → ⊥
 not_covering r q a e = false≢true (sym (ap is_admission e) ∙ a)
 
--- a record above the others, which none of them covers, is apart with them
-pub push_apart : (xs : List (List ℕ)) (x : List ℕ) → InOrder Archive [] xs → may_follow Archive (last_of [] xs) x ≡ true → AreApart Archive xs → is_covered (set_of xs) x ≡ false → AreApart Archive (xs ++ x ∷ [])
-push_apart xs x a b is free = made_of_uncovered (set_of (xs ++ x ∷ [])) (λ r h. is_false (is_covered (set_of (xs ++ x ∷ [])) r) (none r (Contains-push_cases xs x r (from_set (xs ++ x ∷ []) r h))))
-  where
-    none : (r : List ℕ) → Contains xs r ⊎ (x ≡ r) → is_covered (set_of (xs ++ x ∷ [])) r ≡ true → ⊥
-    none r (inl h) c = elim (Contains-push_cases xs x (covering r) (from_set (xs ++ x ∷ []) (covering r) (and_second _ _ c))) [
-      | inl k ↦ false≢true (sym (uncovered_of_made (set_of xs) is r (in_set xs r h)) ∙ both_true (is_admission r) (contains (set_of xs) (covering r)) (and_first _ _ c) (in_set xs (covering r) k))
-      | inr e ↦ false≢true (sym (up_to_last [] r xs a h) ∙ below-trans (last_of [] xs) x r b (subst (λ (y : List ℕ). may_follow Archive y r ≡ true) (sym e) (covering_below r (and_first _ _ c))))
-    ]
-    none r (inr e) c = elim (Contains-push_cases xs x (covering r) (from_set (xs ++ x ∷ []) (covering r) (and_second _ _ c))) [
-      | inl k ↦ false≢true (sym free ∙ subst (λ (y : List ℕ). is_covered (set_of xs) y ≡ true) (sym e) (both_true (is_admission r) (contains (set_of xs) (covering r)) (and_first _ _ c) (in_set xs (covering r) k)))
-      | inr f ↦ not_covering r (key_and_digest r) (and_first _ _ c) (sym e ∙ f)
-    ]
-
--- ---- the retirements among the records
+-- ---- one record more
 
 abbrev pub same_as : List ℕ → List ℕ → Bool
 same_as = eq_by_cmp order
 
 pub contains-push : (xs : List (List ℕ)) (x q : List ℕ) → contains (set_of (xs ++ x ∷ [])) q ≡ (same_as q x || contains (set_of xs) q)
 contains-push xs x q = ap (λ (s : Operations). contains s q) (from_list_push nat_list_cmp_total bytes_same xs x) ∙ contains-insert nat_list_cmp_total (set_of xs) x q
+
+-- it covers nothing if it is not the retirement
+covered_still : (xs : List (List ℕ)) (x r : List ℕ) → (is_admission r ≡ true → covering r ≡ x → ⊥) → is_covered (set_of (xs ++ x ∷ [])) r ≡ is_covered (set_of xs) r
+covered_still xs x r other = and_same (is_admission r) (contains (set_of (xs ++ x ∷ [])) (covering r)) (contains (set_of xs) (covering r)) (λ a.
+    contains-push xs x (covering r) ∙ ap (λ b. b || contains (set_of xs) (covering r)) (is_false (same_as (covering r) x) (λ same. other a (same_bytes (covering r) x same))))
+
+-- a record is not covered by itself
+pub covered_push : (xs : List (List ℕ)) (x : List ℕ) → is_covered (set_of (xs ++ x ∷ [])) x ≡ is_covered (set_of xs) x
+covered_push xs x = covered_still xs x x (λ a e. not_covering x (key_and_digest x) a (sym e))
+
+-- a record that an earlier one covers is not apart
+pub covered_apart : (xs : List (List ℕ)) (x : List ℕ) → AreApart Archive (xs ++ x ∷ []) → is_covered (set_of xs) x ≡ true → ⊥
+covered_apart xs x is c = false≢true (sym (uncovered_of_made (set_of (xs ++ x ∷ [])) is x (in_set (xs ++ x ∷ []) x (Contains-push xs x))) ∙ covered_push xs x ∙ c)
+
+-- a record above the others, which none of them covers, is apart with them
+pub push_apart : (xs : List (List ℕ)) (x : List ℕ) → InOrder Archive [] xs → may_follow Archive (last_of [] xs) x ≡ true → AreApart Archive xs → is_covered (set_of xs) x ≡ false → AreApart Archive (xs ++ x ∷ [])
+push_apart xs x a b is free = made_of_uncovered (set_of (xs ++ x ∷ [])) (λ r h. elim (Contains-push_cases xs x r (from_set (xs ++ x ∷ []) r h)) [
+  | inl k ↦
+      covered_still xs x r (λ d e. false≢true (sym (up_to_last [] r xs a k) ∙ below-trans (last_of [] xs) x r b (subst (λ (y : List ℕ). may_follow Archive y r ≡ true) e (covering_below r d))))
+      ∙ uncovered_of_made (set_of xs) is r (in_set xs r k)
+  | inr e ↦ ap (λ (y : List ℕ). is_covered (set_of (xs ++ x ∷ [])) y) (sym e) ∙ covered_push xs x ∙ free
+])
+
+-- ---- the retirements among the records
 
 pub last_of-push : (low : List ℕ) (xs : List (List ℕ)) (x : List ℕ) → last_of low (xs ++ x ∷ []) ≡ x
 last_of-push low [] x = refl
@@ -118,31 +117,16 @@ retired_with old new records dropped x are k r = k.alike r ∙ contains-insert n
 pub retired_more : (file : Format) (old new records : List (List ℕ)) (dropped : Bool) (x : List ℕ) → AreRetired file old records → KeepsIn file old new dropped x → AreRetired file new (records ++ x ∷ [])
 retired_more Archive old new records dropped x are k = λ r. retired_with old new records dropped x are k.0 r
 retired_more OldArchive old new records dropped x are k = λ r. retired_with old new records dropped x are k r
-retired_more Operations_file old new records dropped x are k = tt
-retired_more Summary_file old new records dropped x are k = tt
+retired_more _ old new records dropped x are k = tt
 
 pub retired_none : (file : Format) (retired : List (List ℕ)) → retired ≡ [] → AreRetired file retired []
 retired_none Archive retired e = λ r. ap (λ (t : List (List ℕ)). contains (set_of t) (1 ∷ r)) e
 retired_none OldArchive retired e = λ r. ap (λ (t : List (List ℕ)). contains (set_of t) (1 ∷ r)) e
-retired_none Operations_file retired e = tt
-retired_none Summary_file retired e = tt
+retired_none _ retired e = tt
 
 -- so they cover the same
 pub covered_alike : (o p : Operations) (x : List ℕ) → RetireAlike o p → is_covered o x ≡ is_covered p x
 covered_alike o p x alike = ap (λ b. is_admission x && b) (alike (key_and_digest x))
-
-pub apart_more : (file : Format) (old new records : List (List ℕ)) (dropped : Bool) (x : List ℕ) → InOrder file [] records → may_follow file (last_of [] records) x ≡ true → AreApart file records → AreRetired file old records → KeepsIn file old new dropped x → AreApart file (records ++ x ∷ [])
-apart_more Archive old new records dropped x a b is are k = push_apart records x a b is (sym (covered_alike (set_of old) (set_of records) x are) ∙ k.0.tells ∙ k.1)
-apart_more OldArchive old new records dropped x a b is are k = tt
-apart_more Operations_file old new records dropped x a b is are k = tt
-apart_more Summary_file old new records dropped x a b is are k = tt
-
--- a record is not covered by itself
-pub covered_push : (xs : List (List ℕ)) (x : List ℕ) → is_covered (set_of (xs ++ x ∷ [])) x ≡ is_covered (set_of xs) x
-covered_push xs x = one_test (is_covered (set_of (xs ++ x ∷ [])) x) (is_covered (set_of xs) x) (λ c. both_true (is_admission x) (contains (set_of xs) (covering x)) (and_first _ _ c) (elim (Contains-push_cases xs x (covering x) (from_set (xs ++ x ∷ []) (covering x) (and_second _ _ c))) [
-  | inl k ↦ in_set xs (covering x) k
-  | inr e ↦ absurd (not_covering x (key_and_digest x) (and_first _ _ c) e)
-])) (λ c. both_true (is_admission x) (contains (set_of (xs ++ x ∷ [])) (covering x)) (and_first _ _ c) (in_set (xs ++ x ∷ []) (covering x) (Contains-append_left xs (x ∷ []) (covering x) (from_set xs (covering x) (and_second _ _ c)))))
 
 -- what tells whether one record more is covered tells it of the last one
 drops_with : (old new records : List (List ℕ)) (dropped : Bool) (x : List ℕ) → RetireAlike (set_of old) (set_of records) → Keeps old new dropped x → dropped ≡ is_covered (set_of (records ++ x ∷ [])) (last_of [] (records ++ x ∷ []))
@@ -151,14 +135,11 @@ drops_with old new records dropped x are k = sym k.tells ∙ covered_alike (set_
 pub drops_more : (file : Format) (old new records : List (List ℕ)) (dropped : Bool) (x : List ℕ) → AreRetired file old records → KeepsIn file old new dropped x → DropsLast file dropped (records ++ x ∷ [])
 drops_more Archive old new records dropped x are k = drops_with old new records dropped x are k.0
 drops_more OldArchive old new records dropped x are k = drops_with old new records dropped x are k
-drops_more Operations_file old new records dropped x are k = k
-drops_more Summary_file old new records dropped x are k = k
+drops_more _ old new records dropped x are k = k
 
 pub drops_none : (file : Format) (dropped : Bool) → dropped ≡ false → DropsLast file dropped []
 drops_none Archive dropped e = e
-drops_none OldArchive dropped e = e
-drops_none Operations_file dropped e = e
-drops_none Summary_file dropped e = e
+drops_none _ dropped e = e
 
 -- ---- the content of the records, with one more
 
@@ -168,8 +149,4 @@ from_list-push records x o e is = ap (λ (s : Operations). content_of (set.inser
 -- and of a part of them
 pub part-push : (records : List (List ℕ)) (x : List ℕ) (o : Operations) → ((r : List ℕ) → contains o r ≡ true → contains (set_of records) r ≡ true) → AreApart Archive (records ++ x ∷ []) → with_record o x ≡ set.insert o x
 part-push records x o within is = made_part (set.insert o x) (set_of (records ++ x ∷ [])) is (λ r h.
-    contains-push records x r ∙ into (same_as r x) (contains o r) (contains (set_of records) r) (within r) (sym (contains-insert nat_list_cmp_total o x r) ∙ h))
-  where
-    into : (a b c : Bool) → (b ≡ true → c ≡ true) → (a || b) ≡ true → (a || c) ≡ true
-    into true b c f h = refl
-    into false b c f h = f h
+    contains-push records x r ∙ or_more (same_as r x) (contains o r) (contains (set_of records) r) (within r) (sym (contains-insert nat_list_cmp_total o x r) ∙ h))

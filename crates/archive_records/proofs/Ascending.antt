@@ -3,8 +3,7 @@ use Rattle.std.proofs.Common.{◌≡◌, ℕ, true, false, List, [], ◌∷◌, 
 use Rattle.std.proofs.lemmas.Bool.{false≢true, cases_Bool}
 use Rattle.std.proofs.lemmas.Cmp.{nat_list_cmp_total}
 use Rattle.std.proofs.lemmas.List.Elements.{Contains-append_cases, Contains-append_right, Contains-push_cases}
-use Rattle.std.specs.declared.cmp.Ordering.{Ordering}
-use Rattle.std.specs.declared.cmp.Ordering.TheVariants.{Less, Equal, Greater}
+use Rattle.std.specs.declared.cmp.Ordering.TheVariants.{Less, Greater}
 use Rattle.std.specs.Ordering.{nat_cmp, is_lt, ordering_reverse}
 use Rattle.std.specs.Cmp.Lexicographic.{slice_cmp}
 use Rattle.std.specs.List.{Contains}
@@ -14,40 +13,27 @@ use Rattle.archive_records.specs.Text.{InOrder, last_of}
 
 -- ---- the order
 
-below_is : (x y : List ℕ) → may_follow Archive x y ≡ is_lt (slice_cmp nat_cmp x y)
-unfolding may_follow allows
-below_is x y = refl
-
-less : (o : Ordering) → is_lt o ≡ true → o ≡ Less
-less Less e = refl
-less Equal e = absurd (false≢true e)
-less Greater e = absurd (false≢true e)
-
-not_back : (o : Ordering) → o ≡ Less → is_lt (ordering_reverse o) ≡ false
-not_back o e = ap (λ (p : Ordering). is_lt (ordering_reverse p)) e
-
 pub below-less : (x y : List ℕ) → slice_cmp nat_cmp x y ≡ Less → may_follow Archive x y ≡ true
-below-less x y e = below_is x y ∙ ap is_lt e
-
-pub below-greater : (x y : List ℕ) → slice_cmp nat_cmp x y ≡ Greater → may_follow Archive y x ≡ true
-below-greater x y e = below_is y x ∙ ap is_lt (nat_list_cmp_total.antisymm y x ∙ ap ordering_reverse e)
+unfolding may_follow allows
+below-less x y e = ap is_lt e
 
 pub less_of : (x y : List ℕ) → may_follow Archive x y ≡ true → slice_cmp nat_cmp x y ≡ Less
-less_of x y p = less (slice_cmp nat_cmp x y) (sym (below_is x y) ∙ p)
+unfolding may_follow allows
+less_of x y p = grind arith
+
+pub below-greater : (x y : List ℕ) → slice_cmp nat_cmp x y ≡ Greater → may_follow Archive y x ≡ true
+below-greater x y e = below-less y x (nat_list_cmp_total.antisymm y x ∙ ap ordering_reverse e)
 
 pub below-trans : (x y z : List ℕ) → may_follow Archive x y ≡ true → may_follow Archive y z ≡ true → may_follow Archive x z ≡ true
 below-trans x y z p q = below-less x z (nat_list_cmp_total.trans x y z (less_of x y p) (less_of y z q))
 
 pub below-back : (x y : List ℕ) → may_follow Archive x y ≡ true → may_follow Archive y x ≡ false
-below-back x y p = below_is y x ∙ ap is_lt (nat_list_cmp_total.antisymm y x) ∙ not_back (slice_cmp nat_cmp x y) (less_of x y p)
-
-self : (o : Ordering) → o ≡ ordering_reverse o → is_lt o ≡ false
-self Less e = absurd cc
-self Equal e = refl
-self Greater e = refl
+unfolding may_follow allows
+below-back x y p = ap is_lt (nat_list_cmp_total.antisymm y x ∙ ap ordering_reverse (less_of x y p))
 
 pub below-self : (x : List ℕ) → may_follow Archive x x ≡ false
-below-self x = below_is x x ∙ self (slice_cmp nat_cmp x x) (nat_list_cmp_total.antisymm x x)
+unfolding may_follow allows
+below-self x = let e = nat_list_cmp_total.antisymm x x in grind arith
 
 -- ---- lists
 
@@ -140,9 +126,6 @@ pub last_is_record : (low : List ℕ) (xs : List (List ℕ)) (x : List ℕ) → 
 last_is_record low [] x a = a.0
 last_is_record low (y ∷ ys) x a = last_is_record y ys x a.2
 
-same_cons : (x y : List ℕ) (xs ys : List (List ℕ)) → x ≡ y → xs ≡ ys → x ∷ xs ≡ y ∷ ys
-same_cons x y xs ys p q = cc
-
 not_self : (x z : List ℕ) (xs : List (List ℕ)) → InOrder Archive x xs → Contains xs z → x ≡ z → ⊥
 not_self x z xs a c e = false≢true (sym (below-self x) ∙ subst (λ (t : List ℕ). may_follow Archive x t ≡ true) (sym e) (all_above x z xs a c))
 
@@ -171,4 +154,4 @@ prefix lo low (u ∷ us) (o ∷ os) a b sub within back =
     (λ z c. elim (cons_cases u z us (sub z (later o z os c))) [ inl e ↦ absurd (not_self u z os b' c e) | inr d ↦ d ])
     (λ z c. within z (later o z os c))
     (λ z c f. elim (cons_cases o z os (back z (later u z us c) f)) [ inl e ↦ absurd (not_self u z us a.2 c (same ∙ e)) | inr d ↦ d ]) in
-    (n.0, same_cons u o us (os ++ n.0) same n.1)
+    (n.0, cc (same, n.1))

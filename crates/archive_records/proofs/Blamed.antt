@@ -1,6 +1,7 @@
 -- What steps that read say of the reader and of what they took: one alone, one behind the other, and one that failed.
-use Rattle.std.proofs.Common.{◌≡◌, ◌≢◌, ℕ, zero, suc, List, [], ◌∷◌, ◌++◌, length, take, drop, ap, refl, sym, ◌∙◌, subst, Option, arith, length-append, length-take, length-drop}
+use Rattle.std.proofs.Common.{◌≡◌, ◌≢◌, ℕ, List, ◌++◌, length, take, drop, ap, refl, sym, ◌∙◌, subst, Option, arith, length-append, length-take, length-drop}
 use Rattle.std.specs.Prelude.{Result, Ok, Err, IfErr, IsErrAnd}
+use Rattle.std.proofs.lemmas.List.{take-take}
 use Rattle.std.proofs.lemmas.Result.{err_from_is_err_and}
 use Rattle.std.specs.Io.KnownBytes.{Consumes, IsAtEnd}
 use Rattle.byte_device.specs.Devices.{FailedIn}
@@ -24,17 +25,11 @@ text_blames left failures old new kind no_device no_end unfailed = (λ e. absurd
 
 -- where the input ended, the reader did not fail, and is at its end
 pub end_blames : {R : Type 0} (left : R → Option (List ℕ)) (failures : R → ℕ) (old new : R) → failures new ≡ failures old → IsAtEnd (left new) → Blames left failures old new Truncated
-end_blames left failures old new unfailed end = (λ e. absurd (no_device e), λ _. unfailed, λ _. end)
-  where
-    no_device : Truncated ≡ Device → ⊥
-    no_device e = cc
+end_blames left failures old new unfailed end = (λ e. cc, λ _. unfailed, λ _. end)
 
 -- a device that failed says so
 pub device_blames : {R : Type 0} (left : R → Option (List ℕ)) (failures : R → ℕ) (old new : R) → FailedIn (failures old) (failures new) → Blames left failures old new Device
-device_blames left failures old new failed_in = (λ _. failed_in, λ other. absurd (other refl), λ e. absurd (no_end e))
-  where
-    no_end : Device ≡ Truncated → ⊥
-    no_end e = cc
+device_blames left failures old new failed_in = (λ _. failed_in, λ other. absurd (other refl), λ e. cc)
 
 -- a reader that did not fail in the first step is blamed for the second
 module _ {R : Type 0} (left : R → Option (List ℕ)) (failures : R → ℕ) (old mid new : R) (unfailed : failures mid ≡ failures old) where
@@ -47,13 +42,7 @@ module _ {R : Type 0} (left : R → Option (List ℕ)) (failures : R → ℕ) (o
 
 -- what is kept of a list that was cut off
 pub cut_same : (items cut : List ℕ) (at : ℕ) → cut ≡ take at items → take at cut ≡ take at items
-cut_same items cut at is = ap (take at) is ∙ cut_again items at
-  where
-    cut_again : (items : List ℕ) (at : ℕ) → take at (take at items) ≡ take at items
-    cut_again [] zero = refl
-    cut_again [] (suc at) = refl
-    cut_again (x ∷ xs) zero = refl
-    cut_again (x ∷ xs) (suc at) = ap (λ (t : List ℕ). x ∷ t) (cut_again xs at)
+cut_same items cut at is = ap (take at) is ∙ take-take at at items (omega arith)
 
 -- a test of what came blames no reader
 pub tested_blames : {R T : Type 0} (left : R → Option (List ℕ)) (failures : R → ℕ) (old new : R) (result : Result T RecordFaultKind) → failures new ≡ failures old → IfErr result (λ kind. (kind ≢ Truncated) × (kind ≢ Device)) → BlamesReader left failures old new result

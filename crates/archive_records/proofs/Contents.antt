@@ -1,7 +1,7 @@
 -- Ascending records and the set of them.
-use Rattle.std.proofs.Common.{◌≡◌, ◌↔◌, ℕ, Bool, true, false, ◌||◌, List, [], ◌∷◌, ◌++◌, refl, sym, ap, ◌∙◌, subst, arith}
+use Rattle.std.proofs.Common.{◌≡◌, ◌↔◌, ℕ, Bool, true, false, ◌||◌, List, [], ◌∷◌, ◌++◌, Some, refl, sym, ap, ◌∙◌, subst, arith}
 use Rattle.std.specs.declared.cmp.Ordering.{Ordering}
-use Rattle.std.specs.declared.cmp.Ordering.TheVariants.{Less, Equal, Greater}
+use Rattle.std.specs.declared.cmp.Ordering.TheVariants.{Less}
 use Rattle.std.specs.Ordering.{nat_cmp, is_lt, is_eq, eq_by_cmp}
 use Rattle.std.specs.Cmp.{tied_itself, Equal-is}
 use Rattle.std.specs.Cmp.Lexicographic.{slice_cmp, nat_list_cmp_total}
@@ -17,7 +17,7 @@ use Rattle.archive_core.specs.Record.{IsRecord}
 use Rattle.archive_core.specs.Summary.{Entries}
 use Rattle.archive_records.specs.Entry.{AreEntries}
 use Rattle.archive_core.specs.Content.{Operations, IsContent}
-use Rattle.archive_records.specs.Kind.{magic, summary_magic, IsItem, allows, may_follow}
+use Rattle.archive_records.specs.Kind.{magic, summary_magic, IsItem, end_length, allows, may_follow}
 use Rattle.archive_records.specs.Text.{end_record, text_of, IsWritten, written, IsSummaryText, summary_text, InOrder, AreApart}
 use Rattle.archive_records.proofs.Holds.{holds}
 use Rattle.archive_records.proofs.Forms.{item-framed}
@@ -28,26 +28,12 @@ use Rattle.archive_records.specs.declared.format.Format.TheVariants.{Archive, Su
 abbrev pub order : List ℕ → List ℕ → Ordering
 order = slice_cmp nat_cmp
 
-less_is : (o : Ordering) → is_lt o ≡ true → o ≡ Less
-less_is Less e = refl
-less_is Equal e = absurd cc
-less_is Greater e = absurd cc
-
-archive_ascends : (o : Ordering) → allows Archive o ≡ is_lt o
-unfolding allows
-archive_ascends o = refl
-
-summary_ascends : (o : Ordering) → allows Summary o ≡ is_lt o
-unfolding allows
-summary_ascends o = refl
-
 all_below : (low x : List ℕ) (xs : List (List ℕ)) → order low x ≡ Less → AllByRecursion (λ y. order x y ≡ Less) xs → AllByRecursion (λ y. order low y ≡ Less) xs
 all_below low x [] e h = tt
 all_below low x (y ∷ ys) e h = (nat_list_cmp_total.trans low x y e h.0, all_below low x ys e h.1)
 
-or_right : (a b : Bool) → b ≡ true → (a || b) ≡ true
-or_right true b e = refl
-or_right false b e = e
+pub or_right : (a b : Bool) → b ≡ true → (a || b) ≡ true
+or_right a b e = grind arith
 
 -- what holds of each member holds along the list
 pub along : (P : List ℕ → Type 0) (xs : List (List ℕ)) → ((q : List ℕ) → list_any (eq_by_cmp order q) xs ≡ true → P q) → AllByRecursion P xs
@@ -57,15 +43,27 @@ along P (x ∷ xs) h = (
   along P xs (λ q e. h q (or_right (eq_by_cmp order q x) (list_any (eq_by_cmp order q) xs) e)),
 )
 
+-- and of each member, where it holds along the list
+pub each : (P : List ℕ → Type 0) (xs : List (List ℕ)) (q : List ℕ) → AllByRecursion P xs → list_any (eq_by_cmp order q) xs ≡ true → P q
+each P [] q all e = absurd cc
+each P (x ∷ xs) q all e = elim (eq_by_cmp order q x) as (λ b. eq_by_cmp order q x ≡ b → (b || list_any (eq_by_cmp order q) xs) ≡ true → P q) [
+  | true ↦ λ h _. subst P (sym (bytes_same q x ((Equal-is (order q x)).0 h))) all.0
+  | false ↦ λ _ rest. each P xs q all.1 rest
+] refl e
+
+pub items_of : (file : Format) (low : List ℕ) (xs : List (List ℕ)) → InOrder file low xs → AllByRecursion (IsItem file) xs
+items_of file low [] a = tt
+items_of file low (x ∷ xs) a = (a.0, items_of file x xs a.2)
+
 -- a file whose items ascend
-module _ (file : Format) (ascends : (o : Ordering) → allows file o ≡ is_lt o) where
+module _ (file : Format) (end : end_length file ≡ Some 9) where
   below_is : (a b : List ℕ) → may_follow file a b ≡ true → order a b ≡ Less
-  unfolding may_follow
-  below_is a b e = less_is (order a b) (sym (ascends (order a b)) ∙ e)
+  unfolding may_follow allows
+  below_is a b e = grind arith
 
   is_below : (a b : List ℕ) → order a b ≡ Less → may_follow file a b ≡ true
-  unfolding may_follow
-  is_below a b e = ascends (order a b) ∙ ap is_lt e
+  unfolding may_follow allows
+  is_below a b e = grind arith
 
   -- items that ascend are strictly sorted, and above what they are above
   sorted_items : (low : List ℕ) (xs : List (List ℕ)) → InOrder file low xs → AllByRecursion (λ y. order low y ≡ Less) xs × IsStrictlySortedBy order xs
@@ -96,43 +94,35 @@ module _ (file : Format) (ascends : (o : Ordering) → allows file o ≡ is_lt o
       let each : AllByRecursion (IsItem file) (listing s) = along (IsItem file) (listing s) (λ q e. items q (sym (any_listing nat_list_cmp_total s q) ∙ e)) in
       InOrder-sorted [] (listing s) each (all_above_empty (listing s) each) (listed nat_list_cmp_total bytes_same s).ascending
 
-  -- each member is one of the items
-  item_member : (low : List ℕ) (xs : List (List ℕ)) (q : List ℕ) → InOrder file low xs → list_any (eq_by_cmp order q) xs ≡ true → IsItem file q
-  item_member low [] q a e = absurd cc
-  item_member low (x ∷ xs) q a e = elim (eq_by_cmp order q x) as (λ b. eq_by_cmp order q x ≡ b → (b || list_any (eq_by_cmp order q) xs) ≡ true → IsItem file q) [
-    | true ↦ λ h _. subst (IsItem file) (sym (bytes_same q x ((Equal-is (order q x)).0 h))) a.0
-    | false ↦ λ _ rest. item_member x xs q a.2 rest
-  ] refl e
-
   members_are_items : (xs : List (List ℕ)) → InOrder file [] xs → (q : List ℕ) → set.contains (set.from_list {R = order} xs) q ≡ true → IsItem file q
-  members_are_items xs a q e = item_member [] xs q a (sym (contains-from_list nat_list_cmp_total xs q) ∙ e)
+  members_are_items xs a q e = each (IsItem file) xs q (items_of file [] xs a) (sym (contains-from_list nat_list_cmp_total xs q) ∙ e)
 
 pub sorted-InOrder : (low : List ℕ) (xs : List (List ℕ)) → InOrder Archive low xs → AllByRecursion (λ y. order low y ≡ Less) xs × IsStrictlySortedBy order xs
-sorted-InOrder = sorted_items Archive archive_ascends
+sorted-InOrder = sorted_items Archive refl
 
 pub sorted-entries : (low : List ℕ) (xs : List (List ℕ)) → InOrder Summary low xs → AllByRecursion (λ y. order low y ≡ Less) xs × IsStrictlySortedBy order xs
-sorted-entries = sorted_items Summary summary_ascends
+sorted-entries = sorted_items Summary refl
 
 -- the records of a content ascend
 pub InOrder-listing : (o : Operations) → IsContent o → InOrder Archive [] (listing o)
-InOrder-listing o c = InOrder-members Archive archive_ascends o c.records
+InOrder-listing o c = InOrder-members Archive refl o c.records
 
 pub IsContent-records : (xs : List (List ℕ)) → InOrder Archive [] xs → AreApart Archive xs → IsContent (set.from_list xs)
-IsContent-records xs a apart = record { itself = apart; records = members_are_items Archive archive_ascends xs a }
+IsContent-records xs a apart = record { itself = apart; records = members_are_items Archive refl xs a }
 
 -- the same of a set that need not make itself
 pub InOrder-set : (o : Operations) → ((r : List ℕ) → set.contains o r ≡ true → IsRecord r) → InOrder Archive [] (listing o)
-InOrder-set o are = InOrder-members Archive archive_ascends o are
+InOrder-set o are = InOrder-members Archive refl o are
 
 pub are_records : (xs : List (List ℕ)) → InOrder Archive [] xs → (r : List ℕ) → set.contains (set.from_list {R = order} xs) r ≡ true → IsRecord r
-are_records xs a = members_are_items Archive archive_ascends xs a
+are_records xs a = members_are_items Archive refl xs a
 
 -- and so do the entries of a summary
 pub InOrder-entries : (s : Entries) → AreEntries s → InOrder Summary [] (listing s)
-InOrder-entries s are = InOrder-members Summary summary_ascends s are
+InOrder-entries s are = InOrder-members Summary refl s are
 
 pub AreEntries-entries : (xs : List (List ℕ)) → InOrder Summary [] xs → AreEntries (set.from_list xs)
-AreEntries-entries xs a = members_are_items Summary summary_ascends xs a
+AreEntries-entries xs a = members_are_items Summary refl xs a
 
 pub summary_text_is : (s : Entries) → summary_text s ≡ text_of Summary (listing s)
 unfolding summary_text
@@ -166,9 +156,7 @@ containing xs q h = Contains-from_any same_bytes q xs h
 
 -- two tests that pass at the same time are one
 iff_same : (a b : Bool) → (a ≡ true → b ≡ true) → (b ≡ true → a ≡ true) → a ≡ b
-iff_same true b f g = sym (f refl)
-iff_same false true f g = g refl
-iff_same false false f g = refl
+iff_same a b f g = grind arith
 
 -- an ascending list with the members of a set is its listing
 pub listing_is : (o : Operations) (records : List (List ℕ)) → IsStrictlySortedBy order records → ((r : List ℕ) → Contains records r ↔ (set.contains o r ≡ true)) → listing o ≡ records

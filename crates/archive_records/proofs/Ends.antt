@@ -3,7 +3,8 @@ use Rattle.std.proofs.Common.{◌≡◌, ℕ, suc, ◌<◌, ◌^◌, true, List,
 use Rattle.std.proofs.lemmas.List.{take_all}
 use Rattle.std.proofs.lemmas.Nat.{be_bytes_8, from_be_bytes-to_be_bytes_8}
 use Rattle.std.proofs.lemmas.Bool.{eqb-true}
-use Rattle.std.specs.Int.{w64, from_be_bytes, to_be_bytes}
+use Rattle.std.proofs.lemmas.Bool.Decides.{nat_tests}
+use Rattle.std.specs.Int.{w64, from_be_bytes}
 use Rattle.archive_records.specs.Kind.{end_length}
 use Rattle.archive_records.specs.Layout.{head_length, body_length, framed, record_count}
 use Rattle.archive_records.specs.Fault.{is_end, tested, next, IsUnended}
@@ -12,10 +13,10 @@ use Rattle.archive_records.specs.declared.buffer.Buffer.{Buffer}
 use Rattle.archive_records.specs.Reader.{bytes_so_far, IsEnded}
 use Rattle.archive_records.specs.Text.{end_record, ending}
 use Rattle.archive_records.proofs.Framed.{framed-whole}
-use Rattle.archive_records.proofs.Holds.{none_is_some, holds, Holds-end, next-is}
+use Rattle.archive_records.proofs.Holds.{holds, Holds-end, next-is}
 use Rattle.archive_records.proofs.Forms.{IsBytes}
 use Rattle.archive_records.specs.declared.format.Format.{Format}
-use Rattle.archive_records.specs.declared.format.Format.TheVariants.{Archive, OldArchive, Operations, Summary}
+use Rattle.archive_records.specs.declared.format.Format.TheVariants.{Operations}
 
 pub is_three : (bytes : List ℕ) → is_end bytes ≡ true → get_or bytes 0 0 ≡ 3
 unfolding is_end
@@ -44,33 +45,22 @@ module _ (file : Format) (end : end_length file ≡ Some 9) where
   next_end low n lt = next-is file (end_record n) 9 low n (framed_end n) ∙ rw (end-is_end n, eq-eqb _ _ (number_of_end n lt)) refl
 
 pub counted : (file : Format) → end_length file ≡ Some 9 → (n : ℕ) → ending file n ≡ end_record n
-counted Archive end n = refl
-counted OldArchive end n = refl
-counted Operations end n = absurd (none_is_some 9 end)
-counted Summary end n = refl
+counted file end n = grind arith
 
 pub counted_unended : (file : Format) → end_length file ≡ Some 9 → (rest : List ℕ) → IsUnended file rest
-counted_unended Archive end rest = tt
-counted_unended OldArchive end rest = tt
-counted_unended Operations end rest = absurd (none_is_some 9 end)
-counted_unended Summary end rest = tt
+counted_unended Operations end rest = absurd (cc end)
+counted_unended _ end rest = tt
 
 -- an operations file has none
-no_tag : (tag head : ℕ) → tag ≡ 3 → head_length Operations tag ≡ Some head → ⊥
-unfolding head_length
-no_tag tag head three e = none_is_some head (sym (ap (head_length Operations) three) ∙ e)
-
 pub no_end : (bytes : List ℕ) (n : ℕ) → framed Operations bytes ≡ Ok n → get_or bytes 0 0 ≡ 3 → ⊥
-no_end bytes n e three = let h = holds Operations bytes n e in no_tag (get_or bytes 0 0) h.head three h.tag
-
-both : (a b : ℕ) (xs ys : List ℕ) → a ≡ b → xs ≡ ys → a ∷ xs ≡ b ∷ ys
-both a b xs ys p q = cc
+unfolding head_length
+no_end bytes n e three = let tag = (holds Operations bytes n e).tag in grind (arith, nat_tests)
 
 is_end_record : (bytes : List ℕ) (count : ℕ) → length bytes ≡ 9 → get_or bytes 0 0 ≡ 3 → record_count bytes ≡ count → IsBytes bytes → bytes ≡ end_record count
 unfolding record_count end_record
 is_end_record [] count len tag n fits = absurd (omega arith)
 is_end_record (b ∷ bs) count len tag n fits =
-    both b 3 bs (to_be_bytes w64 count) tag (sym (be_bytes_8 bs count (omega arith) (λ i. fits (suc i)) (sym n ∙ ap (from_be_bytes w64) (take_all 8 bs (omega arith)))))
+    cc (tag, be_bytes_8 bs count (omega arith) (λ i. fits (suc i)) (sym n ∙ ap (from_be_bytes w64) (take_all 8 bs (omega arith))))
 
 module _ (file : Format) where
   -- a whole end record is that of the number it has
@@ -79,16 +69,12 @@ module _ (file : Format) where
 
 -- an end record is what ends a file, where it may stand there
 pub ending_is : (file : Format) (rest : List ℕ) (n count : ℕ) → framed file rest ≡ Ok n → get_or rest 0 0 ≡ 3 → rest ≡ end_record count → rest ≡ ending file count
-ending_is Archive rest n count whole three e = e
-ending_is OldArchive rest n count whole three e = e
 ending_is Operations rest n count whole three e = absurd (no_end rest n whole three)
-ending_is Summary rest n count whole three e = e
+ending_is _ rest n count whole three e = e
 
 pub ended_is : (file : Format) (left : Option (List ℕ)) (rest : List ℕ) (n : ℕ) → framed file rest ≡ Ok n → get_or rest 0 0 ≡ 3 → IsEnded file left
-ended_is Archive left rest n whole three = tt
-ended_is OldArchive left rest n whole three = tt
 ended_is Operations left rest n whole three = absurd (no_end rest n whole three)
-ended_is Summary left rest n whole three = tt
+ended_is _ left rest n whole three = tt
 
 -- where nothing is left, an operations file ends
 pub open_end : (file : Format) (count : ℕ) (b : Buffer) → b.at ≡ 0 → file ≡ Operations → bytes_so_far b ≡ ending file count

@@ -1,65 +1,37 @@
 -- Each text has one content, or one fault.
-use Rattle.std.proofs.Common.{◌≡◌, ◌≢◌, ℕ, ◌<◌, ◌≤◌, ◌^◌, true, List, [], ◌∷◌, ◌++◌, length, get_or, take, drop, refl, sym, ap, ◌∙◌, subst, arith, inl, inr, append_assoc, length-append, lit≤}
+use Rattle.std.proofs.Common.{◌≡◌, ◌≢◌, ℕ, ◌<◌, ◌≤◌, ◌^◌, true, List, [], ◌∷◌, ◌++◌, length, Ok, get_or, take, drop, refl, sym, ap, ◌∙◌, subst, arith, inl, inr, append_assoc, length-append, lit≤}
 use Rattle.std.proofs.lemmas.List.{append-nil, take-append-le, append_cancel_left, take-take, get_or-take}
 use Rattle.std.specs.List.{concat}
 use Rattle.archive_records.specs.declared.fault.RecordFaultKind.{RecordFaultKind}
-use Rattle.archive_records.specs.declared.fault.RecordFaultKind.TheVariants.{BadMagic, Truncated, BadTag, TooLarge, NotAscending, BadSlice, KeyMismatch, BadCount, Trailing, Device, OutOfMemory, Covered}
+use Rattle.archive_records.specs.declared.fault.RecordFaultKind.TheVariants.{BadMagic, Truncated, BadSlice, KeyMismatch, Trailing, Covered}
 use Rattle.archive_records.specs.declared.fault.RecordFault.{RecordFault}
 use Rattle.archive_records.specs.Kind.{magic_of}
 use Rattle.archive_records.specs.Text.{end_record, ending, text_of, InOrder, AreApart, last_of}
-use Rattle.archive_records.specs.Fault.{is_end, FailsNext, IsCoveredNext, FailsBehind, Fails, IsTrailing, RefusesSlice, Refuses, IsMagicFault, IsUnended, IsFaultBehind, IsFaultOf}
+use Rattle.archive_records.specs.Fault.{is_end, next, FailsNext, IsCoveredNext, FailsBehind, Fails, IsTrailing, RefusesSlice, Refuses, IsMagicFault, IsUnended, IsFaultBehind, IsFaultOf}
 use Rattle.archive_records.specs.Front.{IsGoodFront, IsLongestFront}
 use Rattle.archive_records.proofs.SliceFacts.{no_slice_fault, one_slice_fault}
 use Rattle.archive_records.proofs.Formats.{length-magic}
-use Rattle.archive_records.proofs.Holds.{result_is, holds}
+use Rattle.archive_records.proofs.Holds.{holds}
 use Rattle.archive_records.proofs.Forms.{item-framed, refused_slice}
-use Rattle.archive_records.proofs.Grown.{kind_is, no_both, next-ok-grows}
+use Rattle.archive_records.proofs.Grown.{no_both, next-ok-grows}
 use Rattle.archive_records.proofs.Longest.{Takes, Goes, fault-stops, end-stops, one_taken, unique, behind_magic, is_longest}
 use Rattle.archive_records.proofs.Apart.{covered_apart}
 use Rattle.archive_records.proofs.Ends.{is_three, length-end_record, next_end}
 use Rattle.archive_records.specs.declared.format.Format.{Format}
-use Rattle.archive_records.specs.declared.format.Format.TheVariants.{Archive, OldArchive, Operations as Operations_file, Summary as Summary_file}
+use Rattle.archive_records.specs.declared.format.Format.TheVariants.{Archive, Operations as Operations_file}
 
 -- a refused slice is an admission's
 refused_tag : (r : List ℕ) (kind : RecordFaultKind) → RefusesSlice r kind → get_or r 0 0 ≡ 2
-refused_tag r (BadSlice fault) f = f.0
-refused_tag r KeyMismatch f = f.0
-refused_tag r BadMagic f = absurd f
-refused_tag r Truncated f = absurd f
-refused_tag r BadTag f = absurd f
-refused_tag r TooLarge f = absurd f
-refused_tag r NotAscending f = absurd f
-refused_tag r BadCount f = absurd f
-refused_tag r Trailing f = absurd f
-refused_tag r Device f = absurd f
-refused_tag r OutOfMemory f = absurd f
-refused_tag r Covered f = absurd f
+refused_tag r kind f = grind arith
 
 one_refusal : (r : List ℕ) (j k : RecordFaultKind) → RefusesSlice r j → RefusesSlice r k → j ≡ k
 one_refusal r (BadSlice f) (BadSlice g) a b = let e = one_slice_fault (drop 33 r) f g a.1 b.1 in λ i. BadSlice (e i)
 one_refusal r (BadSlice f) KeyMismatch a b = absurd (no_slice_fault (drop 33 r) f b.1 a.1)
 one_refusal r KeyMismatch (BadSlice g) a b = absurd (no_slice_fault (drop 33 r) g a.1 b.1)
 one_refusal r KeyMismatch KeyMismatch a b = refl
-one_refusal r BadMagic k a b = absurd a
-one_refusal r Truncated k a b = absurd a
-one_refusal r BadTag k a b = absurd a
-one_refusal r TooLarge k a b = absurd a
-one_refusal r NotAscending k a b = absurd a
-one_refusal r BadCount k a b = absurd a
-one_refusal r Trailing k a b = absurd a
-one_refusal r Device k a b = absurd a
-one_refusal r OutOfMemory k a b = absurd a
-one_refusal r Covered k a b = absurd a
-one_refusal r j BadMagic a b = absurd b
-one_refusal r j Truncated a b = absurd b
-one_refusal r j BadTag a b = absurd b
-one_refusal r j TooLarge a b = absurd b
-one_refusal r j NotAscending a b = absurd b
-one_refusal r j BadCount a b = absurd b
-one_refusal r j Trailing a b = absurd b
-one_refusal r j Device a b = absurd b
-one_refusal r j OutOfMemory a b = absurd b
-one_refusal r j Covered a b = absurd b
+one_refusal r (BadSlice f) k a b = absurd b
+one_refusal r KeyMismatch k a b = absurd b
+one_refusal r j k a b = absurd a
 
 fault_eq : (f g : RecordFault) → f.kind ≡ g.kind → f.offset ≡ g.offset → f ≡ g
 fault_eq f g k o = λ i. record { kind = k i; offset = o i }
@@ -71,37 +43,29 @@ end_more n more = refl
 -- ---- what ends a file
 
 length-ending : (file : Format) (n : ℕ) → length (ending file n) ≤ 9
-length-ending Archive n = omega (arith, length-end_record n)
-length-ending OldArchive n = omega (arith, length-end_record n)
 length-ending Operations_file n = lit≤ tt
-length-ending Summary_file n = omega (arith, length-end_record n)
+length-ending _ n = omega (arith, length-end_record n)
 
 nothing_taken : (file : Format) (low : List ℕ) → Takes file low [] → ⊥
 nothing_taken file low t = omega (arith, (holds file t.item (length t.item) (item-framed file t.item t.is)).one, ap length t.whole, length-append t.item t.more)
 
 -- no record begins with it; in an operations file nothing stands behind it
 ending_stops : (file : Format) (low : List ℕ) (n : ℕ) (more : List ℕ) → (file ≡ Operations_file → more ≡ []) → Takes file low (ending file n ++ more) → ⊥
-ending_stops Archive low n more alone t = end-stops Archive low (end_record n ++ more) (end_more n more) t
-ending_stops OldArchive low n more alone t = end-stops OldArchive low (end_record n ++ more) (end_more n more) t
-ending_stops Summary_file low n more alone t = end-stops Summary_file low (end_record n ++ more) (end_more n more) t
 ending_stops Operations_file low n more alone t = nothing_taken Operations_file low (subst (Takes Operations_file low) (alone refl) t)
+ending_stops file low n more alone t = end-stops file low (end_record n ++ more) (end_more n more) t
+
+-- where an end record stands no test fails
+end_fails : (file : Format) (low : List ℕ) (count : ℕ) (rest : List ℕ) (kind : RecordFaultKind) → next file low count rest ≡ Ok 9 → is_end rest ≡ true → FailsNext file low count rest kind → ⊥
+end_fails file low count rest kind whole end (inl e) = no_both 9 kind (sym whole ∙ e)
+end_fails file low count rest kind whole end (inr f) =
+    let nine : f.0 ≡ 9 = cc (f.1, whole) in
+    let two = refused_tag (take f.0 rest) kind (refused_slice file (take f.0 rest) kind f.2) in
+    let same : get_or (take f.0 rest) 0 0 ≡ get_or rest 0 0 = get_or-take f.0 rest 0 0 (omega arith) in
+    omega (arith, is_three rest end)
 
 no_fails : (file : Format) (low : List ℕ) (n : ℕ) (more : List ℕ) (kind : RecordFaultKind) → (file ≢ Operations_file → n < 2 ^ 64) → (file ≡ Operations_file → more ≡ []) → IsUnended file (ending file n ++ more) → FailsNext file low n (ending file n ++ more) kind → ⊥
 no_fails Operations_file low n more kind few alone unended f = unended (alone refl)
-no_fails Summary_file low n more kind few alone unended (inl e) = no_both 9 kind (sym (next-ok-grows Summary_file low n (end_record n) more 9 (next_end Summary_file refl low n (few (λ h. cc)))) ∙ e)
-no_fails Summary_file low n more kind few alone unended (inr f) = absurd f.2
-no_fails Archive low n more kind few alone unended (inl e) = no_both 9 kind (sym (next-ok-grows Archive low n (end_record n) more 9 (next_end Archive refl low n (few (λ h. cc)))) ∙ e)
-no_fails Archive low n more kind few alone unended (inr f) =
-    let nine = result_is f.0 9 (sym f.1 ∙ next-ok-grows Archive low n (end_record n) more 9 (next_end Archive refl low n (few (λ h. cc)))) in
-    let two = refused_tag (take f.0 (end_record n ++ more)) kind f.2 in
-    let same : get_or (take f.0 (end_record n ++ more)) 0 0 ≡ get_or (end_record n ++ more) 0 0 = get_or-take f.0 (end_record n ++ more) 0 0 (omega arith) in
-    omega (arith, is_three (end_record n ++ more) (end_more n more))
-no_fails OldArchive low n more kind few alone unended (inl e) = no_both 9 kind (sym (next-ok-grows OldArchive low n (end_record n) more 9 (next_end OldArchive refl low n (few (λ h. cc)))) ∙ e)
-no_fails OldArchive low n more kind few alone unended (inr f) =
-    let nine = result_is f.0 9 (sym f.1 ∙ next-ok-grows OldArchive low n (end_record n) more 9 (next_end OldArchive refl low n (few (λ h. cc)))) in
-    let two = refused_tag (take f.0 (end_record n ++ more)) kind f.2 in
-    let same : get_or (take f.0 (end_record n ++ more)) 0 0 ≡ get_or (end_record n ++ more) 0 0 = get_or-take f.0 (end_record n ++ more) 0 0 (omega arith) in
-    omega (arith, is_three (end_record n ++ more) (end_more n more))
+no_fails file low n more kind few alone unended f = end_fails file low n (end_record n ++ more) kind (next-ok-grows file low n (end_record n) more 9 (next_end file refl low n (few (λ h. cc)))) (end_more n more) f
 
 -- what is covered stands there
 takes_covered : (records : List (List ℕ)) (rest : List ℕ) → IsCoveredNext records rest → Takes Archive (last_of [] records) rest
@@ -109,15 +73,10 @@ takes_covered records rest c = record { item = c.item; more = c.more; whole = c.
 
 covered_behind : (file : Format) (records : List (List ℕ)) (rest : List ℕ) (kind : RecordFaultKind) → FailsBehind file records rest kind → Takes file (last_of [] records) rest
 covered_behind Archive records rest kind f = takes_covered records rest f.1
-covered_behind OldArchive records rest kind f = absurd f
-covered_behind Operations_file records rest kind f = absurd f
-covered_behind Summary_file records rest kind f = absurd f
+covered_behind _ records rest kind f = absurd f
 
 covered_kind : (file : Format) (records : List (List ℕ)) (rest : List ℕ) (kind : RecordFaultKind) → FailsBehind file records rest kind → kind ≡ Covered
-covered_kind Archive records rest kind f = f.0
-covered_kind OldArchive records rest kind f = absurd f
-covered_kind Operations_file records rest kind f = absurd f
-covered_kind Summary_file records rest kind f = absurd f
+covered_kind file records rest kind f = grind arith
 
 -- and no good front goes on with it
 covered_stops : (file : Format) (records : List (List ℕ)) (rest : List ℕ) (kind : RecordFaultKind) → FailsBehind file records rest kind → Goes file records rest → ⊥
@@ -125,9 +84,7 @@ unfolding takes_covered
 covered_stops Archive records rest kind f g =
     let same : f.1.item ≡ g.next.item = one_taken Archive (last_of [] records) rest (takes_covered records rest f.1) g.next in
     covered_apart records f.1.item (subst (λ (x : List ℕ). AreApart Archive (records ++ x ∷ [])) (sym same) g.apart) f.1.covered
-covered_stops OldArchive records rest kind f g = absurd f
-covered_stops Operations_file records rest kind f g = absurd f
-covered_stops Summary_file records rest kind f g = absurd f
+covered_stops _ records rest kind f g = absurd f
 
 module _ (file : Format) where
   -- ---- the magic
@@ -135,42 +92,16 @@ module _ (file : Format) where
   pub no_magic_fault : (t rest : List ℕ) (kind : RecordFaultKind) → t ≡ magic_of file ++ rest → IsMagicFault file t kind → ⊥
   no_magic_fault t rest BadMagic e b = b.3 (ap (take b.0) e ∙ take-append-le b.0 (magic_of file) rest (omega (arith, b.1, length-magic file)))
   no_magic_fault t rest Truncated e b = omega (arith, ap length e, length-append (magic_of file) rest, b.0, length-magic file)
-  no_magic_fault t rest BadTag e b = b
-  no_magic_fault t rest TooLarge e b = b
-  no_magic_fault t rest NotAscending e b = b
-  no_magic_fault t rest (BadSlice _) e b = b
-  no_magic_fault t rest KeyMismatch e b = b
-  no_magic_fault t rest BadCount e b = b
-  no_magic_fault t rest Trailing e b = b
-  no_magic_fault t rest Device e b = b
-  no_magic_fault t rest OutOfMemory e b = b
-  no_magic_fault t rest Covered e b = b
+  no_magic_fault t rest _ e b = b
 
   one_magic_fault : (t : List ℕ) (j k : RecordFaultKind) → IsMagicFault file t j → IsMagicFault file t k → j ≡ k
   one_magic_fault t BadMagic BadMagic a b = refl
   one_magic_fault t Truncated Truncated a b = refl
   one_magic_fault t BadMagic Truncated a b = absurd (a.3 (ap (take a.0) b.1 ∙ take-take a.0 (length t) (magic_of file) a.2))
   one_magic_fault t Truncated BadMagic a b = absurd (b.3 (ap (take b.0) a.1 ∙ take-take b.0 (length t) (magic_of file) b.2))
-  one_magic_fault t BadTag k a b = absurd a
-  one_magic_fault t TooLarge k a b = absurd a
-  one_magic_fault t NotAscending k a b = absurd a
-  one_magic_fault t (BadSlice _) k a b = absurd a
-  one_magic_fault t KeyMismatch k a b = absurd a
-  one_magic_fault t BadCount k a b = absurd a
-  one_magic_fault t Trailing k a b = absurd a
-  one_magic_fault t Device k a b = absurd a
-  one_magic_fault t OutOfMemory k a b = absurd a
-  one_magic_fault t Covered k a b = absurd a
-  one_magic_fault t j BadTag a b = absurd b
-  one_magic_fault t j TooLarge a b = absurd b
-  one_magic_fault t j NotAscending a b = absurd b
-  one_magic_fault t j (BadSlice _) a b = absurd b
-  one_magic_fault t j KeyMismatch a b = absurd b
-  one_magic_fault t j BadCount a b = absurd b
-  one_magic_fault t j Trailing a b = absurd b
-  one_magic_fault t j Device a b = absurd b
-  one_magic_fault t j OutOfMemory a b = absurd b
-  one_magic_fault t j Covered a b = absurd b
+  one_magic_fault t BadMagic k a b = absurd b
+  one_magic_fault t Truncated k a b = absurd b
+  one_magic_fault t j k a b = absurd a
 
   -- ---- what stops behind a good front
 
@@ -187,20 +118,12 @@ module _ (file : Format) where
   fault_longest text records front fault f = is_longest file text records front (behind_stops records front.rest fault f)
 
   same_kind : (last : List ℕ) (count : ℕ) (rest : List ℕ) (j k : RecordFaultKind) → FailsNext file last count rest j → FailsNext file last count rest k → j ≡ k
-  same_kind last count rest j k (inl a) (inl b) = kind_is j k (sym a ∙ b)
+  same_kind last count rest j k (inl a) (inl b) = cc (a, b)
   same_kind last count rest j k (inl a) (inr b) = absurd (no_both b.0 j (sym b.1 ∙ a))
   same_kind last count rest j k (inr a) (inl b) = absurd (no_both a.0 k (sym a.1 ∙ b))
   same_kind last count rest j k (inr a) (inr b) =
-      let n = result_is a.0 b.0 (sym a.1 ∙ b.1) in
+      let n : a.0 ≡ b.0 = cc (a.1, b.1) in
       one_refusal (take b.0 rest) j k (refused_slice file (take b.0 rest) j (subst (λ (m : ℕ). Refuses file (take m rest) j) n a.2)) (refused_slice file (take b.0 rest) k b.2)
-
-  no_fault_and_more : (last : List ℕ) (count : ℕ) (rest : List ℕ) (kind : RecordFaultKind) → FailsNext file last count rest kind → IsTrailing file last count rest → ⊥
-  no_fault_and_more last count rest kind (inl a) t = no_both 9 kind (sym t.whole ∙ a)
-  no_fault_and_more last count rest kind (inr a) t =
-      let nine = result_is a.0 9 (sym a.1 ∙ t.whole) in
-      let two = refused_tag (take a.0 rest) kind (refused_slice file (take a.0 rest) kind a.2) in
-      let same : get_or (take a.0 rest) 0 0 ≡ get_or rest 0 0 = get_or-take a.0 rest 0 0 (omega arith) in
-      omega (arith, is_three rest t.end)
 
   same_fails : (records : List (List ℕ)) (rest : List ℕ) (j k : RecordFaultKind) → Fails file records rest j → Fails file records rest k → j ≡ k
   same_fails records rest j k (inl a) (inl b) = same_kind (last_of [] records) (length records) rest j k a b
@@ -209,7 +132,7 @@ module _ (file : Format) where
   same_fails records rest j k (inr a) (inr b) = covered_kind file records rest j a ∙ sym (covered_kind file records rest k b)
 
   fails_and_more : (records : List (List ℕ)) (rest : List ℕ) (kind : RecordFaultKind) → Fails file records rest kind → IsTrailing file (last_of [] records) (length records) rest → ⊥
-  fails_and_more records rest kind (inl a) t = no_fault_and_more (last_of [] records) (length records) rest kind a t
+  fails_and_more records rest kind (inl a) t = end_fails file (last_of [] records) (length records) rest kind t.whole t.end a
   fails_and_more records rest kind (inr a) t = end-stops file (last_of [] records) rest t.end (covered_behind file records rest kind a)
 
   one_behind : (records : List (List ℕ)) (rest : List ℕ) (f g : RecordFault) → IsFaultBehind file records rest f → IsFaultBehind file records rest g → f ≡ g
@@ -263,6 +186,10 @@ module _ (file : Format) where
         let same = same_front ys front (λ g. ending_stops file (last_of [] ys) (length ys) left last g.next) in
         let tail : ending file (length ys) ++ left ≡ ending file (length ys) ++ more = same.1 ∙ ap (λ (x : List (List ℕ)). ending file (length x) ++ more) (sym same.0) in
         (same.0, append_cancel_left (ending file (length ys)) left more tail)
+
+  -- a text is that of one list of records
+  pub one_text : (t : List ℕ) (xs ys : List (List ℕ)) → InOrder file [] xs → AreApart file xs → InOrder file [] ys → AreApart file ys → t ≡ text_of file xs → t ≡ text_of file ys → xs ≡ ys
+  one_text t xs ys a aa b bb p q = (same_records t ys [] b bb (q ∙ sym (append-nil (text_of file ys))) (λ _. refl) xs [] a aa (λ _. refl) (p ∙ sym (append-nil (text_of file xs)))).0
 
   -- a text has no fault
   pub no_fault : (t : List ℕ) (xs : List (List ℕ)) → InOrder file [] xs → AreApart file xs → t ≡ text_of file xs → (fault : RecordFault) → length xs < 2 ^ 64 → IsFaultOf file t fault → ⊥

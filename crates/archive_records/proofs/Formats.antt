@@ -1,10 +1,10 @@
 -- Formats of one kind: the two versions of archives differ in their magics alone, as far as records go.
-use Rattle.std.proofs.Common.{◌≡◌, ◌≢◌, ℕ, zero, suc, ◌<◌, Bool, true, false, cond, List, [], ◌∷◌, ◌++◌, length, refl, sym, ap, ◌∙◌, subst, arith, inl, inr, lit≤}
-use Rattle.std.specs.Prelude.{take, slice_index, eqb}
+use Rattle.std.proofs.Common.{◌≡◌, ◌≢◌, ℕ, ◌<◌, List, [], ◌∷◌, ◌++◌, length, refl, sym, ◌∙◌, arith, inl, lit≤}
+use Rattle.std.specs.Prelude.{take}
 use Rattle.archive_records.specs.declared.fault.RecordFaultKind.{RecordFaultKind}
-use Rattle.archive_records.specs.declared.fault.RecordFaultKind.TheVariants.{BadMagic, Trailing, Device, OutOfMemory}
+use Rattle.archive_records.specs.declared.fault.RecordFaultKind.TheVariants.{BadMagic, Trailing}
 use Rattle.archive_records.specs.Reader.{StopsInMagic, StopsInMagicOf}
-use Rattle.std.proofs.lemmas.List.{take_all}
+use Rattle.std.proofs.lemmas.List.{take_all, take-append-le}
 use Rattle.archive_records.specs.declared.format.Format.{Format}
 use Rattle.archive_records.specs.declared.format.Format.TheVariants.{Archive, OldArchive, Operations, Summary}
 use Rattle.archive_records.specs.declared.kind.TextKind.{TextKind}
@@ -42,58 +42,26 @@ no_summary_text e = cc
 pub in_order_of : (f : Format) → kind_of f ≡ Archive_text → (low : List ℕ) (xs : List (List ℕ)) → InOrder f low xs → InOrder Archive low xs
 in_order_of Archive is low xs a = a
 in_order_of OldArchive is low xs a = in_order_old low xs a
-in_order_of Operations is low xs a = absurd (no_operations_text is)
-in_order_of Summary is low xs a = absurd (no_summary_text is)
+in_order_of _ is low xs a = absurd (cc is)
 
 pub follows_of : (f : Format) → kind_of f ≡ Archive_text → (a b : List ℕ) → may_follow f a b ≡ may_follow Archive a b
-follows_of Archive is a b = refl
 follows_of OldArchive is a b = follows_old a b
-follows_of Operations is a b = absurd (no_operations_text is)
-follows_of Summary is a b = absurd (no_summary_text is)
+follows_of _ is a b = cc
 
 pub ending_of : (f : Format) → kind_of f ≡ Archive_text → (n : ℕ) → ending f n ≡ end_record n
-ending_of Archive is n = refl
-ending_of OldArchive is n = refl
-ending_of Operations is n = absurd (no_operations_text is)
-ending_of Summary is n = absurd (no_summary_text is)
+ending_of f is n = grind arith
 
 -- ---- magics
 
 -- both magics of archives begin so
 pub same_front : (n : ℕ) → n < 8 → take n magic ≡ take n old_magic
-same_front zero h = refl
-same_front (suc zero) h = refl
-same_front (suc (suc zero)) h = refl
-same_front (suc (suc (suc zero))) h = refl
-same_front (suc (suc (suc (suc zero)))) h = refl
-same_front (suc (suc (suc (suc (suc zero))))) h = refl
-same_front (suc (suc (suc (suc (suc (suc zero)))))) h = refl
-same_front (suc (suc (suc (suc (suc (suc (suc zero))))))) h = refl
-same_front (suc (suc (suc (suc (suc (suc (suc (suc n)))))))) h = absurd (omega (arith, h))
+same_front n h = take-append-le n (take 7 magic) (0x32 ∷ []) (omega arith) ∙ sym (take-append-le n (take 7 magic) (0x31 ∷ []) (omega arith))
 
 pub same_fronts : (f g : Format) → kind_of f ≡ kind_of g → (n : ℕ) → n < 8 → take n (magic_of f) ≡ take n (magic_of g)
-same_fronts Archive Archive e n h = refl
-same_fronts Archive OldArchive e n h = same_front n h
-same_fronts OldArchive Archive e n h = sym (same_front n h)
-same_fronts OldArchive OldArchive e n h = refl
-same_fronts Operations Operations e n h = refl
-same_fronts Summary Summary e n h = refl
-same_fronts Archive Operations e n h = absurd (no_operations_text (sym e))
-same_fronts Archive Summary e n h = absurd (no_summary_text (sym e))
-same_fronts OldArchive Operations e n h = absurd (no_operations_text (sym e))
-same_fronts OldArchive Summary e n h = absurd (no_summary_text (sym e))
-same_fronts Operations Archive e n h = absurd (no_operations_text e)
-same_fronts Operations OldArchive e n h = absurd (no_operations_text e)
-same_fronts Operations Summary e n h = cc
-same_fronts Summary Archive e n h = absurd (no_summary_text e)
-same_fronts Summary OldArchive e n h = absurd (no_summary_text e)
-same_fronts Summary Operations e n h = cc
+same_fronts f g e n h = grind (arith, same_front)
 
 pub length-magic : (f : Format) → length (magic_of f) ≡ 8
-length-magic Archive = refl
-length-magic OldArchive = refl
-length-magic Operations = refl
-length-magic Summary = refl
+length-magic f = grind arith
 
 -- bytes that are no magic, or not as one begins, are no file's first
 pub other_magic : (f : Format) (bytes : List ℕ) → length bytes ≡ 8 → bytes ≢ magic_of f → StopsInMagic f bytes BadMagic
@@ -105,23 +73,14 @@ other_front f bytes short other = inl (length bytes, omega (arith, short), omega
 -- the eighth byte of a magic tells its format
 pub format_magic : (f : Format) → kind_of f ≡ Archive_text → (text rest : List ℕ) → text ≡ magic_of f ++ rest → archive_format text ≡ f
 unfolding archive_format
-format_magic Archive is text rest e = ap (λ (t : List ℕ). archive_format t) e
-format_magic OldArchive is text rest e = ap (λ (t : List ℕ). archive_format t) e
-format_magic Operations is text rest e = absurd (no_operations_text is)
-format_magic Summary is text rest e = absurd (no_summary_text is)
+format_magic f is text rest e = grind arith
 
 -- operations and summaries have one format each
 pub operations_form : (f : Format) → kind_of f ≡ Operations_text → f ≡ Operations
-operations_form Operations is = refl
-operations_form Archive is = absurd (no_operations_text (sym is))
-operations_form OldArchive is = absurd (no_operations_text (sym is))
-operations_form Summary is = cc
+operations_form f is = grind arith
 
 pub summary_form : (f : Format) → kind_of f ≡ Summary_text → f ≡ Summary
-summary_form Summary is = refl
-summary_form Archive is = absurd (no_summary_text (sym is))
-summary_form OldArchive is = absurd (no_summary_text (sym is))
-summary_form Operations is = cc
+summary_form f is = grind arith
 
 pub format_read : (kind : TextKind) (f : Format) → kind_of f ≡ kind → (text rest : List ℕ) → text ≡ magic_of f ++ rest → format_for kind text ≡ f
 format_read Archive_text f is text rest e = format_magic f is text rest e
@@ -130,28 +89,15 @@ format_read Summary_text f is text rest e = sym (summary_form f is)
 
 pub kind_archive : (text : List ℕ) → kind_of (archive_format text) ≡ Archive_text
 unfolding archive_format
-kind_archive text = by (eqb (slice_index text 7) 0x31)
-  where
-    by : (b : Bool) → kind_of (cond b OldArchive Archive) ≡ Archive_text
-    by true = refl
-    by false = refl
+kind_archive text = grind arith
 
 pub kind_read : (kind : TextKind) (text : List ℕ) → kind_of (format_for kind text) ≡ kind
 kind_read Archive_text text = kind_archive text
-kind_read Operations_text text = refl
-kind_read Summary_text text = refl
+kind_read _ text = refl
 
 -- what stops in the magic is no byte behind a text
-trailing_device : Trailing ≡ Device → ⊥
-trailing_device h = cc
-
-trailing_memory : Trailing ≡ OutOfMemory → ⊥
-trailing_memory h = cc
-
-no_trailing : (f : Format) (bytes : List ℕ) → StopsInMagic f bytes Trailing → ⊥
-no_trailing f bytes (inl m) = m
-no_trailing f bytes (inr (inl d)) = trailing_device d.0
-no_trailing f bytes (inr (inr d)) = trailing_memory d.0
+no_trailing : (f : Format) (bytes : List ℕ) (why : RecordFaultKind) → StopsInMagic f bytes why → why ≢ Trailing
+no_trailing f bytes why stops = grind arith
 
 pub begun_no_trailing : (kind : TextKind) (bytes : List ℕ) (why : RecordFaultKind) → StopsInMagicOf kind bytes why → why ≢ Trailing
-begun_no_trailing kind bytes why stops e = no_trailing (format_for kind bytes) bytes (subst (StopsInMagic (format_for kind bytes) bytes) e (stops (format_for kind bytes) (kind_read kind bytes)))
+begun_no_trailing kind bytes why stops = no_trailing (format_for kind bytes) bytes why (stops (format_for kind bytes) (kind_read kind bytes))

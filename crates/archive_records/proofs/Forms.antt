@@ -1,27 +1,27 @@
 -- A record as the bytes of a retirement or of an admission.
-use Rattle.std.proofs.Common.{◌≡◌, ℕ, suc, ◌+◌, ◌<◌, ◌≤◌, eqb, false, List, [], ◌∷◌, ◌++◌, ◌^◌, length, get_or, take, drop, Option, Some, None, Ok, refl, sym, ap, ◌∙◌, subst, arith, inl, inr, ◌⊎◌, length-append, length-drop}
-use Rattle.std.proofs.lemmas.Bool.{cases_Bool, cases_lt, eqb-true, false≢true}
+use Rattle.std.proofs.Common.{lit≤, ◌≡◌, ℕ, suc, ◌+◌, ◌<◌, ◌≤◌, false, List, [], ◌∷◌, ◌++◌, ◌^◌, length, get_or, take, drop, Option, Some, None, Ok, refl, sym, ap, ◌∙◌, subst, arith, inl, inr, ◌⊎◌, length-append, length-drop}
+use Rattle.std.proofs.lemmas.Bool.Decides.{nat_tests}
+use Rattle.std.proofs.lemmas.Bool.{cases_lt}
 use Rattle.std.proofs.lemmas.List.{take_all, take_at, drop_at, length-take, get_or-take, get_or-drop, get_or_past, take-append-drop, drop-drop}
 use Rattle.std.proofs.lemmas.Nat.{be_bytes_4, be_bytes_8, from_be_bytes-to_be_bytes_8}
 use Rattle.std.specs.Int.{w32, w64, from_be_bytes, to_be_bytes}
 use Rattle.archive_core.specs.Key.{IsKey, key_bytes}
 use Rattle.archive_core.specs.Valid.{IsValid, key_of}
-use Rattle.archive_core.specs.Record.{admission, admission_record, retirement_record, Admits, Retires, IsRecord}
+use Rattle.archive_core.specs.Record.{admission, admission_record, Admits, Retires, IsRecord}
 use Rattle.archive_core.specs.declared.keys.SliceKey.{SliceKey}
 use Rattle.archive_core.specs.declared.slices.SliceFacts.{SliceFacts}
 use Rattle.archive_core.proofs.Compare.{length_key_bytes}
 use Rattle.archive_core.proofs.Records.{length-key_of}
 use Rattle.archive_records.specs.declared.fault.RecordFaultKind.{RecordFaultKind}
-use Rattle.archive_records.specs.declared.fault.RecordFaultKind.TheVariants.{BadMagic, Truncated, BadTag, TooLarge, NotAscending, BadSlice, KeyMismatch, BadCount, Trailing, Device, OutOfMemory, Covered}
-use Rattle.archive_records.specs.Layout.{head_length, slice_length, admission_body, body_length, framed}
+use Rattle.archive_records.specs.declared.fault.RecordFaultKind.TheVariants.{BadSlice, KeyMismatch}
+use Rattle.archive_records.specs.Layout.{head_length, slice_length, largest_slice, admission_body, body_length, framed, framed_behind}
 use Rattle.archive_records.specs.Kind.{IsItem, kind_of, admission_length}
 use Rattle.archive_records.specs.Entry.{IsEntry}
 use Rattle.archive_records.specs.Fault.{is_end, RefusesSlice, Refuses}
-use Rattle.archive_records.specs.Reader.{IsFound, IsFoundIn}
-use Rattle.archive_records.proofs.Formats.{framed_old}
+use Rattle.archive_records.specs.Reader.{IsFoundIn}
 use Rattle.archive_records.proofs.Framed.{framed-whole}
 use Rattle.archive_core.proofs.Heads.{read_key}
-use Rattle.archive_records.proofs.Holds.{holds, done, body_one, body_two, whole-retirement, whole-admission}
+use Rattle.archive_records.proofs.Holds.{body_one, body_two, whole-retirement}
 use Rattle.archive_records.proofs.SliceFacts.{short_slice, no_slice_fault}
 use Rattle.archive_records.specs.declared.format.Format.{Format}
 use Rattle.archive_records.specs.declared.format.Format.TheVariants.{Archive, OldArchive, Operations, Summary}
@@ -88,28 +88,13 @@ unfolding is_end
 record-item r (inl a) = rw (parts-of r a).tag refl
 record-item r (inr t) = rw (parts-retires r t).tag refl
 
-one_two : (r : List ℕ) → Retires r → get_or r 0 0 ≡ 2 → ⊥
-one_two r t two = omega (arith, (parts-retires r t).tag)
-
 -- its slice is not refused
 record-slice : (r : List ℕ) (kind : RecordFaultKind) → IsRecord r → RefusesSlice r kind → ⊥
 record-slice r (BadSlice fault) (inl a) f = no_slice_fault a.slice fault a.valid (rw (parts-of r a).slice_is at f.1)
-record-slice r (BadSlice fault) (inr t) f = one_two r t f.0
+record-slice r (BadSlice fault) (inr t) f = omega (arith, (parts-retires r t).tag, f.0)
 record-slice r KeyMismatch (inl a) f = let p = parts-of r a in f.2 (p.key ∙ ap (λ (s : List ℕ). key_bytes (key_of s)) (sym p.slice_is))
-record-slice r KeyMismatch (inr t) f = one_two r t f.0
-record-slice r BadMagic i f = f
-record-slice r Truncated i f = f
-record-slice r BadTag i f = f
-record-slice r TooLarge i f = f
-record-slice r NotAscending i f = f
-record-slice r BadCount i f = f
-record-slice r Trailing i f = f
-record-slice r Device i f = f
-record-slice r OutOfMemory i f = f
-record-slice r Covered i f = f
-
-cons_both : (a b : ℕ) (xs ys : List ℕ) → a ≡ b → xs ≡ ys → a ∷ xs ≡ b ∷ ys
-cons_both a b xs ys p q = cc
+record-slice r KeyMismatch (inr t) f = omega (arith, (parts-retires r t).tag, f.0)
+record-slice r _ i f = f
 
 -- whole bytes with an admission's tag, a slice and its key are an admission's record
 pub admits : (bytes : List ℕ) → (get_or bytes 0 0 ≡ 2) × (slice_length bytes + 33 ≡ length bytes) → IsValid (drop 33 bytes) → take 24 (drop 1 bytes) ≡ key_bytes (key_of (drop 33 bytes)) → IsBytes bytes → Admits bytes
@@ -126,20 +111,14 @@ admits (b ∷ bs) p valid key fits =
     record {
       slice = slice;
       valid = valid;
-      is = cons_both b 2 bs (key_bytes (key_of slice) ++ (to_be_bytes w64 (length slice) ++ slice)) p.0
-          (sym (ap (λ (t : List ℕ). t ++ (to_be_bytes w64 (length slice) ++ slice)) (sym key) ∙ ap (λ (t : List ℕ). take 24 bs ++ t) rest ∙ take-append-drop 24 bs));
+      is = cc (p.0, sym (ap (λ (t : List ℕ). t ++ (to_be_bytes w64 (length slice) ++ slice)) (sym key) ∙ ap (λ (t : List ℕ). take 24 bs ++ t) rest ∙ take-append-drop 24 bs));
     }
 
 -- where something was found, or nothing was to be found, it is a record
-record-found : (bytes : List ℕ) (found : Option SliceFacts) → IsFound bytes found → IsRecord bytes
-record-found bytes None t = inr t
-record-found bytes (Some facts) a = inl a.0
-
 pub item-found : (file : Format) (item : List ℕ) (found : Option SliceFacts) → IsFoundIn (kind_of file) item found → IsItem file item
-item-found Archive item found is = record-found item found is
-item-found OldArchive item found is = record-found item found is
-item-found Operations item found is = record-found item found is
 item-found Summary item found is = is.0
+item-found _ item None is = inr is
+item-found _ item (Some facts) is = inl is.0
 
 pub long-retirement : (bytes : List ℕ) → Retires bytes → length bytes ≡ 57
 long-retirement bytes t = (parts-retires bytes t).long
@@ -154,20 +133,11 @@ long-admission bytes a = omega (arith, (parts-of bytes a).long)
 pub tagged_is : (tag : ℕ) (bytes : List ℕ) (key : SliceKey) (digest : List ℕ) → length bytes ≡ 57 → get_or bytes 0 0 ≡ tag → key_bytes key ≡ take 24 (drop 1 bytes) → digest ≡ take 32 (drop 25 bytes) → tag ∷ (key_bytes key ++ digest) ≡ bytes
 tagged_is tag [] key digest long is k d = absurd (omega arith)
 tagged_is tag (b ∷ bs) key digest long is k d =
-    cons_both tag b (key_bytes key ++ digest) bs (sym is)
-    (ap (λ (t : List ℕ). t ++ digest) k ∙ ap (λ (t : List ℕ). take 24 bs ++ t) (d ∙ take_all 32 (drop 24 bs) (omega (arith, length-drop 24 bs))) ∙ take-append-drop 24 bs)
+    cc (is, ap (λ (t : List ℕ). t ++ digest) k ∙ ap (λ (t : List ℕ). take 24 bs ++ t) (d ∙ take_all 32 (drop 24 bs) (omega (arith, length-drop 24 bs))) ∙ take-append-drop 24 bs)
 
 -- an entry without a retirement's tag has an admission's
 pub other_tag : (bytes : List ℕ) → IsEntry bytes → (get_or bytes 0 0 ≡ 1 → ⊥) → get_or bytes 0 0 ≡ 2
-other_tag bytes is other = by is.tag
-  where
-    by : (get_or bytes 0 0 ≡ 1) ⊎ (get_or bytes 0 0 ≡ 2) → get_or bytes 0 0 ≡ 2
-    by (inl one) = absurd (other one)
-    by (inr two) = two
-
--- the key and the digest make the retirement's record
-pub retired_is : (bytes : List ℕ) (key : SliceKey) (digest : List ℕ) → length bytes ≡ 57 → get_or bytes 0 0 ≡ 1 → key_bytes key ≡ take 24 (drop 1 bytes) → digest ≡ take 32 (drop 25 bytes) → retirement_record key digest ≡ bytes
-retired_is bytes key digest long tag k d = tagged_is 1 bytes key digest long tag k d
+other_tag bytes is other = grind arith
 
 -- the slice of an admission's record, and its record again
 pub admitted_valid : (bytes : List ℕ) → Admits bytes → IsValid (drop 33 bytes)
@@ -176,99 +146,56 @@ admitted_valid bytes a = subst IsValid (sym (parts-of bytes a).slice_is) a.valid
 pub admitted_is : (bytes slice : List ℕ) → Admits bytes → slice ≡ drop 33 bytes → admission_record slice ≡ bytes
 admitted_is bytes slice a e = ap admission_record (e ∙ (parts-of bytes a).slice_is) ∙ sym a.is
 
+item_whole : (file : Format) (item : List ℕ) (head body : ℕ) → head_length file (get_or item 0 0) ≡ Some head → body_length file item ≡ body → length item ≡ head + body → 1 ≤ head → body ≤ largest_slice → framed file item ≡ Ok (length item)
+item_whole file item head body tag is long one small = framed-whole file item head (omega arith) tag (omega arith) (omega arith) (omega arith) ∙ ap (λ (n : ℕ). Ok n) (omega arith)
+
 -- a record is whole where its slice stands behind an admission's head
-module _ (file : Format) (head : admission_length file ≡ 33) (behind : (bytes : List ℕ) → admission_body file bytes ≡ slice_length bytes) where
-  record-framed : (r : List ℕ) → IsRecord r → framed file r ≡ Ok (length r)
-  unfolding head_length
-  record-framed r (inl a) =
-      let p = parts-of r a in
-      let long = p.long in
-      let body : body_length file r ≡ length a.slice = body_two file r p.tag ∙ behind r ∙ p.number in
-      let short = short_slice a.slice a.valid in
-      framed-whole file r 33 (omega arith) (ap (head_length file) p.tag ∙ ap (λ (n : ℕ). Some n) head) (omega arith) (omega (arith, body)) (omega (arith, body)) ∙ ap (λ (n : ℕ). Ok n) (omega (arith, body))
-  record-framed r (inr t) =
-      let p = parts-retires r t in
-      let long = p.long in
-      let body : body_length file r ≡ 0 = body_one file r p.tag in
-      framed-whole file r 57 (omega arith) (ap (head_length file) p.tag) (omega arith) (omega (arith, body)) (omega (arith, body)) ∙ ap (λ (n : ℕ). Ok n) (omega (arith, body))
+record-framed : (file : Format) → admission_length file ≡ 33 → ((bytes : List ℕ) → admission_body file bytes ≡ slice_length bytes) → (r : List ℕ) → IsRecord r → framed file r ≡ Ok (length r)
+unfolding head_length
+record-framed file head behind r (inl a) =
+    let p = parts-of r a in
+    let short = short_slice a.slice a.valid in
+    item_whole file r 33 (length a.slice) (ap (head_length file) p.tag ∙ ap (λ (n : ℕ). Some n) head) (body_two file r p.tag ∙ behind r ∙ p.number) p.long (lit≤ tt) (omega arith)
+record-framed file head behind r (inr t) =
+    let p = parts-retires r t in
+    item_whole file r 57 0 (ap (head_length file) p.tag) (body_one file r p.tag) p.long (lit≤ tt) (lit≤ tt)
 
 -- an entry is whole, and no end record
-by_tag-framed : (item : List ℕ) → (get_or item 0 0 ≡ 1) ⊎ (get_or item 0 0 ≡ 2) → length item ≡ 57 → framed Summary item ≡ Ok (length item)
-unfolding head_length
-by_tag-framed item (inl one) long =
-    let body : body_length Summary item ≡ 0 = body_one Summary item one in
-    framed-whole Summary item 57 (omega arith) (ap (head_length Summary) one) (omega arith) (omega (arith, body)) (omega (arith, body)) ∙ ap (λ (n : ℕ). Ok n) (omega (arith, body))
-by_tag-framed item (inr two) long =
-    let body : body_length Summary item ≡ 0 = body_two Summary item two in
-    framed-whole Summary item 57 (omega arith) (ap (head_length Summary) two) (omega arith) (omega (arith, body)) (omega (arith, body)) ∙ ap (λ (n : ℕ). Ok n) (omega (arith, body))
-
 pub entry-framed : (item : List ℕ) → IsEntry item → framed Summary item ≡ Ok (length item)
-entry-framed item is = by_tag-framed item is.tag is.long
-
-by_tag-no_end : (item : List ℕ) → (get_or item 0 0 ≡ 1) ⊎ (get_or item 0 0 ≡ 2) → is_end item ≡ false
-unfolding is_end
-by_tag-no_end item (inl one) = rw one refl
-by_tag-no_end item (inr two) = rw two refl
+unfolding framed framed_behind head_length body_length
+entry-framed item is = grind (arith, nat_tests)
 
 entry-no_end : (item : List ℕ) → IsEntry item → is_end item ≡ false
-entry-no_end item is = by_tag-no_end item is.tag
+unfolding is_end
+entry-no_end item is = grind (arith, nat_tests)
 
 -- whole bytes of a summary that are no end record are an entry
 pub entry-of : (bytes : List ℕ) → framed Summary bytes ≡ Ok (length bytes) → is_end bytes ≡ false → IsEntry bytes
-entry-of bytes whole no_end =
-    elim (cases_Bool (eqb (get_or bytes 0 0) 1)) [
-      | inl one ↦ let tag = eqb-true _ _ one in record { tag = inl tag; long = whole-retirement Summary bytes whole tag }
-      | inr other ↦
-          let form = whole-admission Summary bytes whole no_end (λ tag. false≢true (sym other ∙ ap (λ (x : ℕ). eqb x 1) tag)) in
-          record { tag = inr form.0; long = omega (arith, form.1) }
-    ]
+unfolding framed framed_behind head_length is_end body_length
+entry-of bytes whole no_end = grind (arith, nat_tests)
 
 -- an item is whole, is no end record, and is not refused for what it holds
 pub item-framed : (file : Format) (item : List ℕ) → IsItem file item → framed file item ≡ Ok (length item)
-item-framed Archive item is = record-framed Archive refl (λ bytes. refl) item is
-item-framed OldArchive item is = framed_old item ∙ record-framed Archive refl (λ bytes. refl) item is
-item-framed Operations item is = record-framed Operations refl (λ bytes. refl) item is
 item-framed Summary item is = entry-framed item is
+item-framed file item is = record-framed file refl (λ bytes. refl) item is
 
 pub item-no_end : (file : Format) (item : List ℕ) → IsItem file item → is_end item ≡ false
-item-no_end Archive item is = record-item item is
-item-no_end OldArchive item is = record-item item is
-item-no_end Operations item is = record-item item is
 item-no_end Summary item is = entry-no_end item is
+item-no_end _ item is = record-item item is
 
 pub item-refused : (file : Format) (item : List ℕ) (kind : RecordFaultKind) → IsItem file item → Refuses file item kind → ⊥
-item-refused Archive item kind is refused = record-slice item kind is refused
-item-refused OldArchive item kind is refused = record-slice item kind is refused
-item-refused Operations item kind is refused = record-slice item kind is refused
 item-refused Summary item kind is refused = refused
+item-refused _ item kind is refused = record-slice item kind is refused
 
 -- what is refused is a slice
 pub refused_slice : (file : Format) (bytes : List ℕ) (kind : RecordFaultKind) → Refuses file bytes kind → RefusesSlice bytes kind
-refused_slice Archive bytes kind refused = refused
-refused_slice OldArchive bytes kind refused = refused
-refused_slice Operations bytes kind refused = refused
 refused_slice Summary bytes kind refused = absurd refused
+refused_slice _ bytes kind refused = refused
 
--- whole records of operations are framed as in an archive
-same_head : (tag head : ℕ) → (tag ≡ 3 → ⊥) → head_length Operations tag ≡ Some head → head_length Archive tag ≡ Some head
-unfolding head_length
-same_head tag head other e =
-    elim (cases_Bool (eqb tag 3)) [
-      | inl three ↦ absurd (other (eqb-true _ _ three))
-      | inr below ↦ rw below (rw below at e)
-    ]
-
-operations_framed : (bytes : List ℕ) → framed Operations bytes ≡ Ok (length bytes) → is_end bytes ≡ false → framed Archive bytes ≡ Ok (length bytes)
-unfolding is_end body_length
-operations_framed bytes whole no_end =
-    let h = holds Operations bytes (length bytes) whole in
-    let tag : head_length Archive (get_or bytes 0 0) ≡ Some h.head = same_head (get_or bytes 0 0) h.head (λ three. false≢true (sym no_end ∙ ap (λ (t : ℕ). eqb t 3) three)) h.tag in
-    framed-whole Archive bytes h.head h.one tag h.long h.small (omega (arith, h.is)) ∙ ap done (sym h.is)
-
+-- whole records of operations are framed as in an archive, of either version
 pub archive_framed : (file : Format) → (file ≡ Archive) ⊎ (file ≡ OldArchive) ⊎ (file ≡ Operations) → (bytes : List ℕ) → framed file bytes ≡ Ok (length bytes) → is_end bytes ≡ false → framed Archive bytes ≡ Ok (length bytes)
-archive_framed file (inl is) bytes whole no_end = subst (λ (f : Format). framed f bytes ≡ Ok (length bytes)) is whole
-archive_framed file (inr (inl is)) bytes whole no_end = sym (framed_old bytes) ∙ subst (λ (f : Format). framed f bytes ≡ Ok (length bytes)) is whole
-archive_framed file (inr (inr is)) bytes whole no_end = operations_framed bytes (subst (λ (f : Format). framed f bytes ≡ Ok (length bytes)) is whole) no_end
+unfolding framed framed_behind head_length is_end body_length
+archive_framed file is bytes whole no_end = grind (arith, nat_tests)
 
 -- whole bytes with a retirement's tag are a retirement's record
 retires_with : (bytes : List ℕ) (key : SliceKey) → framed Archive bytes ≡ Ok (length bytes) → get_or bytes 0 0 ≡ 1 → key_bytes key ≡ take 24 (drop 1 bytes) → IsKey key → Retires bytes
@@ -280,7 +207,7 @@ retires_with (b ∷ bs) key f tag k w =
       digest = drop 24 bs;
       is_key = w;
       long = omega (arith, length-drop 24 bs);
-      is = cons_both b 1 bs (key_bytes key ++ drop 24 bs) tag (sym (ap (λ (t : List ℕ). t ++ drop 24 bs) k ∙ take-append-drop 24 bs));
+      is = cc (tag, ap (λ (t : List ℕ). t ++ drop 24 bs) k ∙ take-append-drop 24 bs);
     }
 
 be_small : (bs : List ℕ) → length bs ≡ 4 → IsBytes bs → from_be_bytes w32 bs < 2 ^ 32

@@ -1,6 +1,7 @@
 -- What the retirements that were read say of a record, and what was found out of it.
-use Rattle.std.proofs.Common.{◌≡◌, ℕ, Bool, true, false, ◌&&◌, ◌||◌, List, [], ◌∷◌, length, get_or, drop, sym, ap, subst, ◌∙◌, arith, inl, inr}
-use Rattle.std.proofs.lemmas.Bool.{false≢true, eqb-true}
+use Rattle.std.proofs.Common.{◌≡◌, ℕ, Bool, true, false, ◌||◌, List, [], ◌∷◌, length, get_or, drop, sym, ap, subst, ◌∙◌, arith, inl, inr}
+use Rattle.std.proofs.lemmas.Bool.Decides.{nat_tests}
+use Rattle.std.proofs.lemmas.Bool.{false≢true}
 use Rattle.sha2.specs.Sha256.{sha256}
 use Rattle.std.specs.Prelude.{is_some}
 use Rattle.std.specs.Cmp.Lexicographic.{nat_list_cmp_total}
@@ -9,11 +10,11 @@ use Rattle.std.specs.Prelude.{Option, None, Some}
 use Rattle.macho_image.proofs.Told.{has_header}
 use Rattle.archive_core.specs.declared.slices.SliceFacts.{SliceFacts}
 use Rattle.archive_core.specs.Valid.{IsValid, key_of}
-use Rattle.archive_core.specs.Content.{is_admission, covering, is_covered}
+use Rattle.archive_core.specs.Content.{is_covered}
 use Rattle.archive_core.specs.Record.{IsRecord, Admits, Retires, retirement_record}
 use Rattle.archive_core.proofs.Words.{covered_slice}
 use Rattle.archive_records.specs.declared.format.Format.{Format}
-use Rattle.archive_records.specs.declared.format.Format.TheVariants.{Archive, OldArchive, Operations, Summary}
+use Rattle.archive_records.specs.declared.format.Format.TheVariants.{Summary}
 use Rattle.archive_records.specs.Entry.{IsEntry}
 use Rattle.archive_records.specs.Kind.{kind_of}
 use Rattle.archive_records.specs.Reader.{set_of, Keeps, IsFound as IsFoundOf, IsFoundIn, IsFoundOfLast}
@@ -22,12 +23,9 @@ use Rattle.archive_records.proofs.Contents.{same_bytes}
 use Rattle.archive_records.proofs.KeptRecords.{long_record}
 use Rattle.archive_records.proofs.Apart.{is_false, same_as}
 
-no_admission : (x : List ℕ) → get_or x 0 0 ≡ 1 → is_admission x ≡ false
-no_admission x e = is_false (is_admission x) (λ a. absurd (omega (arith, e, eqb-true (get_or x 0 0) 2 a)))
-
 -- a retirement is not covered
 pub uncovered_retirement : (old : List (List ℕ)) (x : List ℕ) → get_or x 0 0 ≡ 1 → is_covered (set_of old) x ≡ false
-uncovered_retirement old x tag = ap (λ b. b && contains (set_of old) (covering x)) (no_admission x tag)
+uncovered_retirement old x tag = grind (arith, nat_tests)
 
 -- an admission is covered where the retirement of its slice is there
 pub covered_admission : (old : List (List ℕ)) (bytes slice : List ℕ) → Admits bytes → slice ≡ drop 33 bytes → contains (set_of old) (retirement_record (key_of slice) (sha256 slice)) ≡ is_covered (set_of old) bytes
@@ -46,17 +44,10 @@ retired_entry bytes is (inl a) = absurd (no_admission_entry bytes is a)
 retired_entry bytes is (inr t) = t
 
 pub found_last : (file : Format) (bytes : List ℕ) (found : Option SliceFacts) → IsFoundIn (kind_of file) bytes found → IsFoundOfLast bytes found
-found_last Archive bytes None is = λ _. is
-found_last Archive bytes (Some facts) is = is
-found_last OldArchive bytes None is = λ _. is
-found_last OldArchive bytes (Some facts) is = is
-found_last Operations bytes None is = λ _. is
-found_last Operations bytes (Some facts) is = is
 found_last Summary bytes None is = retired_entry bytes is.0
-found_last Summary bytes (Some facts) is = absurd (some_none is.1)
-  where
-    some_none : Some facts ≡ None → ⊥
-    some_none e = cc
+found_last Summary bytes (Some facts) is = absurd (cc is.1)
+found_last _ bytes None is = λ _. is
+found_last _ bytes (Some facts) is = is
 
 -- where nothing was read, nothing is to be found out
 pub nothing_last : (bytes : List ℕ) → bytes ≡ [] → IsFoundOfLast bytes None

@@ -1,8 +1,9 @@
 -- What stands at the front of bytes, test by test.
-use Rattle.std.proofs.Common.{◌≡◌, ◌⊎◌, ℕ, ◌+◌, ◌<◌, ◌≤◌, false, List, ◌++◌, length, get_or, take, drop, Option, Some, None, Ok, Err, refl, sym, ap, ◌∙◌, arith, inl, inr, length-append, length-drop, eq-eqb, eqb}
+use Rattle.std.proofs.Common.{◌≡◌, ◌⊎◌, ℕ, ◌+◌, ◌<◌, ◌≤◌, List, ◌++◌, length, get_or, take, drop, Some, None, Ok, Err, refl, sym, ap, ◌∙◌, arith, length-append, length-drop}
 use Rattle.std.proofs.lemmas.List.{get_or_append_left, drop-append-le, take-append-le}
 use Rattle.std.specs.Int.{w64, from_be_bytes}
-use Rattle.std.proofs.lemmas.Bool.{le-ltb, lt-ltb, eqb-true, cases_Bool}
+use Rattle.std.proofs.lemmas.Bool.Decides.{nat_tests}
+use Rattle.std.proofs.lemmas.Bool.{le-ltb, lt-ltb}
 use Rattle.archive_records.specs.declared.fault.RecordFaultKind.{RecordFaultKind}
 use Rattle.archive_records.specs.declared.fault.RecordFaultKind.TheVariants.{Truncated, BadTag, TooLarge}
 use Rattle.archive_records.specs.Layout.{head_length, admission_body, body_length, slice_length, largest_slice, framed, framed_behind}
@@ -11,25 +12,8 @@ use Rattle.archive_records.specs.Kind.{admission_length}
 use Rattle.archive_records.specs.declared.format.Format.{Format}
 use Rattle.archive_records.specs.declared.format.Format.TheVariants.{Archive, OldArchive, Operations, Summary}
 
-same_tag : (bytes more : List ℕ) → 1 ≤ length bytes → get_or (bytes ++ more) 0 0 ≡ get_or bytes 0 0
+pub same_tag : (bytes more : List ℕ) → 1 ≤ length bytes → get_or (bytes ++ more) 0 0 ≡ get_or bytes 0 0
 same_tag bytes more le = get_or_append_left bytes more 0 0 le
-
-abbrev pub none : Option ℕ
-none = None
-
-abbrev pub some : ℕ → Option ℕ
-some x = Some x
-
-pub some_is : (x y : ℕ) → some x ≡ some y → x ≡ y
-some_is x y e = cc
-
-body-is : (file : Format) (bytes : List ℕ) → get_or bytes 0 0 ≡ 2 → body_length file bytes ≡ admission_body file bytes
-unfolding body_length
-body-is file bytes e = rw (eq-eqb _ _ e) refl
-
-body-none : (file : Format) (bytes : List ℕ) → eqb (get_or bytes 0 0) 2 ≡ false → body_length file bytes ≡ 0
-unfolding body_length
-body-none file bytes e = rw e refl
 
 slice_kept : (bytes more : List ℕ) → 33 ≤ length bytes → slice_length (bytes ++ more) ≡ slice_length bytes
 unfolding slice_length
@@ -38,15 +22,11 @@ slice_kept bytes more le =
 
 -- the number in an admission's head, where its slice stands behind it
 pub slice_body : (file : Format) → (file ≡ Archive) ⊎ (file ≡ OldArchive) ⊎ (file ≡ Operations) → (bytes : List ℕ) (n : ℕ) → n ≡ slice_length bytes → n ≡ admission_body file bytes
-slice_body file (inl is) bytes n e = rw is e
-slice_body file (inr (inl is)) bytes n e = rw is e
-slice_body file (inr (inr is)) bytes n e = rw is e
+slice_body file is bytes n e = grind arith
 
 admission_kept : (file : Format) (bytes more : List ℕ) → admission_length file ≤ length bytes → admission_body file (bytes ++ more) ≡ admission_body file bytes
-admission_kept Archive bytes more le = slice_kept bytes more le
-admission_kept OldArchive bytes more le = slice_kept bytes more le
-admission_kept Operations bytes more le = slice_kept bytes more le
 admission_kept Summary bytes more le = refl
+admission_kept _ bytes more le = slice_kept bytes more le
 
 module _ (file : Format) where
   pub framed-empty : (bytes : List ℕ) → length bytes < 1 → framed file bytes ≡ Err Truncated
@@ -61,33 +41,20 @@ module _ (file : Format) where
   unfolding framed
   framed-tag bytes head le h = rw (le-ltb _ _ le, h) refl
 
-  pub framed-head : (bytes : List ℕ) (head : ℕ) → 1 ≤ length bytes → head_length file (get_or bytes 0 0) ≡ Some head → length bytes < head → framed file bytes ≡ Err Truncated
-  unfolding framed_behind
-  framed-head bytes head le h lt = framed-tag bytes head le h ∙ rw (lt-ltb _ _ lt) refl
-
   pub framed-large : (bytes : List ℕ) (head : ℕ) → 1 ≤ length bytes → head_length file (get_or bytes 0 0) ≡ Some head → head ≤ length bytes → largest_slice < body_length file bytes → framed file bytes ≡ Err TooLarge
   unfolding framed_behind
   framed-large bytes head le h long large = framed-tag bytes head le h ∙ rw (le-ltb _ _ long, lt-ltb _ _ large) refl
-
-  pub framed-body : (bytes : List ℕ) (head : ℕ) → 1 ≤ length bytes → head_length file (get_or bytes 0 0) ≡ Some head → head ≤ length bytes → body_length file bytes ≤ largest_slice → length bytes < head + body_length file bytes → framed file bytes ≡ Err Truncated
-  unfolding framed_behind
-  framed-body bytes head le h long small lt = framed-tag bytes head le h ∙ rw (le-ltb _ _ long, le-ltb _ _ small, lt-ltb _ _ lt) refl
 
   pub framed-whole : (bytes : List ℕ) (head : ℕ) → 1 ≤ length bytes → head_length file (get_or bytes 0 0) ≡ Some head → head ≤ length bytes → body_length file bytes ≤ largest_slice → head + body_length file bytes ≤ length bytes → framed file bytes ≡ Ok (head + body_length file bytes)
   unfolding framed_behind
   framed-whole bytes head le h long small le' = framed-tag bytes head le h ∙ rw (le-ltb _ _ long, le-ltb _ _ small, le-ltb _ _ le') refl
 
   pub same_body : (bytes more : List ℕ) (head : ℕ) → 1 ≤ length bytes → head_length file (get_or bytes 0 0) ≡ Some head → head ≤ length bytes → body_length file (bytes ++ more) ≡ body_length file bytes
-  unfolding head_length
+  unfolding head_length body_length
   same_body bytes more head le h long =
       let tag : get_or (bytes ++ more) 0 0 ≡ get_or bytes 0 0 = same_tag bytes more le in
-      elim (cases_Bool (eqb (get_or bytes 0 0) 2)) [
-        | inl same ↦
-            let two : get_or bytes 0 0 ≡ 2 = eqb-true _ _ same in
-            let whole : admission_length file ≡ head = some_is (admission_length file) head (sym (ap (head_length file) two) ∙ h) in
-            body-is file (bytes ++ more) (tag ∙ two) ∙ admission_kept file bytes more (omega arith) ∙ sym (body-is file bytes two)
-        | inr other ↦ body-none file (bytes ++ more) (ap (λ (t : ℕ). eqb t 2) tag ∙ other) ∙ sym (body-none file bytes other)
-      ]
+      let kept : admission_length file ≤ length bytes → admission_body file (bytes ++ more) ≡ admission_body file bytes = admission_kept file bytes more in
+      grind (arith, nat_tests)
 
   -- a part of a record that came
 
@@ -102,18 +69,18 @@ module _ (file : Format) where
     long_kept = rw grows (omega (arith, length-append bytes more))
 
     pub grown-head : length grown < head → framed file grown ≡ Err Truncated
-    grown-head lt = framed-head grown head long_kept tag_kept lt
-
-    pub grown-large : head ≤ length grown → largest_slice < body_length file grown → framed file grown ≡ Err TooLarge
-    grown-large long large = framed-large grown head long_kept tag_kept long large
+    unfolding framed_behind
+    grown-head lt = framed-tag grown head long_kept tag_kept ∙ rw (lt-ltb _ _ lt) refl
 
     body_kept : head ≤ length bytes → body_length file grown ≡ body_length file bytes
     body_kept long = ap (body_length file) grows ∙ same_body bytes more head le h long
 
     pub grown-body : head ≤ length bytes → body_length file bytes ≤ largest_slice → length grown < head + body_length file bytes → framed file grown ≡ Err Truncated
+    unfolding framed_behind
     grown-body long small lt =
         let b : body_length file grown ≡ body_length file bytes = body_kept long in
-        framed-body grown head long_kept tag_kept (rw grows (omega (arith, length-append bytes more))) (rw b small) (rw b lt)
+        let all : head ≤ length grown = rw grows (omega (arith, length-append bytes more)) in
+        framed-tag grown head long_kept tag_kept ∙ rw (le-ltb _ _ all, b, le-ltb _ _ small, lt-ltb _ _ lt) refl
 
     pub grown-whole : head ≤ length bytes → body_length file bytes ≤ largest_slice → length grown ≡ head + body_length file bytes → framed file grown ≡ Ok (length grown)
     grown-whole long small len =

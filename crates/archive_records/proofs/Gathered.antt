@@ -1,5 +1,5 @@
 -- What one pass over the records of a file made, and that it came to its end.
-use Rattle.std.proofs.Common.{◌≡◌, ℕ, List, [], Option, Some, refl, subst}
+use Rattle.std.proofs.Common.{◌≡◌, ℕ, List, [], Option, Some, subst, arith}
 use Rattle.std.proofs.lemmas.List.{append-nil}
 use Rattle.std.specs.Io.KnownBytes.{Consumes}
 use Rattle.byte_device.proofs.Known.{Consumes-then}
@@ -9,7 +9,6 @@ use Rattle.archive_records.specs.Reader.{Position, GathersAll, IsGathered}
 use Rattle.archive_records.specs.declared.kind.TextKind.{TextKind}
 use Rattle.archive_records.specs.declared.kind.TextKind.TheVariants.{Operations as Operations_text}
 use Rattle.archive_records.specs.declared.format.Format.{Format}
-use Rattle.archive_records.specs.declared.format.Format.TheVariants.{Archive, OldArchive, Operations, Summary}
 
 -- what was made of all records, with nothing read behind them
 pub gathered : {T : Type 0} (kind : TextKind) (Makes : List (List ℕ) → T → Type 0) (a b c : Option (List ℕ)) (value : T) (position : Position) (format : Format) → kind_of format ≡ kind → GathersAll format Makes a b value position → Consumes b c [] → IsGathered kind Makes a c value
@@ -26,7 +25,4 @@ gathered kind Makes a b c value position format is all more = record {
 
 -- a file that is not open has an end record
 pub closed_end : (format : Format) → (kind_of format ≡ Operations_text → ⊥) → end_length format ≡ Some 9
-closed_end Archive closed = refl
-closed_end OldArchive closed = refl
-closed_end Operations closed = absurd (closed refl)
-closed_end Summary closed = refl
+closed_end format closed = grind arith

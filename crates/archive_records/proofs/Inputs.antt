@@ -1,7 +1,8 @@
 -- From the bytes that were read to the whole input.
 use Rattle.std.proofs.Common.{◌≡◌, ◌≢◌, ℕ, ◌<◌, ◌≤◌, ◌^◌, true, List, [], ◌∷◌, ◌++◌, length, Option, Some, None, Err, refl, sym, ap, ◌∙◌, subst, arith, inl, inr, ◌⊎◌, append_assoc, length-append}
 use Rattle.std.proofs.lemmas.List.{append-nil, take-append-le}
-use Rattle.std.specs.Prelude.{IfSome, All, map}
+use Rattle.std.specs.Prelude.{IfSome, All, map, take}
+use Rattle.std.proofs.lemmas.Option.{IfSome_then}
 use Rattle.std.specs.List.{concat}
 use Rattle.std.specs.Io.KnownBytes.{Consumes, IsAtEnd}
 use Rattle.std.specs.Cmp.Lexicographic.{nat_list_cmp_total}
@@ -14,13 +15,13 @@ use Rattle.archive_core.specs.Content.{Operations, IsContent, content_of}
 use Rattle.archive_core.specs.Summary.{Entries}
 use Rattle.archive_records.specs.Entry.{AreEntries}
 use Rattle.archive_records.specs.declared.fault.RecordFaultKind.{RecordFaultKind}
-use Rattle.archive_records.specs.declared.fault.RecordFaultKind.TheVariants.{BadMagic, Truncated, BadTag, TooLarge, NotAscending, BadSlice, KeyMismatch, BadCount, Trailing, Device, OutOfMemory, Covered}
+use Rattle.archive_records.specs.declared.fault.RecordFaultKind.TheVariants.{BadMagic, Truncated, Trailing, Device, OutOfMemory}
 use Rattle.archive_records.specs.declared.fault.RecordFault.{RecordFault}
 use Rattle.archive_records.specs.Kind.{magic_of, kind_of, archive_format, format_for}
 use Rattle.archive_records.specs.Text.{ending, text_of, InOrder, AreApart, last_of, kept, taken_of, IsArchiveOf, summary_text, IsOperationsText}
 use Rattle.archive_records.specs.Fault.{is_end, FailsBehind, Fails, IsMagicFault, IsFaultBehind, IsUnended, IsOperationsFault, IsSummaryFault, IsFaultOf, IsCutAtMost, IsOfText}
-use Rattle.archive_records.specs.Front.{IsGoodFront, IsFrontLengthOf, IsLongestLengthOf, IsFrontLength, IsLongestLength, front_length}
-use Rattle.archive_records.specs.Reading.{Blames, StandsBehind, DecidesNoFault, HoldsOfTaken, IsMeaning, IsOfMachine, IsReadFront, IsReadWhole, IsRefused, IsTextOf, Meaning, ReadsFront, ReadsWhole}
+use Rattle.archive_records.specs.Front.{IsGoodFront, IsLongestFront, IsFrontLength, IsLongestLength, front_length}
+use Rattle.archive_records.specs.Reading.{Blames, DecidesNoFault, HoldsOfTaken, IsMeaning, IsOfMachine, IsReadFront, IsReadWhole, IsRefused, IsTextOf, Meaning, ReadsFront, ReadsWhole}
 use Rattle.archive_records.specs.Reader.{seen_as, StopsInMagic, Stops, Stopped, HasStopped, IsGathered}
 use Rattle.archive_records.proofs.Grown.{Fails-grows, IsTrailing-grows}
 use Rattle.archive_records.proofs.Longest.{Goes, end-stops, is_longest}
@@ -28,9 +29,10 @@ use Rattle.archive_records.proofs.Puts.{bytes_same, length_written}
 use Rattle.archive_records.proofs.Ends.{end-is_end}
 use Rattle.archive_records.proofs.Contents.{sorted-InOrder, sorted-entries, InOrder-entries, AreEntries-entries, summary_text_is, summary_text-entries, content_is as set_is}
 use Rattle.archive_records.proofs.FaultKinds.{as_itself}
+use Rattle.archive_records.proofs.Undecided.{no_machine}
 use Rattle.archive_records.proofs.Listed.{InOrder-operations, IsOperationsText-text, text_is, one_list}
-use Rattle.archive_records.proofs.Exact.{fails_stop, no_magic_fault, no_fault, no_fault_behind, same_records}
-use Rattle.archive_records.proofs.Formats.{in_order_old, format_read, kind_read, summary_form, no_operations_text, no_summary_text}
+use Rattle.archive_records.proofs.Exact.{fails_stop, no_magic_fault, no_fault, no_fault_behind, one_text}
+use Rattle.archive_records.proofs.Formats.{in_order_old, format_read, kind_read, summary_form}
 use Rattle.archive_records.proofs.Versions.{Formed, formed, formed_content, formed_text, formed_format, no_operations, one_front, kept_set, kept_records, kept_long}
 use Rattle.archive_records.specs.declared.kind.TextKind.{TextKind}
 use Rattle.archive_records.specs.declared.kind.TextKind.TheVariants.{Archive as Archive_text, Operations as Operations_text, Summary as Summary_text}
@@ -51,32 +53,15 @@ pub record AreRead (a b : Option (List ℕ)) (operations : List Operation) : Typ
   pub are : All IsOperation operations
 
 of_text : (kind : RecordFaultKind) → IsOfText kind ⊎ ((kind ≡ Device) ⊎ (kind ≡ OutOfMemory))
-of_text Device = inr (inl refl)
-of_text OutOfMemory = inr (inr refl)
-of_text BadMagic = inl ((λ e. cc), λ e. cc)
-of_text Truncated = inl ((λ e. cc), λ e. cc)
-of_text BadTag = inl ((λ e. cc), λ e. cc)
-of_text TooLarge = inl ((λ e. cc), λ e. cc)
-of_text NotAscending = inl ((λ e. cc), λ e. cc)
-of_text (BadSlice fault) = inl ((λ e. cc), λ e. cc)
-of_text KeyMismatch = inl ((λ e. cc), λ e. cc)
-of_text BadCount = inl ((λ e. cc), λ e. cc)
-of_text Trailing = inl ((λ e. cc), λ e. cc)
-of_text Covered = inl ((λ e. cc), λ e. cc)
+of_text kind = grind arith
 
 part_or_not : (kind : RecordFaultKind) → (kind ≡ Truncated) ⊎ (kind ≢ Truncated)
-part_or_not Truncated = inl refl
-part_or_not BadMagic = inr (λ e. cc)
-part_or_not BadTag = inr (λ e. cc)
-part_or_not TooLarge = inr (λ e. cc)
-part_or_not NotAscending = inr (λ e. cc)
-part_or_not (BadSlice fault) = inr (λ e. cc)
-part_or_not KeyMismatch = inr (λ e. cc)
-part_or_not BadCount = inr (λ e. cc)
-part_or_not Trailing = inr (λ e. cc)
-part_or_not Device = inr (λ e. cc)
-part_or_not OutOfMemory = inr (λ e. cc)
-part_or_not Covered = inr (λ e. cc)
+part_or_not kind = grind arith
+
+-- what holds of each text that an input may be holds of the input
+of_input : (Is : Option (List ℕ) → Type 0) {P : List ℕ → Type 0} (a : Option (List ℕ)) → Is a → ((t : List ℕ) → Is (Some t) → P t) → IfSome a P
+of_input Is None is f = tt
+of_input Is (Some t) is f = f t is
 
 -- ---- the text of an archive that was read
 
@@ -99,8 +84,7 @@ few_in OldArchive is xs a =
     let kept_few : length (kept xs) ≤ length xs = kept_long xs in
     let long : set.len (set.from_list {R = slice_cmp nat_cmp} (kept xs)) ≡ length (kept xs) = ap set.len (kept_set xs b) ∙ sym (length_written (content_of (set.from_list xs))) ∙ ap length (kept_records xs b) in
     omega arith
-few_in Operations_file is xs a = absurd (no_operations_text is)
-few_in Summary_file is xs a = absurd (no_summary_text is)
+few_in _ is xs a = absurd (cc is)
 
 pub IsReadTo-few : (a b : Option (List ℕ)) (o : Operations) → IsReadTo Archive_text a b o → set.len o < 2 ^ 63
 IsReadTo-few a b o r =
@@ -114,42 +98,16 @@ all_taken (Some t) None text k end = absurd k
 all_taken (Some t) (Some ys) text k end = k ∙ ap (λ (y : List ℕ). text ++ y) end ∙ append-nil text
 
 pub IsReadTo-text : (a b : Option (List ℕ)) (o : Operations) → IsReadTo Archive_text a b o → IsAtEnd b → IfSome a (λ t. IsArchiveOf o t)
-IsReadTo-text None b o r end = tt
-IsReadTo-text (Some t) b o r end =
-    let taken = IsReadTo-taken (Some t) b o r in
-    subst (λ (x : List ℕ). IsArchiveOf o x) (sym (all_taken (Some t) b taken.0 taken.2 end)) taken.1
+IsReadTo-text a b o r end =
+    let taken = IsReadTo-taken a b o r in
+    IfSome_then a (all_taken a b taken.0 taken.2 end) (λ t is. subst (λ (x : List ℕ). IsArchiveOf o x) (sym is) taken.1)
 
 -- ---- a fault that was found
 
 unended_grows : (file : Format) (rest more : List ℕ) → IsUnended file rest → IsUnended file (rest ++ more)
-unended_grows Archive rest more u = tt
-unended_grows OldArchive rest more u = tt
-unended_grows Summary_file rest more u = tt
 unended_grows Operations_file [] more u = absurd (u refl)
 unended_grows Operations_file (x ∷ rest) more u = λ e. cc
-
-IsMagicFault-grows : (file : Format) (bytes more : List ℕ) (kind : RecordFaultKind) → kind ≢ Truncated → IsMagicFault file bytes kind → IsMagicFault file (bytes ++ more) kind
-IsMagicFault-grows file bytes more BadMagic p b = (b.0, b.1, omega (arith, length-append bytes more, b.2), λ e. b.3 (sym (take-append-le b.0 bytes more b.2) ∙ e))
-IsMagicFault-grows file bytes more Truncated p b = absurd (p refl)
-IsMagicFault-grows file bytes more BadTag p b = b
-IsMagicFault-grows file bytes more TooLarge p b = b
-IsMagicFault-grows file bytes more NotAscending p b = b
-IsMagicFault-grows file bytes more (BadSlice _) p b = b
-IsMagicFault-grows file bytes more KeyMismatch p b = b
-IsMagicFault-grows file bytes more BadCount p b = b
-IsMagicFault-grows file bytes more Trailing p b = b
-IsMagicFault-grows file bytes more Device p b = b
-IsMagicFault-grows file bytes more OutOfMemory p b = b
-IsMagicFault-grows file bytes more Covered p b = b
-
-device_memory : Device ≡ OutOfMemory → ⊥
-device_memory h = cc
-
-trailing_device : Trailing ≡ Device → ⊥
-trailing_device h = cc
-
-trailing_memory : Trailing ≡ OutOfMemory → ⊥
-trailing_memory h = cc
+unended_grows _ rest more u = tt
 
 covered_grows : (file : Format) (records : List (List ℕ)) (rest more : List ℕ) (kind : RecordFaultKind) → FailsBehind file records rest kind → FailsBehind file records (rest ++ more) kind
 covered_grows Archive records rest more kind f = (
@@ -163,9 +121,7 @@ covered_grows Archive records rest more kind f = (
     covered = f.1.covered;
   },
 )
-covered_grows OldArchive records rest more kind f = f
-covered_grows Operations_file records rest more kind f = f
-covered_grows Summary_file records rest more kind f = f
+covered_grows _ records rest more kind f = f
 
 -- reading stopped in this format
 abbrev pub HasStoppedIn : Format → Option (List ℕ) → Option (List ℕ) → RecordFault → Type 0
@@ -177,10 +133,6 @@ module _ (file : Format) where
   fails_grow : (records : List (List ℕ)) (rest more : List ℕ) (kind : RecordFaultKind) → kind ≢ Truncated → Fails file records rest kind → Fails file records (rest ++ more) kind
   fails_grow records rest more kind p (inl f) = inl (Fails-grows file (last_of [] records) (length records) rest more kind p f)
   fails_grow records rest more kind p (inr f) = inr (covered_grows file records rest more kind f)
-
-  behind_grows : (records : List (List ℕ)) (rest more : List ℕ) (fault : RecordFault) → fault.kind ≢ Truncated → IsFaultBehind file records rest fault → IsFaultBehind file records (rest ++ more) fault
-  behind_grows records rest more fault p (inl f) = inl (fails_grow records rest more fault.kind p f.0, f.1)
-  behind_grows records rest more fault p (inr f) = inr (f.0, IsTrailing-grows file (last_of [] records) (length records) rest more f.1, f.2)
 
   pub magic_stop : (bytes : List ℕ) (kind : RecordFaultKind) → IsOfText kind → StopsInMagic file bytes kind → IsMagicFault file bytes kind
   magic_stop bytes kind known (inl m) = m
@@ -199,17 +151,19 @@ module _ (file : Format) where
       ⊎ ((records : List (List ℕ)) × (front : IsGoodFront file t records) × (length records < 2 ^ 63) × IsUnended file front.rest × IsFaultBehind file records front.rest fault)
 
   pub grown_magic : (t bytes more : List ℕ) (kind : RecordFaultKind) → t ≡ bytes ++ more → (kind ≡ Truncated → more ≡ []) → IsMagicFault file bytes kind → IsMagicFault file t kind
-  grown_magic t bytes more kind e end m =
-      elim (part_or_not kind) [
-        | inl p ↦ subst (λ (b : List ℕ). IsMagicFault file b kind) (sym (e ∙ ap (λ (y : List ℕ). bytes ++ y) (end p) ∙ append-nil bytes)) m
-        | inr p ↦ subst (λ (b : List ℕ). IsMagicFault file b kind) (sym e) (IsMagicFault-grows file bytes more kind p m)
-      ]
+  grown_magic t bytes more BadMagic e end b =
+      (b.0, b.1, omega (arith, ap length e, length-append bytes more, b.2), λ same. b.3 (sym (ap (take b.0) e ∙ take-append-le b.0 bytes more b.2) ∙ same))
+  grown_magic t bytes more Truncated e end b = subst (λ (x : List ℕ). IsMagicFault file x Truncated) (sym (e ∙ ap (λ (y : List ℕ). bytes ++ y) (end refl) ∙ append-nil bytes)) b
+  grown_magic t bytes more _ e end b = b
 
   pub grown_behind : (records : List (List ℕ)) (rest more : List ℕ) (fault : RecordFault) → (fault.kind ≡ Truncated → more ≡ []) → IsFaultBehind file records rest fault → IsFaultBehind file records (rest ++ more) fault
   grown_behind records rest more fault end f =
       elim (part_or_not fault.kind) [
         | inl p ↦ subst (λ (b : List ℕ). IsFaultBehind file records b fault) (sym (ap (λ (y : List ℕ). rest ++ y) (end p) ∙ append-nil rest)) f
-        | inr p ↦ behind_grows records rest more fault p f
+        | inr p ↦ elim f [
+          | inl g ↦ inl (fails_grow records rest more fault.kind p g.0, g.1)
+          | inr g ↦ inr (g.0, IsTrailing-grows file (last_of [] records) (length records) rest more g.1, g.2)
+        ]
       ]
 
   stopped_few : (t : List ℕ) (b : Option (List ℕ)) (fault : RecordFault) → HasStoppedIn file (Some t) b fault → (fault.kind ≡ Truncated → IsAtEnd b) → IsOfText fault.kind → FewFault t fault
@@ -223,78 +177,43 @@ module _ (file : Format) where
       let whole : t ≡ magic_of file ++ (concat records ++ (rest ++ ys)) = s.1.taken ∙ append_assoc (magic_of file) (concat records ++ rest) ys ∙ ap (λ (x : List ℕ). magic_of file ++ x) (append_assoc (concat records) rest ys) in
       inr (records, record { ordered = s.1.ordered; apart = s.1.apart; rest = rest ++ ys; whole = whole }, s.1.few, unended_grows file rest ys (s.1.unended known), grown_behind records rest ys fault ended (record_stop records rest fault known s.1.stops))
 
-  few_fault : (t : List ℕ) (fault : RecordFault) → FewFault t fault → IsFaultOf file t fault
-  unfolding FewFault
-  few_fault t fault (inl m) = inl m
-  few_fault t fault (inr f) = inr (f.0, f.1, f.3, f.4)
-
   -- the fault is that of the whole input
   pub fault_in : (t : List ℕ) (b : Option (List ℕ)) (fault : RecordFault) → HasStoppedIn file (Some t) b fault → (fault.kind ≡ Truncated → IsAtEnd b) → IsOfText fault.kind → IsFaultOf file t fault
-  fault_in t b fault s ended known = few_fault t fault (stopped_few t b fault s ended known)
-
-  -- a text is not refused
-  not_refused : (t : List ℕ) (xs : List (List ℕ)) (more : List ℕ) (fault : RecordFault) → InOrder file [] xs → AreApart file xs → t ≡ text_of file xs ++ more → (file ≡ Operations_file → more ≡ []) → (fault.kind ≡ Trailing → more ≡ []) → FewFault t fault → ⊥
   unfolding FewFault
-  not_refused t xs more fault ordered apart e alone all (inl m) =
-      no_magic_fault file t ((concat xs ++ ending file (length xs)) ++ more) fault.kind (e ∙ append_assoc (magic_of file) (concat xs ++ ending file (length xs)) more) m.0
-  not_refused t xs more fault ordered apart e alone all (inr f) =
-      let few = f.2 in
-      no_fault_behind file t xs more ordered apart e alone f.0 f.1 fault (λ _ same. omega arith) all f.3 f.4
+  fault_in t b fault s ended known = elim (stopped_few t b fault s ended known) [ inl m ↦ inl m | inr f ↦ inr (f.0, f.1, f.3, f.4) ]
 
+  -- a text is refused by the machine alone
   pub machine_alone : (t : List ℕ) (b : Option (List ℕ)) (xs : List (List ℕ)) (more : List ℕ) (fault : RecordFault) → HasStoppedIn file (Some t) b fault → (fault.kind ≡ Truncated → IsAtEnd b) → InOrder file [] xs → AreApart file xs → t ≡ text_of file xs ++ more
       → (file ≡ Operations_file → more ≡ []) → (fault.kind ≡ Trailing → more ≡ []) → (fault.kind ≡ Device) ⊎ (fault.kind ≡ OutOfMemory)
+  unfolding FewFault
   machine_alone t b xs more fault s ended ordered apart e alone all =
       elim (of_text fault.kind) [
-        | inl known ↦ absurd (not_refused t xs more fault ordered apart e alone all (stopped_few t b fault s ended known))
+        | inl known ↦ elim (stopped_few t b fault s ended known) [
+          | inl m ↦ absurd (no_magic_fault file t ((concat xs ++ ending file (length xs)) ++ more) fault.kind (e ∙ append_assoc (magic_of file) (concat xs ++ ending file (length xs)) more) m.0)
+          | inr f ↦ let few = f.2 in absurd (no_fault_behind file t xs more ordered apart e alone f.0 f.1 fault (λ _ same. omega arith) all f.3 f.4)
+        ]
         | inr machine ↦ machine
       ]
 
-  -- ---- a device that failed
+  -- ---- a device that failed, and want of memory
 
-  device_magic : (bytes : List ℕ) (kind : RecordFaultKind) → kind ≡ Device → StopsInMagic file bytes kind → length bytes < 8
-  device_magic bytes kind e (inl m) = absurd (subst (IsMagicFault file bytes) e m)
-  device_magic bytes kind e (inr (inl d)) = d.1
-  device_magic bytes kind e (inr (inr d)) = d.1
+  machine_magic : (bytes : List ℕ) (kind : RecordFaultKind) → IsOfMachine kind → StopsInMagic file bytes kind → length bytes < 8
+  machine_magic bytes kind machine (inl m) = elim machine [ inl e ↦ absurd (subst (IsMagicFault file bytes) e m) | inr e ↦ absurd (subst (IsMagicFault file bytes) e m) ]
+  machine_magic bytes kind machine (inr (inl d)) = d.1
+  machine_magic bytes kind machine (inr (inr d)) = d.1
 
   device_stops : (records : List (List ℕ)) (rest : List ℕ) (fault : RecordFault) → fault.kind ≡ Device → Stops file records rest fault → Goes file records rest → ⊥
-  device_stops records rest fault e (inl f) g =
-      let known : fault.kind ≢ OutOfMemory = λ o. device_memory (sym e ∙ o) in
-      fails_stop file records rest (seen_as fault.kind) (f.1 known) g
+  device_stops records rest fault e (inl f) g = fails_stop file records rest (seen_as fault.kind) (f.1 (λ memory. cc)) g
   device_stops records rest fault e (inr (inl t)) g = end-stops file (last_of [] records) rest t.1.end g.next
   device_stops records rest fault e (inr (inr d)) g = end-stops file (last_of [] records) rest (subst (λ (x : List ℕ). is_end x ≡ true) (sym d.1) (end-is_end (length records))) g.next
 
-  device_offset : (records : List (List ℕ)) (rest : List ℕ) (fault : RecordFault) → fault.kind ≡ Device → Stops file records rest fault → fault.offset ≡ front_length records
-  device_offset records rest fault e (inl f) = f.0
-  device_offset records rest fault e (inr (inl t)) = absurd (trailing_device (sym t.0 ∙ e))
-  device_offset records rest fault e (inr (inr d)) = d.2
+  machine_offset : (records : List (List ℕ)) (rest : List ℕ) (fault : RecordFault) → IsOfMachine fault.kind → Stops file records rest fault → fault.offset ≡ front_length records
+  machine_offset records rest fault machine (inl f) = f.0
+  machine_offset records rest fault machine (inr (inl t)) = absurd (no_machine (subst IsOfMachine t.0 machine))
+  machine_offset records rest fault machine (inr (inr d)) = d.2
 
-  stopped_device : (a b : Option (List ℕ)) (fault : RecordFault) (records : List (List ℕ)) → Stopped file a b records fault → fault.kind ≡ Device → (rest : List ℕ) × Consumes a b (magic_of file ++ rest) × IsLongestLengthOf file (magic_of file ++ rest) fault.offset
-  stopped_device a b fault records s e =
-      let bytes : List ℕ = magic_of file ++ (concat records ++ s.rest) in
-      let front : IsGoodFront file bytes records = record { ordered = s.ordered; apart = s.apart; rest = s.rest; whole = refl } in
-      (concat records ++ s.rest, s.taken, inr (records, is_longest file bytes records front (device_stops records s.rest fault e s.stops), device_offset records s.rest fault e s.stops))
-
-  -- ---- want of memory
-
-  memory_magic : (bytes : List ℕ) (kind : RecordFaultKind) → kind ≡ OutOfMemory → StopsInMagic file bytes kind → length bytes < 8
-  memory_magic bytes kind e (inl m) = absurd (subst (IsMagicFault file bytes) e m)
-  memory_magic bytes kind e (inr (inl d)) = d.1
-  memory_magic bytes kind e (inr (inr d)) = d.1
-
-  machine_magic : (bytes : List ℕ) (kind : RecordFaultKind) → IsOfMachine kind → StopsInMagic file bytes kind → length bytes < 8
-  machine_magic bytes kind (inl device) stops = device_magic bytes kind device stops
-  machine_magic bytes kind (inr memory) stops = memory_magic bytes kind memory stops
-
-  memory_offset : (records : List (List ℕ)) (rest : List ℕ) (fault : RecordFault) → fault.kind ≡ OutOfMemory → Stops file records rest fault → fault.offset ≡ front_length records
-  memory_offset records rest fault e (inl f) = f.0
-  memory_offset records rest fault e (inr (inl t)) = absurd (trailing_memory (sym t.0 ∙ e))
-  memory_offset records rest fault e (inr (inr d)) = d.2
-
-  stopped_memory : (a b : Option (List ℕ)) (fault : RecordFault) (records : List (List ℕ)) → Stopped file a b records fault → fault.kind ≡ OutOfMemory → (rest : List ℕ) × Consumes a b (magic_of file ++ rest) × IsFrontLengthOf file (magic_of file ++ rest) fault.offset
-  stopped_memory a b fault records s e =
-      let bytes : List ℕ = magic_of file ++ (concat records ++ s.rest) in
-      let front : IsGoodFront file bytes records = record { ordered = s.ordered; apart = s.apart; rest = s.rest; whole = refl } in
-      (concat records ++ s.rest, s.taken, inr (records, front, memory_offset records s.rest fault e s.stops))
+  abbrev good_front : (a b : Option (List ℕ)) (records : List (List ℕ)) (fault : RecordFault) (s : Stopped file a b records fault) → IsGoodFront file (magic_of file ++ (concat records ++ s.rest)) records
+  good_front a b records fault s = record { ordered = s.ordered; apart = s.apart; rest = s.rest; whole = refl }
 
 -- ---- a kind of file, of which the first bytes tell the format
 
@@ -308,39 +227,27 @@ module _ (kind : TextKind) where
       let same : format_for kind t ≡ format = format_read kind format s.1 t ((concat s.2 ++ s.3.rest) ++ ys) (s.3.taken ∙ append_assoc (magic_of format) (concat s.2 ++ s.3.rest) ys) in
       inr (s.2, subst (λ (f : Format). Stopped f (Some t) (Some ys) s.2 fault) (sym same) s.3)
 
-  -- the fault is that of the whole input
-  pub HasStopped-fault : (a b : Option (List ℕ)) (fault : RecordFault) → HasStopped kind a b fault → (fault.kind ≡ Truncated → IsAtEnd b) → IsOfText fault.kind → IfSome a (λ t. IsFaultOf (format_for kind t) t fault)
-  HasStopped-fault None b fault s ended known = tt
-  HasStopped-fault (Some t) b fault s ended known = fault_in (format_for kind t) t b fault (stopped_in t b fault s) ended known
-
-  HasStopped-device : (a b : Option (List ℕ)) (fault : RecordFault) → HasStopped kind a b fault → fault.kind ≡ Device → StandsBehind (IsLongestLength kind) a b fault.offset
-  HasStopped-device a b fault (inl m) e = (m.0, m.1, inl (device_magic (format_for kind m.0) m.0 fault.kind e (m.2 (format_for kind m.0) (kind_read kind m.0)), m.3))
-  HasStopped-device a b fault (inr s) e =
-      let found = stopped_device s.0 a b fault s.2 s.3 e in
-      let bytes : List ℕ = magic_of s.0 ++ found.0 in
-      (bytes, found.1, subst (λ (f : Format). IsLongestLengthOf f bytes fault.offset) (sym (format_read kind s.0 s.1 bytes found.0 refl)) found.2)
-
-  HasStopped-memory : (a b : Option (List ℕ)) (fault : RecordFault) → HasStopped kind a b fault → fault.kind ≡ OutOfMemory → StandsBehind (IsFrontLength kind) a b fault.offset
-  HasStopped-memory a b fault (inl m) e = (m.0, m.1, inl (memory_magic (format_for kind m.0) m.0 fault.kind e (m.2 (format_for kind m.0) (kind_read kind m.0)), m.3))
-  HasStopped-memory a b fault (inr s) e =
-      let found = stopped_memory s.0 a b fault s.2 s.3 e in
-      let bytes : List ℕ = magic_of s.0 ++ found.0 in
-      (bytes, found.1, subst (λ (f : Format). IsFrontLengthOf f bytes fault.offset) (sym (format_read kind s.0 s.1 bytes found.0 refl)) found.2)
-
-  HasStopped-undecided : (a b : Option (List ℕ)) (fault : RecordFault) → HasStopped kind a b fault → IsOfMachine fault.kind → HoldsOfTaken (DecidesNoFault kind) a b
-  HasStopped-undecided a b fault (inl m) machine = (m.0, m.1, inl (machine_magic (format_for kind m.0) m.0 fault.kind machine (m.2 (format_for kind m.0) (kind_read kind m.0))))
-  HasStopped-undecided a b fault (inr s) machine =
-      let rest : List ℕ = concat s.2 ++ s.3.rest in
-      let bytes : List ℕ = magic_of s.0 ++ rest in
-      (bytes, s.3.taken, inr (subst (λ (f : Format). IsCutAtMost f bytes) (sym (format_read kind s.0 s.1 bytes rest refl)) (s.3.undecided machine)))
+  -- where the machine stopped it: what holds of fewer bytes than the magic has, and behind good fronts
+  taken_by : (P : List ℕ → Type 0) (a b : Option (List ℕ)) (fault : RecordFault) → ((bytes : List ℕ) → length bytes < 8 → fault.offset ≡ 0 → P bytes)
+      → ((file : Format) (records : List (List ℕ)) (s : Stopped file a b records fault) → format_for kind (magic_of file ++ (concat records ++ s.rest)) ≡ file → P (magic_of file ++ (concat records ++ s.rest)))
+      → IsOfMachine fault.kind → HasStopped kind a b fault → HoldsOfTaken P a b
+  taken_by P a b fault few behind machine (inl m) = (m.0, m.1, few m.0 (machine_magic (format_for kind m.0) m.0 fault.kind machine (m.2 (format_for kind m.0) (kind_read kind m.0))) m.3)
+  taken_by P a b fault few behind machine (inr (file, is, records, s)) =
+      (magic_of file ++ (concat records ++ s.rest), s.taken, behind file records s (format_read kind file is (magic_of file ++ (concat records ++ s.rest)) (concat records ++ s.rest) refl))
 
   pub is_refused : {R : Type 0} (left : R → Option (List ℕ)) (failures : R → ℕ) (old new : R) (fault : RecordFault) → HasStopped kind (left old) (left new) fault → Blames left failures old new fault.kind → IsRefused kind left failures old new fault
   is_refused left failures old new fault stopped blames = record {
     blames = blames;
-    faulty = HasStopped-fault (left old) (left new) fault stopped blames.2;
-    device = HasStopped-device (left old) (left new) fault stopped;
-    memory = HasStopped-memory (left old) (left new) fault stopped;
-    undecided = HasStopped-undecided (left old) (left new) fault stopped;
+    faulty = λ known. of_input (λ x. HasStopped kind x (left new) fault) (left old) stopped (λ t s. fault_in (format_for kind t) t (left new) fault (stopped_in t (left new) fault s) blames.2 known);
+    device = λ device. taken_by (λ bytes. IsLongestLength kind bytes fault.offset) (left old) (left new) fault (λ bytes few start. inl (few, start)) (λ file records s same.
+        let front = good_front file (left old) (left new) records fault s in
+        let bytes : List ℕ = magic_of file ++ (concat records ++ s.rest) in
+        let longest : IsLongestFront file bytes records = is_longest file bytes records front (device_stops file records s.rest fault device s.stops) in
+        inr (records, subst (λ (f : Format). IsLongestFront f bytes records) (sym same) longest, machine_offset file records s.rest fault (inl device) s.stops)) (inl device) stopped;
+    memory = λ memory. taken_by (λ bytes. IsFrontLength kind bytes fault.offset) (left old) (left new) fault (λ bytes few start. inl (few, start)) (λ file records s same.
+        inr (records, subst (λ (f : Format). IsGoodFront f (magic_of file ++ (concat records ++ s.rest)) records) (sym same) (good_front file (left old) (left new) records fault s), machine_offset file records s.rest fault (inr memory) s.stops)) (inr memory) stopped;
+    undecided = λ machine. taken_by (DecidesNoFault kind) (left old) (left new) fault (λ bytes few start. inl few) (λ file records s same.
+        inr (subst (λ (f : Format). IsCutAtMost f (magic_of file ++ (concat records ++ s.rest))) (sym same) (s.undecided machine))) machine stopped;
   }
 
 -- ---- an archive that is read
@@ -360,60 +267,33 @@ front_machine t b fault p text rest stopped ended all content is e =
     let there : HasStoppedIn f.format (Some t) b fault = subst (λ (k : Format). HasStoppedIn k (Some t) b fault) same (stopped_in Archive_text t b fault stopped) in
     machine_alone f.format t b f.records rest fault there ended f.ordered f.apart (e ∙ ap (λ (x : List ℕ). x ++ rest) f.whole) (λ h. absurd (no_operations f.format f.archive h)) all
 
-whole_alone : (a b : Option (List ℕ)) (o : Operations) → IsReadTo Archive_text a b o → IfSome a (λ t. (p : Operations) → IsContent p → IsArchiveOf p t → o ≡ p)
-whole_alone None b o h = tt
-whole_alone (Some t) b o h = λ p content is. (front_alone t b o p t [] h content is (sym (append-nil t))).0
-
-whole_machine : (a b : Option (List ℕ)) (fault : RecordFault) → HasStopped Archive_text a b fault → (fault.kind ≡ Truncated → IsAtEnd b) → IfSome a (λ t. (p : Operations) → IsContent p → IsArchiveOf p t → IsOfMachine fault.kind)
-whole_machine None b fault stopped ended = tt
-whole_machine (Some t) b fault stopped ended = λ p content is. front_machine t b fault p t [] stopped ended (λ _. refl) content is (sym (append-nil t))
-
-front_of : (a b : Option (List ℕ)) (o : Operations) → IsReadTo Archive_text a b o → IfSome a (λ input. (p : Operations) (text rest : List ℕ) → IsContent p → IsArchiveOf p text → input ≡ text ++ rest → (o ≡ p) × (b ≡ Some rest))
-front_of None b o h = tt
-front_of (Some t) b o h = λ p text rest content is input. front_alone t b o p text rest h content is input
-
-fronts_machine : (a b : Option (List ℕ)) (fault : RecordFault) → HasStopped Archive_text a b fault → (fault.kind ≡ Truncated → IsAtEnd b) → fault.kind ≢ Trailing → IfSome a (λ input. (p : Operations) (text rest : List ℕ) → IsContent p → IsArchiveOf p text → input ≡ text ++ rest → IsOfMachine fault.kind)
-fronts_machine None b fault stopped ended other = tt
-fronts_machine (Some t) b fault stopped ended other = λ p text rest content is input. front_machine t b fault p text rest stopped ended (λ trailing. absurd (other trailing)) content is input
-
 pub front_read : {R : Type 0} (o : Operations) (left : R → Option (List ℕ)) (failures : R → ℕ) (old new : R) → IsReadTo Archive_text (left old) (left new) o → failures new ≡ failures old → IsReadFront Archive_text o left failures old new
 front_read o left failures old new h unfailed = record {
   is = IsReadTo-content (left old) (left new) o h;
   few = IsReadTo-few (left old) (left new) o h;
   taken = IsReadTo-taken (left old) (left new) o h;
-  alone = front_of (left old) (left new) o h;
+  alone = of_input (λ x. IsReadTo Archive_text x (left new) o) (left old) h (λ t r p text rest content is input. front_alone t (left new) o p text rest r content is input);
   unfailed = unfailed;
 }
 
 pub front_refused : {R X : Type 0} (content : X → Operations) (left : R → Option (List ℕ)) (failures : R → ℕ) (old new : R) (fault : RecordFault) → HasStopped Archive_text (left old) (left new) fault → fault.kind ≢ Trailing → Blames left failures old new fault.kind
     → ReadsFront Archive_text content left failures old new (Err fault)
-front_refused content left failures old new fault stopped other blames =
-    (is_refused Archive_text left failures old new fault stopped blames, other, fronts_machine (left old) (left new) fault stopped blames.2 other)
+front_refused content left failures old new fault stopped other blames = (
+  is_refused Archive_text left failures old new fault stopped blames,
+  other,
+  of_input (λ x. HasStopped Archive_text x (left new) fault) (left old) stopped (λ t s p text rest content is input.
+      front_machine t (left new) fault p text rest s blames.2 (λ trailing. absurd (other trailing)) content is input),
+)
 
 -- ---- operations that are read
 
 -- a text is that of one list
 pub one_operations : (t : List ℕ) (xs ys : List Operation) → IsOperationsText t xs → IsOperationsText t ys → xs ≡ ys
 one_operations t xs ys p q =
-    let nil = append-nil (text_of Operations_file (map record_bytes ys)) in
-    let same = same_records Operations_file t (map record_bytes ys) [] (InOrder-operations [] ys q.are) tt (text_is t ys q ∙ sym nil) (λ _. refl) (map record_bytes xs) [] (InOrder-operations [] xs p.are) tt (λ _. refl) (text_is t xs p ∙ sym (append-nil (text_of Operations_file (map record_bytes xs)))) in
-    one_list xs ys p.are q.are same.0
+    one_list xs ys p.are q.are (one_text Operations_file t (map record_bytes xs) (map record_bytes ys) (InOrder-operations [] xs p.are) tt (InOrder-operations [] ys q.are) tt (text_is t xs p) (text_is t ys q))
 
 operations_text : (a b : Option (List ℕ)) (xs : List Operation) → AreRead a b xs → IfSome a (λ t. IsOperationsText t xs)
-operations_text a b xs h = found a (all_taken a b (text_of Operations_file (map record_bytes xs)) h.taken h.at_end)
-  where
-    found : (a : Option (List ℕ)) → IfSome a (λ t. t ≡ text_of Operations_file (map record_bytes xs)) → IfSome a (λ t. IsOperationsText t xs)
-    found None e = tt
-    found (Some t) e = IsOperationsText-text t xs h.are e
-
-operations_alone : (a b : Option (List ℕ)) (xs : List Operation) → AreRead a b xs → IfSome a (λ t. (ys : List Operation) → All IsOperation ys → IsOperationsText t ys → xs ≡ ys)
-operations_alone None b xs h = tt
-operations_alone (Some t) b xs h = λ ys _ text. one_operations t xs ys (operations_text (Some t) b xs h) text
-
-operations_machine : (a b : Option (List ℕ)) (fault : RecordFault) → HasStopped Operations_text a b fault → (fault.kind ≡ Truncated → IsAtEnd b) → IfSome a (λ t. (ys : List Operation) → All IsOperation ys → IsOperationsText t ys → IsOfMachine fault.kind)
-operations_machine None b fault stopped ended = tt
-operations_machine (Some t) b fault stopped ended = λ ys _ text.
-    machine_alone Operations_file t b (map record_bytes ys) [] fault (stopped_in Operations_text t b fault stopped) ended (InOrder-operations [] ys text.are) tt (text_is t ys text ∙ sym (append-nil (text_of Operations_file (map record_bytes ys)))) (λ _. refl) (λ _. refl)
+operations_text a b xs h = IfSome_then a (all_taken a b (text_of Operations_file (map record_bytes xs)) h.taken h.at_end) (λ t is. IsOperationsText-text t xs h.are is)
 
 -- and it has no fault: behind it nothing is left
 pub operations_no_fault : (t : List ℕ) (xs : List Operation) (fault : RecordFault) → IsOperationsText t xs → IsOperationsFault t fault → ⊥
@@ -452,22 +332,9 @@ IsReadTo-few_entries a b s r =
 -- a text is that of one summary
 pub one_summary : (s t : Entries) → AreEntries s → AreEntries t → summary_text s ≡ summary_text t → s ≡ t
 one_summary s t p q e =
-    let nil = append-nil (text_of Summary_file (listing t)) in
-    let same = same_records Summary_file (summary_text t) (listing t) [] (InOrder-entries t q) tt (summary_text_is t ∙ sym nil) (λ h. absurd (no_operations h))
-    (listing s) [] (InOrder-entries s p) tt (λ h. absurd (no_operations h)) (sym e ∙ summary_text_is s ∙ sym (append-nil (text_of Summary_file (listing s)))) in
-    set_is s ∙ ap set.from_list same.0 ∙ sym (set_is t)
-  where
-    no_operations : Summary_file ≡ Operations_file → ⊥
-    no_operations h = cc
-
-summary_alone : (a b : Option (List ℕ)) (s : Entries) → IsReadTo Summary_text a b s → IsAtEnd b → IfSome a (λ text. (t : Entries) → AreEntries t → text ≡ summary_text t → s ≡ t)
-summary_alone None b s h end = tt
-summary_alone (Some text) b s h end = λ t q is. one_summary s t (IsReadTo-entries (Some text) b s h) q (sym (all_taken (Some text) b (summary_text s) (IsReadTo-summary (Some text) b s h) end) ∙ is)
-
-summary_machine : (a b : Option (List ℕ)) (fault : RecordFault) → HasStopped Summary_text a b fault → (fault.kind ≡ Truncated → IsAtEnd b) → IfSome a (λ text. (t : Entries) → AreEntries t → text ≡ summary_text t → IsOfMachine fault.kind)
-summary_machine None b fault stopped ended = tt
-summary_machine (Some text) b fault stopped ended = λ t q is.
-    machine_alone Summary_file text b (listing t) [] fault (stopped_in Summary_text text b fault stopped) ended (InOrder-entries t q) tt (is ∙ summary_text_is t ∙ sym (append-nil (text_of Summary_file (listing t)))) (λ _. refl) (λ _. refl)
+    set_is s
+    ∙ ap set.from_list (one_text Summary_file (summary_text t) (listing s) (listing t) (InOrder-entries s p) tt (InOrder-entries t q) tt (sym e ∙ summary_text_is s) (summary_text_is t))
+    ∙ sym (set_is t)
 
 -- and it has no fault
 pub summary_no_fault : (s : Entries) (fault : RecordFault) → AreEntries s → set.len s < 2 ^ 64 → IsSummaryFault (summary_text s) fault → ⊥
@@ -486,7 +353,7 @@ read_whole Archive_text o left failures old new h end unfailed = record {
   is = IsReadTo-content (left old) (left new) o h;
   few = IsReadTo-few (left old) (left new) o h;
   text = IsReadTo-text (left old) (left new) o h end;
-  alone = whole_alone (left old) (left new) o h;
+  alone = of_input (λ x. IsReadTo Archive_text x (left new) o) (left old) h (λ t r p content is. (front_alone t (left new) o p t [] r content is (sym (append-nil t))).0);
   at_end = end;
   unfailed = unfailed;
 }
@@ -494,24 +361,30 @@ read_whole Operations_text operations left failures old new h end unfailed = rec
   is = h.are;
   few = h.few;
   text = operations_text (left old) (left new) operations h;
-  alone = operations_alone (left old) (left new) operations h;
+  alone = IfSome_then (left old) (operations_text (left old) (left new) operations h) (λ t is ys _ other. one_operations t operations ys is other);
   at_end = end;
   unfailed = unfailed;
 }
-read_whole Summary_text s left failures old new h end unfailed = record {
-  is = IsReadTo-entries (left old) (left new) s h;
-  few = IsReadTo-few_entries (left old) (left new) s h;
-  text = all_taken (left old) (left new) (summary_text s) (IsReadTo-summary (left old) (left new) s h) end;
-  alone = summary_alone (left old) (left new) s h end;
-  at_end = end;
-  unfailed = unfailed;
-}
+read_whole Summary_text s left failures old new h end unfailed =
+    let text = all_taken (left old) (left new) (summary_text s) (IsReadTo-summary (left old) (left new) s h) end in
+    record {
+      is = IsReadTo-entries (left old) (left new) s h;
+      few = IsReadTo-few_entries (left old) (left new) s h;
+      text = text;
+      alone = IfSome_then (left old) text (λ t is other q same. one_summary s other (IsReadTo-entries (left old) (left new) s h) q (sym is ∙ same));
+      at_end = end;
+      unfailed = unfailed;
+    }
 
-machine_of : (file : TextKind) (a b : Option (List ℕ)) (fault : RecordFault) → HasStopped file a b fault → (fault.kind ≡ Truncated → IsAtEnd b) → IfSome a (λ t. (m : Meaning file) → IsMeaning file m → IsTextOf file m t → IsOfMachine fault.kind)
-machine_of Archive_text = whole_machine
-machine_of Operations_text = operations_machine
-machine_of Summary_text = summary_machine
+-- a text is refused by the machine alone
+machine_of : (file : TextKind) (t : List ℕ) (b : Option (List ℕ)) (fault : RecordFault) → HasStopped file (Some t) b fault → (fault.kind ≡ Truncated → IsAtEnd b) → (m : Meaning file) → IsMeaning file m → IsTextOf file m t → IsOfMachine fault.kind
+machine_of Archive_text t b fault stopped ended p content is = front_machine t b fault p t [] stopped ended (λ _. refl) content is (sym (append-nil t))
+machine_of Operations_text t b fault stopped ended ys _ text =
+    machine_alone Operations_file t b (map record_bytes ys) [] fault (stopped_in Operations_text t b fault stopped) ended (InOrder-operations [] ys text.are) tt (text_is t ys text ∙ sym (append-nil (text_of Operations_file (map record_bytes ys)))) (λ _. refl) (λ _. refl)
+machine_of Summary_text t b fault stopped ended s q is =
+    machine_alone Summary_file t b (listing s) [] fault (stopped_in Summary_text t b fault stopped) ended (InOrder-entries s q) tt (is ∙ summary_text_is s ∙ sym (append-nil (text_of Summary_file (listing s)))) (λ _. refl) (λ _. refl)
 
 pub refused : {R : Type 0} (file : TextKind) (left : R → Option (List ℕ)) (failures : R → ℕ) (old new : R) (fault : RecordFault) → HasStopped file (left old) (left new) fault → Blames left failures old new fault.kind
     → ReadsWhole file (λ (m : Meaning file). m) left failures old new (Err fault)
-refused file left failures old new fault stopped blames = (is_refused file left failures old new fault stopped blames, machine_of file (left old) (left new) fault stopped blames.2)
+refused file left failures old new fault stopped blames =
+    (is_refused file left failures old new fault stopped blames, of_input (λ x. HasStopped file x (left new) fault) (left old) stopped (λ t s. machine_of file t (left new) fault s blames.2))

@@ -4,14 +4,16 @@ use Rattle.std.proofs.lemmas.Bool.{false≢true}
 use Rattle.std.proofs.lemmas.List.{append-nil}
 use Rattle.std.proofs.lemmas.List.Elements.{Contains-append_left, Contains-append_cases, filter-append}
 use Rattle.std.specs.List.{Contains, filter}
+use Rattle.std.specs.FinSet.{contains}
 use Rattle.archive_core.specs.Content.{is_admission, covering, is_covered}
 use Rattle.archive_core.specs.Record.{IsRecord}
+use Rattle.archive_core.proofs.Members.{in_filter}
 use Rattle.archive_records.specs.declared.format.Format.TheVariants.{Archive}
 use Rattle.archive_records.specs.Kind.{may_follow}
 use Rattle.archive_records.specs.Text.{InOrder, last_of, kept}
 use Rattle.archive_records.specs.Reader.{set_of}
 use Rattle.archive_records.proofs.Forms.{long-retirement, long-admission}
-use Rattle.archive_records.proofs.Apart.{in_set, from_set, and_first, and_second, both_true, one_test, covering_below}
+use Rattle.archive_records.proofs.Apart.{in_set, from_set, and_same, one_test, covering_below}
 use Rattle.archive_records.proofs.Ascending.{below-trans, all_above, up_to_last, InOrder-behind, InOrder-front, here, later}
 
 -- ---- filters
@@ -19,17 +21,6 @@ use Rattle.archive_records.proofs.Ascending.{below-trans, all_above, up_to_last,
 filter_same : (p q : List ℕ → Bool) (xs : List (List ℕ)) → ((r : List ℕ) → Contains xs r → p r ≡ q r) → filter p xs ≡ filter q xs
 filter_same p q [] h = refl
 filter_same p q (x ∷ xs) h = ap (λ b. cond b (x ∷ filter p xs) (filter p xs)) (h x (here x xs)) ∙ ap (λ (t : List (List ℕ)). cond (q x) (x ∷ t) t) (filter_same p q xs (λ r c. h r (later x r xs c)))
-
-from_filter : (p : List ℕ → Bool) (xs : List (List ℕ)) (z : List ℕ) → Contains (filter p xs) z → Contains xs z
-from_filter p [] z c = c
-from_filter p (x ∷ xs) z c = by (p x) (λ d. from_filter p xs z d) c
-  where
-    by : (b : Bool) → (Contains (filter p xs) z → Contains xs z) → Contains (cond b (x ∷ filter p xs) (filter p xs)) z → Contains (x ∷ xs) z
-    by true rest d = elim (Contains-append_cases (x ∷ []) (filter p xs) z d) [
-      | inl a ↦ Contains-append_left (x ∷ []) xs z a
-      | inr b ↦ later x z xs (rest b)
-    ]
-    by false rest d = later x z xs (rest d)
 
 filter_one : (p : List ℕ → Bool) (x : List ℕ) (b : Bool) → p x ≡ b → filter p (x ∷ []) ≡ cond b (x ∷ []) []
 filter_one p x b e = ap (λ c. cond c (x ∷ []) []) e
@@ -45,17 +36,17 @@ kept_none = refl
 
 pub from_kept : (out : List (List ℕ)) (z : List ℕ) → Contains (kept out) z → Contains out z
 unfolding kept
-from_kept out z c = from_filter (free_in out) out z c
+from_kept out z c = (in_filter (free_in out) out z c).0
 
 -- what stands behind covers none of them
 module _ (out more : List (List ℕ)) (a : InOrder Archive [] (out ++ more)) (o : InOrder Archive [] out) where
   covers_alike : (r : List ℕ) → Contains out r → is_covered (set_of (out ++ more)) r ≡ is_covered (set_of out) r
-  covers_alike r c = one_test (is_covered (set_of (out ++ more)) r) (is_covered (set_of out) r)
-      (λ h. both_true (is_admission r) _ (and_first _ _ h) (elim (Contains-append_cases out more (covering r) (from_set (out ++ more) (covering r) (and_second _ _ h))) [
+  covers_alike r c = and_same (is_admission r) (contains (set_of (out ++ more)) (covering r)) (contains (set_of out) (covering r)) (λ a'. one_test (contains (set_of (out ++ more)) (covering r)) (contains (set_of out) (covering r))
+      (λ h. elim (Contains-append_cases out more (covering r) (from_set (out ++ more) (covering r) h)) [
         | inl d ↦ in_set out (covering r) d
-        | inr d ↦ absurd (false≢true (sym (up_to_last [] r out o c) ∙ below-trans (last_of [] out) (covering r) r (all_above (last_of [] out) (covering r) more (InOrder-behind [] out more a) d) (covering_below r (and_first _ _ h))))
-      ]))
-      (λ h. both_true (is_admission r) _ (and_first _ _ h) (in_set (out ++ more) (covering r) (Contains-append_left out more (covering r) (from_set out (covering r) (and_second _ _ h)))))
+        | inr d ↦ absurd (false≢true (sym (up_to_last [] r out o c) ∙ below-trans (last_of [] out) (covering r) r (all_above (last_of [] out) (covering r) more (InOrder-behind [] out more a) d) (covering_below r a')))
+      ])
+      (λ h. in_set (out ++ more) (covering r) (Contains-append_left out more (covering r) (from_set out (covering r) h))))
 
   abbrev pub behind : List (List ℕ)
   behind = filter (free_in (out ++ more)) more
@@ -65,7 +56,7 @@ module _ (out more : List (List ℕ)) (a : InOrder Archive [] (out ++ more)) (o 
   kept_more = filter-append (free_in (out ++ more)) out more ∙ ap (λ (t : List (List ℕ)). t ++ behind) (filter_same (free_in (out ++ more)) (free_in out) out (λ r c. ap not (covers_alike r c)))
 
   pub behind_above : (z : List ℕ) → Contains behind z → may_follow Archive (last_of [] out) z ≡ true
-  behind_above z c = all_above (last_of [] out) z more (InOrder-behind [] out more a) (from_filter (free_in (out ++ more)) more z c)
+  behind_above z c = all_above (last_of [] out) z more (InOrder-behind [] out more a) (in_filter (free_in (out ++ more)) more z c).0
 
 -- one record more is written
 pub kept_push : (out : List (List ℕ)) (x : List ℕ) → InOrder Archive [] (out ++ x ∷ []) → is_covered (set_of (out ++ x ∷ [])) x ≡ false → kept (out ++ x ∷ []) ≡ kept out ++ x ∷ []

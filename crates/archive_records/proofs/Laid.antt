@@ -5,7 +5,7 @@ use Rattle.std.proofs.lemmas.List.{append-nil, take_at, drop_at, drop-drop, take
 use Rattle.std.proofs.Math.Seq.{take-add, take-nil}
 use Rattle.std.proofs.Math.ListN.{drop_of_length-le}
 use Rattle.std.specs.declared.cmp.Ordering.{Ordering}
-use Rattle.std.specs.declared.cmp.Ordering.TheVariants.{Less, Equal, Greater}
+use Rattle.std.specs.declared.cmp.Ordering.TheVariants.{Equal}
 use Rattle.std.specs.Ordering.{nat_cmp, ordering_then}
 use Rattle.std.specs.Cmp.Lexicographic.{slice_cmp}
 use Rattle.byte_device.proofs.Known.{Consumes-then}
@@ -13,9 +13,7 @@ use Rattle.archive_records.specs.declared.buffer.Buffer.{Buffer}
 use Rattle.archive_records.specs.Reader.{Fills, bytes_so_far, Over}
 
 then_assoc : (a b c : Ordering) → ordering_then a (ordering_then b c) ≡ ordering_then (ordering_then a b) c
-then_assoc Less b c = refl
-then_assoc Equal b c = refl
-then_assoc Greater b c = refl
+then_assoc a b c = grind arith
 
 -- two parts that are compared one after the other
 pub cmp_parts : (a b c d : List ℕ) → length a ≤ length c → (length a < length c → b ≡ []) → slice_cmp nat_cmp (a ++ b) (c ++ d) ≡ ordering_then (slice_cmp nat_cmp a c) (slice_cmp nat_cmp b d)
@@ -25,9 +23,6 @@ cmp_parts (x ∷ a) b [] d le short = absurd (omega arith)
 cmp_parts (x ∷ a) b (y ∷ c) d le short =
     let le' : length a ≤ length c = omega arith in
     ap (ordering_then (nat_cmp x y)) (cmp_parts a b c d le' (λ lt. short (omega arith))) ∙ then_assoc (nat_cmp x y) (slice_cmp nat_cmp a c) (slice_cmp nat_cmp b d)
-
-drop_add : (a b : ℕ) (xs : List ℕ) → drop (a + b) xs ≡ drop b (drop a xs)
-drop_add a b xs = sym (drop-drop b a xs)
 
 pub bytes_so_far_laid : (items m : List ℕ) (at : ℕ) → at ≤ length items → take (at + length m) (take at items ++ (m ++ drop (at + length m) items)) ≡ take at items ++ m
 bytes_so_far_laid items m at le =
@@ -39,34 +34,22 @@ rest_laid items m at le =
 
 -- what is compared next decides only where what was compared before is the same
 then_decided : (d x y : Ordering) → (d ≡ Equal → x ≡ y) → ordering_then d x ≡ ordering_then d y
-then_decided Less x y p = refl
-then_decided Equal x y p = p refl
-then_decided Greater x y p = refl
+then_decided d x y p = grind arith
 
 then_equal : (a b : Ordering) → ordering_then a b ≡ Equal → a ≡ Equal
-then_equal Less b e = e
-then_equal Equal b e = refl
-then_equal Greater b e = e
+then_equal a b e = grind arith
 
 then_differs : (d x : Ordering) → d ≢ Equal → d ≡ ordering_then d x
-then_differs Less x p = refl
-then_differs Equal x p = absurd (p refl)
-then_differs Greater x p = refl
+then_differs d x p = grind arith
 
 -- the last record's front and what came, which grew by m
-grown : (last front m : List ℕ) (at : ℕ) → length front ≡ at → slice_cmp nat_cmp (take (at + length m) last) (front ++ m)
-    ≡ ordering_then (slice_cmp nat_cmp (take at last) front) (slice_cmp nat_cmp (take (length m) (drop at last)) m)
-grown last front m at len =
-    ap (λ (t : List ℕ). slice_cmp nat_cmp t (front ++ m)) (take-add at (length m) last)
-    ∙ cmp_parts (take at last) (take (length m) (drop at last)) front m (omega (arith, length-take at last, len))
-    (λ lt. ap (take (length m)) (drop_of_length-le last (omega (arith, length-take at last, len))) ∙ take-nil (length m))
-
 grown_over : (last : List ℕ) (b n : Buffer) (m : List ℕ) → b.at ≤ length b.bytes.items → n.at ≡ b.at + length m → bytes_so_far n ≡ bytes_so_far b ++ m → Over last b
     → ordering_then b.order (slice_cmp nat_cmp (take (length m) (drop b.at last)) m) ≡ slice_cmp nat_cmp (take n.at last) (bytes_so_far n)
 grown_over last b n m le at front o =
     ap (λ (d : Ordering). ordering_then d (slice_cmp nat_cmp (take (length m) (drop b.at last)) m)) o.order
-    ∙ sym (grown last (bytes_so_far b) m b.at (omega (arith, length-take b.at b.bytes.items)))
-    ∙ ap (λ (k : ℕ). slice_cmp nat_cmp (take k last) (bytes_so_far b ++ m)) (sym at)
+    ∙ sym (cmp_parts (take b.at last) (take (length m) (drop b.at last)) (bytes_so_far b) m (omega (arith, length-take b.at last, length-take b.at b.bytes.items))
+        (λ lt. ap (take (length m)) (drop_of_length-le last (omega (arith, length-take b.at last, length-take b.at b.bytes.items))) ∙ take-nil (length m)))
+    ∙ ap (λ (t : List ℕ). slice_cmp nat_cmp t (bytes_so_far b ++ m)) (sym (take-add b.at (length m) last) ∙ ap (λ (k : ℕ). take k last) (sym at))
     ∙ ap (slice_cmp nat_cmp (take n.at last)) (sym front)
 
 within_grown : (b n : Buffer) (m : List ℕ) → b.at ≤ length b.bytes.items → n.at ≡ b.at + length m → bytes_so_far n ≡ bytes_so_far b ++ m → n.at ≤ length n.bytes.items
@@ -84,7 +67,7 @@ Fills-laid a c b n m order le at items then is taken =
       grows = front;
       taken = taken;
       over = λ last o. record {
-        rest = λ e. rest ∙ drop_add b.at (length m) b.bytes.items ∙ ap (drop (length m)) (o.rest (then_equal b.order order (sym then ∙ e))) ∙ sym (drop_add b.at (length m) last) ∙ ap (λ (k : ℕ). drop k last) (sym at);
+        rest = λ e. rest ∙ sym (drop-drop (length m) b.at b.bytes.items) ∙ ap (drop (length m)) (o.rest (then_equal b.order order (sym then ∙ e))) ∙ drop-drop (length m) b.at last ∙ ap (λ (k : ℕ). drop k last) (sym at);
         order = then
             ∙ then_decided b.order order (slice_cmp nat_cmp (take (length m) (drop b.at last)) m) (λ e. is ∙ ap (λ (t : List ℕ). slice_cmp nat_cmp (take (length m) t) m) (o.rest e))
             ∙ grown_over last b n m le at front o;

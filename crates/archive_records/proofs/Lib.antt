@@ -20,7 +20,6 @@ pub mod Steps
 pub mod Listed
 pub mod Contents
 pub mod Summarised
-pub mod Named
 pub mod Magics
 pub mod Made
 pub mod Exact

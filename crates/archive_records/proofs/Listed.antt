@@ -1,5 +1,5 @@
 -- Operations, one after another, and their records.
-use Rattle.std.proofs.Common.{◌≡◌, ℕ, true, List, [], ◌∷◌, ◌++◌, refl, sym, ap, ◌∙◌}
+use Rattle.std.proofs.Common.{◌≡◌, ℕ, List, [], ◌∷◌, ◌++◌, refl, sym, ap, ◌∙◌}
 use Rattle.std.specs.Prelude.{map, All}
 use Rattle.std.proofs.lemmas.List.{append-nil}
 use Rattle.std.proofs.lemmas.List.Elements.{All-nil, All-cons, All-head, All-tail}
@@ -11,14 +11,10 @@ use Rattle.archive_records.specs.declared.format.Format.TheVariants.{Operations}
 use Rattle.archive_records.specs.Kind.{operations_magic, allows, may_follow}
 use Rattle.archive_records.specs.Text.{text_of, InOrder, IsOperationsText}
 
--- operations come in any order
-any_order : (low x : List ℕ) → may_follow Operations low x ≡ true
-unfolding may_follow allows
-any_order low x = refl
-
 pub InOrder-operations : (low : List ℕ) (xs : List Operation) → All IsOperation xs → InOrder Operations low (map record_bytes xs)
+unfolding may_follow allows
 InOrder-operations low [] h = tt
-InOrder-operations low (x ∷ xs) h = (record_of_operation x (All-head IsOperation x xs h), any_order low (record_bytes x), InOrder-operations (record_bytes x) xs (All-tail IsOperation x xs h))
+InOrder-operations low (x ∷ xs) h = (record_of_operation x (All-head IsOperation x xs h), refl, InOrder-operations (record_bytes x) xs (All-tail IsOperation x xs h))
 
 -- records are those of operations
 pub operations_in : (low : List ℕ) (records : List (List ℕ)) → InOrder Operations low records → (xs : List Operation) × All IsOperation xs × (map record_bytes xs ≡ records)
@@ -26,28 +22,16 @@ operations_in low [] h = ([], All-nil IsOperation, refl)
 operations_in low (r ∷ rs) h =
     let first = operation_of_record r h.0 in
     let rest = operations_in r rs h.2 in
-    (first.0 ∷ rest.0, All-cons IsOperation first.0 rest.0 first.1 rest.1, both (record_bytes first.0) r (map record_bytes rest.0) rs first.2 rest.2)
-  where
-    both : (a b : List ℕ) (rs ss : List (List ℕ)) → a ≡ b → rs ≡ ss → a ∷ rs ≡ b ∷ ss
-    both a b rs ss p q = cc
+    (first.0 ∷ rest.0, All-cons IsOperation first.0 rest.0 first.1 rest.1, cc (first.2, rest.2))
 
 -- of one list only
 pub one_list : (xs ys : List Operation) → All IsOperation xs → All IsOperation ys → map record_bytes xs ≡ map record_bytes ys → xs ≡ ys
 one_list [] [] p q e = refl
-one_list [] (y ∷ ys) p q e = absurd cc
-one_list (x ∷ xs) [] p q e = absurd cc
 one_list (x ∷ xs) (y ∷ ys) p q e =
-    both x y xs ys (one_operation x y (All-head IsOperation x xs p) (All-head IsOperation y ys q) (heads (record_bytes x) (record_bytes y) (map record_bytes xs) (map record_bytes ys) e))
-    (one_list xs ys (All-tail IsOperation x xs p) (All-tail IsOperation y ys q) (tails (record_bytes x) (record_bytes y) (map record_bytes xs) (map record_bytes ys) e))
-  where
-    both : (a b : Operation) (rs ss : List Operation) → a ≡ b → rs ≡ ss → a ∷ rs ≡ b ∷ ss
-    both a b rs ss p q = cc
-
-    heads : (a b : List ℕ) (rs ss : List (List ℕ)) → a ∷ rs ≡ b ∷ ss → a ≡ b
-    heads a b rs ss e = cc
-
-    tails : (a b : List ℕ) (rs ss : List (List ℕ)) → a ∷ rs ≡ b ∷ ss → rs ≡ ss
-    tails a b rs ss e = cc
+    let head : record_bytes x ≡ record_bytes y = cc e in
+    let tail : map record_bytes xs ≡ map record_bytes ys = cc e in
+    cc (one_operation x y (All-head IsOperation x xs p) (All-head IsOperation y ys q) head, one_list xs ys (All-tail IsOperation x xs p) (All-tail IsOperation y ys q) tail)
+one_list _ _ p q e = absurd (cc e)
 
 -- ---- their text
 

@@ -1,6 +1,6 @@
 -- The longest good front.
-use Rattle.std.proofs.Common.{◌≡◌, ℕ, ◌≤◌, true, false, eqb, List, [], ◌∷◌, ◌++◌, length, get_or, take, drop, Ok, Err, refl, sym, ap, ◌∙◌, subst, arith, inl, inr, append_assoc, length-append}
-use Rattle.std.proofs.lemmas.List.{get_or_append_left, take_at, drop_at, append_cancel_left}
+use Rattle.std.proofs.Common.{◌≡◌, ℕ, ◌≤◌, true, false, eqb, List, [], ◌∷◌, ◌++◌, length, take, drop, Ok, refl, sym, ap, ◌∙◌, subst, arith, inl, inr, append_assoc, length-append}
+use Rattle.std.proofs.lemmas.List.{append-nil, take_at, drop_at, append_cancel_left}
 use Rattle.std.proofs.lemmas.List.Folds.{concat-append}
 use Rattle.std.proofs.lemmas.Bool.{false≢true}
 use Rattle.std.specs.List.{concat}
@@ -11,8 +11,8 @@ use Rattle.archive_records.specs.Text.{InOrder, AreApart, last_of}
 use Rattle.archive_records.specs.Fault.{is_end, tested, next, FailsNext, Refuses}
 use Rattle.archive_records.specs.Front.{IsGoodFront, IsLongestFront}
 use Rattle.archive_records.proofs.Apart.{apart_part}
-use Rattle.archive_records.proofs.Framed.{same_body, framed-whole}
-use Rattle.archive_records.proofs.Holds.{holds, done, result_is, next-is}
+use Rattle.archive_records.proofs.Framed.{same_tag, same_body, framed-whole}
+use Rattle.archive_records.proofs.Holds.{holds, done, next-is}
 use Rattle.archive_records.proofs.Forms.{item-framed, item-no_end, item-refused}
 use Rattle.archive_records.specs.declared.format.Format.{Format}
 
@@ -22,15 +22,9 @@ pub record Before (xs ys : List (List ℕ)) (r s : List ℕ) : Type 0 where
   pub records : xs ≡ ys ++ more
   pub rest : s ≡ concat more ++ r
 
-same_tag : (bytes more : List ℕ) → 1 ≤ length bytes → get_or (bytes ++ more) 0 0 ≡ get_or bytes 0 0
-same_tag bytes more le = get_or_append_left bytes more 0 0 le
-
 pub is_end-grows : (bytes more : List ℕ) → 1 ≤ length bytes → is_end (bytes ++ more) ≡ is_end bytes
 unfolding is_end
 is_end-grows bytes more le = ap (λ (t : ℕ). eqb t 3) (same_tag bytes more le)
-
-no_two : (n : ℕ) (kind : RecordFaultKind) → done n ≡ Err kind → ⊥
-no_two n kind e = cc
 
 same_item : (x y : List ℕ) (a b : List ℕ) → length x ≡ length y → x ++ a ≡ y ++ b → (x ≡ y) × (a ≡ b)
 same_item x y a b len e = (
@@ -38,8 +32,9 @@ same_item x y a b len e = (
   sym (drop_at x a (length x) refl) ∙ ap (drop (length x)) e ∙ drop_at y b (length x) (sym len),
 )
 
-cons_both : (x y : List ℕ) (xs ys : List (List ℕ)) → x ≡ y → xs ≡ ys → x ∷ xs ≡ y ∷ ys
-cons_both x y xs ys p q = cc
+no_more : (xs ys more less : List (List ℕ)) → xs ≡ ys ++ more → ys ≡ xs ++ less → more ≡ []
+no_more xs ys [] less p q = refl
+no_more xs ys (m ∷ more) less p q = absurd (omega (arith, ap length p, ap length q, length-append ys (m ∷ more), length-append xs less))
 
 module _ (file : Format) where
   -- a record above low stands in front of the bytes
@@ -74,10 +69,10 @@ module _ (file : Format) where
 
   -- where a test fails, no record stands
   pub fault-stops : (low : List ℕ) (count : ℕ) (bytes : List ℕ) (kind : RecordFaultKind) → FailsNext file low count bytes kind → Takes low bytes → ⊥
-  fault-stops low count bytes kind (inl e) t = no_two (length t.item) kind (sym (next-takes low count t.item t.more t.is t.above) ∙ sym (ap (next file low count) t.whole) ∙ e)
+  fault-stops low count bytes kind (inl e) t = absurd (cc (sym (next-takes low count t.item t.more t.is t.above) ∙ sym (ap (next file low count) t.whole) ∙ e))
   fault-stops low count bytes kind (inr f) t =
       let here : next file low count bytes ≡ Ok (length t.item) = ap (next file low count) t.whole ∙ next-takes low count t.item t.more t.is t.above in
-      let n : f.0 ≡ length t.item = result_is f.0 (length t.item) (sym f.1 ∙ here) in
+      let n : f.0 ≡ length t.item = cc (f.1, here) in
       let item : take f.0 bytes ≡ t.item = ap (take f.0) t.whole ∙ take_at t.item t.more f.0 (sym n) in
       item-refused file t.item kind t.is (subst (λ (x : List ℕ). Refuses file x kind) item f.2)
 
@@ -92,7 +87,7 @@ module _ (file : Format) where
 
   same_length : (x y : List ℕ) (a b : List ℕ) → IsItem file x → IsItem file y → x ++ a ≡ y ++ b → length x ≡ length y
   same_length x y a b p q e =
-      result_is (length x) (length y) (sym (framed-grows x a (length x) (item-framed file x p)) ∙ ap (framed file) e ∙ framed-grows y b (length y) (item-framed file y q))
+      cc (framed-grows x a (length x) (item-framed file x p), ap (framed file) e, framed-grows y b (length y) (item-framed file y q))
 
   -- A front at whose end no record stands that the other goes on with is the longest.
   longest_by : (xs ys : List (List ℕ)) (low r s : List ℕ) → InOrder file low xs → InOrder file low ys → concat xs ++ r ≡ concat ys ++ s → ((k : Takes (last_of low xs) r) (more : List (List ℕ)) → ys ≡ xs ++ k.item ∷ more → ⊥) → Before xs ys r s
@@ -103,24 +98,8 @@ module _ (file : Format) where
       let e' : x ++ (concat xs ++ r) ≡ y ++ (concat ys ++ s) = sym (append_assoc x (concat xs) r) ∙ e ∙ append_assoc y (concat ys) s in
       let both = same_item x y (concat xs ++ r) (concat ys ++ s) (same_length x y (concat xs ++ r) (concat ys ++ s) a.0 b.0 e') e' in
       let rest : InOrder file x ys = subst (λ (t : List ℕ). InOrder file t ys) (sym both.0) b.2 in
-      let n = longest_by xs ys x r s a.2 rest both.1 (λ k more is. stop k more (cons_both y x ys (xs ++ k.item ∷ more) (sym both.0) is)) in
-      record { more = n.more; records = cons_both x y xs (ys ++ n.more) both.0 n.records; rest = n.rest }
-
-  -- two fronts neither of which goes on are one
-  unique_by : (xs ys : List (List ℕ)) (low r s : List ℕ) → InOrder file low xs → InOrder file low ys → concat xs ++ r ≡ concat ys ++ s → ((k : Takes (last_of low xs) r) (more : List (List ℕ)) → ys ≡ xs ++ k.item ∷ more → ⊥) → ((k : Takes (last_of low ys) s) (more : List (List ℕ)) → xs ≡ ys ++ k.item ∷ more → ⊥) → (xs ≡ ys) × (r ≡ s)
-  unique_by [] [] low r s a b e p q = (refl, e)
-  unique_by (x ∷ xs) [] low r s a b e p q =
-      absurd (q (record { item = x; more = concat xs ++ r; whole = sym e ∙ append_assoc x (concat xs) r; is = a.0; above = a.1 }) xs refl)
-  unique_by [] (y ∷ ys) low r s a b e p q =
-      absurd (p (record { item = y; more = concat ys ++ s; whole = e ∙ append_assoc y (concat ys) s; is = b.0; above = b.1 }) ys refl)
-  unique_by (x ∷ xs) (y ∷ ys) low r s a b e p q =
-      let e' : x ++ (concat xs ++ r) ≡ y ++ (concat ys ++ s) = sym (append_assoc x (concat xs) r) ∙ e ∙ append_assoc y (concat ys) s in
-      let both = same_item x y (concat xs ++ r) (concat ys ++ s) (same_length x y (concat xs ++ r) (concat ys ++ s) a.0 b.0 e') e' in
-      let rest : InOrder file x ys = subst (λ (t : List ℕ). InOrder file t ys) (sym both.0) b.2 in
-      let stop : (k : Takes (last_of x ys) s) (more : List (List ℕ)) → xs ≡ ys ++ k.item ∷ more → ⊥ =
-      subst (λ (t : List ℕ). (k : Takes (last_of t ys) s) (more : List (List ℕ)) → xs ≡ ys ++ k.item ∷ more → ⊥) (sym both.0) (λ k more is. q k more (cons_both x y xs (ys ++ k.item ∷ more) both.0 is)) in
-      let n = unique_by xs ys x r s a.2 rest both.1 (λ k more is. p k more (cons_both y x ys (xs ++ k.item ∷ more) (sym both.0) is)) stop in
-      (cons_both x y xs ys both.0 n.0, n.1)
+      let n = longest_by xs ys x r s a.2 rest both.1 (λ k more is. stop k more (cc (both.0, is))) in
+      record { more = n.more; records = cc (both.0, n.records); rest = n.rest }
 
   -- a record stands in front of the rest that a good front may have behind these
   pub record Goes (records : List (List ℕ)) (rest : List ℕ) : Type 0 where
@@ -133,9 +112,11 @@ module _ (file : Format) where
 
   -- two fronts that stop are one
   pub unique : (xs ys : List (List ℕ)) (r s : List ℕ) → InOrder file [] xs → AreApart file xs → InOrder file [] ys → AreApart file ys → concat xs ++ r ≡ concat ys ++ s → (Goes xs r → ⊥) → (Goes ys s → ⊥) → (xs ≡ ys) × (r ≡ s)
-  unique xs ys r s a aa b bb e p q = unique_by xs ys [] r s a b e
-      (λ k more is. p (record { next = k; apart = apart_part file ys xs k.item more is bb }))
-      (λ k more is. q (record { next = k; apart = apart_part file xs ys k.item more is aa }))
+  unique xs ys r s a aa b bb e p q =
+      let f = longest xs ys r s a b bb e p in
+      let g = longest ys xs s r b a aa (sym e) q in
+      let none = no_more xs ys f.more g.more f.records g.records in
+      (f.records ∙ ap (λ (more : List (List ℕ)). ys ++ more) none ∙ append-nil ys, sym (f.rest ∙ ap (λ (more : List (List ℕ)). concat more ++ r) none))
 
   -- a record that is covered stands alone in front of the rest
   pub one_taken : (low bytes : List ℕ) (k t : Takes low bytes) → k.item ≡ t.item

@@ -22,7 +22,7 @@ use Rattle.archive_records.proofs.Apart.{apart_none}
 use Rattle.archive_records.proofs.FaultKinds.{memory_blames}
 use Rattle.archive_records.proofs.Undecided.{cut_text}
 use Rattle.archive_records.proofs.Contents.{sorted-InOrder, sorted-entries, AreEntries-entries}
-use Rattle.archive_records.proofs.Formats.{in_order_old, no_operations_text, no_summary_text, operations_form, summary_form}
+use Rattle.archive_records.proofs.Formats.{in_order_old, operations_form, summary_form}
 use Rattle.archive_records.proofs.Inputs.{IsReadTo, IsReadTo-content, IsSaid, read_whole, refused}
 use Rattle.archive_records.proofs.Listed.{operations_in}
 use Rattle.archive_records.proofs.Versions.{kept_set, kept_records}
@@ -31,8 +31,7 @@ use Rattle.archive_records.proofs.Versions.{kept_set, kept_records}
 pub taken_listing : (f : Format) → kind_of f ≡ Archive_text → (xs : List (List ℕ)) → InOrder f [] xs → listing (set_of (taken_of f xs)) ≡ taken_of f xs
 taken_listing Archive is xs a = listing_ascending nat_list_cmp_total bytes_same xs (sorted-InOrder [] xs a).1
 taken_listing OldArchive is xs a = ap listing (kept_set xs (in_order_old [] xs a)) ∙ kept_records xs (in_order_old [] xs a)
-taken_listing Operations_file is xs a = absurd (no_operations_text is)
-taken_listing Summary_file is xs a = absurd (no_summary_text is)
+taken_listing _ is xs a = cc
 
 -- what it says, of which the value was made
 pub record Says {T : Type 0} (file : TextKind) (Makes : List (List ℕ) → T → Type 0) (a b : Option (List ℕ)) (value : T) : Type 0 where

@@ -6,11 +6,11 @@ use Rattle.std.proofs.lemmas.List.{take-append-drop, take_all}
 use Rattle.archive_records.specs.declared.fault.RecordFault.{RecordFault}
 use Rattle.archive_records.specs.declared.fault.RecordFaultKind.TheVariants.{BadMagic, Truncated}
 use Rattle.archive_records.specs.declared.format.Format.{Format}
-use Rattle.archive_records.specs.declared.format.Format.TheVariants.{Archive, OldArchive, Operations, Summary}
+use Rattle.archive_records.specs.declared.format.Format.TheVariants.{Archive, OldArchive}
 use Rattle.archive_records.specs.declared.kind.TextKind.TheVariants.{Archive as Archive_text}
 use Rattle.archive_records.specs.Kind.{magic, old_magic, magic_of, kind_of, archive_format}
 use Rattle.archive_records.specs.Fault.{IsFault, IsFaultOf, IsFaultBehind, IsMagicFault}
-use Rattle.archive_records.proofs.Formats.{format_magic, kind_archive, same_fronts, length-magic, no_operations_text, no_summary_text}
+use Rattle.archive_records.proofs.Formats.{format_magic, kind_archive, same_fronts, length-magic}
 
 -- no fault behind a magic stands at its beginning
 behind : (file : Format) (records : List (List ℕ)) (rest : List ℕ) (fault : RecordFault) → fault.offset ≡ 0 → IsFaultBehind file records rest fault → ⊥
@@ -45,10 +45,7 @@ module _ (text : List ℕ) where
       (b.0, b.1, b.2, no_other b.0 b.1 b.3 Archive refl, no_other b.0 b.1 b.3 OldArchive refl)
 
   bad_in : (f : Format) → kind_of f ≡ Archive_text → (n : ℕ) → take n text ≢ take n magic → take n text ≢ take n old_magic → take n text ≢ take n (magic_of f)
-  bad_in Archive is n a b = a
-  bad_in OldArchive is n a b = b
-  bad_in Operations is n a b = absurd (no_operations_text is)
-  bad_in Summary is n a b = absurd (no_summary_text is)
+  bad_in f is n a b = grind arith
 
   pub is_bad : (n : ℕ) × (n ≤ 8) × (n ≤ length text) × (take n text ≢ take n magic) × (take n text ≢ take n old_magic) → IsFault text (record { kind = BadMagic; offset = 0 })
   unfolding format

@@ -1,6 +1,6 @@
 -- The texts of records, one behind the other.
-use Rattle.std.proofs.Common.{◌≡◌, ℕ, ◌+◌, ◌^◌, ◌<◌, ◌≤◌, List, [], ◌∷◌, ◌++◌, length, get_or, take, drop, Option, Result, refl, sym, ap, ◌∙◌, subst, arith, append_assoc, length-append}
-use Rattle.std.specs.Prelude.{IfOk, IfErr, OnOk, Ok, Err, true, false, cond, not}
+use Rattle.std.proofs.Common.{◌≡◌, ℕ, ◌+◌, ◌^◌, ◌<◌, ◌≤◌, List, [], ◌∷◌, ◌++◌, length, get_or, take, drop, Option, Result, sym, ap, ◌∙◌, subst, arith, append_assoc, length-append}
+use Rattle.std.specs.Prelude.{IfOk, Ok, Err, true, false, cond, not}
 use Rattle.std.proofs.lemmas.List.Elements.{filter-append}
 use Rattle.std.specs.Int.{w64, to_be_bytes}
 use Rattle.std.specs.List.{concat}
@@ -8,7 +8,7 @@ use Rattle.std.specs.Ordering.{nat_cmp}
 use Rattle.std.specs.Cmp.Lexicographic.{slice_cmp, nat_list_cmp_total}
 use Rattle.std.specs.FinSet as set
 use Rattle.std.specs.FinSet.{nat_cmp-IsAntisymmetric, slice_cmp-IsAntisymmetric, IsAntisymmetric}
-use Rattle.std.proofs.lemmas.List.{append-nil, take-append-drop, take-append-le, drop_more, take_more}
+use Rattle.std.proofs.lemmas.List.{append-nil, take-append-drop, take_more}
 use Rattle.std.proofs.lemmas.List.Folds.{concat-append}
 use Rattle.join_core.specs.Listing.{listing}
 use Rattle.join_core.proofs.Listing.{length_listing}
@@ -148,7 +148,4 @@ length_one s r h = ap length (missing_one s r h)
 
 -- of one record at most one is missing
 pub few_missing : (s : Entries) (r : List ℕ) → length (missing s (r ∷ [])) ≤ 1
-few_missing s r = elim (set.contains s (entry r)) as (λ b. length (cond (not b) (r ∷ []) []) ≤ 1) [
-  | true ↦ omega arith
-  | false ↦ omega arith
-]
+few_missing s r = grind arith

@@ -1,33 +1,22 @@
 -- Retirements that readers share: they count as each one's own.
-use Rattle.std.proofs.Common.{◌≡◌, ℕ, Bool, true, false, ◌&&◌, ◌||◌, List, ◌∷◌, ◌++◌, get_or, Option, None, Some, refl, ap, ◌∙◌}
+use Rattle.std.proofs.Common.{◌≡◌, ℕ, true, false, ◌||◌, List, ◌∷◌, ◌++◌, get_or, Option, None, Some, ap, ◌∙◌, arith}
 use Rattle.std.specs.FinSet as set
-use Rattle.archive_core.specs.Content.{is_admission, covering, is_covered}
+use Rattle.archive_core.specs.Content.{covering, is_covered}
 use Rattle.archive_core.proofs.Retired.{in_both, second_more}
 use Rattle.archive_records.specs.Reader.{set_of, Keeps, with_shared}
 use Rattle.archive_records.proofs.FoundOut.{uncovered_retirement}
+use Rattle.archive_records.proofs.Contents.{or_right}
 
 -- those of two lists cover what those of either do
 covered_both : (shared own : List (List ℕ)) (x : List ℕ) → is_covered (set_of (shared ++ own)) x ≡ (is_covered (set_of shared) x || is_covered (set_of own) x)
-covered_both shared own x = ap (λ b. is_admission x && b) (in_both shared own (covering x)) ∙ spread (is_admission x)
-  where
-    spread : (a : Bool) → (a && (set.contains (set_of shared) (covering x) || set.contains (set_of own) (covering x))) ≡ ((a && set.contains (set_of shared) (covering x)) || (a && set.contains (set_of own) (covering x)))
-    spread true = refl
-    spread false = refl
+covered_both shared own x = let both = in_both shared own (covering x) in grind arith
 
 pub covered_shared : (shared own : List (List ℕ)) (x : List ℕ) → is_covered (set_of own) x ≡ false → is_covered (set_of (shared ++ own)) x ≡ is_covered (set_of shared) x
-covered_shared shared own x none = covered_both shared own x ∙ ap (λ b. is_covered (set_of shared) x || b) none ∙ alone (is_covered (set_of shared) x)
-  where
-    alone : (a : Bool) → (a || false) ≡ a
-    alone true = refl
-    alone false = refl
+covered_shared shared own x none = let both = covered_both shared own x in grind arith
 
 pub covered_own : (shared : Option (List (List ℕ))) (own : List (List ℕ)) (x : List ℕ) → is_covered (set_of own) x ≡ true → is_covered (set_of (with_shared shared own)) x ≡ true
 covered_own None own x covers = covers
-covered_own (Some shared) own x covers = covered_both shared own x ∙ ap (λ b. is_covered (set_of shared) x || b) covers ∙ either (is_covered (set_of shared) x)
-  where
-    either : (a : Bool) → (a || true) ≡ true
-    either true = refl
-    either false = refl
+covered_own (Some shared) own x covers = covered_both shared own x ∙ or_right (is_covered (set_of shared) x) (is_covered (set_of own) x) covers
 
 -- one more of its own is one more
 one_more : (shared : Option (List (List ℕ))) (old new : List (List ℕ)) (x : List ℕ) → set_of new ≡ set.insert (set_of old) x → set_of (with_shared shared new) ≡ set.insert (set_of (with_shared shared old)) x

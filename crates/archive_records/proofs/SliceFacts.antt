@@ -1,7 +1,6 @@
 -- What is known of slices and their faults.
-use Rattle.std.proofs.Common.{◌≡◌, ℕ, ◌^◌, ◌<◌, List, length, Option, Some, None, refl, sym, ap, ◌∙◌, inl, inr, ◌⊎◌}
-use Rattle.macho_image.specs.Fault.{IsImage, IsImageFault}
-use Rattle.macho_image.specs.declared.fault.ImageFault.{ImageFault}
+use Rattle.std.proofs.Common.{◌≡◌, ℕ, ◌^◌, ◌<◌, List, length, Option, Some, None, refl, ap, inl, inr, ◌⊎◌}
+use Rattle.macho_image.specs.Fault.{IsImage}
 use Rattle.macho_image.proofs.Existence.{image_or_fault}
 use Rattle.macho_image.proofs.FaultLemmas.{one_image_fault, no_image_fault}
 use Rattle.macho_image.proofs.Told.{length-image}
@@ -14,32 +13,22 @@ use Rattle.archive_core.specs.declared.faults.SliceFault.TheVariants.{Image, Sym
 pub short_slice : (bytes : List ℕ) → IsValid bytes → length bytes < 2 ^ 32
 short_slice bytes valid = length-image bytes valid.image
 
-none_is_some : (f : SymbolFault) → None ≡ Some f → ⊥
-none_is_some f e = cc
-
 -- a slice has no fault
 pub no_slice_fault : (bytes : List ℕ) (f : SliceFault) → IsValid bytes → IsSliceFault bytes f → ⊥
 no_slice_fault bytes (Image f) valid fault = no_image_fault bytes f valid.image fault
-no_slice_fault bytes (Symbols f) valid fault = none_is_some f (sym valid.symbols.fine ∙ fault.1)
-
-same_fault : (f g : SymbolFault) → Some f ≡ Some g → f ≡ g
-same_fault f g e = cc
+no_slice_fault bytes (Symbols f) valid fault = cc (valid.symbols.fine, fault.1)
 
 -- other bytes have one
 pub one_slice_fault : (bytes : List ℕ) (f g : SliceFault) → IsSliceFault bytes f → IsSliceFault bytes g → f ≡ g
 one_slice_fault bytes (Image f) (Image g) a b = ap Image (one_image_fault bytes f g a b)
 one_slice_fault bytes (Image f) (Symbols g) a b = absurd (no_image_fault bytes f b.0 a)
 one_slice_fault bytes (Symbols f) (Image g) a b = absurd (no_image_fault bytes g a.0 b)
-one_slice_fault bytes (Symbols f) (Symbols g) a b = ap Symbols (same_fault f g (sym a.1 ∙ b.1))
+one_slice_fault bytes (Symbols f) (Symbols g) a b = cc (a.1, b.1)
 
 by_symbols : (bytes : List ℕ) (fault : Option SymbolFault) → symbol_fault bytes ≡ fault → IsImage bytes → IsValid bytes ⊎ ((f : SliceFault) × IsSliceFault bytes f)
 by_symbols bytes None is image = inl (record { image = image; symbols = record { fine = is } })
 by_symbols bytes (Some f) is image = inr (Symbols f, (image, is))
 
-by_image : (bytes : List ℕ) → IsImage bytes ⊎ ((f : ImageFault) × IsImageFault bytes f) → IsValid bytes ⊎ ((f : SliceFault) × IsSliceFault bytes f)
-by_image bytes (inl image) = by_symbols bytes (symbol_fault bytes) refl image
-by_image bytes (inr fault) = inr (Image fault.0, fault.1)
-
 -- bytes are a slice or have a fault
 pub slice_or_fault : (bytes : List ℕ) → IsValid bytes ⊎ ((f : SliceFault) × IsSliceFault bytes f)
-slice_or_fault bytes = by_image bytes (image_or_fault bytes)
+slice_or_fault bytes = elim (image_or_fault bytes) [ inl image ↦ by_symbols bytes (symbol_fault bytes) refl image | inr fault ↦ inr (Image fault.0, fault.1) ]

@@ -15,7 +15,7 @@ use Rattle.archive_records.specs.Reading.{Blames, IsOfMachine}
 use Rattle.archive_records.specs.declared.next.NextRecord.{NextRecord}
 use Rattle.archive_records.specs.declared.next.NextRecord.TheVariants.{End, Item}
 use Rattle.archive_records.specs.Reader.{HoldsNext, IsStep, StepsTo, bytes_so_far, Position, set_of, RetireAlike, KeepsIn, AreRetired, IsCoveredThere, Passes, Finishes, StopsAt, HasWhole, HasRead, HasReadAll, Stopped, StoppedWith, IsEnded, seen_as}
-use Rattle.archive_records.proofs.Apart.{apart_more, retired_more, drops_more, covered_alike, last_of-push}
+use Rattle.archive_records.proofs.Apart.{retired_more, drops_more, covered_alike, last_of-push}
 use Rattle.archive_records.proofs.Puts.{concat-push}
 use Rattle.archive_records.specs.declared.buffer.Buffer.{Buffer}
 use Rattle.archive_records.proofs.Holds.{next-above, next-framed}
@@ -24,7 +24,7 @@ use Rattle.archive_records.proofs.Forms.{item-found, item-no_end}
 use Rattle.archive_records.proofs.Grown.{next-ok-grows}
 use Rattle.archive_records.proofs.Ends.{is_three, ending_is, ended_is, end-is_end, length-end_record, next_end, counted, counted_unended}
 use Rattle.archive_records.proofs.Longest.{is_end-grows}
-use Rattle.archive_records.proofs.Undecided.{no_machine, device_seen, apart_whole, cut_text, cut_off, cut_behind}
+use Rattle.archive_records.proofs.Undecided.{no_machine, kept_uncovered, apart_whole, cut_text, cut_off, cut_behind}
 use Rattle.archive_records.specs.declared.format.Format.{Format}
 use Rattle.archive_records.specs.declared.format.Format.TheVariants.{Archive}
 
@@ -49,7 +49,7 @@ module _ (file : Format) where
         file_is = p.file_is ∙ h.file_is;
         taken = subst (λ (t : List ℕ). Consumes a c (magic_of file ++ t)) (sym (concat-push records bytes)) (taken_more a b c (magic_of file) (concat records) bytes h.taken p.taken);
         ordered = InOrder-push [] records bytes h.ordered (subst (λ (f : Format). IsItem f bytes) h.file_is p.item) follows;
-        apart = apart_more file before.retired after.retired records after.dropped bytes h.ordered follows h.apart h.retired_are kept;
+        apart = apart_whole file before.retired records bytes h.ordered follows h.apart h.retired_are (kept_uncovered file before.retired after.retired after.dropped bytes kept);
         last_is = sym (last_of-push [] records bytes);
         count_is = omega (arith, p.count_is, h.count_is, length-append records (bytes ∷ []));
         offset_is = omega (arith, p.offset_is, h.offset_is, ap length (concat-push records bytes), length-append (concat records) bytes);
@@ -71,12 +71,6 @@ module _ (file : Format) where
         retired_are = subst (λ (t : List (List ℕ)). AreRetired file t records) (sym e.retired_is) h.retired_are;
       }
 
-  -- what one item more makes decides no fault
-  whole_undecided : (a b c : Option (List ℕ)) (records : List (List ℕ)) (before after : Position) → HasRead file a b records before → Passes b c before after → IsCutAtMost file (magic_of file ++ (concat records ++ after.last))
-  whole_undecided a b c records before after h p =
-      let read = HasRead-grows a b c records before after h p in
-      cut_behind file records after.last read.ordered read.apart (omega (arith, h.count_is, p.count_is, p.few))
-
   -- want of memory where the record that was read is taken
   pub Stopped-unkept : (a b c : Option (List ℕ)) (records : List (List ℕ)) (before after : Position) → HasRead file a b records before → Passes b c before after → Stopped file a c records (record { kind = OutOfMemory; offset = before.offset })
   Stopped-unkept a b c records before after h p = record {
@@ -87,7 +81,9 @@ module _ (file : Format) where
     few = omega (arith, h.count_is, p.count_is, p.few);
     unended = λ known. absurd (known.1 refl);
     stops = inl (h.offset_is, λ known. absurd (known refl));
-    undecided = λ _. whole_undecided a b c records before after h p;
+    undecided = λ _.
+        let read = HasRead-grows a b c records before after h p in
+        cut_behind file records after.last read.ordered read.apart (omega (arith, h.count_is, p.count_is, p.few));
   }
 
   -- what is covered is covered by one of the records
@@ -116,16 +112,10 @@ module _ (file : Format) where
 
   -- what came where the device failed, or memory ran out, decides no fault
   pub undecided_there : (a b c : Option (List ℕ)) (records : List (List ℕ)) (before : Position) (fault : RecordFault) → HasRead file a b records before → (s : StopsAt b c before fault) → IsOfMachine fault.kind → IsCutAtMost file (magic_of file ++ (concat records ++ s.rest))
-  undecided_there a b c records before fault h s (inl device) = elim (s.fails (λ memory. device_memory (sym device ∙ memory))) [
-    | inl f ↦ cut_off file records h.ordered h.apart (omega (arith, h.count_is, s.few)) s.rest (device_seen file (last_of [] records) (length records) s.rest fault.kind (next_there a b records before s.rest (seen_as fault.kind) h f) device)
-    | inr e ↦ absurd (device_covered (sym device ∙ e.kind_is))
+  undecided_there a b c records before fault h s (inl device) = elim (s.fails (λ memory. cc)) [
+    | inl f ↦ cut_off file records h.ordered h.apart (omega (arith, h.count_is, s.few)) s.rest (rw device at (next_there a b records before s.rest (seen_as fault.kind) h f))
+    | inr e ↦ absurd (cc (device, e.kind_is))
   ]
-    where
-      device_memory : Device ≡ OutOfMemory → ⊥
-      device_memory e = cc
-
-      device_covered : Device ≡ Covered → ⊥
-      device_covered e = cc
   undecided_there a b c records before fault h s (inr memory) = elim (s.wanted memory) [
     | inl f ↦ cut_off file records h.ordered h.apart (omega (arith, h.count_is, s.few)) s.rest (next_there a b records before s.rest Truncated h f)
     | inr w ↦
@@ -164,20 +154,6 @@ step_to file last count left buffer (Item found) h = record {
   follows = next-follows file last count (bytes_so_far buffer) h.0.is_next (item-found file (bytes_so_far buffer) found h.1);
 }
 
--- a step, by what it read over the last record
-pub step_passes : (a b : Option (List ℕ)) (before after : Position) (bytes : List ℕ) → after.last ≡ bytes → Consumes a b bytes → IsItem before.file bytes → may_follow before.file before.last bytes ≡ true
-    → after.file ≡ before.file → after.count ≡ before.count + 1 → after.offset ≡ before.offset + length after.last → after.count < 2 ^ 63 → KeepsIn before.file before.retired after.retired after.dropped bytes → Passes a b before after
-step_passes a b before after bytes is taken item follows file count offset few kept = record {
-  taken = subst (Consumes a b) (sym is) taken;
-  item = subst (IsItem before.file) (sym is) item;
-  follows = subst (λ (t : List ℕ). may_follow before.file before.last t ≡ true) (sym is) follows;
-  file_is = file;
-  count_is = count;
-  offset_is = offset;
-  few = few;
-  kept = subst (KeepsIn before.file before.retired after.retired after.dropped) (sym is) kept;
-}
-
 -- why an item is refused by the retirements before it
 abbrev pub IsRefusedBy : Position → List ℕ → RecordFaultKind → Type 0
 IsRefusedBy before bytes kind = ((kind ≡ OutOfMemory) × (is_covered (set_of before.retired) bytes ≡ false)) ⊎ ((kind ≡ Covered) × (before.file ≡ Archive) × (is_covered (set_of before.retired) bytes ≡ true))
@@ -208,38 +184,23 @@ step_refused a b before last bytes kind is taken few item follows (inr c) = (
       follows = subst (λ (f : Format). may_follow f before.last bytes ≡ true) c.1 follows;
       covered = c.2;
     });
-    wanted = λ memory. absurd (covered_memory (sym c.0 ∙ memory));
+    wanted = λ memory. absurd (cc (c.0, memory));
     offset_is = refl;
     few = few;
   },
   λ _. inl (item, is),
 )
-  where
-    covered_memory : Covered ≡ OutOfMemory → ⊥
-    covered_memory h = cc
 
 pub refused_blames : {R : Type 0} (left : R → Option (List ℕ)) (failures : R → ℕ) (old new : R) (before : Position) (bytes : List ℕ) (kind : RecordFaultKind) → failures new ≡ failures old → IsRefusedBy before bytes kind → Blames left failures old new kind
 refused_blames left failures old new before bytes kind unfailed (inl e) = subst (Blames left failures old new) (sym e.0) (memory_blames left failures old new unfailed)
-refused_blames left failures old new before bytes kind unfailed (inr c) = subst (Blames left failures old new) (sym c.0) ((λ e. absurd (no_device e)), (λ _. unfailed), λ e. absurd (no_end e))
-  where
-    no_device : Covered ≡ Device → ⊥
-    no_device e = cc
-
-    no_end : Covered ≡ Truncated → ⊥
-    no_end e = cc
+refused_blames left failures old new before bytes kind unfailed (inr c) = subst (Blames left failures old new) (sym c.0) (λ e. cc, (λ _. unfailed), λ e. cc)
 
 -- what comes next is never bytes too many
 pub step-never_trailing : (a b : Option (List ℕ)) (before : Position) (fault : RecordFault) → StopsAt a b before fault → fault.kind ≢ Trailing
-step-never_trailing a b before fault s trailing = elim (s.fails (λ memory. no_memory (sym trailing ∙ memory))) [
+step-never_trailing a b before fault s trailing = elim (s.fails (λ memory. cc)) [
   | inl f ↦ never_trailing before.file before.last before.count s.rest fault.kind f trailing
-  | inr c ↦ no_cover (sym trailing ∙ c.kind_is)
+  | inr c ↦ cc (trailing, c.kind_is)
 ]
-  where
-    no_memory : Trailing ≡ OutOfMemory → ⊥
-    no_memory h = cc
-
-    no_cover : Trailing ≡ Covered → ⊥
-    no_cover h = cc
 
 -- ---- behind an end record
 

@@ -1,8 +1,8 @@
 -- The entries that a summary keeps.
-use Rattle.std.proofs.Common.{◌≡◌, ℕ, ◌+◌, ◌<◌, Bool, true, false, cond, ◌||◌, List, [], ◌∷◌, ◌++◌, length, map, take, get_or, refl, sym, ap, ◌∙◌, subst, inl, inr, ◌⊎◌, Result, Ok, Err}
+use Rattle.std.proofs.Common.{◌≡◌, ℕ, ◌+◌, ◌<◌, Bool, true, false, cond, ◌||◌, List, [], ◌∷◌, ◌++◌, length, map, take, get_or, refl, sym, ap, ◌∙◌, subst, inl, inr, ◌⊎◌, Result, Ok, Err, arith}
 use Rattle.std.specs.Ordering.{eq_by_cmp, is_lt}
 use Rattle.std.specs.declared.cmp.Ordering.TheVariants.{Less}
-use Rattle.std.specs.Cmp.{Equal-is, on_total}
+use Rattle.std.specs.Cmp.{on_total}
 use Rattle.std.specs.Cmp.Lexicographic.{nat_list_cmp_total}
 use Rattle.std.specs.List.{AllByRecursion, list_any, dedup, dedup_from}
 use Rattle.std.specs.List.Sorted.{IsPermutation, IsSortedBy, IsStrictlySortedBy}
@@ -21,11 +21,11 @@ use Rattle.archive_core.proofs.Entries.{admission_entry, retirement_entry, lengt
 use Rattle.archive_core.proofs.Summaries.{member_of_entry}
 use Rattle.archive_records.specs.declared.entry.Entry.{Entry}
 use Rattle.archive_records.specs.Entry.{entry_bytes, IsEntry, AreEntries}
-use Rattle.archive_records.specs.declared.format.Format.TheVariants.{Archive}
+use Rattle.archive_records.specs.declared.format.Format.TheVariants.{Archive, Summary}
 use Rattle.archive_records.specs.Text.{InOrder}
 use Rattle.archive_records.specs.Reader.{AreListed}
 use Rattle.archive_records.proofs.Puts.{bytes_same}
-use Rattle.archive_records.proofs.Contents.{order, along, InOrder-listing}
+use Rattle.archive_records.proofs.Contents.{order, along, each, items_of, same_bytes, sorted-entries, InOrder-listing}
 
 -- the entry of a record
 tag_of : (r : List ℕ) → IsRecord r → (get_or (entry r) 0 0 ≡ 1) ⊎ (get_or (entry r) 0 0 ≡ 2)
@@ -42,15 +42,8 @@ AreEntries-summary o content e h =
     subst IsEntry found.2 (is_entry found.0 (content.records found.0 found.1))
 
 -- what is listed has entries alone
-along_set : (xs : List (List ℕ)) (q : List ℕ) → AllByRecursion IsEntry xs → list_any (eq_by_cmp order q) xs ≡ true → IsEntry q
-along_set [] q all e = absurd cc
-along_set (x ∷ xs) q all e = elim (eq_by_cmp order q x) as (λ b. eq_by_cmp order q x ≡ b → (b || list_any (eq_by_cmp order q) xs) ≡ true → IsEntry q) [
-  | true ↦ λ h _. subst IsEntry (sym (bytes_same q x ((Equal-is (order q x)).0 h))) all.0
-  | false ↦ λ _ rest. along_set xs q all.1 rest
-] refl e
-
 pub AreEntries-listed : (xs : List (List ℕ)) → AllByRecursion IsEntry xs → AreEntries (set.from_list xs)
-AreEntries-listed xs all q h = along_set xs q all (sym (contains-from_list nat_list_cmp_total xs q) ∙ h)
+AreEntries-listed xs all q h = each IsEntry xs q all (sym (contains-from_list nat_list_cmp_total xs q) ∙ h)
 
 -- what a search says of the set
 pub found_is : (xs : List (List ℕ)) (q : List ℕ) (r : Result ℕ ℕ) → IsFound order xs q r → is_ok r ≡ set.contains (set.from_list {R = order} xs) q
@@ -58,11 +51,14 @@ found_is xs q (Ok i) found = sym found.present
 found_is xs q (Err i) found = sym found.absent.absent
 
 -- the entry of one record more
+pub entries_more : (before after : List Entry) (e : Entry) (records : List (List ℕ)) (r : List ℕ) → after ≡ before ++ e ∷ [] → entry_bytes e ≡ entry r → map entry_bytes before ≡ map entry records → map entry_bytes after ≡ map entry (records ++ r ∷ [])
+entries_more before after e records r grown of are =
+    ap (map entry_bytes) grown ∙ map-append entry_bytes before (e ∷ []) ∙ (λ i. are i ++ of i ∷ []) ∙ sym (map-append entry records (r ∷ []))
+
 pub one_more : (records : List (List ℕ)) (i : ℕ) (r : List ℕ) → i < length records → r ≡ get_or records i [] → (before after : List Entry) (e : Entry) → after ≡ before ++ e ∷ [] → entry_bytes e ≡ entry r
     → map entry_bytes before ≡ map entry (take i records) → map entry_bytes after ≡ map entry (take (i + 1) records)
 one_more records i r lt at before after e grown of are =
-    ap (map entry_bytes) grown ∙ map-append entry_bytes before (e ∷ []) ∙ ap (λ (xs : List (List ℕ)). xs ++ entry_bytes e ∷ []) are ∙ ap (λ (x : List ℕ). map entry (take i records) ++ x ∷ []) (of ∙ ap entry at)
-    ∙ sym (ap (map entry) (take_more records i [] lt) ∙ map-append entry (take i records) (get_or records i [] ∷ []))
+    entries_more before after e (take i records) r grown of are ∙ ap (map entry) (sym (take_more records i [] lt ∙ ap (λ (x : List ℕ). take i records ++ x ∷ []) (sym at)))
 
 -- the bytes of an entry among those of all
 pub bytes_at : (entries : List Entry) (i : ℕ) (e : Entry) (bytes : List ℕ) → i < length entries → e ≡ get_or entries i e → bytes ≡ entry_bytes e → bytes ≡ get_or (map entry_bytes entries) i []
@@ -74,11 +70,7 @@ abbrev tie : Entry → Entry → Bool
 tie x y = eq_by_cmp order (entry_bytes x) (entry_bytes y)
 
 twice : (a c : Bool) → (a || (a || c)) ≡ (a || c)
-twice true c = refl
-twice false c = refl
-
-same_bytes : (a b : List ℕ) → eq_by_cmp order a b ≡ true → a ≡ b
-same_bytes a b e = bytes_same a b ((Equal-is (order a b)).0 e)
+twice a c = grind arith
 
 any_dedup_from : (p : List ℕ → Bool) (k : Entry) (xs : List Entry) → list_any p (map entry_bytes (dedup_from tie k xs)) ≡ (p (entry_bytes k) || list_any p (map entry_bytes xs))
 any_dedup_from p k [] = refl
@@ -120,6 +112,10 @@ module _ (gathered moved kept : List Entry) (permuted : IsPermutation gathered m
     are = along IsEntry (map entry_bytes kept) (λ q e. AreEntries-listed (map entry_bytes gathered) all q (contains-from_list nat_list_cmp_total (map entry_bytes gathered) q ∙ sym (any_kept (eq_by_cmp order q)) ∙ e));
   }
 
+-- entries that ascend may be kept
+pub AreListed-ordered : (xs : List (List ℕ)) → InOrder Summary [] xs → AreListed xs
+AreListed-ordered xs a = record { ascending = (sorted-entries [] xs a).1; are = items_of Summary [] xs a }
+
 -- ---- the entries of a content
 
 ordered_entries : (low : List ℕ) (rs : List (List ℕ)) → InOrder Archive low rs → AllByRecursion IsEntry (map entry rs)
@@ -132,11 +128,6 @@ entries_of_content o entries content are = subst (AllByRecursion IsEntry) (sym a
 pub summary_of_entries : (o : Operations) (entries : List Entry) → map entry_bytes entries ≡ map entry (listing o) → set.from_list (map entry_bytes entries) ≡ summary o
 unfolding summary
 summary_of_entries o entries are = ap set.from_list are
-
--- the entry of one record more
-pub entries_more : (before after : List Entry) (e : Entry) (records : List (List ℕ)) (r : List ℕ) → after ≡ before ++ e ∷ [] → entry_bytes e ≡ entry r → map entry_bytes before ≡ map entry records → map entry_bytes after ≡ map entry (records ++ r ∷ [])
-entries_more before after e records r grown of are =
-    ap (map entry_bytes) grown ∙ map-append entry_bytes before (e ∷ []) ∙ (λ i. are i ++ of i ∷ []) ∙ sym (map-append entry records (r ∷ []))
 
 -- one entry more
 pub named_more : (xs grown : List Entry) (e : Entry) (records : List (List ℕ)) (bytes : List ℕ) → grown ≡ xs ++ e ∷ [] → entry_bytes e ≡ bytes → map entry_bytes xs ≡ records → map entry_bytes grown ≡ records ++ bytes ∷ []

@@ -1,66 +1,41 @@
 -- What was taken decides no fault.
-use Rattle.std.proofs.Common.{◌≡◌, ℕ, ◌<◌, ◌^◌, Bool, true, false, List, [], ◌∷◌, ◌++◌, length, Err, refl, sym, ap, ◌∙◌, subst, arith, inl, inr, ◌⊎◌, length-append, lit≤}
+use Rattle.std.proofs.Common.{◌≡◌, ℕ, ◌<◌, ◌^◌, Bool, true, false, List, [], ◌∷◌, ◌++◌, length, refl, sym, ap, ◌∙◌, subst, arith, inl, inr, ◌⊎◌, length-append}
 use Rattle.std.proofs.lemmas.List.{append-nil}
 use Rattle.std.specs.List.{concat}
 use Rattle.archive_core.specs.Content.{is_covered}
-use Rattle.archive_records.specs.declared.fault.RecordFaultKind.{RecordFaultKind}
-use Rattle.archive_records.specs.declared.fault.RecordFaultKind.TheVariants.{Truncated, Trailing, Device, OutOfMemory}
+use Rattle.archive_records.specs.declared.fault.RecordFaultKind.TheVariants.{Truncated, Trailing}
 use Rattle.archive_records.specs.declared.fault.RecordFault.{RecordFault}
 use Rattle.archive_records.specs.declared.format.Format.{Format}
-use Rattle.archive_records.specs.declared.format.Format.TheVariants.{Archive, OldArchive, Operations, Summary}
+use Rattle.archive_records.specs.declared.format.Format.TheVariants.{Archive, Operations}
 use Rattle.archive_records.specs.Kind.{magic_of, may_follow}
 use Rattle.archive_records.specs.Text.{ending, InOrder, AreApart, last_of}
-use Rattle.archive_records.specs.Fault.{next, next_by, FailsNext, IsUnended, IsCutAtMost}
+use Rattle.archive_records.specs.Fault.{next, FailsNext, IsUnended, IsCutAtMost}
 use Rattle.archive_records.specs.Front.{IsGoodFront, front_length}
 use Rattle.archive_records.specs.Reading.{IsOfMachine}
-use Rattle.archive_records.specs.Reader.{set_of, KeepsIn, AreRetired, seen_as}
-use Rattle.archive_records.proofs.Framed.{framed-empty}
+use Rattle.archive_records.specs.Reader.{set_of, KeepsIn, AreRetired}
+use Rattle.archive_records.specs.Layout.{framed}
 use Rattle.archive_records.proofs.Puts.{concat-push}
 use Rattle.archive_records.proofs.Apart.{covered_alike, push_apart}
 use Rattle.archive_records.proofs.Exact.{one_fault, no_fault}
 
 pub no_machine : IsOfMachine Trailing → ⊥
-no_machine (inl e) = device e
-  where
-    device : Trailing ≡ Device → ⊥
-    device h = cc
-no_machine (inr e) = memory e
-  where
-    memory : Trailing ≡ OutOfMemory → ⊥
-    memory h = cc
-
--- what stops for want of memory inside a record is seen as cut off
-pub memory_seen : (file : Format) (last : List ℕ) (count : ℕ) (bytes : List ℕ) (kind : RecordFaultKind) → FailsNext file last count bytes (seen_as kind) → kind ≡ OutOfMemory → FailsNext file last count bytes Truncated
-memory_seen file last count bytes kind f e = subst (λ (k : RecordFaultKind). FailsNext file last count bytes (seen_as k)) e f
-
-pub device_seen : (file : Format) (last : List ℕ) (count : ℕ) (bytes : List ℕ) (kind : RecordFaultKind) → FailsNext file last count bytes (seen_as kind) → kind ≡ Device → FailsNext file last count bytes Truncated
-device_seen file last count bytes kind f e = subst (λ (k : RecordFaultKind). FailsNext file last count bytes (seen_as k)) e f
+no_machine e = grind arith
 
 -- what is kept as it has to be is no fault
 pub kept_uncovered : (file : Format) (old new : List (List ℕ)) (dropped : Bool) (x : List ℕ) → KeepsIn file old new dropped x → file ≡ Archive → is_covered (set_of old) x ≡ false
 kept_uncovered Archive old new dropped x k is = k.0.tells ∙ k.1
-kept_uncovered OldArchive old new dropped x k is = absurd cc
-kept_uncovered Operations old new dropped x k is = absurd cc
-kept_uncovered Summary old new dropped x k is = absurd cc
+kept_uncovered _ old new dropped x k is = absurd cc
 
 -- a record that is not covered stands apart with those before it
 pub apart_whole : (file : Format) (retired records : List (List ℕ)) (x : List ℕ) → InOrder file [] records → may_follow file (last_of [] records) x ≡ true → AreApart file records → AreRetired file retired records → (file ≡ Archive → is_covered (set_of retired) x ≡ false) → AreApart file (records ++ x ∷ [])
 apart_whole Archive retired records x a b is are free = push_apart records x a b is (sym (covered_alike (set_of retired) (set_of records) x are) ∙ free refl)
-apart_whole OldArchive retired records x a b is are free = tt
-apart_whole Operations retired records x a b is are free = tt
-apart_whole Summary retired records x a b is are free = tt
+apart_whole _ retired records x a b is are free = tt
 
 -- operations end where nothing is left
 ended_or_not : (file : Format) (n : ℕ) (rest : List ℕ) → (rest ≡ ending file n) ⊎ IsUnended file rest
-ended_or_not Archive n rest = inr tt
-ended_or_not OldArchive n rest = inr tt
-ended_or_not Summary n rest = inr tt
 ended_or_not Operations n [] = inl refl
 ended_or_not Operations n (x ∷ rest) = inr (λ e. cc)
-
-nothing_more : (file : Format) (low : List ℕ) (count : ℕ) → next file low count [] ≡ Err Truncated
-unfolding next
-nothing_more file low count = ap (λ r. next_by file r low count []) (framed-empty file [] (lit≤ tt))
+ended_or_not _ n rest = inr tt
 
 module _ (file : Format) (records : List (List ℕ)) (ordered : InOrder file [] records) (apart : AreApart file records) (few : length records < 2 ^ 64) where
   -- a text has no fault
@@ -80,7 +55,8 @@ module _ (file : Format) (records : List (List ℕ)) (ordered : InOrder file [] 
 
 -- nor has it another where a whole item came that may stand there
 pub cut_behind : (file : Format) (records : List (List ℕ)) (item : List ℕ) → InOrder file [] (records ++ item ∷ []) → AreApart file (records ++ item ∷ []) → length records < 2 ^ 63 → IsCutAtMost file (magic_of file ++ (concat records ++ item))
+unfolding next framed
 cut_behind file records item ordered apart few =
     let same : concat (records ++ item ∷ []) ++ [] ≡ concat records ++ item = append-nil (concat (records ++ item ∷ [])) ∙ concat-push records item in
     subst (λ (t : List ℕ). IsCutAtMost file (magic_of file ++ t)) same
-    (cut_off file (records ++ item ∷ []) ordered apart (omega (arith, few, length-append records (item ∷ []))) [] (inl (nothing_more file (last_of [] (records ++ item ∷ [])) (length (records ++ item ∷ [])))))
+    (cut_off file (records ++ item ∷ []) ordered apart (omega (arith, few, length-append records (item ∷ []))) [] (inl refl))

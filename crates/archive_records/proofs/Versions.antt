@@ -1,5 +1,5 @@
 -- The texts of archives, of both versions: of which records each is, and what it gives.
-use Rattle.std.proofs.Common.{◌≡◌, ℕ, suc, ◌<◌, ◌≤◌, ◌^◌, Bool, true, false, cond, not, List, [], ◌∷◌, ◌++◌, length, refl, sym, ap, ◌∙◌, subst, arith, inl, inr, append_assoc}
+use Rattle.std.proofs.Common.{◌≡◌, ℕ, ◌<◌, ◌≤◌, ◌^◌, Bool, not, List, [], ◌∷◌, ◌++◌, length, refl, sym, ap, ◌∙◌, subst, arith, inl, inr, append_assoc}
 use Rattle.std.proofs.lemmas.List.{append-nil}
 use Rattle.std.specs.List.{concat, filter}
 use Rattle.std.specs.Cmp.Lexicographic.{nat_list_cmp_total}
@@ -11,13 +11,13 @@ use Rattle.archive_core.specs.Content.{Operations, IsContent, is_covered, conten
 use Rattle.archive_core.proofs.Made.{made_again, from_made}
 use Rattle.archive_records.specs.declared.fault.RecordFault.{RecordFault}
 use Rattle.archive_records.specs.declared.format.Format.{Format}
-use Rattle.archive_records.specs.declared.format.Format.TheVariants.{Archive, OldArchive, Operations as Operations_file, Summary as Summary_file}
+use Rattle.archive_records.specs.declared.format.Format.TheVariants.{Archive, OldArchive, Operations as Operations_file}
 use Rattle.archive_records.specs.declared.kind.TextKind.TheVariants.{Archive as Archive_text}
 use Rattle.archive_records.specs.Kind.{old_magic, magic_of, kind_of, archive_format}
 use Rattle.archive_records.specs.Text.{end_record, ending, text_of, written, old_written, AreOperations, IsArchiveOf, InOrder, AreApart, kept, taken_of}
 use Rattle.archive_records.specs.Fault.{IsFault, IsFaultOf}
 use Rattle.archive_records.specs.Reader.{set_of}
-use Rattle.archive_records.proofs.Formats.{in_order_old, old_in_order, format_magic, no_operations_text, no_summary_text}
+use Rattle.archive_records.proofs.Formats.{in_order_old, old_in_order, format_magic}
 use Rattle.archive_records.proofs.Puts.{bytes_same, length_written}
 use Rattle.archive_records.proofs.Contents.{sorted-InOrder, InOrder-listing, InOrder-set, IsContent-records, are_records, written_text, written-records, content_is}
 use Rattle.archive_records.proofs.Apart.{apart_listing}
@@ -40,11 +40,7 @@ kept_set xs a = ap set_of (sym (kept_records xs a)) ∙ sym (content_is (content
 
 filter_long : (p : List ℕ → Bool) (xs : List (List ℕ)) → length (filter p xs) ≤ length xs
 filter_long p [] = omega arith
-filter_long p (x ∷ xs) = by (p x) (filter_long p xs)
-  where
-    by : (b : Bool) → length (filter p xs) ≤ length xs → length (cond b (x ∷ filter p xs) (filter p xs)) ≤ suc (length xs)
-    by true h = omega (arith, h)
-    by false h = omega (arith, h)
+filter_long p (x ∷ xs) = let rest = filter_long p xs in grind arith
 
 pub kept_long : (xs : List (List ℕ)) → length (kept xs) ≤ length xs
 unfolding kept
@@ -103,16 +99,14 @@ content_in Archive is xs a apart = IsContent-records xs a apart
 content_in OldArchive is xs a apart =
     let b = in_order_old [] xs a in
     subst IsContent (sym (kept_set xs b)) (made_content (set_of xs) (are_records xs b))
-content_in Operations_file is xs a apart = absurd (no_operations_text is)
-content_in Summary_file is xs a apart = absurd (no_summary_text is)
+content_in _ is xs a apart = absurd (cc is)
 
 text_in : (f : Format) → kind_of f ≡ Archive_text → (xs : List (List ℕ)) → InOrder f [] xs → (text : List ℕ) → text ≡ text_of f xs → IsArchiveOf (set.from_list (taken_of f xs)) text
 text_in Archive is xs a text e = inl (e ∙ sym (written-records xs a))
 text_in OldArchive is xs a text e =
     let b = in_order_old [] xs a in
     inr (record { operations = set_of xs; are = are_records xs b; whole = e ∙ sym (old_written-records xs b); makes = kept_set xs b })
-text_in Operations_file is xs a text e = absurd (no_operations_text is)
-text_in Summary_file is xs a text e = absurd (no_summary_text is)
+text_in _ is xs a text e = absurd (cc is)
 
 pub formed_content : (o : Operations) (text : List ℕ) → Formed o text → IsContent o
 formed_content o text f = subst IsContent (sym f.content) (content_in f.format f.archive f.records f.ordered f.apart)
@@ -125,10 +119,7 @@ pub formed_format : (o : Operations) (text : List ℕ) (f : Formed o text) (t mo
 formed_format o text f t more e = format_magic f.format f.archive t ((concat f.records ++ ending f.format (length f.records)) ++ more) (e ∙ ap (λ (x : List ℕ). x ++ more) f.whole ∙ append_assoc (magic_of f.format) (concat f.records ++ ending f.format (length f.records)) more)
 
 pub no_operations : (f : Format) → kind_of f ≡ Archive_text → f ≡ Operations_file → ⊥
-no_operations Archive is e = cc
-no_operations OldArchive is e = cc
-no_operations Operations_file is e = no_operations_text is
-no_operations Summary_file is e = no_summary_text is
+no_operations f is e = grind arith
 
 -- two texts of archives that begin the same bytes are one
 module _ (t : List ℕ) (o p : Operations) (u v m n : List ℕ) (f : Formed o u) (g : Formed p v) (e : t ≡ u ++ m) (h : t ≡ v ++ n) where

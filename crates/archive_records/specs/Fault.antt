@@ -7,12 +7,11 @@ use Rattle.archive_core.specs.Record.{IsRecord}
 use Rattle.archive_core.specs.Content.{is_covered}
 use Rattle.archive_core.specs.Valid.{IsValid, IsSliceFault, key_of}
 use Rattle.archive_records.specs.declared.format.Format.{Format}
-use Rattle.archive_records.specs.declared.format.Format.TheVariants.{Archive, OldArchive, Operations, Summary}
+use Rattle.archive_records.specs.declared.format.Format.TheVariants.{Archive, Operations, Summary}
 use Rattle.archive_records.specs.declared.fault.RecordFaultKind.{RecordFaultKind}
-use Rattle.archive_records.specs.declared.fault.RecordFaultKind.TheVariants.{BadMagic, Truncated, BadTag, TooLarge}
-use Rattle.archive_records.specs.declared.fault.RecordFaultKind.TheVariants.{NotAscending, BadSlice}
-use Rattle.archive_records.specs.declared.fault.RecordFaultKind.TheVariants.{KeyMismatch, BadCount, Trailing}
-use Rattle.archive_records.specs.declared.fault.RecordFaultKind.TheVariants.{Device, OutOfMemory, Covered}
+use Rattle.archive_records.specs.declared.fault.RecordFaultKind.TheVariants.{BadMagic, Truncated, NotAscending, BadSlice}
+use Rattle.archive_records.specs.declared.fault.RecordFaultKind.TheVariants.{KeyMismatch, BadCount, Trailing, Device}
+use Rattle.archive_records.specs.declared.fault.RecordFaultKind.TheVariants.{OutOfMemory, Covered}
 use Rattle.archive_records.specs.declared.fault.RecordFault.{RecordFault}
 use Rattle.archive_records.specs.Layout.{record_count, framed}
 use Rattle.archive_records.specs.Kind.{magic_of, archive_format, may_follow}
@@ -43,23 +42,12 @@ abbrev pub RefusesSlice : List ℕ → RecordFaultKind → Type 0
 RefusesSlice bytes (BadSlice fault) = (slice_index bytes 0 ≡ 2) × IsSliceFault (drop 33 bytes) fault
 RefusesSlice bytes KeyMismatch =
     (slice_index bytes 0 ≡ 2) × IsValid (drop 33 bytes) × (take 24 (drop 1 bytes) ≢ key_bytes (key_of (drop 33 bytes)))
-RefusesSlice bytes BadMagic = ⊥
-RefusesSlice bytes Truncated = ⊥
-RefusesSlice bytes BadTag = ⊥
-RefusesSlice bytes TooLarge = ⊥
-RefusesSlice bytes NotAscending = ⊥
-RefusesSlice bytes BadCount = ⊥
-RefusesSlice bytes Trailing = ⊥
-RefusesSlice bytes Device = ⊥
-RefusesSlice bytes OutOfMemory = ⊥
-RefusesSlice bytes Covered = ⊥
+RefusesSlice bytes _ = ⊥
 
 -- why a whole item is refused for what it holds; an entry is not
 abbrev pub Refuses : Format → List ℕ → RecordFaultKind → Type 0
-Refuses Archive bytes kind = RefusesSlice bytes kind
-Refuses OldArchive bytes kind = RefusesSlice bytes kind
-Refuses Operations bytes kind = RefusesSlice bytes kind
 Refuses Summary bytes kind = ⊥
+Refuses _ bytes kind = RefusesSlice bytes kind
 
 -- the first test that fails in front of the rest, of those that know the last record and the number of records alone
 abbrev pub FailsNext : Format → List ℕ → ℕ → List ℕ → RecordFaultKind → Type 0
@@ -80,9 +68,7 @@ pub record IsCoveredNext (records : List (List ℕ)) (rest : List ℕ) : Type 0 
 -- the test that looks at all records before, the last one: archives of version 2 alone have it
 abbrev pub FailsBehind : Format → List (List ℕ) → List ℕ → RecordFaultKind → Type 0
 FailsBehind Archive records rest kind = (kind ≡ Covered) × IsCoveredNext records rest
-FailsBehind OldArchive records rest kind = ⊥
-FailsBehind Operations records rest kind = ⊥
-FailsBehind Summary records rest kind = ⊥
+FailsBehind _ records rest kind = ⊥
 
 -- the first test that fails in front of the rest, behind these records
 abbrev pub Fails : Format → List (List ℕ) → List ℕ → RecordFaultKind → Type 0
@@ -99,16 +85,7 @@ pub record IsTrailing (file : Format) (last : List ℕ) (count : ℕ) (rest : Li
 abbrev pub IsMagicFault : Format → List ℕ → RecordFaultKind → Type 0
 IsMagicFault file text BadMagic = (n : ℕ) × (n ≤ 8) × (n ≤ length text) × (take n text ≢ take n (magic_of file))
 IsMagicFault file text Truncated = (length text < 8) × (text ≡ take (length text) (magic_of file))
-IsMagicFault file text BadTag = ⊥
-IsMagicFault file text TooLarge = ⊥
-IsMagicFault file text NotAscending = ⊥
-IsMagicFault file text (BadSlice _) = ⊥
-IsMagicFault file text KeyMismatch = ⊥
-IsMagicFault file text BadCount = ⊥
-IsMagicFault file text Trailing = ⊥
-IsMagicFault file text Device = ⊥
-IsMagicFault file text OutOfMemory = ⊥
-IsMagicFault file text Covered = ⊥
+IsMagicFault file text _ = ⊥
 
 -- what is wrong behind a good front, and where
 abbrev pub IsFaultBehind : Format → List (List ℕ) → List ℕ → RecordFault → Type 0
@@ -119,10 +96,8 @@ IsFaultBehind file records rest fault =
 
 -- The file does not end before the rest: operations do where nothing is left, the others only behind their end record.
 abbrev pub IsUnended : Format → List ℕ → Type 0
-IsUnended Archive rest = Unit {0}
-IsUnended OldArchive rest = Unit {0}
 IsUnended Operations rest = rest ≢ []
-IsUnended Summary rest = Unit {0}
+IsUnended _ rest = Unit {0}
 
 -- The fault of a text of this format: that of the magic, or else what stops behind a good front.
 abbrev pub IsFaultOf : Format → List ℕ → RecordFault → Type 0

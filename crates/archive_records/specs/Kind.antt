@@ -36,25 +36,19 @@ magic_of Summary = summary_magic
 
 -- how long the head of an admission is; an entry is a head alone
 abbrev pub admission_length : Format → ℕ
-admission_length Archive = 33
-admission_length OldArchive = 33
-admission_length Operations = 33
 admission_length Summary = 57
+admission_length _ = 33
 
 -- how long an end record is; an operations file has none
 abbrev pub end_length : Format → Option ℕ
-end_length Archive = Some 9
-end_length OldArchive = Some 9
 end_length Operations = None
-end_length Summary = Some 9
+end_length _ = Some 9
 
 -- whether a record may stand behind one that compares so with it: those of an archive and entries ascend, operations
 -- come in any order
 unfoldable pub allows : Format → Ordering → Bool
-allows Archive order = is_lt order
-allows OldArchive order = is_lt order
 allows Operations order = true
-allows Summary order = is_lt order
+allows _ order = is_lt order
 
 -- whether the second may stand behind the first
 unfoldable pub may_follow : Format → List ℕ → List ℕ → Bool
@@ -69,9 +63,8 @@ kind_of Summary = Summary_text
 
 -- what stands between the magic and what ends such a file: records of operations, or entries
 abbrev pub IsItemOf : TextKind → List ℕ → Type 0
-IsItemOf Archive_text item = IsRecord item
-IsItemOf Operations_text item = IsRecord item
 IsItemOf Summary_text item = IsEntry item
+IsItemOf _ item = IsRecord item
 
 -- the same of a file of this format
 abbrev pub IsItem : Format → List ℕ → Type 0

@@ -3,7 +3,7 @@ use Rattle.std.specs.Prelude.{ℕ, ◌+◌, List, length, take, drop, slice_inde
 use Rattle.std.specs.Prelude.{if◌then◌else◌, Option, Some, None, Result, Ok, Err}
 use Rattle.std.specs.Int.{w64, from_be_bytes}
 use Rattle.archive_records.specs.declared.format.Format.{Format}
-use Rattle.archive_records.specs.declared.format.Format.TheVariants.{Archive, OldArchive, Operations, Summary}
+use Rattle.archive_records.specs.declared.format.Format.TheVariants.{Summary}
 use Rattle.archive_records.specs.Kind.{admission_length, end_length}
 use Rattle.archive_records.specs.declared.fault.RecordFaultKind.{RecordFaultKind}
 use Rattle.archive_records.specs.declared.fault.RecordFaultKind.TheVariants.{Truncated, BadTag, TooLarge}
@@ -24,10 +24,8 @@ record_count bytes = from_be_bytes w64 (take 8 (drop 1 bytes))
 
 -- how many bytes follow the head of an admission: those of its slice; nothing follows an entry
 abbrev pub admission_body : Format → List ℕ → ℕ
-admission_body Archive bytes = slice_length bytes
-admission_body OldArchive bytes = slice_length bytes
-admission_body Operations bytes = slice_length bytes
 admission_body Summary bytes = 0
+admission_body _ bytes = slice_length bytes
 
 -- how many bytes follow the head; an admission alone has such
 unfoldable pub body_length : Format → List ℕ → ℕ

@@ -18,19 +18,15 @@ use Rattle.archive_core.specs.Record.{IsRecord, Admits, Retires}
 use Rattle.archive_core.specs.Content.{Operations, IsMade, is_covered}
 use Rattle.archive_records.specs.declared.format.Format.{Format}
 use Rattle.archive_records.specs.declared.format.Format.TheVariants.{Archive, OldArchive, Operations as Operations_file}
-use Rattle.archive_records.specs.declared.format.Format.TheVariants.{Summary as Summary_file}
 use Rattle.archive_records.specs.declared.kind.TextKind.{TextKind}
 use Rattle.archive_records.specs.declared.kind.TextKind.TheVariants.{Archive as Archive_text}
-use Rattle.archive_records.specs.declared.kind.TextKind.TheVariants.{Operations as Operations_text}
 use Rattle.archive_records.specs.declared.kind.TextKind.TheVariants.{Summary as Summary_text}
 use Rattle.archive_records.specs.declared.buffer.Buffer.{Buffer}
 use Rattle.archive_records.specs.declared.next.NextRecord.{NextRecord}
 use Rattle.archive_records.specs.declared.next.NextRecord.TheVariants.{End, Item}
 use Rattle.archive_records.specs.declared.fault.RecordFaultKind.{RecordFaultKind}
-use Rattle.archive_records.specs.declared.fault.RecordFaultKind.TheVariants.{BadMagic, Truncated, BadTag, TooLarge}
-use Rattle.archive_records.specs.declared.fault.RecordFaultKind.TheVariants.{NotAscending, BadSlice}
-use Rattle.archive_records.specs.declared.fault.RecordFaultKind.TheVariants.{KeyMismatch, BadCount, Trailing}
-use Rattle.archive_records.specs.declared.fault.RecordFaultKind.TheVariants.{Device, OutOfMemory, Covered}
+use Rattle.archive_records.specs.declared.fault.RecordFaultKind.TheVariants.{Truncated, Trailing, Device}
+use Rattle.archive_records.specs.declared.fault.RecordFaultKind.TheVariants.{OutOfMemory, Covered}
 use Rattle.archive_records.specs.declared.fault.RecordFault.{RecordFault}
 use Rattle.archive_records.specs.Entry.{IsEntry}
 use Rattle.archive_records.specs.Kind.{magic_of, kind_of, IsItem, may_follow}
@@ -75,18 +71,9 @@ pub record Pulls {R : Type 0} (left : R → Option (List ℕ)) (failures : R →
 
 -- What a fault says of the bytes that came: a device that failed, and want of memory, leave a part of a record.
 abbrev pub seen_as : RecordFaultKind → RecordFaultKind
-seen_as BadMagic = BadMagic
-seen_as Truncated = Truncated
-seen_as BadTag = BadTag
-seen_as TooLarge = TooLarge
-seen_as NotAscending = NotAscending
-seen_as (BadSlice fault) = BadSlice fault
-seen_as KeyMismatch = KeyMismatch
-seen_as BadCount = BadCount
-seen_as Trailing = Trailing
 seen_as Device = Truncated
 seen_as OutOfMemory = Truncated
-seen_as Covered = Covered
+seen_as kind = kind
 
 -- What a result says of the reader: on success it did not fail, and else what the fault says.
 abbrev pub BlamesReader : {R T : Type 0} → (R → Option (List ℕ)) → (R → ℕ) → R → R → Result T RecordFaultKind → Type 0
@@ -127,16 +114,13 @@ IsFoundOfLast last (Some facts) = IsFound last (Some facts)
 
 -- the same of an item of such a file; an entry has no slice
 abbrev pub IsFoundIn : TextKind → List ℕ → Option SliceFacts → Type 0
-IsFoundIn Archive_text item found = IsFound item found
-IsFoundIn Operations_text item found = IsFound item found
 IsFoundIn Summary_text item found = IsEntry item × (found ≡ None)
+IsFoundIn _ item found = IsFound item found
 
 -- a file without an end record ends with the input
 abbrev pub IsEnded : Format → Option (List ℕ) → Type 0
-IsEnded Archive left = Unit {0}
-IsEnded OldArchive left = Unit {0}
 IsEnded Operations_file left = IsAtEnd left
-IsEnded Summary_file left = Unit {0}
+IsEnded _ left = Unit {0}
 
 -- The buffer holds the next item or end record behind the last record, whole, and nothing else.
 pub record HoldsNext (file : Format) (last : List ℕ) (count : ℕ) (buffer : Buffer) : Type 0 where
@@ -200,22 +184,19 @@ pub record Keeps (old new : List (List ℕ)) (covered : Bool) (item : List ℕ) 
 abbrev pub KeepsIn : Format → List (List ℕ) → List (List ℕ) → Bool → List ℕ → Type 0
 KeepsIn Archive old new dropped item = Keeps old new dropped item × (dropped ≡ false)
 KeepsIn OldArchive old new dropped item = Keeps old new dropped item
-KeepsIn Operations_file old new dropped item = dropped ≡ false
-KeepsIn Summary_file old new dropped item = dropped ≡ false
+KeepsIn _ old new dropped item = dropped ≡ false
 
 -- these are the retirements among the records of an archive
 abbrev pub AreRetired : Format → List (List ℕ) → List (List ℕ) → Type 0
 AreRetired Archive retired records = RetireAlike (set_of retired) (set_of records)
 AreRetired OldArchive retired records = RetireAlike (set_of retired) (set_of records)
-AreRetired Operations_file retired records = Unit {0}
-AreRetired Summary_file retired records = Unit {0}
+AreRetired _ retired records = Unit {0}
 
 -- this tells whether a retirement among the records of an archive covers the last of them
 abbrev pub DropsLast : Format → Bool → List (List ℕ) → Type 0
 DropsLast Archive dropped records = dropped ≡ is_covered (set_of records) (last_of [] records)
 DropsLast OldArchive dropped records = dropped ≡ is_covered (set_of records) (last_of [] records)
-DropsLast Operations_file dropped records = dropped ≡ false
-DropsLast Summary_file dropped records = dropped ≡ false
+DropsLast _ dropped records = dropped ≡ false
 
 -- what is kept of it: a piece has room for some bytes, and there are not too many records, nor bytes of them
 pub record Bounds (room count offset : ℕ) : Type 0 where
@@ -352,8 +333,7 @@ HasStopped file a b fault =
 -- of an archive the records that are taken make themselves, and each is above the one before it
 abbrev pub MakeThemselves : TextKind → List (List ℕ) → Type 0
 MakeThemselves Archive_text records = IsMade (set.from_list records) × InOrder Archive [] records
-MakeThemselves Operations_text records = Unit {0}
-MakeThemselves Summary_text records = Unit {0}
+MakeThemselves _ records = Unit {0}
 
 -- These records were read, and this was made of those that are taken.
 pub record Gathers {T : Type 0} (file : Format) (Makes : List (List ℕ) → T → Type 0) (a b : Option (List ℕ))

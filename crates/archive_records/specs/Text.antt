@@ -24,10 +24,8 @@ end_record count = 3 ∷ to_be_bytes w64 count
 
 -- what stands behind so many records: an end record, or nothing
 abbrev pub ending : Format → ℕ → List ℕ
-ending Archive count = end_record count
-ending OldArchive count = end_record count
 ending Operations_file count = []
-ending Summary_file count = end_record count
+ending _ count = end_record count
 
 -- the text of these records
 abbrev pub text_of : Format → List (List ℕ) → List ℕ
@@ -94,9 +92,7 @@ InOrder file low (x ∷ xs) = IsItem file x × (may_follow file low x ≡ true) 
 -- version 1 one may be.
 abbrev pub AreApart : Format → List (List ℕ) → Type 0
 AreApart Archive records = IsMade (set.from_list records)
-AreApart OldArchive records = Unit {0}
-AreApart Operations_file records = Unit {0}
-AreApart Summary_file records = Unit {0}
+AreApart _ records = Unit {0}
 
 -- those of the records that no retirement among them covers
 unfoldable pub kept : List (List ℕ) → List (List ℕ)
@@ -104,10 +100,8 @@ kept records = filter (λ r. not (is_covered (set.from_list records) r)) records
 
 -- those of the records that are taken: of an archive of version 1 what is covered is dropped
 abbrev pub taken_of : Format → List (List ℕ) → List (List ℕ)
-taken_of Archive records = records
 taken_of OldArchive records = kept records
-taken_of Operations_file records = records
-taken_of Summary_file records = records
+taken_of _ records = records
 
 -- the last record, or low where there is none; the empty list is below every record
 abbrev pub last_of : List ℕ → List (List ℕ) → List ℕ

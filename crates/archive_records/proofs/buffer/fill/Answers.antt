@@ -45,9 +45,3 @@ returns-in-Err-clause-fills g c = Fills-then c.filling.invariant.fills (Fills-ro
 pub returns-in-Err-clause-reader : goal.returns-in-Err-clause-reader
 returns-in-Err-clause-reader g c =
     memory_blames g.R.Source.left g.R.Source.failures c.args.r.now c.filling.r c.filling.invariant.unfailed
-
-pub returns-clause-fills : goal.returns-clause-fills
-returns-clause-fills g c = c.filling.invariant.fills
-
-pub returns-clause-reader : goal.returns-clause-reader
-returns-clause-reader g c = c.filling.invariant.unfailed

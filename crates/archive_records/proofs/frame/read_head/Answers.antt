@@ -1,4 +1,4 @@
-use Rattle.std.proofs.Common.{arith, sym, ◌∙◌}
+use Rattle.std.proofs.Common.{arith, sym}
 use Rattle.archive_records.proofs.Blamed.{blames_behind, failed, text_blames}
 use Rattle.archive_records.proofs.Framed.{seen, framed-empty, framed-bad, grown-head, tag_kept}
 use Rattle.archive_records.specs.declared.fault.RecordFaultKind.TheVariants.{BadTag}
@@ -6,15 +6,15 @@ use Rattle.archive_records.specs.Reader.{bytes_so_far}
 use Rattle.archive_records.proofs.Laid.{Fills-then, length-bytes_so_far}
 use Rattle.archive_records.proofs.frame.read_head.Goals as goal
 
-pub returns-in_err-fill-clause-reader : goal.returns-in_err-fill-clause-reader
-returns-in_err-fill-clause-reader g c = rw (failed c.from_residual.result c.in_err-fill.field-0.0 c.from_residual.ensures.1) c.in_err-fill.ensures.reader
-
-pub returns-in_err-fill-clause-head : goal.returns-in_err-fill-clause-head
-returns-in_err-fill-clause-head g c =
+pub returns-in_err-fill : goal.returns-in_err-fill
+returns-in_err-fill g c =
     let b = c.fill.new.buffer in
     let came = c.in_err-fill.ensures.came in
-    rw (failed c.from_residual.result c.in_err-fill.field-0.0 c.from_residual.ensures.1)
-    (seen c.args.file _ (bytes_so_far b) came.1 (framed-empty c.args.file (bytes_so_far b) (omega (arith, length-bytes_so_far b c.fill.ensures.fills.within, came.0, c.requires))))
+    rw (failed c.from_residual.result c.in_err-fill.field-0.0 c.from_residual.ensures.1) (record {
+      fills = c.fill.ensures.fills;
+      head = seen c.args.file _ (bytes_so_far b) came.1 (framed-empty c.args.file (bytes_so_far b) (omega (arith, length-bytes_so_far b c.fill.ensures.fills.within, came.0, c.requires)));
+      reader = c.in_err-fill.ensures.reader;
+    })
 
 pub returns-in_default-clause-reader : goal.returns-in_default-clause-reader
 returns-in_default-clause-reader g c = text_blames g.R.Source.left g.R.Source.failures c.args.r.now c.fill.new.r BadTag (λ e. cc) (λ e. cc) c.in_ok-fill.ensures.reader
@@ -24,15 +24,8 @@ returns-in_default-clause-head g c =
     let b = c.fill.new.buffer in
     framed-bad c.args.file (bytes_so_far b) (omega (arith, length-bytes_so_far b c.fill.ensures.fills.within, c.in_ok-fill.ensures.came)) (rw (← c.deref.ensures.value) (sym c.in_default.ensures.value))
 
-pub returns-in_err-fill-2-clause-fills : goal.returns-in_err-fill-2-clause-fills
-returns-in_err-fill-2-clause-fills g c = Fills-then c.fill.ensures.fills c.fill-2.ensures.fills
-
-pub returns-in_err-fill-2-clause-reader : goal.returns-in_err-fill-2-clause-reader
-returns-in_err-fill-2-clause-reader g c =
-    rw (failed c.from_residual-in_err-fill-2.result c.in_err-fill-2.field-0.0 c.from_residual-in_err-fill-2.ensures.1) (blames_behind g.R.Source.left g.R.Source.failures c.args.r.now c.fill.new.r c.fill-2.new.r c.in_ok-fill.ensures.reader _ c.in_err-fill-2.ensures.reader)
-
-pub returns-in_err-fill-2-clause-head : goal.returns-in_err-fill-2-clause-head
-returns-in_err-fill-2-clause-head g c =
+pub returns-in_err-fill-2 : goal.returns-in_err-fill-2
+returns-in_err-fill-2 g c =
     let n = c.in-Some.ensures.long in
     let b = c.fill.new.buffer in
     let d = c.fill-2.new.buffer in
@@ -41,14 +34,15 @@ returns-in_err-fill-2-clause-head g c =
     let fills = c.fill-2.ensures.fills in
     let x = length-bytes_so_far b c.fill.ensures.fills.within in
     let y = length-bytes_so_far d fills.within in
-    rw (failed c.from_residual-in_err-fill-2.result c.in_err-fill-2.field-0.0 c.from_residual-in_err-fill-2.ensures.1) (seen c.args.file _ (bytes_so_far d) came.1
-    (grown-head c.args.file (bytes_so_far b) fills.more (bytes_so_far d) c.in-Some.head fills.grows (omega (arith, x)) (rw (← c.deref.ensures.value) (sym c.in-Some.ensures.value)) (omega (arith, x, y, came.0, c.requires))))
+    rw (failed c.from_residual-in_err-fill-2.result c.in_err-fill-2.field-0.0 c.from_residual-in_err-fill-2.ensures.1) (record {
+      fills = Fills-then c.fill.ensures.fills fills;
+      head = seen c.args.file _ (bytes_so_far d) came.1
+          (grown-head c.args.file (bytes_so_far b) fills.more (bytes_so_far d) c.in-Some.head fills.grows (omega (arith, x)) (rw (← c.deref.ensures.value) (sym c.in-Some.ensures.value)) (omega (arith, x, y, came.0, c.requires)));
+      reader = blames_behind g.R.Source.left g.R.Source.failures c.args.r.now c.fill.new.r c.fill-2.new.r c.in_ok-fill.ensures.reader _ c.in_err-fill-2.ensures.reader;
+    })
 
 pub returns-clause-fills : goal.returns-clause-fills
 returns-clause-fills g c = Fills-then c.fill.ensures.fills c.fill-2.ensures.fills
-
-pub returns-clause-reader : goal.returns-clause-reader
-returns-clause-reader g c = c.in_ok-fill-2.ensures.reader ∙ c.in_ok-fill.ensures.reader
 
 pub returns-clause-head : goal.returns-clause-head
 returns-clause-head g c =

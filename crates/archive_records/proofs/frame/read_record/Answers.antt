@@ -3,17 +3,16 @@ use Rattle.archive_records.proofs.Blamed.{blamed_behind, failed, filled_first}
 use Rattle.archive_records.proofs.Laid.{Fills-then}
 use Rattle.archive_records.proofs.frame.read_record.Goals as goal
 
-pub returns-in_err-head-clause-taken : goal.returns-in_err-head-clause-taken
-returns-in_err-head-clause-taken g c = filled_first refl c.read_head.ensures.fills
-
-pub returns-in_err-head-clause-over : goal.returns-in_err-head-clause-over
-returns-in_err-head-clause-over g c = c.read_head.ensures.fills.over _ (record { rest = λ _. refl; order = refl })
-
-pub returns-in_err-head-clause-framed : goal.returns-in_err-head-clause-framed
-returns-in_err-head-clause-framed g c = rw (failed c.from_residual.result c.in_err-head.field-0.0 c.from_residual.ensures.1) c.in_err-head.ensures.head
-
-pub returns-in_err-head-clause-reader : goal.returns-in_err-head-clause-reader
-returns-in_err-head-clause-reader g c = rw (failed c.from_residual.result c.in_err-head.field-0.0 c.from_residual.ensures.1) c.in_err-head.ensures.reader
+pub returns-in_err-head : goal.returns-in_err-head
+returns-in_err-head g c =
+    let fills = c.read_head.ensures.fills in
+    rw (failed c.from_residual.result c.in_err-head.field-0.0 c.from_residual.ensures.1) (record {
+      within = fills.within;
+      taken = filled_first refl fills;
+      over = fills.over _ (record { rest = λ _. refl; order = refl });
+      framed = c.in_err-head.ensures.head;
+      reader = c.in_err-head.ensures.reader;
+    })
 
 pub returns-clause-taken : goal.returns-clause-taken
 returns-clause-taken g c = filled_first refl (Fills-then c.read_head.ensures.fills c.read_body.ensures.fills)

@@ -11,13 +11,16 @@ use Rattle.archive_records.proofs.Above.{next_over}
 use Rattle.archive_records.proofs.Blamed.{cut_same, failed, tested_blames}
 use Rattle.archive_records.proofs.next.read_in_order.Goals as goal
 
-pub returns-in_err-read_record-clause-next : goal.returns-in_err-read_record-clause-next
+pub returns-in_err-read_record : goal.returns-in_err-read_record
 unfolding next
-returns-in_err-read_record-clause-next g c =
-    rw (failed c.from_residual.result c.in_err-read_record.field-0.0 c.from_residual.ensures.1) (ap (λ r. next_by c.args.file r c.args.buffer.now.bytes.items c.args.count (bytes_so_far c.read_record.new.buffer)) c.in_err-read_record.ensures.framed)
-
-pub returns-in_err-read_record-clause-reader : goal.returns-in_err-read_record-clause-reader
-returns-in_err-read_record-clause-reader g c = rw (failed c.from_residual.result c.in_err-read_record.field-0.0 c.from_residual.ensures.1) c.in_err-read_record.ensures.reader
+returns-in_err-read_record g c =
+    let read = c.in_err-read_record.ensures in
+    rw (failed c.from_residual.result c.in_err-read_record.field-0.0 c.from_residual.ensures.1) (record {
+      within = c.read_record.ensures.within;
+      taken = c.read_record.ensures.taken;
+      next = ap (λ r. next_by c.args.file r c.args.buffer.now.bytes.items c.args.count (bytes_so_far c.read_record.new.buffer)) read.framed;
+      reader = read.reader;
+    })
 
 pub returns-clause-taken : goal.returns-clause-taken
 returns-clause-taken g c =

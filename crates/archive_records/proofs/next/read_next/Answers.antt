@@ -2,7 +2,7 @@ use Rattle.std.proofs.Common.{refl}
 use Rattle.std.proofs.lemmas.Bool.{false≢true}
 use Rattle.archive_records.proofs.Ends.{open_end, open_ended}
 use Rattle.archive_records.proofs.Steps.{step_to}
-use Rattle.archive_records.proofs.FaultKinds.{not_device, unended_behind}
+use Rattle.archive_records.proofs.FaultKinds.{unended_behind}
 use Rattle.archive_records.proofs.next.read_next.Goals as goal
 
 pub returns-in-Ok-clause-step : goal.returns-in-Ok-clause-step
@@ -14,7 +14,7 @@ returns-then-ends_file-clause-step g c =
     (open_end c.args.file c.args.count c.read_tested.new.buffer f.1 f.2, open_ended c.args.file _ f.2 (c.in-Err.ensures.reader.2 f.0))
 
 pub returns-then-ends_file-clause-reader : goal.returns-then-ends_file-clause-reader
-returns-then-ends_file-clause-reader g c = c.in-Err.ensures.reader.1 (not_device c.in-Err.kind (c.if-ends_file.ensures.0 refl).0)
+returns-then-ends_file-clause-reader g c = c.in-Err.ensures.reader.1 (λ device. cc (device, (c.if-ends_file.ensures.0 refl).0))
 
 pub returns-else-ends_file-clause-unended : goal.returns-else-ends_file-clause-unended
 returns-else-ends_file-clause-unended g c =

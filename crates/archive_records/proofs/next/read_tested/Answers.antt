@@ -13,11 +13,7 @@ test_item-requires-clause-item g c =
     let next = c.in_ok-end.ensures.next in
     rw (c.deref.ensures.value, next.0.whole) (sym next.1 ∙ c.if-end.false)
 
-pub returns-in_err-end-clause-step : goal.returns-in_err-end-clause-step
-returns-in_err-end-clause-step g c = rw (failed c.from_residual.result c.in_err-end.field-0.0 c.from_residual.ensures.1) tt
-
-pub returns-in_err-end-clause-fails : goal.returns-in_err-end-clause-fails
-returns-in_err-end-clause-fails g c = rw (failed c.from_residual.result c.in_err-end.field-0.0 c.from_residual.ensures.1) (inl c.in_err-end.ensures.next)
-
-pub returns-in_err-end-clause-reader : goal.returns-in_err-end-clause-reader
-returns-in_err-end-clause-reader g c = rw (failed c.from_residual.result c.in_err-end.field-0.0 c.from_residual.ensures.1) c.in_err-end.ensures.reader
+pub returns-in_err-end : goal.returns-in_err-end
+returns-in_err-end g c =
+    rw (failed c.from_residual.result c.in_err-end.field-0.0 c.from_residual.ensures.1)
+    (record { within = c.read_in_order.ensures.within; taken = c.read_in_order.ensures.taken; step = tt; fails = inl c.in_err-end.ensures.next; reader = c.in_err-end.ensures.reader })

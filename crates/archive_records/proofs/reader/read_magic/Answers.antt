@@ -21,9 +21,6 @@ returns-else-begins-clause-stops g c = λ format is.
     let value = c.deref-in-Err-Truncated.ensures.value in
     other_front format (take at items) (omega (arith, c.in-Err-Truncated.ensures.came.0, c.requires.start, c.fill.ensures.fills.within, length-take at items)) (λ e. false≢true (sym c.if-begins.false ∙ (rw value at (c.begins.ensures format is)).1 e))
 
-pub returns-in-Some-clause-reader : goal.returns-in-Some-clause-reader
-returns-in-Some-clause-reader g c = c.in-Ok.ensures.reader
-
 pub returns-in-None-clause-reader : goal.returns-in-None-clause-reader
 returns-in-None-clause-reader g c = text_blames g.R.Source.left g.R.Source.failures c.args.r.now c.fill.new.r BadMagic (λ e. cc) (λ e. cc) c.in-Ok.ensures.reader
 

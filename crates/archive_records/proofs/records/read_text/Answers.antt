@@ -6,28 +6,19 @@ use Rattle.archive_records.proofs.FaultKinds.{memory_blames}
 use Rattle.archive_records.proofs.Formats.{begun_no_trailing}
 use Rattle.archive_records.proofs.records.read_text.Goals as goal
 
-pub returns-in_err-reader-clause-no_trailing : goal.returns-in_err-reader-clause-no_trailing
-returns-in_err-reader-clause-no_trailing g c =
-    let p = err_from_is_err_and c.from_residual.result c.from_residual.ensures.1 in
-    let stops = c.in_err-reader.ensures.stops in
-    rw (p.1, p.2) (begun_no_trailing _ stops.0 _ stops.2)
+pub returns-in_default : goal.returns-in_default
+returns-in_default g c =
+    rw c.out_of_memory.ensures (record { read = tt; stopped = inl ([], Consumes-none (g.R.Source.left c.args.r.now), (λ format is. inr (inr (refl, omega arith))), refl); no_trailing = λ e. cc; reader = memory_blames g.R.Source.left g.R.Source.failures c.args.r.now c.args.r.now refl })
 
-pub returns-in_default-clause-stopped : goal.returns-in_default-clause-stopped
-returns-in_default-clause-stopped g c = rw c.out_of_memory.ensures (inl ([], Consumes-none (g.R.Source.left c.args.r.now), (λ format is. inr (inr (refl, omega arith))), refl))
-
-pub returns-in_default-clause-reader : goal.returns-in_default-clause-reader
-returns-in_default-clause-reader g c = rw c.out_of_memory.ensures (memory_blames g.R.Source.left g.R.Source.failures c.args.r.now c.args.r.now refl)
-
-pub returns-in_err-reader-clause-read : goal.returns-in_err-reader-clause-read
-returns-in_err-reader-clause-read g c = rw (failed c.from_residual.result c.in_err-reader.field-0.0 c.from_residual.ensures.1) tt
-
-pub returns-in_err-reader-clause-stopped : goal.returns-in_err-reader-clause-stopped
-returns-in_err-reader-clause-stopped g c =
+pub returns-in_err-reader : goal.returns-in_err-reader
+returns-in_err-reader g c =
     let stops = rw c.requires.file at c.in_err-reader.ensures.stops in
-    rw (failed c.from_residual.result c.in_err-reader.field-0.0 c.from_residual.ensures.1) (inl (stops.0, stops.1, stops.2, c.in_err-reader.ensures.start))
-
-pub returns-in_err-reader-clause-reader : goal.returns-in_err-reader-clause-reader
-returns-in_err-reader-clause-reader g c = rw (failed c.from_residual.result c.in_err-reader.field-0.0 c.from_residual.ensures.1) c.in_err-reader.ensures.reader
+    rw (failed c.from_residual.result c.in_err-reader.field-0.0 c.from_residual.ensures.1) (record {
+      read = tt;
+      stopped = inl (stops.0, stops.1, stops.2, c.in_err-reader.ensures.start);
+      no_trailing = begun_no_trailing _ stops.0 _ stops.2;
+      reader = c.in_err-reader.ensures.reader;
+    })
 
 pub returns-clause-read : goal.returns-clause-read
 returns-clause-read g c =

@@ -1,4 +1,4 @@
-use Rattle.std.proofs.Common.{◌≡◌, ◌≤◌, ◌+◌, ◌*◌, ◌^◌, take, map}
+use Rattle.std.proofs.Common.{◌≤◌, ◌+◌, ◌*◌, ◌^◌, take, map}
 use Rattle.std.specs.List.{concat}
 use Rattle.byte_device.specs.Writes.{IsPut}
 use Rattle.archive_records.specs.Entry.{entry_bytes}

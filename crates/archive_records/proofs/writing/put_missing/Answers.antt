@@ -1,10 +1,8 @@
-use Rattle.std.proofs.Common.{◌<◌, ◌≡◌, ◌+◌, ℕ, Ok, Err, length, take, drop, arith}
+use Rattle.std.proofs.Common.{◌<◌, ◌≡◌, ◌+◌, Ok, Err, length, take, drop, arith}
 use Rattle.std.proofs.lemmas.List.{take_all}
 use Rattle.join_core.specs.Listing.{listing}
-use Rattle.byte_device.proofs.Gains.{puts_along, puts_then}
 use Rattle.archive_core.specs.Record.{lent_bytes}
 use Rattle.archive_records.specs.Text.{missing}
-use Rattle.archive_records.specs.declared.writing.Sizes.{Sizes}
 use Rattle.archive_records.proofs.Blamed.{failed}
 use Rattle.archive_records.proofs.Puts.{length_written, missing_parts, missing_puts, missing_count, few_missing, stops_among}
 use Rattle.archive_records.proofs.writing.put_missing.Goals as goal
@@ -32,16 +30,10 @@ putting-preserved g c =
       put = missing_puts s xs c.putting.i _ lt c.record_at.ensures _ _ _ _ _ _ _ (Ok c.in_ok-sizes.sizes) c.putting.invariant.put c.in_ok-sizes.ensures.puts;
     }
 
-pub returns-clause-puts : goal.returns-clause-puts
-returns-clause-puts g c =
+pub returns : goal.returns
+returns g c =
     let xs = listing (g.A.Join.content c.args.archive.now) in
     let all : take c.putting.i xs ≡ xs = take_all c.putting.i xs (omega (arith, length_written (g.A.Join.content c.args.archive.now), c.len-i-end.ensures.len, c.putting-test.false)) in
     let put = c.putting.invariant.put in
-    rw all at put
-
-pub returns-clause-records : goal.returns-clause-records
-returns-clause-records g c =
-    let xs = listing (g.A.Join.content c.args.archive.now) in
-    let all : take c.putting.i xs ≡ xs = take_all c.putting.i xs (omega (arith, length_written (g.A.Join.content c.args.archive.now), c.len-i-end.ensures.len, c.putting-test.false)) in
     let count = c.putting.invariant.count in
-    rw all at count
+    record { puts = rw all at put; records = rw all at count; short = omega arith }

@@ -1,4 +1,4 @@
-use Rattle.std.proofs.Common.{◌≡◌, false, true, refl, sym, ap, arith, ◌∙◌}
+use Rattle.std.proofs.Common.{refl, sym, ap, arith, ◌∙◌}
 use Rattle.std.specs.FinSet as set
 use Rattle.byte_device.proofs.Known.{Appends-none}
 use Rattle.archive_core.specs.Record.{lent_bytes}
@@ -6,25 +6,19 @@ use Rattle.archive_records.proofs.Blamed.{failed}
 use Rattle.archive_records.proofs.Puts.{missing_none, concat_one, length_one}
 use Rattle.archive_records.proofs.writing.put_missing_record.Goals as goal
 
-pub returns-then-has-clause-puts : goal.returns-then-has-clause-puts
-returns-then-has-clause-puts g c =
+pub returns-then-has : goal.returns-then-has
+returns-then-has g c =
     let named = ap (set.contains c.args.summary.now) (sym c.of.ensures) ∙ sym c.has.ensures ∙ c.if-has.true in
-    rw (missing_none c.args.summary.now (lent_bytes c.args.item.now) named) (record { size_is = omega arith; gained = Appends-none _; unfailed = refl })
+    rw (missing_none c.args.summary.now (lent_bytes c.args.item.now) named) (record { puts = record { size_is = omega arith; gained = Appends-none _; unfailed = refl }; records = omega arith; short = omega arith })
 
-pub returns-then-has-clause-records : goal.returns-then-has-clause-records
-returns-then-has-clause-records g c =
-    let named = ap (set.contains c.args.summary.now) (sym c.of.ensures) ∙ sym c.has.ensures ∙ c.if-has.true in
-    rw (missing_none c.args.summary.now (lent_bytes c.args.item.now) named) (omega arith)
-
-pub returns-clause-puts : goal.returns-clause-puts
-returns-clause-puts g c =
+pub returns : goal.returns
+returns g c =
     let other = ap (set.contains c.args.summary.now) (sym c.of.ensures) ∙ sym c.has.ensures ∙ c.if-has.false in
-    rw (concat_one c.args.summary.now (lent_bytes c.args.item.now) other) c.in_ok-bytes.ensures.puts
-
-pub returns-clause-records : goal.returns-clause-records
-returns-clause-records g c =
-    let other = ap (set.contains c.args.summary.now) (sym c.of.ensures) ∙ sym c.has.ensures ∙ c.if-has.false in
-    rw (length_one c.args.summary.now (lent_bytes c.args.item.now) other) refl
+    record {
+      puts = rw (concat_one c.args.summary.now (lent_bytes c.args.item.now) other) c.in_ok-bytes.ensures.puts;
+      records = rw (length_one c.args.summary.now (lent_bytes c.args.item.now) other) refl;
+      short = omega (arith, c.in_ok-bytes.ensures.short);
+    }
 
 pub returns-in_err-bytes-clause-puts : goal.returns-in_err-bytes-clause-puts
 returns-in_err-bytes-clause-puts g c =

@@ -1,4 +1,4 @@
-use Rattle.std.proofs.Common.{◌≡◌, arith, length, ◌++◌, sym, ap, ◌∙◌}
+use Rattle.std.proofs.Common.{◌≡◌, arith, length, sym, ap, ◌∙◌}
 use Rattle.byte_device.proofs.Gains.{puts_along}
 use Rattle.archive_core.specs.Record.{lent_bytes}
 use Rattle.archive_records.proofs.Puts.{head_and_slice, head_and_slice_short}

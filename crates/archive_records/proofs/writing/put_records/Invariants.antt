@@ -1,4 +1,4 @@
-use Rattle.std.proofs.Common.{◌≡◌, ◌≤◌, ◌+◌, ◌*◌, ◌^◌, take}
+use Rattle.std.proofs.Common.{◌≤◌, ◌+◌, ◌*◌, ◌^◌, take}
 use Rattle.std.specs.List.{concat}
 use Rattle.join_core.specs.Listing.{listing}
 use Rattle.byte_device.specs.Writes.{IsPut}

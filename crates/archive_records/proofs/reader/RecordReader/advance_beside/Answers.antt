@@ -6,8 +6,8 @@ use Rattle.archive_records.proofs.Blamed.{bounds_kept}
 use Rattle.archive_records.proofs.FaultKinds.{cut_off, memory_blames}
 use Rattle.archive_records.proofs.Forms.{item-found}
 use Rattle.archive_records.proofs.FoundOut.{found_last, nothing_last}
-use Rattle.archive_records.proofs.Steps.{step_passes, step_refused, refused_blames}
-use Rattle.archive_records.proofs.Undecided.{memory_seen, kept_uncovered}
+use Rattle.archive_records.proofs.Steps.{step_refused, refused_blames}
+use Rattle.archive_records.proofs.Undecided.{kept_uncovered}
 use Rattle.archive_records.proofs.reader.RecordReader.advance_beside.Goals as goal
 
 abbrev shared_of : Option (Bor (List (List ℕ))) → Option (List (List ℕ))
@@ -22,11 +22,21 @@ returns-in-Ok-End g c =
 pub returns-else-self-eq-MOST : goal.returns-else-self-eq-MOST
 returns-else-self-eq-MOST g c =
     let step = rw c.in-Ok-Item.field-0-is at c.in-Ok-Item.ensures.step in
-    let offset = ap (λ n. c.self.inside.offset + n) (c.len.ensures ∙ c.read_next.new.buffer.bytes.ok.0) in
     let few = c.self.invariant.0.few in
-    let kept = subst (KeepsIn c.self.inside.file (with_shared (shared_of c.args.shared) c.self.inside.retired) (with_shared (shared_of c.args.shared) c.keep.new.retired) c.in-Ok.dropped) (c.deref.ensures.value ∙ step.whole) c.in-Ok.ensures.kept in
-    rw (← c.self.view_is)
-    (step_passes _ _ _ _ (bytes_so_far c.read_next.new.buffer) step.whole c.read_next.ensures.taken (item-found c.self.inside.file _ c.in-Ok-Item.found step.found_is) step.follows refl refl offset (omega (arith, c.if-self-eq-MOST.false)) kept, c.in-Ok-Item.ensures.reader, rw c.deref.ensures.value at c.keep.ensures.found)
+    rw (← c.self.view_is) (
+      record {
+        taken = rw step.whole c.read_next.ensures.taken;
+        item = rw step.whole (item-found c.self.inside.file _ c.in-Ok-Item.found step.found_is);
+        follows = rw step.whole step.follows;
+        file_is = refl;
+        count_is = refl;
+        offset_is = ap (λ n. c.self.inside.offset + n) (c.len.ensures ∙ c.read_next.new.buffer.bytes.ok.0);
+        few = omega (arith, c.if-self-eq-MOST.false);
+        kept = rw c.deref.ensures.value at c.in-Ok.ensures.kept;
+      },
+      c.in-Ok-Item.ensures.reader,
+      rw c.deref.ensures.value at c.keep.ensures.found,
+    )
 
 pub returns-in-Err-keep : goal.returns-in-Err-keep
 returns-in-Err-keep g c =
@@ -70,7 +80,7 @@ returns-in-Err g c =
         taken = c.read_next.ensures.taken;
         unended = c.in-Err.ensures.unended;
         fails = λ _. inl c.in-Err.ensures.fails;
-        wanted = λ memory. inl (memory_seen c.self.inside.file c.self.inside.buffer.bytes.items c.self.inside.count (bytes_so_far c.read_next.new.buffer) c.in-Err.kind c.in-Err.ensures.fails memory);
+        wanted = λ memory. inl (rw memory at c.in-Err.ensures.fails);
         offset_is = refl;
         few = c.self.invariant.0.few;
       },

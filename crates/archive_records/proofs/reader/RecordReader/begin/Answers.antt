@@ -25,23 +25,13 @@ returns-clause-read g c =
       dropped_is = drops_none file _ refl;
     }
 
-pub returns-in_default-clause-stops : goal.returns-in_default-clause-stops
-returns-in_default-clause-stops g c = rw c.out_of_memory.ensures ([], Consumes-none (g.R.Source.left c.args.r.now), λ format is. inr (inr (refl, omega arith)))
+pub returns-in_default : goal.returns-in_default
+returns-in_default g c =
+    rw c.out_of_memory.ensures (record { read = tt; kind = tt; start = refl; stops = ([], Consumes-none (g.R.Source.left c.args.r.now), λ format is. inr (inr (refl, omega arith))); reader = memory_blames g.R.Source.left g.R.Source.failures c.args.r.now c.args.r.now refl })
 
-pub returns-in_default-clause-reader : goal.returns-in_default-clause-reader
-returns-in_default-clause-reader g c = rw c.out_of_memory.ensures (memory_blames g.R.Source.left g.R.Source.failures c.args.r.now c.args.r.now refl)
-
-pub returns-in_default-none-clause-stops : goal.returns-in_default-none-clause-stops
-returns-in_default-none-clause-stops g c = rw c.out_of_memory-in_default-none.ensures ([], Consumes-none (g.R.Source.left c.args.r.now), λ format is. inr (inr (refl, omega arith)))
-
-pub returns-in_default-none-clause-reader : goal.returns-in_default-none-clause-reader
-returns-in_default-none-clause-reader g c = rw c.out_of_memory-in_default-none.ensures (memory_blames g.R.Source.left g.R.Source.failures c.args.r.now c.args.r.now refl)
+pub returns-in_default-none : goal.returns-in_default-none
+returns-in_default-none g c =
+    rw c.out_of_memory-in_default-none.ensures (record { read = tt; kind = tt; start = refl; stops = ([], Consumes-none (g.R.Source.left c.args.r.now), λ format is. inr (inr (refl, omega arith))); reader = memory_blames g.R.Source.left g.R.Source.failures c.args.r.now c.args.r.now refl })
 
 pub returns-in-Err-clause-stops : goal.returns-in-Err-clause-stops
 returns-in-Err-clause-stops g c = (bytes_so_far c.read_magic.new.buffer, filled_first refl c.read_magic.ensures.fills, c.in-Err.ensures.stops)
-
-pub returns-in-Err-clause-reader : goal.returns-in-Err-clause-reader
-returns-in-Err-clause-reader g c = c.in-Err.ensures.reader
-
-pub returns-clause-reader : goal.returns-clause-reader
-returns-clause-reader g c = c.in-Ok-read_magic.ensures.reader

@@ -3,7 +3,7 @@ use Rattle.std.specs.FinSet as set
 use Rattle.join_core.specs.Listing.{listing}
 use Rattle.archive_records.specs.Reader.{AreListed}
 use Rattle.archive_records.proofs.Contents.{InOrder-entries, content_is}
-use Rattle.archive_records.proofs.Named.{AreListed-ordered}
+use Rattle.archive_records.proofs.Summarised.{AreListed-ordered}
 use Rattle.archive_records.proofs.summary.NamedFromRecords.finish.Goals as goal
 
 pub invariant_of-result : goal.invariant_of-result
