@@ -1,15 +1,10 @@
 -- What was made of the records of a file.
-use Rattle.std.proofs.Common.{◌≡◌, ℕ, List, [], ◌∷◌, ◌++◌, Result, Ok, Err, sym, ap, ◌∙◌, subst}
-use Rattle.std.specs.Prelude.{OnOk, map, All}
+use Rattle.std.proofs.Common.{◌≡◌, ℕ, List, [], ◌∷◌, ◌++◌, sym, ap, ◌∙◌, subst}
+use Rattle.std.specs.Prelude.{map, All}
 use Rattle.archive_core.specs.declared.operations.Operation.{Operation}
 use Rattle.archive_core.specs.Record.{IsOperation, record_bytes}
 use Rattle.std.proofs.lemmas.List.{map-append}
 use Rattle.std.proofs.lemmas.List.Elements.{All-push}
-
--- what holds of a success may be said in other words
-pub OnOk-then : {X E P Q : Type 0} (r : Result X E) → OnOk r P → (P → Q) → OnOk r Q
-OnOk-then (Ok x) p f = f p
-OnOk-then (Err e) p f = tt
 
 -- one operation more
 pub listed_more : (xs grown : List Operation) (records : List (List ℕ)) (bytes : List ℕ) → (x : Operation) × (grown ≡ xs ++ x ∷ []) × IsOperation x × (record_bytes x ≡ bytes) → All IsOperation xs × (map record_bytes xs ≡ records)

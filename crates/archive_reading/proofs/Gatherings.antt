@@ -1,12 +1,12 @@
 -- What is told of a name, archive after archive.
-use Rattle.std.proofs.Common.{◌≡◌, ◌↔◌, ◌⊎◌, ℕ, Bool, true, false, not, ◌==◌, if◌then◌else◌, List, [], ◌∷◌, ◌++◌, map, append_assoc, refl, sym, ap, ◌∙◌, subst, inl, inr}
+use Rattle.std.proofs.Common.{◌≡◌, ◌↔◌, ◌⊎◌, ℕ, Bool, true, false, not, ◌==◌, List, [], ◌∷◌, ◌++◌, map, append_assoc, refl, sym, ap, ◌∙◌, subst, inl, inr}
 use Rattle.std.specs.List.{Contains, filter}
 use Rattle.std.specs.FinSet as set
-use Rattle.std.proofs.lemmas.Bool.{false≢true}
+use Rattle.std.proofs.lemmas.Bool.{not-true}
 use Rattle.std.proofs.lemmas.List.{append-nil}
 use Rattle.std.proofs.lemmas.List.Elements.{filter-append, Contains-append_cases, Contains-append_left, Contains-append_right}
 use Rattle.archive_core.specs.Content.{Operations, IsContent, is_admission}
-use Rattle.archive_core.specs.Names.{IsNameRow, NameRecord, owned_name_view}
+use Rattle.archive_core.specs.Names.{NameRecord, owned_name_view}
 use Rattle.archive_core.specs.Record.{Admits, Retires, retirement_record}
 use Rattle.archive_core.specs.Summary.{entry}
 use Rattle.archive_core.specs.declared.names.OwnedNameRow.{OwnedNameRow}
@@ -20,10 +20,6 @@ use Rattle.archive_reading.specs.Names.{AddsNames}
 use Rattle.archive_reading.specs.declared.names.NamesFound.{NamesFound}
 use Rattle.archive_reading.proofs.Sought.{names_more, names_retired, names_start, names_told}
 
-turned : (b : Bool) → not b ≡ true → b ≡ false
-turned false h = refl
-turned true h = absurd (false≢true h)
-
 -- ---- one record more
 
 admission_is : (r : List ℕ) → Admits r → is_admission r ≡ true
@@ -32,12 +28,6 @@ admission_is r a = ap (λ (tag : ℕ). tag == 2) (parts-of r a).tag
 retirement_is : (r : List ℕ) → Retires r → is_admission r ≡ false
 retirement_is r t = ap (λ (tag : ℕ). tag == 2) (tag-retirement r t)
 
-kept_one : (r : List ℕ) → is_admission r ≡ false → filter (λ (x : List ℕ). not (is_admission x)) (r ∷ []) ≡ r ∷ []
-kept_one r is = ap (λ (b : Bool). if not b then r ∷ [] else []) is
-
-dropped_one : (r : List ℕ) → is_admission r ≡ true → filter (λ (x : List ℕ). not (is_admission x)) (r ∷ []) ≡ []
-dropped_one r is = ap (λ (b : Bool). if not b then r ∷ [] else []) is
-
 -- the record of a retirement is its own entry
 pub own_entry : (r : List ℕ) → Retires r → entry r ≡ r
 own_entry r t = ap entry t.is ∙ retirement_entry t.key t.digest ∙ sym t.is
@@ -45,27 +35,24 @@ own_entry r t = ap entry t.is ∙ retirement_entry t.key t.digest ∙ sym t.is
 pub retired_more : (records : List (List ℕ)) (r e : List ℕ) (start before after : List (List ℕ)) → Retires r → e ≡ entry r → after ≡ before ++ e ∷ [] → before ≡ start ++ retirements_among records → after ≡ start ++ retirements_among (records ++ r ∷ [])
 unfolding retirements_among
 retired_more records r e start before after t is grown are =
-    let kept = filter-append (λ (x : List ℕ). not (is_admission x)) records (r ∷ []) ∙ ap (λ (rest : List (List ℕ)). retirements_among records ++ rest) (kept_one r (retirement_is r t)) in
-    grown ∙ (λ i. are i ++ (is ∙ own_entry r t) i ∷ []) ∙ append_assoc start (retirements_among records) (r ∷ []) ∙ ap (λ (rest : List (List ℕ)). start ++ rest) (sym kept)
+    rw (grown, are, is, own_entry r t, filter-append (λ (x : List ℕ). not (is_admission x)) records (r ∷ []), retirement_is r t) (append_assoc start (retirements_among records) (r ∷ []))
 
 pub admitted_more : (records : List (List ℕ)) (r : List ℕ) (start before : List (List ℕ)) → Admits r → before ≡ start ++ retirements_among records → before ≡ start ++ retirements_among (records ++ r ∷ [])
 unfolding retirements_among
 admitted_more records r start before a are =
-    let kept = filter-append (λ (x : List ℕ). not (is_admission x)) records (r ∷ []) ∙ ap (λ (rest : List (List ℕ)). retirements_among records ++ rest) (dropped_one r (admission_is r a)) ∙ append-nil (retirements_among records) in
-    are ∙ ap (λ (rest : List (List ℕ)). start ++ rest) (sym kept)
+    rw (filter-append (λ (x : List ℕ). not (is_admission x)) records (r ∷ []), admission_is r a, append-nil (retirements_among records)) are
 
 -- the rows behind those of the start
 pub rows_more : (name : List ℕ) (records : List (List ℕ)) (r : List ℕ) (start before after : List NameRecord) → after ≡ before ++ names_of name r → before ≡ start ++ names_among name records → after ≡ start ++ names_among name (records ++ r ∷ [])
 rows_more name records r start before after grown are =
-    grown ∙ ap (λ (rows : List NameRecord). rows ++ names_of name r) are ∙ append_assoc start (names_among name records) (names_of name r)
-    ∙ ap (λ (rest : List NameRecord). start ++ rest) (names_more name records r (names_among name records) (names_among name records ++ names_of name r) refl refl)
+    rw (grown, are, ← names_more name records r _ _ refl refl) (append_assoc start (names_among name records) (names_of name r))
 
 pub rows_same : (name : List ℕ) (records : List (List ℕ)) (r : List ℕ) (start before : List NameRecord) → Retires r → before ≡ start ++ names_among name records → before ≡ start ++ names_among name (records ++ r ∷ [])
 rows_same name records r start before t are =
-    rows_more name records r start before before (sym (ap (λ (rest : List NameRecord). before ++ rest) (names_retired name r t) ∙ append-nil before)) are
+    rows_more name records r start before before (rw (names_retired name r t) (sym (append-nil before))) are
 
 pub start_rows : (name : List ℕ) (start : List NameRecord) → start ≡ start ++ names_among name []
-start_rows name start = sym (ap (λ (rest : List NameRecord). start ++ rest) (sym (names_start name)) ∙ append-nil start)
+start_rows name start = rw (← names_start name) (sym (append-nil start))
 
 pub start_retired : (start : List (List ℕ)) → start ≡ start ++ retirements_among []
 unfolding retirements_among
@@ -73,42 +60,36 @@ start_retired start = sym (append-nil start)
 
 -- ---- all records
 
+-- what stands in two lists, one behind the other
+beside : {A : Type 0} (P : A → Type 0) (all old more : List A) → all ≡ old ++ more → ((a : A) → Contains more a ↔ P a) → (a : A) → Contains all a ↔ (Contains old a ⊎ P a)
+beside P all old more is told a = (to, back)
+  where
+    to : Contains all a → Contains old a ⊎ P a
+    to there = elim (Contains-append_cases old more a (rw is at there)) [
+      | inl before ↦ inl before
+      | inr among ↦ inr ((told a).0 among)
+    ]
+
+    back : Contains old a ⊎ P a → Contains all a
+    back (inl before) = rw is (Contains-append_left old more a before)
+    back (inr one) = rw is (Contains-append_right old more a ((told a).1 one))
+
 module _ (o : Operations) (name : List ℕ) (records : List (List ℕ)) (content : IsContent o) (is : o ≡ set.from_list records) (old new : NamesFound)
     (rows_are : map owned_name_view new.rows.items ≡ map owned_name_view old.rows.items ++ names_among name records)
     (retired_are : map entry_bytes new.retired.items ≡ map entry_bytes old.retired.items ++ retirements_among records) where
-  rows_to : (row : NameRecord) → Contains (map owned_name_view new.rows.items) row → Contains (map owned_name_view old.rows.items) row ⊎ IsNameRow o name row
-  rows_to row there = elim (Contains-append_cases (map owned_name_view old.rows.items) (names_among name records) row (subst (λ (l : List NameRecord). Contains l row) rows_are there)) [
-    | inl before ↦ inl before
-    | inr among ↦ inr ((names_told o name records content is row).0 among)
-  ]
-
-  rows_back : (row : NameRecord) → Contains (map owned_name_view old.rows.items) row ⊎ IsNameRow o name row → Contains (map owned_name_view new.rows.items) row
-  rows_back row (inl before) = subst (λ (l : List NameRecord). Contains l row) (sym rows_are) (Contains-append_left (map owned_name_view old.rows.items) (names_among name records) row before)
-  rows_back row (inr told) = subst (λ (l : List NameRecord). Contains l row) (sym rows_are) (Contains-append_right (map owned_name_view old.rows.items) (names_among name records) row ((names_told o name records content is row).1 told))
-
   among_to : (r : List ℕ) → Contains (retirements_among records) r → (set.contains o r ≡ true) × (is_admission r ≡ false)
   unfolding retirements_among
   among_to r there =
       let one = in_filter (λ (x : List ℕ). not (is_admission x)) records r there in
-      (ap (λ (s : Operations). set.contains s r) is ∙ in_set records r one.0, turned (is_admission r) one.1)
+      (ap (λ (s : Operations). set.contains s r) is ∙ in_set records r one.0, not-true (is_admission r) one.1)
 
   among_back : (r : List ℕ) → (set.contains o r ≡ true) × (is_admission r ≡ false) → Contains (retirements_among records) r
   unfolding retirements_among
   among_back r there =
       to_filter (λ (x : List ℕ). not (is_admission x)) records r (from_set records r (ap (λ (s : Operations). set.contains s r) (sym is) ∙ there.0)) (ap not there.1)
 
-  retired_to : (r : List ℕ) → Contains (map entry_bytes new.retired.items) r → Contains (map entry_bytes old.retired.items) r ⊎ ((set.contains o r ≡ true) × (is_admission r ≡ false))
-  retired_to r there = elim (Contains-append_cases (map entry_bytes old.retired.items) (retirements_among records) r (subst (λ (l : List (List ℕ)). Contains l r) retired_are there)) [
-    | inl before ↦ inl before
-    | inr among ↦ inr (among_to r among)
-  ]
-
-  retired_back : (r : List ℕ) → Contains (map entry_bytes old.retired.items) r ⊎ ((set.contains o r ≡ true) × (is_admission r ≡ false)) → Contains (map entry_bytes new.retired.items) r
-  retired_back r (inl before) = subst (λ (l : List (List ℕ)). Contains l r) (sym retired_are) (Contains-append_left (map entry_bytes old.retired.items) (retirements_among records) r before)
-  retired_back r (inr there) = subst (λ (l : List (List ℕ)). Contains l r) (sym retired_are) (Contains-append_right (map entry_bytes old.retired.items) (retirements_among records) r (among_back r there))
-
   pub names_added : AddsNames o name old new
-  names_added = record { rows = λ row. (rows_to row, rows_back row); retired = λ r. (retired_to r, retired_back r) }
+  names_added = record { rows = beside _ _ _ _ rows_are (names_told o name records content is); retired = beside _ _ _ _ retired_are (λ r. (among_to r, among_back r)) }
 
 -- ---- the rows that are live
 
@@ -122,7 +103,7 @@ module _ (retired : Operations) (old kept new : List OwnedNameRow) (filtered : k
       let one = in_map owned_name_view kept row ((same row).0 there) in
       let passed = in_filter is_live old one.0 (subst (λ (l : List OwnedNameRow). Contains l one.0) filtered one.1) in (
         subst (Contains (map owned_name_view old)) (sym one.2) (to_map owned_name_view old one.0 passed.0),
-        ap (λ (r : NameRecord). set.contains retired (retirement_record r.key r.digest)) one.2 ∙ turned (set.contains retired (retirement_record one.0.key one.0.digest.0)) passed.1,
+        ap (λ (r : NameRecord). set.contains retired (retirement_record r.key r.digest)) one.2 ∙ not-true (set.contains retired (retirement_record one.0.key one.0.digest.0)) passed.1,
       )
 
   live_back : (row : NameRecord) → Contains (map owned_name_view old) row × (set.contains retired (retirement_record row.key row.digest) ≡ false) → Contains (map owned_name_view new) row

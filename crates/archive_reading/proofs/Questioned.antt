@@ -1,19 +1,18 @@
 -- Questions under keys, answered by what is held of the records.
-use Rattle.std.proofs.Common.{◌≡◌, ℕ, ◌+◌, Bool, true, false, ◌&&◌, if◌then◌else◌, List, [], ◌∷◌, ◌++◌, append_assoc, length, take, drop, get_or, Option, Some, None, refl, sym, ap, ◌∙◌, subst, arith, inl, inr}
+use Rattle.std.proofs.Common.{◌≡◌, ℕ, ◌+◌, Bool, true, false, ◌&&◌, if◌then◌else◌, List, [], ◌∷◌, ◌++◌, append_assoc, add-one, length, drop, Option, Some, None, refl, sym, ap, ◌∙◌, arith, inl, inr}
 use Rattle.std.specs.Prelude.{⊤}
 use Rattle.std.specs.Option.{ForSome}
 use Rattle.std.specs.Int.{w64, to_be_bytes}
 use Rattle.std.specs.List.{Contains}
 use Rattle.std.specs.Str.{bytes_eq}
-use Rattle.std.specs.declared.cmp.Ordering.{Ordering}
-use Rattle.std.specs.declared.cmp.Ordering.TheVariants.{Less, Equal, Greater}
-use Rattle.std.specs.Ordering.{is_lt, ordering_reverse}
+use Rattle.std.specs.declared.cmp.Ordering.TheVariants.{Less}
+use Rattle.std.specs.Ordering.{is_lt}
 use Rattle.std.specs.Cmp.{tied_itself}
 use Rattle.std.specs.Cmp.Lexicographic.{nat_list_cmp_total}
 use Rattle.std.specs.FinSet as set
 use Rattle.std.specs.FinSet.{contains, contains-empty, same_set}
 use Rattle.std.proofs.lemmas.Bool.{false≢true, eqb-true}
-use Rattle.std.proofs.lemmas.List.{append-nil, take_at, drop_at, drop-drop, get_or-append-add}
+use Rattle.std.proofs.lemmas.List.{append-nil, take_at, drop_at, drop-drop}
 use Rattle.std.proofs.lemmas.List.Elements.{Contains-append_cases, Contains-append_left, Contains-push_cases}
 use Rattle.std.proofs.lemmas.List.Sorted.{ranks_by}
 use Rattle.std.proofs.lemmas.Slice.Eq.{bytes_eq-Decides}
@@ -26,7 +25,7 @@ use Rattle.archive_core.specs.Part.{part}
 use Rattle.archive_core.specs.declared.keys.SliceKey.{SliceKey}
 use Rattle.archive_core.specs.declared.keys.Digest.{Digest}
 use Rattle.archive_core.specs.declared.operations.Operation.TheVariants.{Retire}
-use Rattle.archive_core.proofs.Made.{uncovered_of_made}
+use Rattle.archive_core.proofs.Made.{and_false, uncovered_of_made}
 use Rattle.archive_core.proofs.Picked.{contains_part}
 use Rattle.archive_records.specs.declared.format.Format.TheVariants.{Archive}
 use Rattle.archive_records.specs.declared.kind.TextKind.TheVariants.{Archive as Archive_text}
@@ -53,12 +52,7 @@ not_less_chain : (a b c : List ℕ) → lt a b ≡ false → lt b c ≡ false �
 not_less_chain a b c = (ranks_by nat_list_cmp_total (λ (x : List ℕ). x)).chain a b c
 
 neither : (a b : List ℕ) → lt a b ≡ false → lt b a ≡ false → a ≡ b
-neither a b p q = by (order a b) refl
-  where
-    by : (o : Ordering) → order a b ≡ o → a ≡ b
-    by Less e = absurd (false≢true (sym p ∙ ap is_lt e))
-    by Equal e = bytes_same a b e
-    by Greater e = absurd (false≢true (sym q ∙ ap is_lt (nat_list_cmp_total.antisymm b a ∙ ap ordering_reverse e)))
+neither a b p q = bytes_same a b (grind (arith, nat_list_cmp_total.antisymm b a))
 
 same : (a b : List ℕ) → bytes_eq a b ≡ true → a ≡ b
 same a b = (bytes_eq-Decides a b).0
@@ -66,10 +60,7 @@ same a b = (bytes_eq-Decides a b).0
 -- ---- keys in order
 
 order_behind : (key : SliceKey) (keys : List SliceKey) → AreInOrder (key ∷ keys) → AreInOrder keys
-order_behind key keys sorted = λ j d _ below.
-    let one : get_or (key ∷ keys) (j + 1 + 1) d ≡ get_or keys (j + 1) d = ap (λ n. get_or (key ∷ keys) n d) (omega arith) ∙ get_or-append-add (key ∷ []) keys (j + 1) d in
-    let other : get_or (key ∷ keys) (j + 1) d ≡ get_or keys j d = ap (λ n. get_or (key ∷ keys) n d) (omega arith) ∙ get_or-append-add (key ∷ []) keys j d in
-    sym (λ i. lt (key_bytes (one i)) (key_bytes (other i))) ∙ sorted (j + 1) d (omega arith) (omega (arith, below))
+order_behind key keys sorted = λ j d _ below. rw (add-one j) (simp add-one at (sorted (j + 1) d (omega arith) (omega (arith, below))))
 
 order_first : (key next : SliceKey) (keys : List SliceKey) → AreInOrder (key ∷ next ∷ keys) → lt (key_bytes next) (key_bytes key) ≡ false
 order_first key next keys sorted = sorted 0 key (omega arith) (omega arith)
@@ -78,14 +69,13 @@ order_first key next keys sorted = sorted 0 key (omega arith) (omega arith)
 
 -- an admission as its tag, and what is behind it
 tagged : (r : List ℕ) → is_admission r ≡ true → r ≡ 2 ∷ drop 1 r
-tagged [] a = absurd (false≢true a)
+tagged [] a = cc
 tagged (t ∷ bytes) a = ap (λ (n : ℕ). n ∷ bytes) (eqb-true t 2 a)
 
 -- an admission above another is under no smaller key
 not_under_less : (x r : List ℕ) → is_admission x ≡ true → is_admission r ≡ true → order x r ≡ Less → lt (front_of r) (front_of x) ≡ false
 not_under_less x r a b less =
-    let begins : lt (take 25 (2 ∷ drop 1 r)) (take 25 (2 ∷ drop 1 x)) ≡ false = begins_below 25 (2 ∷ drop 1 x) (2 ∷ drop 1 r) (ap (λ (t : List ℕ). order t (2 ∷ drop 1 r)) (sym (tagged x a)) ∙ ap (order x) (sym (tagged r b)) ∙ less) in
-    begins
+    begins_below 25 (2 ∷ drop 1 x) (2 ∷ drop 1 r) (ap (λ (t : List ℕ). order t (2 ∷ drop 1 r)) (sym (tagged x a)) ∙ ap (order x) (sym (tagged r b)) ∙ less)
 
 -- no record behind an admission under a greater key is one under this key
 none_behind : (records : List (List ℕ)) (front : List ℕ) (x : List ℕ) (more : List (List ℕ)) → InOrder Archive [] (records ++ x ∷ more) → is_admission x ≡ true → lt front (front_of x) ≡ true
@@ -93,21 +83,17 @@ none_behind : (records : List (List ℕ)) (front : List ℕ) (x : List ℕ) (mor
 none_behind records front x more ordered a above r there b under =
     let behind = InOrder-behind [] records (x ∷ more) ordered in
     elim (cons_cases x r more there) [
-      | inl e ↦ false≢true (sym (not_itself front) ∙ ap (lt front) (under ∙ ap front_of (sym e)) ∙ above)
-      | inr later ↦ false≢true (sym (not_under_less x r a b (less_of x r (all_above x r more behind.2 later))) ∙ ap (λ (t : List ℕ). lt t (front_of x)) (sym under) ∙ above)
+      | inl e ↦ cc (not_itself front)
+      | inr later ↦ cc (not_under_less x r a b (less_of x r (all_above x r more behind.2 later)))
     ]
 
 -- so where a key is passed, none of the records that may come is under it
 none_to_come : (records behind : List (List ℕ)) (key : SliceKey) (front : Option (List ℕ)) → InOrder Archive [] (records ++ behind) → is_passed key front ≡ true → Begins front behind
     → (r : List ℕ) → Contains behind r → is_admission r ≡ true → key_bytes key ≡ front_of r → ⊥
 none_to_come records behind key None ordered passed begins r there b under =
-    let c = subst (λ (rs : List (List ℕ)). Contains rs r) begins there in
-    absurd (omega (arith, c.1))
+    let c = rw begins at there in absurd (omega (arith, c.1))
 none_to_come records behind key (Some front) ordered passed begins r there b under =
-    let x = begins.0 in
-    let more = begins.1 in
-    none_behind records (key_bytes key) x more (subst (λ (rs : List (List ℕ)). InOrder Archive [] (records ++ rs)) begins.2 ordered) begins.3 (ap (lt (key_bytes key)) begins.4 ∙ passed)
-    r (subst (λ (rs : List (List ℕ)). Contains rs r) begins.2 there) b under
+    none_behind records (key_bytes key) begins.0 begins.1 (rw begins.2 at ordered) begins.3 (ap (lt (key_bytes key)) begins.4 ∙ passed) r (rw begins.2 at there) b under
 
 -- ---- what is held answers as the whole
 
@@ -148,8 +134,7 @@ module _ (records behind : List (List ℕ)) (key : SliceKey) (held : Operations)
       ]) (under slice of)
 
   no_retirement : (digest : List ℕ) → contains held (retirement_record key digest) ≡ false
-  no_retirement digest = is_false (contains held (retirement_record key digest)) (λ h.
-      false≢true (and_first false (bytes_eq (key_bytes key) (front_of (retirement_record key digest))) (and_second _ _ (sym (held_has (retirement_record key digest)) ∙ h))))
+  no_retirement digest = held_has (retirement_record key digest) ∙ and_false (contains (set_of records) (retirement_record key digest))
 
   covering_is : (slice : List ℕ) → key_of slice ≡ key → covering (admission_record slice) ≡ retirement_record key (sha256 slice)
   unfolding key_and_digest
@@ -173,16 +158,10 @@ module _ (records behind : List (List ℕ)) (key : SliceKey) (held : Operations)
     kept = no_retirement (sha256 slice);
   }
 
-  answering_in_whole : (slice : List ℕ) → IsAnswering held key slice → IsAnswering whole key slice
-  answering_in_whole slice answering = record {
-    live = live_in_whole slice answering.live;
-    companions_first = λ companion live. answering.companions_first companion (live_in_held companion live);
-  }
-
-  answering_in_held : (slice : List ℕ) → IsAnswering whole key slice → IsAnswering held key slice
-  answering_in_held slice answering = record {
-    live = live_in_held slice answering.live;
-    companions_first = λ companion live. answering.companions_first companion (live_in_whole companion live);
+  answering_alike : (o p : Operations) → ((slice : List ℕ) → IsLive o key slice → IsLive p key slice) → ((slice : List ℕ) → IsLive p key slice → IsLive o key slice) → (slice : List ℕ) → IsAnswering o key slice → IsAnswering p key slice
+  answering_alike o p to back slice answering = record {
+    live = to slice answering.live;
+    companions_first = λ companion live. answering.companions_first companion (back companion live);
   }
 
   answers_as : AnswersAs key held whole
@@ -191,8 +170,8 @@ module _ (records behind : List (List ℕ)) (key : SliceKey) (held : Operations)
     answering = record {
       ascending = told.answering.ascending;
       exactly = λ slice. (
-        λ h. answering_in_whole slice ((told.answering.exactly slice).0 h),
-        λ h. (told.answering.exactly slice).1 (answering_in_held slice h),
+        λ h. answering_alike held whole live_in_whole live_in_held slice ((told.answering.exactly slice).0 h),
+        λ h. (told.answering.exactly slice).1 (answering_alike whole held live_in_held live_in_whole slice h),
       );
     };
     answer_is = told.answer_is;
@@ -202,10 +181,7 @@ module _ (records behind : List (List ℕ)) (key : SliceKey) (held : Operations)
 
 -- what answers as another under the first of the keys
 pub answers_first : (keys : List SliceKey) (key : SliceKey) (p o : Operations) → first_key keys ≡ Some key → AnswersAs key p o → ForSome (first_key keys) (λ k. AnswersAs k p o)
-answers_first keys key p o first told = λ k also. subst (λ (j : SliceKey). AnswersAs j p o) (one_first (first_key keys) key k first also) told
-  where
-    one_first : (f : Option SliceKey) (a b : SliceKey) → f ≡ Some a → f ≡ Some b → a ≡ b
-    one_first f a b e d = cc
+answers_first keys key p o first told = λ k also. let same : key ≡ k = cc in rw (← same) told
 
 -- the admissions that are held for the question behind
 held_behind : (records : List (List ℕ)) (key next : SliceKey) (held : Operations) → lt (key_bytes next) (key_bytes key) ≡ false → IsHeldUnder (key_bytes key) records held
@@ -226,10 +202,7 @@ held_behind records key next held not_below is = by (bytes_eq (key_bytes next) (
         false≢true (sym other ∙ (bytes_eq-Decides (key_bytes next) (key_bytes key)).1 (neither (key_bytes next) (key_bytes key) not_below above)))))
 
     by : (b : Bool) → bytes_eq (key_bytes next) (key_bytes key) ≡ b → IsHeldUnder (key_bytes next) records (if b then held else set.empty)
-    by true e = record {
-      held_is = is.held_is ∙ ap (λ (t : List ℕ). part (set_of records) (admits_under t)) (sym (same _ _ e));
-      none_above = none;
-    }
+    by true e = record { held_is = rw (same (key_bytes next) (key_bytes key) e) is.held_is; none_above = none }
     by false e = record { held_is = nothing e; none_above = none }
 
 -- the next question was answered
@@ -238,36 +211,25 @@ pub answered_next : (front : Option (List ℕ)) (left new : List SliceKey) (Answ
     → now ≡ (if is_first (key_bytes key) new then held else set.empty)
     → ((o : Operations) → AnswersAs key held o → Answered o → Next o)
     → AreAsked (Begins front) left Answered held records → AreAsked (Begins front) new Next now records
-answered_next front [] new Answered Next held now records key first behind long passed now_is answers asked = absurd (nothing first)
-  where
-    nothing : None ≡ Some key → ⊥
-    nothing e = cc
+answered_next front [] new Answered Next held now records key first behind long passed now_is answers asked = cc
 answered_next front (k ∷ keys) new Answered Next held now records key first behind long passed now_is answers asked =
     let is = asked.holds key first in
     record {
-      in_order = subst AreInOrder (sym behind) (order_behind k keys asked.in_order);
-      holds = λ next next_is. further keys next now (subst (λ (ks : List SliceKey). first_key ks ≡ Some next) behind next_is) (subst (λ (ks : List SliceKey). now ≡ (if is_first (key_bytes key) ks then held else set.empty)) behind now_is) is asked.in_order;
+      in_order = rw behind (order_behind k keys asked.in_order);
+      holds = λ next next_is. further keys next now (rw behind at next_is) (rw behind at now_is) is asked.in_order;
       answered = λ rest begins taken. answers (set_of (records ++ rest)) (answers_as records rest key held long is taken.0 (none_to_come records rest key front taken.1 passed begins)) (asked.answered rest begins taken);
     }
   where
     first_is : k ≡ key
-    first_is = inside first
-      where
-        inside : Some k ≡ Some key → k ≡ key
-        inside e = cc
+    first_is = cc
 
     further : (ks : List SliceKey) (next : SliceKey) (now : Operations) → first_key ks ≡ Some next → now ≡ (if is_first (key_bytes key) ks then held else set.empty) → IsHeldUnder (key_bytes key) records held → AreInOrder (k ∷ ks)
         → IsHeldUnder (key_bytes next) records now
-    further [] next now next_is now_is is sorted = absurd (nothing next_is)
-      where
-        nothing : None ≡ Some next → ⊥
-        nothing e = cc
+    further [] next now next_is now_is is sorted = cc
     further (n ∷ ns) next now next_is now_is is sorted =
-        let not_below : lt (key_bytes n) (key_bytes key) ≡ false = ap (λ (j : SliceKey). lt (key_bytes n) (key_bytes j)) (sym first_is) ∙ order_first k n ns sorted in
-        subst (λ (j : SliceKey). IsHeldUnder (key_bytes j) records now) (inside next_is) (subst (IsHeldUnder (key_bytes n) records) (sym now_is) (held_behind records key n held not_below is))
-      where
-        inside : Some n ≡ Some next → n ≡ next
-        inside e = cc
+        let same : n ≡ next = cc in
+        let not_below : lt (key_bytes n) (key_bytes key) ≡ false = rw (← first_is) (order_first k n ns sorted) in
+        rw (← same, now_is) (held_behind records key n held not_below is)
 
 -- ---- one record more
 
@@ -284,19 +246,23 @@ behind_one : (MayCome : List (List ℕ) → Type 0) (Answered : Operations → T
     → ((behind : List (List ℕ)) → MayCome (x ∷ behind))
     → (behind : List (List ℕ)) → ⊤ → MakeThemselves Archive_text ((records ++ x ∷ []) ++ behind) → Answered (set_of ((records ++ x ∷ []) ++ behind))
 behind_one MayCome Answered records x answered may behind _ taken =
-    let e : (records ++ x ∷ []) ++ behind ≡ records ++ x ∷ behind = append_assoc records (x ∷ []) behind in
-    subst (λ (rs : List (List ℕ)). Answered (set_of rs)) (sym e) (answered (x ∷ behind) (may behind) (subst (MakeThemselves Archive_text) e taken))
+    rw (append_assoc records (x ∷ []) behind) (answered (x ∷ behind) (may behind) (rw (append_assoc records (x ∷ []) behind) at taken))
+
+-- with one record more, under no greater key
+held_more : (front : List ℕ) (records : List (List ℕ)) (x : List ℕ) (held now : Operations) → IsHeldUnder front records held → now ≡ part (set_of (records ++ x ∷ [])) (admits_under front) → (is_admission x ≡ true → lt front (front_of x) ≡ false)
+    → IsHeldUnder front (records ++ x ∷ []) now
+held_more front records x held now is now_is not_above = record {
+  held_is = now_is;
+  none_above = λ r there a. elim (Contains-push_cases records x r there) [
+    | inl c ↦ is.none_above r c a
+    | inr e ↦ rw (← e) (not_above (ap is_admission e ∙ a))
+  ];
+}
 
 -- a record that is not held
 held_still : (front : List ℕ) (records : List (List ℕ)) (x : List ℕ) (held : Operations) → IsHeldUnder front records held → admits_under front x ≡ false → (is_admission x ≡ true → lt front (front_of x) ≡ false)
     → IsHeldUnder front (records ++ x ∷ []) held
-held_still front records x held is other not_above = record {
-  held_is = unpicked_more (admits_under front) records x held is.held_is other;
-  none_above = λ r there a. elim (Contains-push_cases records x r there) [
-    | inl c ↦ is.none_above r c a
-    | inr e ↦ ap (λ (t : List ℕ). lt front (front_of t)) (sym e) ∙ not_above (ap is_admission e ∙ a)
-  ];
-}
+held_still front records x held is other not_above = held_more front records x held held is (unpicked_more (admits_under front) records x held is.held_is other) not_above
 
 -- a retirement
 pub retirement_more : (left : List SliceKey) (Answered : Operations → Type 0) (held : Operations) (records : List (List ℕ)) (x : List ℕ) → Retires x
@@ -305,13 +271,17 @@ retirement_more left Answered held records x retires asked =
     let no_admission : is_admission x ≡ false = ap is_admission retires.is in
     record {
       in_order = asked.in_order;
-      holds = λ key first. held_still (key_bytes key) records x held (asked.holds key first) (ap (λ b. b && bytes_eq (key_bytes key) (front_of x)) no_admission) (λ a. absurd (false≢true (sym no_admission ∙ a)));
+      holds = λ key first. held_still (key_bytes key) records x held (asked.holds key first) (ap (λ b. b && bytes_eq (key_bytes key) (front_of x)) no_admission) (λ a. cc);
       answered = behind_one (λ _. ⊤) Answered records x asked.answered (λ _. tt);
     }
 
 -- what was known before an admission, with what may come narrowed to what begins with it
 pub asked_before : (left : List SliceKey) (Answered : Operations → Type 0) (held : Operations) (records : List (List ℕ)) (front : Option (List ℕ)) → AreAsked (λ _. ⊤) left Answered held records → AreAsked (Begins front) left Answered held records
 asked_before left Answered held records front asked = record { in_order = asked.in_order; holds = asked.holds; answered = λ rest _ taken. asked.answered rest tt taken }
+
+is_first_of : (front : List ℕ) (ks : List SliceKey) (key : SliceKey) → first_key ks ≡ Some key → is_first front ks ≡ bytes_eq (key_bytes key) front
+is_first_of front [] key e = cc
+is_first_of front (k ∷ ks) key e = cc
 
 admits : (x : List ℕ) → Admits x → is_admission x ≡ true
 admits x a = ap is_admission a.is
@@ -325,19 +295,9 @@ module _ (left : List SliceKey) (Answered : Operations → Type 0) (held : Opera
   pub admission_other : is_first (front_of x) left ≡ false → AreAsked (λ _. ⊤) left Answered held (records ++ x ∷ [])
   admission_other other = record {
     in_order = asked.in_order;
-    holds = λ key first. held_still (key_bytes key) records x held (asked.holds key first) (ap (λ b. b && bytes_eq (key_bytes key) (front_of x)) (admits x is) ∙ not_first left key first other) (λ _. passed key first);
+    holds = λ key first. held_still (key_bytes key) records x held (asked.holds key first) (rw (admits x is) (sym (is_first_of (front_of x) left key first) ∙ other)) (λ _. passed key first);
     answered = behind;
   }
-    where
-      not_first : (ks : List SliceKey) (key : SliceKey) → first_key ks ≡ Some key → is_first (front_of x) ks ≡ false → bytes_eq (key_bytes key) (front_of x) ≡ false
-      not_first [] key e h = absurd (nothing e)
-        where
-          nothing : None ≡ Some key → ⊥
-          nothing e = cc
-      not_first (k ∷ ks) key e h = ap (λ (j : SliceKey). bytes_eq (key_bytes j) (front_of x)) (sym (inside e)) ∙ h
-        where
-          inside : Some k ≡ Some key → k ≡ key
-          inside e = cc
 
   -- an admission under it
   pub admission_held : is_first (front_of x) left ≡ true → MakeThemselves Archive_text (records ++ x ∷ []) → (now : Operations) → now ≡ with_record held x → AreAsked (λ _. ⊤) left Answered now (records ++ x ∷ [])
@@ -345,25 +305,10 @@ module _ (left : List SliceKey) (Answered : Operations → Type 0) (held : Opera
     in_order = asked.in_order;
     holds = λ key first.
         let h = asked.holds key first in
-        record {
-          held_is = picked_more (admits_under (key_bytes key)) records x held h.held_is (both_true _ _ (admits x is) (is_next left key first next)) apart now more;
-          none_above = λ r there a. elim (Contains-push_cases records x r there) [
-            | inl c ↦ h.none_above r c a
-            | inr e ↦ ap (λ (t : List ℕ). lt (key_bytes key) (front_of t)) (sym e) ∙ passed key first
-          ];
-        };
+        let under = both_true _ _ (admits x is) (sym (is_first_of (front_of x) left key first) ∙ next) in
+        held_more (key_bytes key) records x held now h (picked_more (admits_under (key_bytes key)) records x held h.held_is under apart now more) (λ _. passed key first);
     answered = behind;
   }
-    where
-      is_next : (ks : List SliceKey) (key : SliceKey) → first_key ks ≡ Some key → is_first (front_of x) ks ≡ true → bytes_eq (key_bytes key) (front_of x) ≡ true
-      is_next [] key e h = absurd (nothing e)
-        where
-          nothing : None ≡ Some key → ⊥
-          nothing e = cc
-      is_next (k ∷ ks) key e h = ap (λ (j : SliceKey). bytes_eq (key_bytes j) (front_of x)) (sym (inside e)) ∙ h
-        where
-          inside : Some k ≡ Some key → k ≡ key
-          inside e = cc
 
 -- ---- the first record, and the last one
 
@@ -379,6 +324,5 @@ asked_first left Answered held sorted answered none = record {
 pub asked_last : (left : List SliceKey) (Answered : Operations → Type 0) (held : Operations) (records : List (List ℕ)) → AreAsked (Begins None) left Answered held records → MakeThemselves Archive_text records
     → ForSome (first_key left) (λ key. is_passed key None ≡ false) → (left ≡ []) × Answered (set_of records)
 asked_last [] Answered held records asked taken none =
-    let e = append-nil records in
-    (refl, subst (λ (rs : List (List ℕ)). Answered (set_of rs)) e (asked.answered [] refl (subst (MakeThemselves Archive_text) (sym e) taken)))
-asked_last (key ∷ keys) Answered held records asked taken none = absurd (false≢true (sym (none key refl)))
+    (refl, rw (append-nil records) at (asked.answered [] refl (rw (append-nil records) taken)))
+asked_last (key ∷ keys) Answered held records asked taken none = absurd (cc (none key refl))

@@ -4,7 +4,7 @@ use Rattle.std.proofs.Math.ListN.{length-map}
 use Rattle.std.specs.Prelude.{All}
 use Rattle.std.specs.Int.{to_be_bytes}
 use Rattle.std.specs.declared.cmp.Ordering.{Ordering}
-use Rattle.std.specs.declared.cmp.Ordering.TheVariants.{Less, Equal, Greater}
+use Rattle.std.specs.declared.cmp.Ordering.TheVariants.{Less}
 use Rattle.std.specs.Ordering.{is_lt, ordering_then, ordering_reverse}
 use Rattle.std.specs.Cmp.Lexicographic.{nat_list_cmp_total}
 use Rattle.std.specs.FinSet as set
@@ -95,14 +95,9 @@ by_key a b = is_lt (key_cmp a.key b.key)
 abbrev op_key : Operation → Operation → Bool
 op_key a b = by_key (row_of a) (row_of b)
 
-both_no : (a b : Bool) → a ≡ false → b ≡ false → (not a && not b) ≡ true
-both_no a b e f = λ i. not (e i) && not (f i)
-
 -- the later of two neighbours is not the lower one
 in_list : (keys turned records : Ordering) → turned ≡ ordering_reverse keys → is_lt keys ≡ false → ((not (is_lt turned) && not (is_lt keys)) ≡ true → is_lt records ≡ false) → is_lt (ordering_then keys records) ≡ false
-in_list Less turned records e h tie = absurd cc
-in_list Equal turned records e h tie = tie (both_no (is_lt turned) false (ap is_lt e) refl)
-in_list Greater turned records e h tie = refl
+in_list keys turned records e h tie = grind arith
 
 module _ (ops told : List Operation) (moved : IsPermutation ops told) (keys : All (λ a. IsKey (key_in a)) ops) (up : IsStrictlySortedBy order (map record_bytes ops)) (sorted : IsSortedBy by_key (map row_of told)) (stable : IsStableBy op_key ops told) where
   keys_told : All (λ a. IsKey (key_in a)) told

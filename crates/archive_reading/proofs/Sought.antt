@@ -1,5 +1,5 @@
 -- The rows of a name, told record by record.
-use Rattle.std.proofs.Common.{◌≡◌, ◌↔◌, ℕ, ◌≤◌, Bool, true, false, cond, ◌==◌, List, [], ◌∷◌, ◌++◌, length, map, drop, refl, sym, ap, ◌∙◌, subst, arith, inl, inr}
+use Rattle.std.proofs.Common.{◌≡◌, ◌↔◌, ℕ, Bool, true, false, cond, ◌==◌, List, [], ◌∷◌, ◌++◌, length, map, drop, refl, sym, ap, ◌∙◌, subst, arith, inl, inr}
 use Rattle.std.specs.Ordering.{on, eq_by_cmp}
 use Rattle.std.specs.declared.cmp.Ordering.TheVariants.{Equal}
 use Rattle.std.specs.Cmp.{IsTotalOrder, Equal-is, on_total}
@@ -9,10 +9,10 @@ use Rattle.std.specs.FinSet as set
 use Rattle.std.proofs.lemmas.Bool.{ltb-false}
 use Rattle.std.proofs.lemmas.Cmp.{eq_by_cmp_equiv}
 use Rattle.std.proofs.lemmas.Grind.{flat_map-append}
-use Rattle.std.proofs.lemmas.List.{append-nil}
+use Rattle.std.proofs.lemmas.List.{append-nil, nil_from_length}
 use Rattle.std.proofs.lemmas.List.Kept.{IsStrictlySortedBy-dedup, Contains-from_dedup, Any-dedup}
 use Rattle.std.proofs.lemmas.List.Sorted.{Contains-permutation, IsPermutation-sym}
-use Rattle.macho_symbols.specs.Found.{FoundRecord, named}
+use Rattle.macho_symbols.specs.Found.{named}
 use Rattle.archive_core.specs.Content.{Operations, IsContent}
 use Rattle.archive_core.specs.Valid.{IsValid}
 use Rattle.archive_core.specs.Names.{NameRecord, name_cmp, name_row, names_in, IsNameRow, IsNames}
@@ -30,8 +30,7 @@ use Rattle.archive_records.proofs.Forms.{parts-of, tag-retirement}
 pub names_more : (name : List ℕ) (records : List (List ℕ)) (x : List ℕ) (before after : List NameRecord) → after ≡ before ++ names_of name x → before ≡ names_among name records → after ≡ names_among name (records ++ x ∷ [])
 unfolding names_among
 names_more name records x before after grown are =
-    grown ∙ ap (λ (l : List NameRecord). l ++ names_of name x) are
-    ∙ sym (flat_map-append (names_of name) records (x ∷ []) ∙ ap (λ (l : List NameRecord). names_among name records ++ l) (append-nil (names_of name x)))
+    rw (grown, are, flat_map-append (names_of name) records (x ∷ []), append-nil (names_of name x)) refl
 
 pub names_admitted : (name r : List ℕ) → Admits r → names_of name r ≡ names_in name (drop 33 r)
 unfolding names_of
@@ -49,11 +48,7 @@ names_of_slice name slice valid =
 
 -- those of a slice that was asked whether it has the name
 pub names_none : (name slice : List ℕ) (has : Bool) → has ≡ nat_lt 0 (length (named slice name)) → has ≡ false → names_in name slice ≡ []
-names_none name slice has tells not = empty (named slice name) (ltb-false 0 (length (named slice name)) (sym tells ∙ not))
-  where
-    empty : (found : List FoundRecord) → length found ≤ 0 → map (name_row slice) found ≡ []
-    empty [] h = refl
-    empty (x ∷ xs) h = absurd (omega arith)
+names_none name slice has tells not = ap (map (name_row slice)) (nil_from_length (named slice name) (omega (arith, ltb-false 0 (length (named slice name)) (sym tells ∙ not))))
 
 -- ---- rows in order, each once
 
@@ -99,10 +94,7 @@ module _ (o : Operations) (name : List ℕ) (records : List (List ℕ)) (content
         candidate = subst (λ (s : List ℕ). Contains (named s name) one.0) slice_is one.1;
         row_is = one.2 ∙ ap (λ (s : List ℕ). name_row s one.0) slice_is;
       }
-  told_of r h (inr t) row rows = absurd (nowhere row (subst (λ (l : List NameRecord). Contains l row) (names_retired name r t) rows))
-    where
-      nowhere : (a : NameRecord) → Contains [] a → ⊥
-      nowhere a (k, lt, e) = omega arith
+  told_of r h (inr t) row rows = let none = rw (names_retired name r t) at rows in absurd (omega (arith, none.1))
 
   among : (row : NameRecord) → IsNameRow o name row → Contains (names_among name records) row
   unfolding names_among
@@ -124,10 +116,7 @@ module _ (o : Operations) (name : List ℕ) (records : List (List ℕ)) (content
   pub names_put : (gathered rows : List NameRecord) → gathered ≡ names_among name records → IsStrictlySortedBy name_cmp rows → ((row : NameRecord) → Contains rows row ↔ Contains gathered row) → IsNames o name rows
   names_put gathered rows are ascending same = record {
     ascending = ascending;
-    exactly = λ row. (
-      λ h. (names_told row).0 (subst (λ (l : List NameRecord). Contains l row) are ((same row).0 h)),
-      λ h. (same row).1 (subst (λ (l : List NameRecord). Contains l row) (sym are) ((names_told row).1 h)),
-    );
+    exactly = λ row. (λ h. (names_told row).0 (rw are at ((same row).0 h)), λ h. (same row).1 (rw are ((names_told row).1 h)));
   }
 
 -- the rows of no record

@@ -1,8 +1,7 @@
 -- A stable order of what is made of elements is that of the elements.
-use Rattle.std.proofs.Common.{◌≡◌, Bool, true, false, not, ◌&&◌, cond, List, [], ◌∷◌, ◌++◌, map, filter, refl, sym, ap, ◌∙◌, subst}
+use Rattle.std.proofs.Common.{◌≡◌, Bool, true, false, not, ◌&&◌, cond, List, [], ◌∷◌, ◌++◌, map, filter, refl, sym, ap, ◌∙◌, arith}
 use Rattle.std.specs.Cmp.{IsStrictWeakOrder}
 use Rattle.std.specs.List.Sorted.{IsPermutation, IsStableBy, ties}
-use Rattle.std.proofs.lemmas.Bool.{false≢true}
 use Rattle.std.proofs.lemmas.List.Elements.{filter-append}
 use Rattle.std.proofs.lemmas.List.Sorted.{IsPermutation-refl, IsPermutation-cons, IsPermutation-trans, IsPermutation-middle}
 
@@ -38,7 +37,7 @@ module _ {P X : Type 0} (f : P → X) (same : X → X → Bool) (itself : (x : X
         after = s.after;
         whole = ap (λ (qs : List P). p ∷ qs) s.whole;
         is = s.is;
-        none = ap (λ b. cond b (p ∷ filter (at y) s.before) (filter (at y) s.before)) h ∙ s.none;
+        none = rw h s.none;
         rest = s.rest;
       }
 
@@ -61,32 +60,19 @@ module _ {P X : Type 0} (f : P → X) (same : X → X → Bool) (itself : (x : X
 
         by : (b : Bool) → same x y ≡ b → filter (same x) ys ≡ map f (filter (at x) (s.before ++ s.after))
         by true e =
-            let front : filter (at x) ps ≡ s.here ∷ filter (at x) s.after = around x ∙ (λ i. none_before x e i ++ cond ((here ∙ e) i) (s.here ∷ filter (at x) s.after) (filter (at x) s.after)) in
-            let all : y ∷ filter (same x) ys ≡ f s.here ∷ map f (filter (at x) s.after) = sym (ap (λ b. cond b (y ∷ filter (same x) ys) (filter (same x) ys)) e) ∙ h x ∙ ap (map f) front in
-            let rest : filter (same x) ys ≡ map f (filter (at x) s.after) = cc in
-            rest ∙ sym (ap (map f) (filter-append (at x) s.before s.after ∙ ap (λ (qs : List P). qs ++ filter (at x) s.after) (none_before x e)))
-        by false e =
-            sym (ap (λ b. cond b (y ∷ filter (same x) ys) (filter (same x) ys)) e) ∙ h x
-            ∙ ap (map f) (around x ∙ ap (λ b. filter (at x) s.before ++ cond b (s.here ∷ filter (at x) s.after) (filter (at x) s.after)) (here ∙ e) ∙ sym (filter-append (at x) s.before s.after))
+            let all = rw (around x, none_before x e, here, e) at (h x) in
+            rw (filter-append (at x) s.before s.after, none_before x e) (cc all)
+        by false e = rw (filter-append (at x) s.before s.after) (rw (around x, here, e) at (h x))
 
     with_it : (told : List P) (x : X) → filter (at x) told ≡ filter (at x) (s.before ++ s.after) → filter (at x) (s.here ∷ told) ≡ filter (at x) ps
     with_it told x e = by (at x s.here) refl
       where
-        parts : filter (at x) told ≡ filter (at x) s.before ++ filter (at x) s.after
-        parts = e ∙ filter-append (at x) s.before s.after
-
         by : (b : Bool) → at x s.here ≡ b → filter (at x) (s.here ∷ told) ≡ filter (at x) ps
-        by true b =
-            let none = none_before x (sym (ap (same x) s.is) ∙ b) in
-            ap (λ c. cond c (s.here ∷ filter (at x) told) (filter (at x) told)) b
-            ∙ ap (λ (qs : List P). s.here ∷ qs) (parts ∙ ap (λ (qs : List P). qs ++ filter (at x) s.after) none)
-            ∙ sym (around x ∙ (λ i. none i ++ cond (b i) (s.here ∷ filter (at x) s.after) (filter (at x) s.after)))
-        by false b =
-            ap (λ c. cond c (s.here ∷ filter (at x) told) (filter (at x) told)) b ∙ parts
-            ∙ sym (around x ∙ ap (λ c. filter (at x) s.before ++ cond c (s.here ∷ filter (at x) s.after) (filter (at x) s.after)) b)
+        by true b = rw (around x, b, e, filter-append (at x) s.before s.after, none_before x (sym (ap (same x) s.is) ∙ b)) refl
+        by false b = rw (around x, b, e, filter-append (at x) s.before s.after) refl
 
     moved_with : (told : List P) → IsPermutation (s.before ++ s.after) told → IsPermutation ps (s.here ∷ told)
-    moved_with told e = subst (λ (qs : List P). IsPermutation qs (s.here ∷ told)) (sym s.whole)
+    moved_with told e = rw s.whole
         (IsPermutation-trans (s.before ++ s.here ∷ s.after) (s.here ∷ (s.before ++ s.after)) (s.here ∷ told) (IsPermutation-middle s.before s.here s.after) (IsPermutation-cons s.here (s.before ++ s.after) told e))
 
     grown : Lifted f at (s.before ++ s.after) ys → Lifted f at ps (y ∷ ys)
@@ -99,39 +85,27 @@ module _ {P X : Type 0} (f : P → X) (same : X → X → Bool) (itself : (x : X
 
   lift : (ys : List X) (ps : List P) → ((x : X) → filter (same x) ys ≡ map f (filter (at x) ps)) → Lifted f at ps ys
   lift [] [] h = record { told = []; are = refl; stable = λ x. refl; moved = IsPermutation-refl [] }
-  lift [] (p ∷ ps) h = absurd (some (h (f p) ∙ ap (λ b. map f (cond b (p ∷ filter (at (f p)) ps) (filter (at (f p)) ps))) (itself (f p))))
-    where
-      some : [] ≡ f p ∷ map f (filter (at (f p)) ps) → ⊥
-      some e = cc
+  lift [] (p ∷ ps) h = absurd (cc (rw (itself (f p)) at (h (f p))))
   lift (y ∷ ys) ps h =
-      let s = split y ps (filter (same y) ys) (sym (ap (λ b. cond b (y ∷ filter (same y) ys) (filter (same y) ys)) (itself y)) ∙ h y) in
+      let s = split y ps (filter (same y) ys) (rw (itself y) at (h y)) in
       grown y ys ps h s (lift ys (s.before ++ s.after) (without y ys ps h s))
 
 map_filter : {P X : Type 0} (f : P → X) (p : X → Bool) (xs : List P) → filter p (map f xs) ≡ map f (filter (λ x. p (f x)) xs)
 map_filter f p [] = refl
-map_filter f p (x ∷ xs) = by (p (f x)) (map_filter f p xs)
-  where
-    by : (b : Bool) → filter p (map f xs) ≡ map f (filter (λ x. p (f x)) xs) → cond b (f x ∷ filter p (map f xs)) (filter p (map f xs)) ≡ map f (cond b (x ∷ filter (λ x. p (f x)) xs) (filter (λ x. p (f x)) xs))
-    by true e = ap (λ ys. f x ∷ ys) e
-    by false e = e
+map_filter f p (x ∷ xs) = grind (arith, map_filter f p xs)
 
 module _ {X : Type 0} (lt : X → X → Bool) (o : IsStrictWeakOrder lt) where
   not_both : (b : Bool) → (b ≡ true → b ≡ false) → (not b && not b) ≡ true
-  not_both true h = sym (h refl)
-  not_both false h = refl
+  not_both b h = grind arith
 
   tied : (x : X) → ties lt x x ≡ true
   tied x = not_both (lt x x) (o.one_way x x)
 
   neither : (a b : Bool) → (not a && not b) ≡ true → (a ≡ false) × (b ≡ false)
-  neither true b h = absurd (false≢true h)
-  neither false true h = absurd (false≢true h)
-  neither false false h = (refl, refl)
+  neither a b h = grind arith
 
   one_test : (a b : Bool) → (a ≡ false → b ≡ false) → (b ≡ false → a ≡ false) → a ≡ b
-  one_test false b f g = sym (f refl)
-  one_test true true f g = refl
-  one_test true false f g = absurd (false≢true (sym (g refl)))
+  one_test a b f g = grind arith
 
   tied_alike : (x y : X) → ties lt x y ≡ true → (z : X) → ties lt x z ≡ ties lt y z
   tied_alike x y h z =

@@ -1,8 +1,9 @@
 -- What a plain archive keeps, as records.
-use Rattle.std.proofs.Common.{◌≡◌, ℕ, zero, suc, true, false, ◌||◌, List, [], ◌∷◌, map, refl, sym, ap, ◌∙◌, subst}
-use mathlib.Core.Bool.{true≢false}
-use Rattle.std.specs.Ordering.{nat_cmp, eq_by_cmp}
-use Rattle.std.specs.Cmp.{Equal-is}
+use Rattle.std.proofs.Common.{◌≡◌, ℕ, take, drop, true, List, [], ◌∷◌, map, refl, sym, ap, ◌∙◌}
+use Rattle.std.proofs.lemmas.List.{map-append, take-map, drop-map}
+use Rattle.std.proofs.lemmas.List.Elements.{All-from_recursion, recursion_from_All}
+use Rattle.std.proofs.lemmas.List.Sorted.{All-permutation, IsPermutation-insert}
+use Rattle.std.specs.Ordering.{nat_cmp}
 use Rattle.std.specs.Cmp.Lexicographic.{slice_cmp, nat_list_cmp_total}
 use Rattle.std.specs.List.{AllByRecursion, insert as insert_at}
 use Rattle.std.specs.List.Sorted.{IsStrictlySortedBy}
@@ -15,17 +16,15 @@ use Rattle.archive_core.specs.Content.{IsContent, IsMade, with_record}
 use Rattle.archive_core.specs.InnerHeld.{IsHeld}
 use Rattle.archive_core.specs.declared.operations.Operation.{Operation}
 use Rattle.archive_core.proofs.Records.{record_of_operation}
-use Rattle.archive_core.proofs.Made.{made_again, made_empty, from_made}
+use Rattle.archive_core.proofs.Made.{either, made_again, made_empty, from_made}
+use Rattle.archive_core.proofs.Taken.{tied_is}
 pub use Rattle.archive_core.proofs.Made.{bytes_same}
 
 -- what holds along a list holds of each member of its set
 pub each_member : (P : List ℕ → Type 0) (ks : List (List ℕ)) → AllByRecursion P ks → (r : List ℕ) → contains (from_list {R = slice_cmp nat_cmp} ks) r ≡ true → P r
-each_member P [] all r h = absurd (true≢false (sym h ∙ contains-empty (slice_cmp nat_cmp) r))
+each_member P [] all r h = cc (sym h ∙ contains-empty (slice_cmp nat_cmp) r)
 each_member P (k ∷ ks) all r h =
-    elim (eq_by_cmp (slice_cmp nat_cmp) r k) as (λ b. eq_by_cmp (slice_cmp nat_cmp) r k ≡ b → (b || contains (from_list {R = slice_cmp nat_cmp} ks) r) ≡ true → P r) [
-      | true ↦ λ e _. subst P (sym (bytes_same r k ((Equal-is (slice_cmp nat_cmp r k)).0 e))) all.0
-      | false ↦ λ _ rest. each_member P ks all.1 r rest
-    ] refl (sym (contains-insert nat_list_cmp_total (from_list ks) k r) ∙ h)
+    either (P r) _ _ (λ t. rw (tied_is r k t) all.0) (each_member P ks all.1 r) (sym (contains-insert nat_list_cmp_total (from_list ks) k r) ∙ h)
 
 -- operations have records
 records_along : (operations : List Operation) → AllByRecursion IsOperation operations → AllByRecursion IsRecord (map record_bytes operations)
@@ -38,21 +37,15 @@ are_records operations are = each_member IsRecord (map record_bytes operations) 
 
 -- what is held makes a content
 pub content_of_held : (operations : List Operation) → IsHeld operations → IsContent (from_list (map record_bytes operations))
-content_of_held operations held = record { itself = held.itself; records = each_member IsRecord (map record_bytes operations) (records_along operations held.are) }
+content_of_held operations held = record { itself = held.itself; records = are_records operations held.are }
 
 -- an operation that goes in brings its record to that place
 pub map_insert : (xs : List Operation) (i : ℕ) (x : Operation) → map record_bytes (insert_at xs i x) ≡ insert_at (map record_bytes xs) i (record_bytes x)
-map_insert [] zero x = refl
-map_insert [] (suc i) x = refl
-map_insert (y ∷ xs) zero x = refl
-map_insert (y ∷ xs) (suc i) x = ap (λ l. record_bytes y ∷ l) (map_insert xs i x)
+map_insert xs i x = rw (map-append record_bytes (take i xs) (x ∷ drop i xs), take-map record_bytes i xs, drop-map record_bytes i xs) refl
 
 -- a list keeps a fact of each element where one goes in that has it
 pub along_insert : (P : Operation → Type 0) (xs : List Operation) (i : ℕ) (x : Operation) → P x → AllByRecursion P xs → AllByRecursion P (insert_at xs i x)
-along_insert P [] zero x p h = (p, tt)
-along_insert P [] (suc i) x p h = (p, tt)
-along_insert P (y ∷ xs) zero x p h = (p, h)
-along_insert P (y ∷ xs) (suc i) x p h = (h.0, along_insert P xs i x p h.1)
+along_insert P xs i x p h = recursion_from_All P _ (All-permutation P (x ∷ xs) _ (IsPermutation-insert xs i x) (All-from_recursion P (x ∷ xs) (p, h)))
 
 -- an operation may go in at the place of its record, where none then covers another
 pub held_insert : (operations : List Operation) (i : ℕ) (operation : Operation) → IsHeld operations → IsOperation operation → IsPlaceFor (slice_cmp nat_cmp) (map record_bytes operations) (record_bytes operation) i
@@ -65,14 +58,12 @@ held_insert operations i operation held one asked made = record {
 
 -- an operation that is taken leaves a content
 pub content_with : (o next : set.FinSet (slice_cmp nat_cmp)) (operation : Operation) → IsContent o → IsOperation operation → next ≡ with_record o (record_bytes operation) → IsContent next
-content_with o next operation content one is = rw is (record { itself = made_again (set.insert o (record_bytes operation)); records = λ r h. each r (from_made (set.insert o (record_bytes operation)) r h) })
-  where
-    each : (r : List ℕ) → contains (set.insert o (record_bytes operation)) r ≡ true → IsRecord r
-    each r h =
-        elim (eq_by_cmp (slice_cmp nat_cmp) r (record_bytes operation)) as (λ b. eq_by_cmp (slice_cmp nat_cmp) r (record_bytes operation) ≡ b → (b || contains o r) ≡ true → IsRecord r) [
-          | true ↦ λ e _. subst IsRecord (sym (bytes_same r (record_bytes operation) ((Equal-is (slice_cmp nat_cmp r (record_bytes operation))).0 e))) (record_of_operation operation one)
-          | false ↦ λ _ rest. content.records r rest
-        ] refl (sym (contains-insert nat_list_cmp_total o (record_bytes operation) r) ∙ h)
+content_with o next operation content one is = rw is (record {
+  itself = made_again (set.insert o (record_bytes operation));
+  records = λ r h.
+      either (IsRecord r) _ _ (λ t. rw (tied_is r (record_bytes operation) t) (record_of_operation operation one)) (content.records r)
+      (sym (contains-insert nat_list_cmp_total o (record_bytes operation) r) ∙ from_made (set.insert o (record_bytes operation)) r h);
+})
 
 -- no operations are held in order
 pub held_none : IsHeld []

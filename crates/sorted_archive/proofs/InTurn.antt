@@ -1,51 +1,42 @@
 -- Admissions, and behind them retirements: as many are new in their turn as there are of them, each once, that change the content.
-use Rattle.std.proofs.Common.{◌≡◌, ℕ, ◌+◌, if◌then◌else◌, Bool, true, false, not, cond, ◌||◌, ◌&&◌, List, [], ◌∷◌, ◌++◌, map, filter, refl, sym, ap, ◌∙◌, arith, subst}
+use Rattle.std.proofs.Common.{◌≡◌, ℕ, ◌+◌, if◌then◌else◌, Bool, true, false, not, cond, ◌||◌, ◌&&◌, List, [], ◌∷◌, ◌++◌, map, filter, refl, sym, ap, ◌∙◌, arith}
 use mathlib.Core.Bool.{true≢false}
 use Rattle.std.specs.Ordering.{nat_cmp, eq_by_cmp}
 use Rattle.std.specs.Cmp.Lexicographic.{slice_cmp, nat_list_cmp_total}
 use Rattle.std.specs.List.{AllByRecursion, count_by, list_all}
 use Rattle.std.specs.List.Sorted.{IsStrictlySortedBy}
+use Rattle.std.proofs.lemmas.Bool.{not-true, not-false}
 use Rattle.std.specs.FinSet as set
 use Rattle.std.specs.FinSet.{contains, from_list, same_set, contains-insert, len-insert}
 use Rattle.std.proofs.lemmas.List.Kept.{IsStrictlySortedBy-filter}
 use Rattle.std.proofs.lemmas.List.Sums.{length-filter}
-use Rattle.std.proofs.lemmas.List.Elements.{All-append, All-from_recursion, recursion_from_All}
 use Rattle.join_core.proofs.Place.{len_listed}
-use Rattle.archive_core.specs.Record.{IsOperation, record_bytes}
-use Rattle.archive_core.specs.Content.{Operations, is_admission, covering, is_covered, content_of, IsMade, joined, with_record, with_records, changes, new_among}
+use Rattle.archive_core.specs.Record.{record_bytes}
+use Rattle.archive_core.specs.Content.{Operations, is_admission, covering, is_covered, content_of, IsMade, joined, with_record, changes, new_among}
 use Rattle.archive_core.specs.declared.operations.Operation.{Operation}
-use Rattle.archive_core.proofs.Made.{bytes_same, by_test, or_left, or_right, made_again, made_empty, and_left, and_right}
+use Rattle.archive_core.proofs.Made.{bytes_same, by_test, or_left, or_right, made_again, made_empty, and_left, and_right, and_false}
 use Rattle.archive_core.proofs.Taken.{contains_with, known_changes, taken_are_joined, with_known, new_in_turn, new_of_none}
 use Rattle.sorted_archive.specs.InTurn.{AreNewInTurn}
 use Rattle.sorted_archive.specs.InnerOrder.{IsOrderOf}
-use Rattle.sorted_archive.specs.InnerTaking.{AreParts, IsParted, new_of_both, with_both}
+use Rattle.sorted_archive.specs.InnerTaking.{AreParts, IsParted}
 use Rattle.sorted_archive.proofs.Held.{each_member}
-use Rattle.sorted_archive.proofs.Merged.{contains_filtered}
-use Rattle.sorted_archive.proofs.Parted.{admission_keeps, covered_there, not_false, not_of, with_free, with_retirement}
+use Rattle.sorted_archive.proofs.Merged.{contains_filtered, are_both}
+use Rattle.sorted_archive.proofs.Parted.{admission_keeps, with_free, with_retirement, with_behind, new_behind}
 
 -- ---- one operation more
 
 -- it is known from then on
 known_again : (o : Operations) (r : List ℕ) → IsMade o → changes (with_record o r) r ≡ false
 known_again o r is = by_test (changes (with_record o r) r ≡ false) (is_covered o r)
-    (λ c. ap (λ s. changes s r) (with_known o r is (or_right (contains o r) _ c)) ∙ known_changes o r (or_right (contains o r) _ c))
+    (λ c. rw (with_known o r is (or_right (contains o r) _ c)) (known_changes o r (or_right (contains o r) _ c)))
     (λ f. known_changes (with_record o r) r (or_left _ (is_covered (with_record o r) r) (contains_with o r f)))
 
 -- another one that is no slice, or comes to a slice, changes the content as before
 changes_other : (o : Operations) (r q : List ℕ) → (is_admission q ≡ true → is_admission r ≡ true) → eq_by_cmp (slice_cmp nat_cmp) q r ≡ false → changes (with_record o r) q ≡ changes o q
 unfolding changes
 changes_other o r q kinds untied = by_test (not (contains (with_record o r) q || is_covered (with_record o r) q) ≡ not (contains o q || is_covered o q)) (is_admission q)
-    (λ a.
-    let covers : contains (with_record o r) (covering q) ≡ contains o (covering q) = admission_keeps o r (covering q) (kinds a) refl in
-    by_test (not (contains (with_record o r) q || is_covered (with_record o r) q) ≡ not (contains o q || is_covered o q)) (contains o (covering q))
-    (λ c. ap not (or_right (contains (with_record o r) q) _ (covered_there (with_record o r) q a ∙ covers ∙ c)) ∙ sym (ap not (or_right (contains o q) _ (covered_there o q a ∙ c))))
-    (λ c.
-    ap (λ b. not (b || is_covered (with_record o r) q)) (with_free o r q (covers ∙ c) ∙ ap (λ b. b || contains o q) untied)
-    ∙ ap (λ b. not (contains o q || b)) (covered_there (with_record o r) q a ∙ covers ∙ sym (covered_there o q a))))
-    (λ n.
-    ap (λ b. not (b || is_covered (with_record o r) q)) (with_retirement o r q n ∙ ap (λ b. b || contains o q) untied)
-    ∙ ap (λ b. not (contains o q || (b && contains (with_record o r) (covering q)))) n
-    ∙ sym (ap (λ b. not (contains o q || (b && contains o (covering q)))) n))
+    (λ a. grind (arith, admission_keeps o r (covering q) (kinds a) refl, with_free o r q))
+    (λ n. grind (arith, with_retirement o r q n))
 
 -- ---- slices, and behind them retirements
 
@@ -58,49 +49,27 @@ AreInKinds (r ∷ rs) = AllByRecursion (λ q. is_admission q ≡ true → is_adm
 abbrev news : Operations → List (List ℕ) → Operations
 news o rs = from_list {R = slice_cmp nat_cmp} (filter (changes o) rs)
 
+other_news : (t c d e : Bool) → (t ≡ false → c ≡ true → e ≡ d) → (t || (c && d)) ≡ (t || (c && e))
+other_news t c d e f = grind arith
+
 -- with one that changes it the others are the same
 news_same : (o : Operations) (r : List ℕ) (rs : List (List ℕ)) → AllByRecursion (λ q. is_admission q ≡ true → is_admission r ≡ true) rs → set.insert (news o rs) r ≡ set.insert (news (with_record o r) rs) r
 news_same o r rs kinds = same_set nat_list_cmp_total bytes_same _ _ (λ q.
-    contains-insert nat_list_cmp_total (news o rs) r q
-    ∙ by_tied q (eq_by_cmp (slice_cmp nat_cmp) q r) refl
-    ∙ sym (contains-insert nat_list_cmp_total (news (with_record o r) rs) r q))
-  where
-    by_there : (q : List ℕ) (b : Bool) → contains (from_list {R = slice_cmp nat_cmp} rs) q ≡ b → eq_by_cmp (slice_cmp nat_cmp) q r ≡ false → (b && changes o q) ≡ (b && changes (with_record o r) q)
-    by_there q true there untied = sym (changes_other o r q (each_member (λ x. is_admission x ≡ true → is_admission r ≡ true) rs kinds q there) untied)
-    by_there q false there untied = refl
-
-    by_tied : (q : List ℕ) (t : Bool) → eq_by_cmp (slice_cmp nat_cmp) q r ≡ t → (t || contains (news o rs) q) ≡ (t || contains (news (with_record o r) rs) q)
-    by_tied q true is = refl
-    by_tied q false is =
-        contains_filtered (changes o) rs q
-        ∙ by_there q (contains (from_list {R = slice_cmp nat_cmp} rs) q) refl is
-        ∙ sym (contains_filtered (changes (with_record o r)) rs q)
-
-known_of : (o : Operations) (r : List ℕ) → changes o r ≡ false → (contains o r || is_covered o r) ≡ true
-unfolding changes
-known_of o r h = not_false (contains o r || is_covered o r) h
+    rw (contains-insert nat_list_cmp_total (news o rs) r q, contains-insert nat_list_cmp_total (news (with_record o r) rs) r q, contains_filtered (changes o) rs q, contains_filtered (changes (with_record o r)) rs q)
+    (other_news _ _ _ _ (λ untied there. changes_other o r q (each_member (λ x. is_admission x ≡ true → is_admission r ≡ true) rs kinds q there) untied)))
 
 -- so as many are new in their turn as there are of them, each once
 counted_each : (o : Operations) (rs : List (List ℕ)) → IsMade o → AreInKinds rs → new_among o rs ≡ set.len (news o rs)
-unfolding AreInKinds
+unfolding AreInKinds changes
 counted_each o [] is kinds = new_of_none o ∙ sym (set.len-empty (slice_cmp nat_cmp))
-counted_each o (r ∷ rs) is kinds =
-    new_in_turn o r rs ∙ by (changes o r) refl (counted_each (with_record o r) rs (made_again (set.insert o r)) kinds.1) (counted_each o rs is kinds.1)
+counted_each o (r ∷ rs) is kinds = new_in_turn o r rs ∙ by (changes o r) refl (counted_each (with_record o r) rs (made_again (set.insert o r)) kinds.1) (counted_each o rs is kinds.1)
   where
-    and_false : (a : Bool) → (a && false) ≡ false
-    and_false true = refl
-    and_false false = refl
-
     by : (b : Bool) → changes o r ≡ b → new_among (with_record o r) rs ≡ set.len (news (with_record o r) rs) → new_among o rs ≡ set.len (news o rs)
         → (if b then 1 else 0) + new_among (with_record o r) rs ≡ set.len (from_list {R = slice_cmp nat_cmp} (cond b (r ∷ filter (changes o) rs) (filter (changes o) rs)))
     by true new rest rest_old =
-        let absent : contains (news (with_record o r) rs) r ≡ false = contains_filtered (changes (with_record o r)) rs r ∙ ap (λ b. contains (from_list {R = slice_cmp nat_cmp} rs) r && b) (known_again o r is) ∙ and_false (contains (from_list {R = slice_cmp nat_cmp} rs) r) in
-        let grown : set.len (set.insert (news (with_record o r) rs) r) ≡ set.len (news (with_record o r) rs) + 1 = len-insert nat_list_cmp_total (news (with_record o r) rs) r ∙ ap (λ b. cond b (set.len (news (with_record o r) rs)) (set.len (news (with_record o r) rs) + 1)) absent in
-        let same : set.len (set.insert (news o rs) r) ≡ set.len (set.insert (news (with_record o r) rs) r) = ap set.len (news_same o r rs kinds.0) in
-        omega arith
-    by false old rest rest_old =
-        let stays : new_among (with_record o r) rs ≡ new_among o rs = ap (λ p. new_among p rs) (with_known o r is (known_of o r old)) in
-        omega arith
+        let absent : contains (news (with_record o r) rs) r ≡ false = contains_filtered (changes (with_record o r)) rs r ∙ rw (known_again o r is) (and_false (contains (from_list {R = slice_cmp nat_cmp} rs) r)) in
+        rw (news_same o r rs kinds.0, len-insert nat_list_cmp_total (news (with_record o r) rs) r, absent, rest) (omega arith)
+    by false old rest rest_old = rw (with_known o r is (not-false (contains o r || is_covered o r) old)) (omega arith)
 
 -- ---- the parts of a list, sorted together
 
@@ -110,7 +79,7 @@ any_kind k (r ∷ rs) is = (λ _. is, any_kind k rs is)
 
 retirements_alone : (k : Bool) (rs : List Operation) → list_all (λ operation. not (is_admission (record_bytes operation))) rs ≡ true → AllByRecursion (λ q. is_admission q ≡ true → k ≡ true) (map record_bytes rs)
 retirements_alone k [] all = tt
-retirements_alone k (x ∷ xs) all = (λ a. absurd (true≢false (sym a ∙ not_of (is_admission (record_bytes x)) (and_left _ _ all))), retirements_alone k xs (and_right _ _ all))
+retirements_alone k (x ∷ xs) all = (λ a. absurd (true≢false (sym a ∙ not-true (is_admission (record_bytes x)) (and_left _ _ all))), retirements_alone k xs (and_right _ _ all))
 
 retirements_kinds : (rs : List Operation) → list_all (λ operation. not (is_admission (record_bytes operation))) rs ≡ true → AreInKinds (map record_bytes rs)
 unfolding AreInKinds
@@ -122,14 +91,6 @@ parts_kinds : (admissions retirements : List Operation) → list_all (λ operati
 unfolding AreInKinds
 parts_kinds [] retirements all others = retirements_kinds retirements others
 parts_kinds (x ∷ xs) retirements all others = (any_kind (is_admission (record_bytes x)) (map record_bytes (xs ++ retirements)) (and_left _ _ all), parts_kinds xs retirements (and_right _ _ all) others)
-
-with_behind : (o : Operations) (xs ys : List Operation) → with_records o (map record_bytes (xs ++ ys)) ≡ with_both o xs ys
-with_behind o [] ys = refl
-with_behind o (x ∷ xs) ys = with_behind (with_record o (record_bytes x)) xs ys
-
-new_behind : (o : Operations) (xs ys : List Operation) → new_among o (map record_bytes (xs ++ ys)) ≡ new_of_both o xs ys
-new_behind o [] ys = omega (arith, new_of_none o)
-new_behind o (x ∷ xs) ys = omega (arith, new_behind (with_record o (record_bytes x)) xs ys, new_in_turn o (record_bytes x) (map record_bytes xs), new_in_turn o (record_bytes x) (map record_bytes (xs ++ ys)))
 
 -- of a list that ascends those are each once that change the content
 counted_once : (o : Operations) (rs : List (List ℕ)) → IsStrictlySortedBy (slice_cmp nat_cmp) rs → set.len (news o rs) ≡ count_by (changes o) rs
@@ -144,8 +105,7 @@ in_turn all admissions retirements both sorted parted is order =
     let same : from_list {R = slice_cmp nat_cmp} (map record_bytes sorted) ≡ from_list (map record_bytes (admissions ++ retirements)) = order.same ∙ ap (λ (xs : List Operation). from_list {R = slice_cmp nat_cmp} (map record_bytes xs)) is in
     record {
       ascending = order.ascending;
-      are = order.are (subst (λ (xs : List Operation). AllByRecursion IsOperation xs) (sym is)
-          (recursion_from_All IsOperation (admissions ++ retirements) (All-append IsOperation admissions retirements (All-from_recursion IsOperation admissions parts.are_admissions) (All-from_recursion IsOperation retirements parts.are_retirements))));
+      are = order.are (rw is (are_both admissions retirements parts.are_admissions parts.are_retirements));
       content = λ old made.
           taken_are_joined old (map record_bytes sorted) made
           ∙ ap (λ s. joined old (content_of s)) same

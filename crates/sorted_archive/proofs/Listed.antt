@@ -1,15 +1,15 @@
 -- What a list of all tells, made of the records of an archive, and what a search tells as a part of it.
-use Rattle.std.proofs.Common.{◌≡◌, ℕ, Bool, true, false, cond, List, [], ◌∷◌, ◌++◌, length, map, filter, refl, sym, ap, ◌∙◌, subst}
+use Rattle.std.proofs.Common.{◌≡◌, ◌↔◌, drop, arith, ℕ, Bool, true, List, [], ◌∷◌, ◌++◌, length, map, filter, refl, sym, ap, ◌∙◌}
 use Rattle.std.specs.declared.cmp.Ordering.TheVariants.{Less, Equal}
-use Rattle.std.specs.Ordering.{nat_cmp, ordering_then}
+use Rattle.std.specs.Ordering.{nat_cmp}
 use Rattle.std.specs.Cmp.{tied_itself}
 use Rattle.std.specs.Cmp.Lexicographic.{slice_cmp, nat_list_cmp_total}
 use Rattle.std.specs.Int.{w64, to_be_bytes}
-use Rattle.std.specs.List.{AllByRecursion, Contains}
+use Rattle.std.specs.List.{All, AllByRecursion, Contains}
 use Rattle.std.specs.List.Sorted.{IsStrictlySortedBy}
 use Rattle.std.specs.FinSet.{from_list, contains, nat_cmp-IsAntisymmetric}
 use Rattle.std.specs.Str.{bytes_eq}
-use Rattle.std.proofs.lemmas.List.Elements.{All-from_recursion, All-contains}
+use Rattle.std.proofs.lemmas.List.Elements.{All-from_recursion, All-contains, All-weaker, recursion_from_All, filter_passes}
 use Rattle.std.proofs.lemmas.List.Kept.{IsStrictlySortedBy-filter}
 use Rattle.std.proofs.lemmas.Slice.Eq.{bytes_eq-Decides}
 use Rattle.join_core.specs.Listing.{listing}
@@ -52,25 +52,13 @@ held_of o content =
 one_under : (a b : Operation) → key_in a ≡ key_in b → record_bytes a ≡ record_bytes b → a ≡ b
 unfolding admission
 one_under (Admit s) (Admit t) key e =
-    let behind_key = (same_parts (key_bytes (key_of s)) (key_bytes (key_of t)) (to_be_bytes w64 (length s) ++ s) (to_be_bytes w64 (length t) ++ t) (ap (λ k. length (key_bytes k)) key) (behind_tag e)).1 in
+    let behind_key = (same_parts (key_bytes (key_of s)) (key_bytes (key_of t)) (to_be_bytes w64 (length s) ++ s) (to_be_bytes w64 (length t) ++ t) (ap (λ k. length (key_bytes k)) key) (ap (drop 1) e)).1 in
     ap Admit (same_parts (to_be_bytes w64 (length s)) (to_be_bytes w64 (length t)) s t refl behind_key).1
-  where
-    behind_tag : 2 ∷ admission s ≡ 2 ∷ admission t → admission s ≡ admission t
-    behind_tag h = cc
-one_under (Admit s) (Retire l d) key e = absurd (apart e)
-  where
-    apart : 2 ∷ admission s ≡ 1 ∷ (key_bytes l ++ d.0) → ⊥
-    apart h = cc
-one_under (Retire k c) (Admit t) key e = absurd (apart e)
-  where
-    apart : 1 ∷ (key_bytes k ++ c.0) ≡ 2 ∷ admission t → ⊥
-    apart h = cc
+one_under (Admit s) (Retire l d) key e = cc
+one_under (Retire k c) (Admit t) key e = cc
 one_under (Retire k c) (Retire l d) key e =
-    let digest = (same_parts (key_bytes k) (key_bytes l) c.0 d.0 (ap (λ x. length (key_bytes x)) key) (behind_tag e)).1 in
+    let digest = (same_parts (key_bytes k) (key_bytes l) c.0 d.0 (ap (λ x. length (key_bytes x)) key) (ap (drop 1) e)).1 in
     λ i. Retire (key i) (record { 0 = digest i })
-  where
-    behind_tag : 1 ∷ (key_bytes k ++ c.0) ≡ 1 ∷ (key_bytes l ++ d.0) → key_bytes k ++ c.0 ≡ key_bytes l ++ d.0
-    behind_tag h = cc
 
 -- so are those that the order of a list ties
 operations_same : (a b : Operation) → list_cmp a b ≡ Equal → a ≡ b
@@ -120,18 +108,11 @@ under uuid operation = bytes_eq (key_in operation).uuid uuid
 rows_of_under : (uuid : List ℕ) (xs : List Operation) → map row_of (filter (under uuid) xs) ≡ rows_under uuid (map row_of xs)
 unfolding under
 rows_of_under uuid [] = refl
-rows_of_under uuid (x ∷ xs) = by (bytes_eq (key_in x).uuid uuid) (rows_of_under uuid xs)
-  where
-    by : (b : Bool) → map row_of (filter (under uuid) xs) ≡ rows_under uuid (map row_of xs)
-        → map row_of (cond b (x ∷ filter (under uuid) xs) (filter (under uuid) xs)) ≡ cond b (row_of x ∷ rows_under uuid (map row_of xs)) (rows_under uuid (map row_of xs))
-    by true e = ap (λ rows. row_of x ∷ rows) e
-    by false e = e
+rows_of_under uuid (x ∷ xs) = grind (arith, rows_of_under uuid xs)
 
 -- under one UUID a list ascends as a search
 below_under : (uuid : List ℕ) (a b : Operation) → (key_in a).uuid ≡ uuid → (key_in b).uuid ≡ uuid → list_cmp a b ≡ Less → find_cmp a b ≡ Less
-below_under uuid a b a_is b_is h =
-    let tied : slice_cmp nat_cmp (key_in a).uuid (key_in b).uuid ≡ Equal = rw (a_is, b_is) (tied_itself nat_list_cmp_total uuid) in
-    sym (ap (λ r. ordering_then r (find_cmp a b)) tied) ∙ h
+below_under uuid a b a_is b_is h = rw (a_is, b_is, tied_itself nat_list_cmp_total uuid) at h
 
 ascending_under : (uuid : List ℕ) (xs : List Operation) → AllByRecursion (λ a. (key_in a).uuid ≡ uuid) xs → IsStrictlySortedBy list_cmp xs → IsStrictlySortedBy find_cmp xs
 unfolding IsStrictlySortedBy
@@ -142,36 +123,32 @@ ascending_under uuid (x ∷ xs) are up = (each xs are.1 up.0, ascending_under uu
     each [] all g = tt
     each (y ∷ ys) all g = (below_under uuid x y are.0 all.0 g.0, each ys all.1 g.1)
 
-all_under : (uuid : List ℕ) (xs : List Operation) → AllByRecursion (λ a. (key_in a).uuid ≡ uuid) (filter (under uuid) xs)
-unfolding under
-all_under uuid [] = tt
-all_under uuid (x ∷ xs) = by (bytes_eq (key_in x).uuid uuid) refl (all_under uuid xs)
-  where
-    by : (b : Bool) → bytes_eq (key_in x).uuid uuid ≡ b → AllByRecursion (λ a. (key_in a).uuid ≡ uuid) (filter (under uuid) xs)
-        → AllByRecursion (λ a. (key_in a).uuid ≡ uuid) (cond b (x ∷ filter (under uuid) xs) (filter (under uuid) xs))
-    by true e rest = ((bytes_eq-Decides (key_in x).uuid uuid).0 e, rest)
-    by false e rest = rest
-
 -- what a search tells is the part of the list under its UUID
 pub part_of_list : (o : Operations) (uuid : List ℕ) (rows : List FindRow) → IsList o rows → IsFinds o uuid (rows_under uuid rows)
 unfolding under
 part_of_list o uuid rows list = record {
   operations = filter (under uuid) list.operations;
-  ascending = ascending_under uuid (filter (under uuid) list.operations) (all_under uuid list.operations) (IsStrictlySortedBy-filter list_cmp (under uuid) list.operations list.ascending);
+  ascending = ascending_under uuid (filter (under uuid) list.operations) (recursion_from_All _ _ all_under) (IsStrictlySortedBy-filter list_cmp (under uuid) list.operations list.ascending);
   exactly = λ a. (to a, back a);
   rows_are = ap (rows_under uuid) list.rows_are ∙ sym (rows_of_under uuid list.operations);
 }
   where
+    is_under : (a : Operation) → (under uuid a ≡ true) ↔ ((key_in a).uuid ≡ uuid)
+    is_under a = bytes_eq-Decides (key_in a).uuid uuid
+
+    all_under : All (λ a. (key_in a).uuid ≡ uuid) (filter (under uuid) list.operations)
+    all_under = All-weaker (λ a. under uuid a ≡ true) (λ a. (key_in a).uuid ≡ uuid) (λ a. (is_under a).0) _ (filter_passes (under uuid) list.operations)
+
     to : (a : Operation) → Contains (filter (under uuid) list.operations) a → IsOperation a × IsFoundUnder o uuid a
     to a h =
         let kept = in_filter (under uuid) list.operations a h in
         let told = (list.exactly a).0 kept.0 in
-        (told.0, subst (λ u. IsFoundUnder o u a) ((bytes_eq-Decides (key_in a).uuid uuid).0 kept.1) told.1)
+        (told.0, rw (← (is_under a).0 kept.1) told.1)
 
     back : (a : Operation) → IsOperation a × IsFoundUnder o uuid a → Contains (filter (under uuid) list.operations) a
     back a h =
         let is = found_under o uuid a h.1 in
-        to_filter (under uuid) list.operations a ((list.exactly a).1 (h.0, subst (λ u. IsFoundUnder o u a) (sym is) h.1)) ((bytes_eq-Decides (key_in a).uuid uuid).1 is)
+        to_filter (under uuid) list.operations a ((list.exactly a).1 (h.0, rw is h.1)) ((is_under a).1 is)
 
 -- so each content has rows under each UUID
 pub some_finds : (o : Operations) (uuid : List ℕ) → IsContent o → (rows : List FindRow) × IsFinds o uuid rows

@@ -1,5 +1,5 @@
 -- Which live slices a plain archive finds, and which of them answer.
-use Rattle.std.proofs.Common.{◌≡◌, ℕ, ◌+◌, ◌<◌, Bool, true, false, ◌&&◌, not, cond, List, [], ◌∷◌, ◌++◌, map, length, take, slice_index_or, Option, Some, None, refl, sym, ap, ◌∙◌, inl, inr, arith, subst, add-one}
+use Rattle.std.proofs.Common.{◌≡◌, ℕ, ◌+◌, ◌<◌, Bool, true, false, ◌&&◌, not, cond, List, [], ◌∷◌, ◌++◌, map, length, take, slice_index_or, Option, Some, None, refl, sym, ap, ◌∙◌, inl, inr, arith, subst}
 use Rattle.std.specs.declared.cmp.Ordering.TheVariants.{Less}
 use Rattle.std.specs.Ordering.{nat_cmp, on}
 use Rattle.std.specs.Cmp.Lexicographic.{slice_cmp}
@@ -7,18 +7,17 @@ use Rattle.std.specs.List.{AllByRecursion, Contains, AllZip, cons_option}
 use Rattle.std.specs.List.Sorted.{IsStrictlySortedBy}
 use Rattle.std.specs.FinSet.{from_list, contains}
 use Rattle.std.specs.Str.{bytes_eq}
+use Rattle.std.proofs.lemmas.Bool.{false_from_ne_true}
 use Rattle.std.proofs.lemmas.Slice.Eq.{bytes_eq-Decides}
 use Rattle.std.proofs.lemmas.List.Elements.{filter_map-append, All-contains, All-from_recursion}
 use Rattle.std.proofs.lemmas.List.{append-nil, map-append}
-use Rattle.std.proofs.Math.Seq.{take-suc}
 use Rattle.macho_image.specs.Contents.{is_dsym_image}
 use Rattle.archive_core.specs.Key.{IsKey}
 use Rattle.archive_core.specs.Valid.{key_of, IsValid}
 use Rattle.archive_core.specs.Record.{record_bytes, admission_record, IsOperation}
-use Rattle.archive_core.specs.Content.{Operations, IsContent, IsLive, IsAnswering}
-use Rattle.archive_core.specs.Find.{AreAnswering}
+use Rattle.archive_core.specs.Content.{Operations, IsContent, IsLive}
 use Rattle.archive_core.specs.InnerHeld.{IsHeld}
-use Rattle.archive_core.specs.Find.{is_key, is_kind}
+use Rattle.archive_core.specs.Find.{AreAnswering, is_key, is_kind}
 use Rattle.sorted_archive.specs.InnerScan.{is_held_kind, held_in, held_among, IsAnsweringOf}
 use Rattle.archive_core.specs.Lookup.{IsOwnRow, own_row}
 use Rattle.archive_core.specs.declared.keys.Digest.{Digest}
@@ -30,6 +29,7 @@ use Rattle.archive_core.specs.declared.lookup.Own.{Own}
 use Rattle.archive_core.specs.declared.operations.Operation.{Operation}
 use Rattle.archive_core.specs.declared.operations.Operation.TheVariants.{Admit, Retire}
 use Rattle.sorted_archive.proofs.Held.{content_of_held}
+use Rattle.sorted_archive.proofs.Scanned.{front}
 use Rattle.archive_core.proofs.Words.{live_in_content}
 use Rattle.archive_core.proofs.Members.{in_cons, in_front, in_rest, ascending_by}
 use Rattle.archive_core.proofs.Told.{record_there, operation_there}
@@ -37,21 +37,15 @@ use Rattle.archive_core.proofs.Answering.{one_arch, is_arch_of, both, live_is_va
 
 -- the live slices among the first operations, and what one more brings
 module _ (key : SliceKey) (dsym : Bool) (operations : List Operation) (i : ℕ) (a : Operation) (lt : i < length operations) (is : a ≡ slice_index_or operations i a) where
-  before : List (List ℕ)
-  before = held_among key dsym (take i operations)
-
   more : held_among key dsym (take (i + 1) operations) ≡ held_among key dsym (take i operations) ++ cons_option (held_in key dsym a) []
   unfolding held_among
-  more =
-      ap (λ (n : ℕ). held_among key dsym (take n operations)) (add-one i)
-      ∙ ap (held_among key dsym) (take-suc operations i a lt ∙ ap (λ (x : Operation). take i operations ++ x ∷ []) (sym is))
-      ∙ filter_map-append (held_in key dsym) (take i operations) (a ∷ [])
+  more = ap (held_among key dsym) (front operations i a lt is) ∙ filter_map-append (held_in key dsym) (take i operations) (a ∷ [])
 
   pub one_more : (found : Option (List ℕ)) (slice : List ℕ) → found ≡ held_in key dsym a → found ≡ Some slice → held_among key dsym (take (i + 1) operations) ≡ held_among key dsym (take i operations) ++ slice ∷ []
-  one_more found slice live some = more ∙ ap (λ (f : Option (List ℕ)). held_among key dsym (take i operations) ++ cons_option f []) (sym live ∙ some)
+  one_more found slice live some = rw (more, ← live, some) refl
 
   pub none_more : (found : Option (List ℕ)) → found ≡ held_in key dsym a → found ≡ None → held_among key dsym (take (i + 1) operations) ≡ held_among key dsym (take i operations)
-  none_more found live none = more ∙ ap (λ (f : Option (List ℕ)). held_among key dsym (take i operations) ++ cons_option f []) (sym live ∙ none) ∙ append-nil (held_among key dsym (take i operations))
+  none_more found live none = rw (more, ← live, none) (append-nil (held_among key dsym (take i operations)))
 
 -- relations hold along lists with one more element each
 pub zip_more : {A B : Type 0} (R : A → B → Type 0) (xs : List A) (ys : List B) (x : A) (y : B) → AllZip R xs ys → R x y → AllZip R (xs ++ x ∷ []) (ys ++ y ∷ [])
@@ -86,16 +80,17 @@ test_of_live o key dsym slice live kind = λ i. is_key_of (key_of slice) key liv
 in_live : (key : SliceKey) (dsym : Bool) (xs : List Operation) (slice : List ℕ) → Contains (held_among key dsym xs) slice → Contains xs (Admit slice) × (is_held_kind key dsym slice ≡ true)
 unfolding held_among
 in_live key dsym [] slice (k, lt, e) = absurd (omega arith)
-in_live key dsym (Admit first ∷ xs) slice h = at (is_held_kind key dsym first) refl h (in_live key dsym xs slice)
+in_live key dsym (Admit first ∷ xs) slice h =
+    at (is_held_kind key dsym first) refl h (λ there. let found = in_live key dsym xs slice there in (in_rest (Admit first) xs (Admit slice) found.0, found.1))
   where
     at : (b : Bool) → is_held_kind key dsym first ≡ b → Contains (cons_option (cond b (Some first) None) (held_among key dsym xs)) slice
-        → (Contains (held_among key dsym xs) slice → Contains xs (Admit slice) × (is_held_kind key dsym slice ≡ true))
+        → (Contains (held_among key dsym xs) slice → Contains (Admit first ∷ xs) (Admit slice) × (is_held_kind key dsym slice ≡ true))
         → Contains (Admit first ∷ xs) (Admit slice) × (is_held_kind key dsym slice ≡ true)
     at true t g rest = elim (in_cons first (held_among key dsym xs) slice g) [
-      | inl e ↦ (subst (λ s. Contains (Admit first ∷ xs) (Admit s)) e (in_front (Admit first) xs), subst (λ s. is_held_kind key dsym s ≡ true) e t)
-      | inr there ↦ let found = rest there in (in_rest (Admit first) xs (Admit slice) found.0, found.1)
+      | inl e ↦ rw (← e) (in_front (Admit first) xs, t)
+      | inr there ↦ rest there
     ]
-    at false t g rest = let found = rest g in (in_rest (Admit first) xs (Admit slice) found.0, found.1)
+    at false t g rest = rest g
 in_live key dsym (Retire other digest ∷ xs) slice h = let found = in_live key dsym xs slice h in (in_rest (Retire other digest) xs (Admit slice) found.0, found.1)
 
 -- and all of these are found
@@ -103,10 +98,7 @@ to_live : (key : SliceKey) (dsym : Bool) (xs : List Operation) (slice : List ℕ
 unfolding held_among
 to_live key dsym [] slice (k, lt, e) t = absurd (omega arith)
 to_live key dsym (Admit first ∷ xs) slice h t = elim (in_cons (Admit first) xs (Admit slice) h) [
-  | inl e ↦
-      let same : first ≡ slice = cc in
-      let passes : is_held_kind key dsym first ≡ true = subst (λ s. is_held_kind key dsym s ≡ true) (sym same) t in
-      rw passes (subst (Contains (first ∷ held_among key dsym xs)) same (in_front first (held_among key dsym xs)))
+  | inl e ↦ let same : first ≡ slice = cc in rw (same, t) (in_front slice (held_among key dsym xs))
   | inr there ↦ behind (is_held_kind key dsym first) (to_live key dsym xs slice there t)
 ]
   where
@@ -114,12 +106,9 @@ to_live key dsym (Admit first ∷ xs) slice h t = elim (in_cons (Admit first) xs
     behind true i = in_rest first (held_among key dsym xs) slice i
     behind false i = i
 to_live key dsym (Retire other digest ∷ xs) slice h t = elim (in_cons (Retire other digest) xs (Admit slice) h) [
-  | inl e ↦ absurd (apart e)
+  | inl e ↦ cc
   | inr there ↦ to_live key dsym xs slice there t
 ]
-  where
-    apart : Retire other digest ≡ Admit slice → ⊥
-    apart e = cc
 
 -- what is found ascends by its records
 ascending_live : (key : SliceKey) (dsym : Bool) (xs : List Operation) → IsStrictlySortedBy (on record_bytes (slice_cmp nat_cmp)) xs → IsStrictlySortedBy (on admission_record (slice_cmp nat_cmp)) (held_among key dsym xs)
@@ -127,14 +116,14 @@ unfolding held_among IsStrictlySortedBy
 ascending_live key dsym [] up = tt
 ascending_live key dsym (Admit first ∷ xs) up = at (is_held_kind key dsym first) (ascending_live key dsym xs up.1)
   where
+    below : (b : Bool) (s : List ℕ) (ss : List (List ℕ)) → slice_cmp nat_cmp (admission_record first) (admission_record s) ≡ Less → AllByRecursion (λ s. slice_cmp nat_cmp (admission_record first) (admission_record s) ≡ Less) ss
+        → AllByRecursion (λ s. slice_cmp nat_cmp (admission_record first) (admission_record s) ≡ Less) (cons_option (cond b (Some s) None) ss)
+    below true s ss one rest = (one, rest)
+    below false s ss one rest = rest
+
     each : (ys : List Operation) → AllByRecursion (λ y. slice_cmp nat_cmp (admission_record first) (record_bytes y) ≡ Less) ys → AllByRecursion (λ s. slice_cmp nat_cmp (admission_record first) (admission_record s) ≡ Less) (held_among key dsym ys)
     each [] g = tt
-    each (Admit s ∷ ys) g = too (is_held_kind key dsym s) (each ys g.1)
-      where
-        too : (b : Bool) → AllByRecursion (λ s. slice_cmp nat_cmp (admission_record first) (admission_record s) ≡ Less) (held_among key dsym ys)
-            → AllByRecursion (λ s. slice_cmp nat_cmp (admission_record first) (admission_record s) ≡ Less) (cons_option (cond b (Some s) None) (held_among key dsym ys))
-        too true rest = (g.0, rest)
-        too false rest = rest
+    each (Admit s ∷ ys) g = below (is_held_kind key dsym s) s (held_among key dsym ys) g.0 (each ys g.1)
     each (Retire other digest ∷ ys) g = each ys g.1
 
     at : (b : Bool) → IsStrictlySortedBy (on admission_record (slice_cmp nat_cmp)) (held_among key dsym xs) → IsStrictlySortedBy (on admission_record (slice_cmp nat_cmp)) (cons_option (cond b (Some first) None) (held_among key dsym xs))
@@ -159,51 +148,44 @@ module _ (o : Operations) (key : SliceKey) (operations : List Operation) (held :
   ascending : (dsym : Bool) → IsStrictlySortedBy (on admission_record (slice_cmp nat_cmp)) (held_among key dsym operations)
   ascending dsym = ascending_live key dsym operations (ascending_by (slice_cmp nat_cmp) record_bytes operations held.ascending)
 
-  some_there : (xs : List (List ℕ)) → (xs ≡ [] → ⊥) → (x : List ℕ) × Contains xs x
-  some_there [] h = absurd (h refl)
-  some_there (x ∷ xs) h = (x, in_front x xs)
-
   -- companions, where there are some, answer
   pub companions_answer : (held_among key true operations ≡ [] → ⊥) → AreAnswering o key (held_among key true operations)
-  companions_answer some = record { ascending = ascending true; exactly = λ slice. (to slice, back slice) }
-    where
-      to : (slice : List ℕ) → Contains (held_among key true operations) slice → IsAnswering o key slice
-      to slice h = let found = live_of true slice h in record { live = found.0; companions_first = λ companion live t. found.1 }
-
-      back : (slice : List ℕ) → IsAnswering o key slice → Contains (held_among key true operations) slice
-      back slice h =
+  companions_answer some = record {
+    ascending = ascending true;
+    exactly = λ slice. (
+      λ h. let found = live_of true slice h in record { live = found.0; companions_first = λ companion live t. found.1 },
+      λ h.
           let one = some_there (held_among key true operations) some in
           let found = live_of true one.0 one.1 in
-          of_live true slice h.live (h.companions_first one.0 found.0 found.1)
+          of_live true slice h.live (h.companions_first one.0 found.0 found.1),
+    );
+  }
+    where
+      some_there : (xs : List (List ℕ)) → (xs ≡ [] → ⊥) → (x : List ℕ) × Contains xs x
+      some_there [] h = absurd (h refl)
+      some_there (x ∷ xs) h = (x, in_front x xs)
 
   -- where there are none, the other live slices do
   pub images_answer : held_among key true operations ≡ [] → AreAnswering o key (held_among key false operations)
-  images_answer none = record { ascending = ascending false; exactly = λ slice. (to slice, back slice) }
+  images_answer none = record {
+    ascending = ascending false;
+    exactly = λ slice. (
+      λ h. record { live = (live_of false slice h).0; companions_first = λ companion live t. absurd (no_companion companion live t) },
+      λ h. of_live false slice h.live (ap not (false_from_ne_true (is_dsym_image slice) (no_companion slice h.live))),
+    );
+  }
     where
-      nowhere : (a : List ℕ) → Contains [] a → ⊥
-      nowhere a (k, lt, e) = omega arith
-
       no_companion : (companion : List ℕ) → IsLive o key companion → is_dsym_image companion ≡ true → ⊥
-      no_companion companion live t = nowhere companion (subst (λ xs. Contains xs companion) none (of_live true companion live t))
-
-      to : (slice : List ℕ) → Contains (held_among key false operations) slice → IsAnswering o key slice
-      to slice h = record { live = (live_of false slice h).0; companions_first = λ companion live t. absurd (no_companion companion live t) }
-
-      no_dsym : (slice : List ℕ) → IsLive o key slice → (b : Bool) → is_dsym_image slice ≡ b → not b ≡ true
-      no_dsym slice live true t = absurd (no_companion slice live t)
-      no_dsym slice live false t = refl
-
-      back : (slice : List ℕ) → IsAnswering o key slice → Contains (held_among key false operations) slice
-      back slice h = of_live false slice h.live (no_dsym slice h.live (is_dsym_image slice) refl)
+      no_companion companion live t = let nowhere = rw none at (of_live true companion live t) in omega (arith, nowhere.1)
 
 -- the rows of slices and of one slice more
 pub rows_more : (asked : Where) (slices : List (List ℕ)) (old new : List (Digest × Own)) (slice : List ℕ) (row : Digest × Own)
     → AllZip (IsOwnRow asked) slices (map own_row old) → IsOwnRow asked slice (own_row row) → new ≡ old ++ row ∷ [] → AllZip (IsOwnRow asked) (slices ++ slice ∷ []) (map own_row new)
 rows_more asked slices old new slice row all one is =
-    subst (AllZip (IsOwnRow asked) (slices ++ slice ∷ [])) (sym (ap (map own_row) is ∙ map-append own_row old (row ∷ []))) (zip_more (IsOwnRow asked) slices (map own_row old) slice (own_row row) all one)
+    rw (is, map-append own_row old (row ∷ [])) (zip_more (IsOwnRow asked) slices (map own_row old) slice (own_row row) all one)
 
 -- where not nothing is kept of slices, there are some
 pub some_of_answering : (answering : Answering) (slices : List (List ℕ)) → IsAnsweringOf answering slices → (answering ≡ Nothing → ⊥) → slices ≡ [] → ⊥
 some_of_answering Nothing slices h some none = some refl
-some_of_answering (One slice) slices h some none = let apart : slice ∷ [] ≡ [] = sym h ∙ none in cc
+some_of_answering (One slice) slices h some none = cc
 some_of_answering Several slices h some none = let empty : length slices ≡ 0 = ap length none in omega arith

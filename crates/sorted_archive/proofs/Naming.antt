@@ -1,5 +1,5 @@
 -- The rows of a name: that a scan finds them.
-use Rattle.std.proofs.Common.{◌≡◌, ◌↔◌, ℕ, ◌+◌, ◌<◌, List, [], ◌∷◌, ◌++◌, length, take, map, slice_index_or, refl, sym, ap, ◌∙◌, arith, subst, add-one}
+use Rattle.std.proofs.Common.{◌≡◌, ◌↔◌, ℕ, ◌+◌, ◌<◌, List, [], ◌∷◌, ◌++◌, length, take, map, slice_index_or, refl, sym, ap, ◌∙◌, arith, subst}
 use Rattle.std.specs.declared.cmp.Ordering.TheVariants.{Equal}
 use Rattle.std.specs.Ordering.{on, eq_by_cmp}
 use Rattle.std.specs.Cmp.{IsTotalOrder, Equal-is, on_total}
@@ -12,7 +12,6 @@ use Rattle.std.proofs.lemmas.List.Sorted.{Contains-permutation, IsPermutation-sy
 use Rattle.std.proofs.lemmas.Cmp.{eq_by_cmp_equiv}
 use Rattle.std.proofs.lemmas.Grind.{flat_map-append}
 use Rattle.std.proofs.lemmas.List.{append-nil}
-use Rattle.std.proofs.Math.Seq.{take-suc}
 use Rattle.join_core.specs.Listing.{listing}
 use Rattle.join_core.proofs.Listing.{listed}
 use Rattle.macho_symbols.specs.Found.{named}
@@ -27,6 +26,7 @@ use Rattle.archive_core.specs.declared.operations.Operation.TheVariants.{Admit, 
 use Rattle.sorted_archive.proofs.Held.{content_of_held}
 use Rattle.archive_core.proofs.Words.{live_in_content}
 use Rattle.sorted_archive.proofs.Listed.{held_of}
+use Rattle.sorted_archive.proofs.Scanned.{front}
 use Rattle.archive_core.proofs.Members.{in_order, one_with_members, in_map, to_map, in_flat_map, to_flat_map, ascending_map}
 use Rattle.archive_core.proofs.Told.{record_there, operation_there}
 use Rattle.archive_core.proofs.NameOrder.{name_total, rows_same}
@@ -63,14 +63,10 @@ ordered old sorted permuted up = record {
         subst (Contains (map name_view kept)) (sym (one.2 ∙ rows_same (name_view one.0) (name_view alike.1) tied)) (to_map name_view kept alike.1 (alike.0, alike.2, alike.3))
 
 -- the rows of one more operation
-module _ (name : List ℕ) (operations : List Operation) (i : ℕ) (a : Operation) (lt : i < length operations) (is : a ≡ slice_index_or operations i a) where
-  pub names_more : names_among name (take (i + 1) operations) ≡ names_among name (take i operations) ++ names_of name a
-  unfolding names_among
-  names_more =
-      ap (λ (n : ℕ). names_among name (take n operations)) (add-one i)
-      ∙ ap (names_among name) (take-suc operations i a lt ∙ ap (λ (x : Operation). take i operations ++ x ∷ []) (sym is))
-      ∙ flat_map-append (names_of name) (take i operations) (a ∷ [])
-      ∙ ap (λ l. names_among name (take i operations) ++ l) (append-nil (names_of name a))
+pub names_more : (name : List ℕ) (operations : List Operation) (i : ℕ) (a : Operation) → i < length operations → a ≡ slice_index_or operations i a
+    → names_among name (take (i + 1) operations) ≡ names_among name (take i operations) ++ names_of name a
+unfolding names_among
+names_more name operations i a lt is = rw (front operations i a lt is, flat_map-append (names_of name) (take i operations) (a ∷ []), append-nil (names_of name a)) refl
 
 -- what a scan finds are the rows of the name
 pub names_scanned : (o : Operations) (name : List ℕ) (operations : List Operation) → IsHeld operations → from_list (map record_bytes operations) ≡ o
@@ -113,10 +109,8 @@ pub names_put : (o : Operations) (name : List ℕ) (operations : List Operation)
 names_put o name operations held is old new gathered ascending same = record {
   ascending = ascending;
   exactly = λ row.
-      let scanned = names_scanned o name operations held is row in (
-        λ h. scanned.0 (subst (λ l. Contains l row) gathered ((same row).0 h)),
-        λ h. (same row).1 (subst (λ l. Contains l row) (sym gathered) (scanned.1 h)),
-      );
+      let scanned = names_scanned o name operations held is row in
+      (λ h. scanned.0 (rw gathered at ((same row).0 h)), λ h. (same row).1 (rw gathered (scanned.1 h)));
 }
 
 -- each content has rows of each name

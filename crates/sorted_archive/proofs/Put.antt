@@ -1,8 +1,6 @@
 -- What a plain archive keeps after one operation was taken.
-use Rattle.std.proofs.Common.{◌≡◌, ℕ, ◌+◌, arith, Bool, true, false, not, ◌||◌, ◌&&◌, List, [], ◌∷◌, map, filter, refl, sym, ap, ◌∙◌}
-use mathlib.Core.Bool.{true≢false}
+use Rattle.std.proofs.Common.{◌≡◌, ℕ, ◌+◌, arith, Bool, true, false, not, ◌||◌, ◌&&◌, List, [], ◌∷◌, map, filter, refl, ap, ◌∙◌}
 use Rattle.std.specs.Ordering.{nat_cmp, eq_by_cmp}
-use Rattle.std.specs.Cmp.{Equal-is}
 use Rattle.std.specs.Cmp.Lexicographic.{slice_cmp, nat_list_cmp_total}
 use Rattle.std.specs.List.{insert as insert_at, list_all}
 use Rattle.std.specs.List.Sorted.{IsStrictlySortedBy}
@@ -16,15 +14,12 @@ use Rattle.archive_core.specs.Content.{Operations, is_admission, covering, is_co
 use Rattle.archive_core.specs.InnerHeld.{IsHeld}
 use Rattle.archive_core.specs.declared.operations.Operation.{Operation}
 use Rattle.archive_core.specs.declared.operations.Operation.TheVariants.{Admit}
-use Rattle.archive_core.proofs.Made.{bytes_same, either, contains_made, made_again, made_of_uncovered, uncovered_of_made}
-use Rattle.archive_core.proofs.Taken.{still_uncovered, len_with}
+use Rattle.archive_core.proofs.Made.{bytes_same, and_left, and_right, and_false, contains_made, made_again, made_of_uncovered, uncovered_of_made}
+use Rattle.archive_core.proofs.Taken.{still_uncovered, len_with, tied_is}
 pub use Rattle.archive_core.proofs.Taken.{made_with_admission}
 pub use Rattle.archive_core.proofs.Words.{covered_slice}
 use Rattle.sorted_archive.proofs.Held.{held_insert, records_insert, map_insert, along_insert}
 use Rattle.sorted_archive.proofs.Merged.{contains_left, records_filtered, are_left}
-
-is_tied : (q r : List ℕ) → eq_by_cmp (slice_cmp nat_cmp) q r ≡ true → q ≡ r
-is_tied q r h = bytes_same q r ((Equal-is (slice_cmp nat_cmp q r)).0 h)
 
 -- an admission that is not covered goes in at its place
 pub held_admission : (operations : List Operation) (i : ℕ) (slice : List ℕ) → IsHeld operations → IsValid slice → IsPlaceFor (slice_cmp nat_cmp) (map record_bytes operations) (admission_record slice) i
@@ -33,31 +28,15 @@ held_admission operations i slice held valid asked free =
     held_insert operations i (Admit slice) held valid asked
     (rw (records_insert operations i (Admit slice)) (made_with_admission (from_list (map record_bytes operations)) (admission_record slice) held.itself refl free))
 
+covers_alike : (t x a u c : Bool) → (t ≡ true → a ≡ false) → (x ≡ true → (a && c) ≡ false) → ((t || x) && not (a && (u || false))) ≡ ((t || x) && not (a && (u || c)))
+covers_alike t x a u c f g = grind arith
+
 -- the content without what a retirement covers is that with the retirement
 with_retirement : (o left : Operations) (r : List ℕ) → IsMade o → is_admission r ≡ false
     → ((q : List ℕ) → contains left q ≡ (contains (set.insert o r) q && not (is_covered (set.insert (set.empty {R = slice_cmp nat_cmp}) r) q))) → left ≡ with_record o r
-with_retirement o left r made n is = same_set nat_list_cmp_total bytes_same left (with_record o r) (λ q. is q ∙ by_member q (contains (set.insert o r) q) refl ∙ sym (contains_made (set.insert o r) q))
-  where
-    covers : (s : set.FinSet (slice_cmp nat_cmp)) (q : List ℕ) → is_covered (set.insert s r) q ≡ (is_admission q && (eq_by_cmp (slice_cmp nat_cmp) (covering q) r || contains s (covering q)))
-    covers s q = ap (λ b. is_admission q && b) (contains-insert nat_list_cmp_total s r (covering q))
-
-    without : (a t c e : Bool) → e ≡ false → (a && c) ≡ false → (a && (t || e)) ≡ (a && (t || c))
-    without true t c e none free = ap (λ b. t || b) (none ∙ sym free)
-    without false t c e none free = refl
-
-    covers_alike : (q : List ℕ) → contains (set.insert o r) q ≡ true → is_covered (set.insert (set.empty {R = slice_cmp nat_cmp}) r) q ≡ is_covered (set.insert o r) q
-    covers_alike q h =
-        covers set.empty q
-        ∙ either _ (eq_by_cmp (slice_cmp nat_cmp) q r) (contains o q)
-        (λ t. ap (λ b. b && (eq_by_cmp (slice_cmp nat_cmp) (covering q) r || contains (set.empty {R = slice_cmp nat_cmp}) (covering q))) (ap is_admission (is_tied q r t) ∙ n)
-        ∙ sym (ap (λ b. b && (eq_by_cmp (slice_cmp nat_cmp) (covering q) r || contains o (covering q))) (ap is_admission (is_tied q r t) ∙ n)))
-        (λ there. without (is_admission q) (eq_by_cmp (slice_cmp nat_cmp) (covering q) r) (contains o (covering q)) (contains (set.empty {R = slice_cmp nat_cmp}) (covering q)) (contains-empty (slice_cmp nat_cmp) (covering q)) (uncovered_of_made o made q there))
-        (sym (contains-insert nat_list_cmp_total o r q) ∙ h)
-        ∙ sym (covers o q)
-
-    by_member : (q : List ℕ) (m : Bool) → contains (set.insert o r) q ≡ m → (contains (set.insert o r) q && not (is_covered (set.insert (set.empty {R = slice_cmp nat_cmp}) r) q)) ≡ (contains (set.insert o r) q && not (is_covered (set.insert o r) q))
-    by_member q true h = ap (λ b. contains (set.insert o r) q && not b) (covers_alike q h)
-    by_member q false h = ap (λ b. b && not (is_covered (set.insert (set.empty {R = slice_cmp nat_cmp}) r) q)) h ∙ sym (ap (λ b. b && not (is_covered (set.insert o r) q)) h)
+with_retirement o left r made n is = same_set nat_list_cmp_total bytes_same left (with_record o r) (λ q.
+    rw (is q, contains_made (set.insert o r) q, contains-insert nat_list_cmp_total o r q, contains-insert nat_list_cmp_total o r (covering q), contains-insert nat_list_cmp_total set.empty r (covering q), contains-empty (slice_cmp nat_cmp) (covering q))
+    (covers_alike (eq_by_cmp (slice_cmp nat_cmp) q r) (contains o q) _ _ _ (λ t. ap is_admission (tied_is q r t) ∙ n) (uncovered_of_made o made q)))
 
 -- one operation alone is held
 pub held_alone : (operation : Operation) → IsOperation operation → IsHeld (operation ∷ [])
@@ -66,15 +45,9 @@ held_alone operation is = record {
   ascending = (tt, tt);
   are = (is, tt);
   itself = made_of_uncovered (set.insert set.empty (record_bytes operation)) (λ q h.
-      either (is_covered (set.insert (set.empty {R = slice_cmp nat_cmp}) (record_bytes operation)) q ≡ false) (eq_by_cmp (slice_cmp nat_cmp) q (record_bytes operation)) (contains (set.empty {R = slice_cmp nat_cmp}) q)
-      (λ t. ap (is_covered (set.insert (set.empty {R = slice_cmp nat_cmp}) (record_bytes operation))) (is_tied q (record_bytes operation) t) ∙ still_uncovered set.empty (record_bytes operation) (none (is_admission (record_bytes operation)) _ (contains-empty (slice_cmp nat_cmp) (covering (record_bytes operation)))))
-      (λ there. absurd (true≢false (sym there ∙ contains-empty (slice_cmp nat_cmp) q)))
-      (sym (contains-insert nat_list_cmp_total set.empty (record_bytes operation) q) ∙ h));
+      let same = tied_is q (record_bytes operation) (grind (arith, contains-insert nat_list_cmp_total set.empty (record_bytes operation) q, contains-empty (slice_cmp nat_cmp) q)) in
+      rw same (still_uncovered set.empty (record_bytes operation) (rw (contains-empty (slice_cmp nat_cmp) (covering (record_bytes operation))) (and_false (is_admission (record_bytes operation))))));
 }
-  where
-    none : (a b : Bool) → b ≡ false → (a && b) ≡ false
-    none true b e = e
-    none false b e = refl
 
 -- Operations in order that are those of a content with one more.
 pub record HoldsWith (o : Operations) (r : List ℕ) (operations : List Operation) : Type 0 where
@@ -100,16 +73,11 @@ held_retirement operations i retirement held is n asked =
     }
 
 -- admissions drop none, so each one that changes the content brings one member more
-first_of : (a b : Bool) → (a && b) ≡ true → (a ≡ true) × (b ≡ true)
-first_of true b h = (refl, h)
-first_of false b h = absurd (true≢false (sym h))
-
 pub len_with_admissions : (o : Operations) (operations : List Operation) → IsMade o → list_all (λ operation. is_admission (record_bytes operation)) operations ≡ true
     → set.len (with_records o (map record_bytes operations)) ≡ set.len o + new_among o (map record_bytes operations)
 unfolding new_among
 len_with_admissions o [] made all = omega arith
 len_with_admissions o (x ∷ xs) made all =
-    let parts = first_of (is_admission (record_bytes x)) (list_all (λ operation. is_admission (record_bytes operation)) xs) all in
-    let one = len_with o (record_bytes x) made parts.0 in
-    let rest = len_with_admissions (with_record o (record_bytes x)) xs (made_again (set.insert o (record_bytes x))) parts.1 in
+    let one = len_with o (record_bytes x) made (and_left _ _ all) in
+    let rest = len_with_admissions (with_record o (record_bytes x)) xs (made_again (set.insert o (record_bytes x))) (and_right _ _ all) in
     omega (arith, one, rest)

@@ -1,17 +1,20 @@
 -- The operations of one kind under one key, or under one UUID, stand together.
-use Rattle.std.proofs.Common.{◌≡◌, ℕ, ◌<◌, ◌≤◌, ◌-◌, ◌+◌, get_or, length-drop, Bool, true, false, cond, List, [], ◌∷◌, ◌++◌, length, map, filter, drop, Some, None, refl, sym, ap, ◌∙◌, arith, subst, append_assoc, w32}
-use mathlib.Core.Bool.{true≢false}
+use Rattle.std.proofs.Common.{◌≡◌, ℕ, ◌<◌, ◌≤◌, ◌-◌, ◌+◌, get_or, length-drop, Bool, true, false, cond, List, [], ◌∷◌, ◌++◌, length, map, filter, drop, None, refl, sym, ap, ◌∙◌, arith, append_assoc, w32, inl, inr}
+use Rattle.std.proofs.lemmas.Bool.{cases_lt, false_from_ne_true}
 use Rattle.std.specs.declared.cmp.Ordering.{Ordering}
 use Rattle.std.specs.declared.cmp.Ordering.TheVariants.{Less, Equal, Greater}
 use Rattle.std.specs.Ordering.{nat_cmp, is_lt, is_le, is_gt, is_eq, ordering_then}
 use Rattle.std.specs.Cmp.{Equal-is, both_ways, tied_itself}
 use Rattle.std.specs.Cmp.Lexicographic.{slice_cmp, nat_list_cmp_total}
-use Rattle.std.specs.List.{AllByRecursion, AllWithin, Contains, cons_option}
-use Rattle.std.specs.List.Sorted.{IsStrictlySortedBy}
+use Rattle.std.specs.List.{AllByRecursion, AllWithin, cons_option}
+use Rattle.std.specs.List.Sorted.{IsStrictlySortedBy, IsPartitionedBy}
 use Rattle.std.specs.FinSet.{from_list, contains}
 use Rattle.std.specs.Int.{w64, to_be_bytes}
 use Rattle.std.specs.Str.{bytes_eq}
-use Rattle.std.proofs.lemmas.List.{append-nil, get_or_default, get_or-drop}
+use Rattle.std.proofs.lemmas.List.{append-nil, get_or_default, get_or-drop, get_or-map}
+use Rattle.std.proofs.lemmas.List.Elements.{All-from_recursion}
+use Rattle.std.proofs.lemmas.Map.Keys.{Less-from_sorted}
+use Rattle.std.proofs.Math.ListN.{length-map}
 use Rattle.std.proofs.lemmas.Slice.Eq.{bytes_eq-Decides}
 use Rattle.sha2.specs.Sha256.{sha256}
 use Rattle.sha2.proofs.Facts256.{length-sha256}
@@ -27,17 +30,17 @@ use Rattle.archive_core.specs.declared.operations.Operation.{Operation}
 use Rattle.archive_core.specs.declared.operations.Operation.TheVariants.{Admit, Retire}
 use Rattle.archive_core.proofs.Compare.{slice_cmp-append, length_key_bytes}
 use Rattle.archive_core.proofs.Records.{length-key_of}
-use Rattle.archive_core.proofs.Made.{by_test}
 use Rattle.sorted_archive.proofs.Held.{bytes_same}
 use Rattle.archive_core.proofs.Told.{operation_there}
 use Rattle.archive_core.proofs.Members.{to_filter}
-use Rattle.archive_core.proofs.Answering.{one_arch, both}
+use Rattle.archive_core.proofs.Answering.{both}
 use Rattle.sorted_archive.specs.InnerRange.{front, front_of, is_within, is_under_key, is_under_uuid}
 use Rattle.sorted_archive.specs.declared.range.RecordKind.{RecordKind}
 use Rattle.sorted_archive.specs.declared.range.RecordKind.TheVariants.{Retirement, Admission}
 use Rattle.sorted_archive.specs.declared.range.Scope.{Scope}
 use Rattle.sorted_archive.specs.declared.range.Scope.TheVariants.{OfKey, OfUuid}
-use Rattle.sorted_archive.proofs.Falling.{Falls, parted, middle}
+use Rattle.sorted_archive.proofs.Falling.{middle}
+use Rattle.sorted_archive.proofs.Lookups.{one_key}
 
 -- the bytes of a key behind its UUID
 arch_bytes : SliceKey → List ℕ
@@ -74,7 +77,7 @@ module _ (test : Ordering → Bool) (less : test Less ≡ true) (greater : test 
   passes : (x y w : List ℕ) (r s : Ordering) → slice_cmp nat_cmp x y ≡ r → slice_cmp nat_cmp y w ≡ s → (t : Ordering) → ordering_then r t ≡ Less → test s ≡ true → test (slice_cmp nat_cmp x w) ≡ true
   passes x y w Less Less e f t h g = rw (nat_list_cmp_total.trans x y w e f) less
   passes x y w Less Equal e f t h g = let same = bytes_same y w f in rw (← same, e) less
-  passes x y w Less Greater e f t h g = absurd (true≢false (sym g ∙ greater))
+  passes x y w Less Greater e f t h g = cc (sym g ∙ greater)
   passes x y w Equal s e f t h g = let same = bytes_same x y e in rw (same, f) g
   passes x y w Greater s e f t h g = cc
 
@@ -84,42 +87,21 @@ module _ (test : Ordering → Bool) (less : test Less ≡ true) (greater : test 
       (sym (slice_cmp-append (front_of scope a) (front_of scope b) (behind scope a) (behind scope b) (length_front scope a is_a ∙ sym (length_front scope b is_b))) ∙ (λ i. slice_cmp nat_cmp (sym (record_parts scope a) i) (sym (record_parts scope b) i)) ∙ h)
       g
 
-  -- so the test of how their records begin falls along operations that ascend
-  pub falls : (scope : Scope) (w : List ℕ) (xs : List Operation) → IsStrictlySortedBy (slice_cmp nat_cmp) (map record_bytes xs) → AllByRecursion IsOperation xs → Falls (λ a. test (slice_cmp nat_cmp (front_of scope a) w)) xs
-  unfolding IsStrictlySortedBy Falls
-  falls scope w [] up known = tt
-  falls scope w (x ∷ xs) up known = (each xs up.0 known.1, falls scope w xs up.1 known.1)
-    where
-      each : (ys : List Operation) → AllByRecursion (λ r. slice_cmp nat_cmp (record_bytes x) r ≡ Less) (map record_bytes ys) → AllByRecursion IsOperation ys
-          → AllByRecursion (λ y. test (slice_cmp nat_cmp (front_of scope y) w) ≡ true → test (slice_cmp nat_cmp (front_of scope x) w) ≡ true) ys
-      each [] g known = tt
-      each (y ∷ ys) g all = (rises scope w x y known.0 all.0 g.0, each ys g.1 all.1)
+  -- so the test of how their records begin parts operations that ascend
+  pub parted : (scope : Scope) (w : List ℕ) (xs : List Operation) → IsStrictlySortedBy (slice_cmp nat_cmp) (map record_bytes xs) → AllByRecursion IsOperation xs → IsPartitionedBy (λ a. test (slice_cmp nat_cmp (front_of scope a) w)) xs
+  parted scope w xs up known i j d le lt t = elim (cases_lt i j) [
+    | inl before ↦
+        let records = Less-from_sorted (slice_cmp nat_cmp) (map record_bytes xs) i j (record_bytes d) up before (rw (length-map xs record_bytes) lt) in
+        rises scope w (get_or xs i d) (get_or xs j d) (All-from_recursion IsOperation xs known i d (omega arith)) (All-from_recursion IsOperation xs known j d lt)
+        (rw (get_or-map record_bytes xs i d (record_bytes d) (omega arith), get_or-map record_bytes xs j d (record_bytes d) lt) at records) t
+    | inr same ↦ let e : i ≡ j = omega arith in rw e t
+  ]
 
--- the three tests of a comparison
-pub eq_of_lt : (r : Ordering) → is_lt r ≡ true → is_eq r ≡ false
-eq_of_lt Less h = refl
-eq_of_lt Equal h = absurd (true≢false (sym h))
-eq_of_lt Greater h = refl
-
-pub eq_of_gt : (r : Ordering) → is_le r ≡ false → is_eq r ≡ false
-eq_of_gt Less h = refl
-eq_of_gt Equal h = absurd (true≢false h)
-eq_of_gt Greater h = refl
-
-pub eq_of_both : (r : Ordering) → is_lt r ≡ false → is_le r ≡ true → is_eq r ≡ true
-eq_of_both Less h g = absurd (true≢false h)
-eq_of_both Equal h g = refl
-eq_of_both Greater h g = absurd (true≢false (sym g))
-
-gt_of_le : (r : Ordering) → is_gt r ≡ true → is_le r ≡ true → ⊥
-gt_of_le Less h g = true≢false (sym h)
-gt_of_le Equal h g = true≢false (sym h)
-gt_of_le Greater h g = true≢false (sym g)
+gt_of_le : (r : Ordering) (b : Bool) → is_gt r ≡ true → (b ≡ true → is_le r ≡ true) → b ≡ false
+gt_of_le r b h f = grind arith
 
 lt_of_le : (r : Ordering) → is_le r ≡ false → is_lt r ≡ false
-lt_of_le Less h = absurd (true≢false h)
-lt_of_le Equal h = refl
-lt_of_le Greater h = refl
+lt_of_le r h = grind arith
 
 module _ (kind : RecordKind) (scope : Scope) (xs : List Operation) (up : IsStrictlySortedBy (slice_cmp nat_cmp) (map record_bytes xs)) (are : AllByRecursion IsOperation xs) (i : ℕ) (within : i ≤ length xs) where
   -- where one operation is below those of a kind within a scope, those before it are
@@ -127,7 +109,7 @@ module _ (kind : RecordKind) (scope : Scope) (xs : List Operation) (up : IsStric
       → AllWithin (λ a. is_lt (slice_cmp nat_cmp (front_of scope a) (front kind scope)) ≡ true) xs 0 i
   below_place x some is lt k d low high =
       let before = λ (a : Operation). is_lt (slice_cmp nat_cmp (front_of scope a) (front kind scope)) in
-      parted before xs (falls is_lt refl refl scope (front kind scope) xs up are) k (i - 1) d (omega arith) (omega arith)
+      parted is_lt refl refl scope (front kind scope) xs up are k (i - 1) d (omega arith) (omega arith)
       (ap before (get_or_default xs (i - 1) d x (omega arith) ∙ sym is) ∙ lt)
 
   -- and where one is above them, those behind it are
@@ -136,17 +118,13 @@ module _ (kind : RecordKind) (scope : Scope) (xs : List Operation) (up : IsStric
   above_place x some is gt k d low high =
       let upto = λ (a : Operation). is_le (slice_cmp nat_cmp (front_of scope a) (front kind scope)) in
       let first : get_or xs i d ≡ x = get_or_default xs i d x some ∙ sym is in
-      by_test _ (upto (get_or xs k d))
-      (λ t. absurd (gt_of_le _ gt (ap upto (sym first) ∙ parted upto xs (falls is_le refl refl scope (front kind scope) xs up are) i k d low high t)))
-      (λ f. f)
+      gt_of_le _ (upto (get_or xs k d)) gt (λ t. ap upto (sym first) ∙ parted is_le refl refl scope (front kind scope) xs up are i k d low high t)
 
   -- so none of them is there
   pub none_at : AllWithin (λ a. is_lt (slice_cmp nat_cmp (front_of scope a) (front kind scope)) ≡ true) xs 0 i
       → AllWithin (λ a. is_le (slice_cmp nat_cmp (front_of scope a) (front kind scope)) ≡ false) xs i (length xs) → filter (is_within kind scope) xs ≡ []
   none_at below above =
-      let compared = λ (a : Operation). slice_cmp nat_cmp (front_of scope a) (front kind scope) in
-      sym (middle (λ a. is_lt (compared a)) (λ a. is_le (compared a)) (λ a. is_eq (compared a)) xs i 0
-      (λ a. eq_of_lt (compared a)) (λ a. eq_of_gt (compared a)) (λ a. eq_of_both (compared a))
+      sym (middle (λ a. slice_cmp nat_cmp (front_of scope a) (front kind scope)) xs i 0
       below (λ k d low high. lt_of_le _ (above k d low high)) (λ k d low high. absurd (omega arith))
       (λ k d low high. rw (get_or-drop i xs k d) (above (i + k) d (omega arith) (omega (arith, length-drop i xs)))))
 
@@ -157,25 +135,11 @@ itself x = ap is_eq (tied_itself nat_list_cmp_total x)
 -- where no retirement stands under a key, no slice of the key is retired
 pub none_retired : (operations : List Operation) (key : SliceKey) (slice : List ℕ) → IsHeld operations → IsKey key → filter (is_under_key Retirement key) operations ≡ []
     → contains (from_list {R = slice_cmp nat_cmp} (map record_bytes operations)) (retirement_record key (sha256 slice)) ≡ false
-none_retired operations key slice held is_key none = by (contains (from_list {R = slice_cmp nat_cmp} (map record_bytes operations)) (retirement_record key (sha256 slice))) refl
-  where
-    nowhere : (a : Operation) → Contains [] a → ⊥
-    nowhere a (k, lt, e) = omega arith
-
-    by : (b : Bool) → contains (from_list {R = slice_cmp nat_cmp} (map record_bytes operations)) (retirement_record key (sha256 slice)) ≡ b → b ≡ false
-    by false h = refl
-    by true h =
-        let one : Operation = Retire key (record { 0 = sha256 slice }) in
-        let there = operation_there operations one held.are (is_key, length-sha256 slice) h in
-        absurd (nowhere one (subst (λ xs. Contains xs one) none (to_filter (is_under_key Retirement key) operations one there (itself (front Retirement (OfKey key))))))
-
--- the test of keys tells that they are one
-one_key : (a b : SliceKey) → is_key a b ≡ true → a ≡ b
-one_key a b h =
-    let parts = both (bytes_eq a.uuid b.uuid) _ h in
-    let uuid = (bytes_eq-Decides a.uuid b.uuid).0 parts.0 in
-    let arch = one_arch a.arch b.arch parts.1 in
-    λ i. record { uuid = uuid i; arch = arch i }
+none_retired operations key slice held is_key none = false_from_ne_true _ (λ h.
+    let one : Operation = Retire key (record { 0 = sha256 slice }) in
+    let there = operation_there operations one held.are (is_key, length-sha256 slice) h in
+    let nowhere = rw none at (to_filter (is_under_key Retirement key) operations one there (itself (front Retirement (OfKey key)))) in
+    absurd (omega (arith, nowhere.1)))
 
 -- what is live under a key is admitted under it
 under_of_live : (key : SliceKey) (dsym : Bool) (slice : List ℕ) → is_held_kind key dsym slice ≡ true → is_under_key Admission key (Admit slice) ≡ true
@@ -191,17 +155,13 @@ live_under key dsym [] = refl
 live_under key dsym (x ∷ xs) = by (is_under_key Admission key x) refl (live_under key dsym xs)
   where
     none_outside : (a : Operation) → is_under_key Admission key a ≡ false → held_in key dsym a ≡ None
-    none_outside (Admit slice) h = out (is_held_kind key dsym slice) refl
-      where
-        out : (b : Bool) → is_held_kind key dsym slice ≡ b → cond b (Some slice) None ≡ None
-        out true t = absurd (true≢false (sym (under_of_live key dsym slice t) ∙ h))
-        out false t = refl
+    none_outside (Admit slice) h = rw (false_from_ne_true (is_held_kind key dsym slice) (λ t. cc (sym (under_of_live key dsym slice t) ∙ h))) refl
     none_outside (Retire other digest) h = refl
 
     by : (b : Bool) → is_under_key Admission key x ≡ b → held_among key dsym (filter (is_under_key Admission key) xs) ≡ held_among key dsym xs
         → held_among key dsym (cond b (x ∷ filter (is_under_key Admission key) xs) (filter (is_under_key Admission key) xs)) ≡ held_among key dsym (x ∷ xs)
     by true h rest = ap (cons_option (held_in key dsym x)) rest
-    by false h rest = rest ∙ sym (ap (λ f. cons_option f (held_among key dsym xs)) (none_outside x h))
+    by false h rest = rw (none_outside x h) rest
 
 -- what stands behind one tag ties just where it is the same
 same_test : (t : ℕ) (a b : List ℕ) → is_eq (slice_cmp nat_cmp (t ∷ a) (t ∷ b)) ≡ bytes_eq a b
@@ -211,8 +171,7 @@ same_test t a b = both_ways _ _
 
 -- one more in front of the first run
 in_front : (b c : Bool) (x : Operation) (xs ys told : List Operation) → b ≡ c → xs ++ ys ≡ told → cond b (x ∷ xs) xs ++ ys ≡ cond c (x ∷ told) told
-in_front true c x xs ys told same h = rw (← same) (ap (λ l. x ∷ l) h)
-in_front false c x xs ys told same h = rw (← same) h
+in_front b c x xs ys told same h = grind arith
 
 -- no retirement stands behind an admission
 none_behind : (uuid slice : List ℕ) (xs : List Operation) → AllByRecursion (λ r. slice_cmp nat_cmp (admission_record slice) r ≡ Less) (map record_bytes xs) → filter (is_under_uuid Retirement uuid) xs ≡ []

@@ -1,9 +1,10 @@
 -- Retirements that are taken alone: those are new that are not held, each once.
-use Rattle.std.proofs.Common.{◌≡◌, ℕ, ◌+◌, if◌then◌else◌, Bool, true, false, not, cond, ◌||◌, ◌&&◌, List, [], ◌∷◌, length, map, filter, refl, sym, ap, ◌∙◌, arith, subst}
+use Rattle.std.proofs.Common.{◌≡◌, ℕ, ◌+◌, if◌then◌else◌, Bool, true, false, not, cond, ◌||◌, List, [], ◌∷◌, length, map, filter, refl, sym, ap, ◌∙◌, arith, subst}
 use Rattle.std.specs.Prelude.{fold}
 use Rattle.std.specs.Ordering.{nat_cmp}
 use Rattle.std.specs.Cmp.Lexicographic.{slice_cmp, nat_list_cmp_total}
 use Rattle.std.specs.List.{list_all}
+use Rattle.std.proofs.lemmas.Bool.{not-true}
 use Rattle.std.specs.FinSet as set
 use Rattle.std.specs.FinSet.{contains, union, from_list, same_set, contains-union, len-insert, len-empty}
 use Rattle.std.proofs.Math.ListN.{length-map}
@@ -12,54 +13,49 @@ use Rattle.join_core.proofs.Members.{inserts_are_union}
 use Rattle.join_core.proofs.Merge.{from_list_append}
 use Rattle.join_core.proofs.Place.{len_listed}
 use Rattle.archive_core.specs.Record.{record_bytes}
-use Rattle.archive_core.specs.Content.{Operations, is_admission, covering, is_covered, content_of, IsMade, IsBelow, IsTakenInPart, with_record, with_records, changes, new_among}
+use Rattle.archive_core.specs.Content.{Operations, is_admission, content_of, IsMade, IsBelow, IsTakenInPart, with_record, with_records, changes, new_among}
 use Rattle.sorted_archive.specs.InnerTaking.{IsBeside}
 use Rattle.sorted_archive.specs.InnerOrder.{IsOrderOf}
 use Rattle.archive_core.specs.declared.operations.Operation.{Operation}
-use Rattle.archive_core.proofs.Made.{bytes_same, and_left, and_right, and_true, or_left, or_right, joined_made_right}
-use Rattle.archive_core.proofs.Taken.{known_changes, new_changes, with_known, taken_are_joined, new_in_turn, new_of_none}
+use Rattle.archive_core.proofs.Made.{bytes_same, and_left, and_right, joined_made_right}
+use Rattle.archive_core.proofs.Taken.{with_known, taken_are_joined, new_in_turn, new_of_none}
 use Rattle.sorted_archive.proofs.Merged.{contains_filtered, records_filtered}
-use Rattle.sorted_archive.proofs.Parted.{beside_first, beside_retirement, not_of, neither}
+use Rattle.sorted_archive.proofs.Parted.{beside_first, beside_retirement}
 
 -- those of a list that a content does not have
 abbrev unheld : Operations → List (List ℕ) → List (List ℕ)
 unheld old rs = filter (λ r. not (contains old r)) rs
 
+-- a retirement is new where neither has it
+changes_is : (old now seen : Operations) (r : List ℕ) → IsBeside old old now seen → is_admission r ≡ false → changes now r ≡ not (contains old r || contains seen r)
+unfolding changes
+changes_is old now seen r beside n = grind (arith, beside.known r n)
+
+one_more : (b : Bool) (n : ℕ) → n + (if not b then 1 else 0) ≡ cond b n (n + 1)
+one_more b n = grind arith
+
 -- behind retirements that were seen, as many are new as those are more with the ones that are not held
 counted_behind : (old now seen : Operations) (operations : List Operation) → IsBeside old old now seen → list_all (λ operation. not (is_admission (record_bytes operation))) operations ≡ true
     → set.len seen + new_among now (map record_bytes operations) ≡ set.len (fold set.insert seen (unheld old (map record_bytes operations)))
 counted_behind old now seen [] beside all = omega (arith, new_of_none now)
-counted_behind old now seen (x ∷ xs) beside all =
-    by (contains old (record_bytes x)) refl (λ p s b. counted_behind old p s xs b (and_right _ _ all))
+counted_behind old now seen (x ∷ xs) beside all = by (contains old r) refl (λ p s b. counted_behind old p s xs b (and_right _ _ all))
   where
-    is_retirement : is_admission (record_bytes x) ≡ false
-    is_retirement = not_of (is_admission (record_bytes x)) (and_left _ _ all)
+    r : List ℕ
+    r = record_bytes x
 
-    uncovered : is_covered now (record_bytes x) ≡ false
-    uncovered = ap (λ b. b && contains now (covering (record_bytes x))) is_retirement
+    is_retirement : is_admission r ≡ false
+    is_retirement = not-true (is_admission r) (and_left _ _ all)
 
-    first : new_among now (map record_bytes (x ∷ xs)) ≡ (if changes now (record_bytes x) then 1 else 0) + new_among (with_record now (record_bytes x)) (map record_bytes xs)
-    first = new_in_turn now (record_bytes x) (map record_bytes xs)
+    first : new_among now (map record_bytes (x ∷ xs)) ≡ (if not (contains old r || contains seen r) then 1 else 0) + new_among (with_record now r) (map record_bytes xs)
+    first = new_in_turn now r (map record_bytes xs) ∙ ap (λ b. (if b then 1 else 0) + new_among (with_record now r) (map record_bytes xs)) (changes_is old now seen r beside is_retirement)
 
-    known : (contains old (record_bytes x) || contains seen (record_bytes x)) ≡ true → (contains now (record_bytes x) || is_covered now (record_bytes x)) ≡ true
-    known there = or_left _ (is_covered now (record_bytes x)) (beside.known (record_bytes x) is_retirement ∙ there)
-
-    grown : set.len (set.insert seen (record_bytes x)) ≡ cond (contains seen (record_bytes x)) (set.len seen) (set.len seen + 1)
-    grown = len-insert nat_list_cmp_total seen (record_bytes x)
-
-    with_seen : (b : Bool) → contains seen (record_bytes x) ≡ b → contains old (record_bytes x) ≡ false → set.len seen + (if changes now (record_bytes x) then 1 else 0) ≡ set.len (set.insert seen (record_bytes x))
-    with_seen true there absent = rw (known_changes now (record_bytes x) (known (or_right (contains old (record_bytes x)) _ there))) (omega (arith, rw there at grown))
-    with_seen false unseen absent = rw (new_changes now (record_bytes x) (beside.known (record_bytes x) is_retirement ∙ neither _ _ absent unseen) uncovered) (omega (arith, rw unseen at grown))
-
-    by : (b : Bool) → contains old (record_bytes x) ≡ b → ((p s : Operations) → IsBeside old old p s → set.len s + new_among p (map record_bytes xs) ≡ set.len (fold set.insert s (unheld old (map record_bytes xs))))
-        → set.len seen + new_among now (map record_bytes (x ∷ xs)) ≡ set.len (fold set.insert seen (cond (not b) (record_bytes x ∷ unheld old (map record_bytes xs)) (unheld old (map record_bytes xs))))
+    by : (b : Bool) → contains old r ≡ b → ((p s : Operations) → IsBeside old old p s → set.len s + new_among p (map record_bytes xs) ≡ set.len (fold set.insert s (unheld old (map record_bytes xs))))
+        → set.len seen + new_among now (map record_bytes (x ∷ xs)) ≡ set.len (fold set.insert seen (cond (not b) (r ∷ unheld old (map record_bytes xs)) (unheld old (map record_bytes xs))))
     by true there rest =
-        let stays = with_known now (record_bytes x) beside.made_now (known (or_left _ (contains seen (record_bytes x)) there)) in
-        let none : ◌≡◌ {A = ℕ} (if changes now (record_bytes x) then 1 else 0) 0 = ap (λ b. if b then 1 else 0) (known_changes now (record_bytes x) (known (or_left _ (contains seen (record_bytes x)) there))) in
-        let same : new_among (with_record now (record_bytes x)) (map record_bytes xs) ≡ new_among now (map record_bytes xs) = ap (λ p. new_among p (map record_bytes xs)) stays in
-        omega (arith, first, none, same, rest now seen beside)
+        let stays = with_known now r beside.made_now (grind (arith, there, beside.known r is_retirement)) in
+        omega (arith, rw (there, stays) at first, rest now seen beside)
     by false absent rest =
-        omega (arith, first, with_seen (contains seen (record_bytes x)) refl absent, rest (with_record now (record_bytes x)) (set.insert seen (record_bytes x)) (beside_retirement old old now seen (record_bytes x) beside is_retirement))
+        omega (arith, rw absent at first, one_more (contains seen r) (set.len seen), len-insert nat_list_cmp_total seen r, rest (with_record now r) (set.insert seen r) (beside_retirement old old now seen r beside is_retirement))
 
 -- so of retirements as many are new as there are different ones that are not held
 different_unheld : (old : Operations) (operations : List Operation) → IsMade old → list_all (λ operation. not (is_admission (record_bytes operation))) operations ≡ true
@@ -71,22 +67,12 @@ different_unheld old operations content_of all =
 
 unheld_same : (old : Operations) (ks ls : List (List ℕ)) → from_list {R = slice_cmp nat_cmp} ks ≡ from_list ls → from_list {R = slice_cmp nat_cmp} (unheld old ks) ≡ from_list (unheld old ls)
 unheld_same old ks ls same = same_set nat_list_cmp_total bytes_same _ _ (λ q.
-    contains_filtered (λ r. not (contains old r)) ks q
-    ∙ ap (λ s. contains s q && not (contains old q)) same
-    ∙ sym (contains_filtered (λ r. not (contains old r)) ls q))
-
-or_new : (a b : Bool) → (a || (b && not a)) ≡ (a || b)
-or_new true b = refl
-or_new false b = and_true b
+    rw (contains_filtered (λ r. not (contains old r)) ks q, contains_filtered (λ r. not (contains old r)) ls q, same) refl)
 
 -- with those that are not held a set has all
 with_unheld : (old : Operations) (ks ls : List (List ℕ)) → from_list {R = slice_cmp nat_cmp} ks ≡ from_list ls → union old (from_list (unheld old ks)) ≡ union old (from_list ls)
 with_unheld old ks ls same = same_set nat_list_cmp_total bytes_same _ _ (λ q.
-    contains-union nat_list_cmp_total old (from_list (unheld old ks)) q
-    ∙ ap (λ b. contains old q || b) (contains_filtered (λ r. not (contains old r)) ks q)
-    ∙ or_new (contains old q) (contains (from_list {R = slice_cmp nat_cmp} ks) q)
-    ∙ ap (λ s. contains old q || contains s q) same
-    ∙ sym (contains-union nat_list_cmp_total old (from_list ls) q))
+    rw (contains-union nat_list_cmp_total old (from_list (unheld old ks)) q, contains_filtered (λ r. not (contains old r)) ks q, same, contains-union nat_list_cmp_total old (from_list ls) q) (grind arith))
 
 module _ (old : Operations) (operations ordered : List Operation) (made_old : IsMade old) (order : IsOrderOf operations ordered) where
   -- the operations in order, each once, without those that are held, give what all give

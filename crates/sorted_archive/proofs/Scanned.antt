@@ -1,11 +1,10 @@
 -- What a plain archive tells as it goes through its operations.
-use Rattle.std.proofs.Common.{◌≡◌, ◌+◌, ℕ, Bool, true, false, List, [], ◌∷◌, ◌<◌, length, take, slice_index_or, map, filter, ◌++◌, if◌then◌else◌, refl, sym, ap, ◌∙◌, subst, add-one}
+use Rattle.std.proofs.Common.{◌≡◌, ◌+◌, ℕ, Bool, true, false, List, [], ◌∷◌, ◌<◌, length, take, slice_index_or, map, filter, ◌++◌, refl, sym, ap, ◌∙◌, subst}
 use Rattle.std.specs.List.Sorted.{IsSorted, IsPermutation}
 use Rattle.std.specs.FinSet.{from_list, contains}
 use Rattle.std.proofs.lemmas.Slice.Eq.{bytes_eq-Decides}
 use Rattle.std.proofs.lemmas.List.Elements.{filter-append}
-use Rattle.std.proofs.lemmas.List.{append-nil}
-use Rattle.std.proofs.Math.Seq.{take-suc}
+use Rattle.std.proofs.lemmas.List.{append-nil, take_more}
 use Rattle.archive_core.specs.Valid.{key_of}
 use Rattle.archive_core.specs.Record.{record_bytes, IsOperation}
 use Rattle.archive_core.specs.Content.{Operations, IsContent}
@@ -22,19 +21,15 @@ use Rattle.archive_core.proofs.Told.{find_total, untied_records, told_sorted}
 
 -- the first ones, and one more
 pub front : (operations : List Operation) (i : ℕ) (a : Operation) → i < length operations → a ≡ slice_index_or operations i a → take (i + 1) operations ≡ take i operations ++ a ∷ []
-front operations i a lt is = ap (λ (n : ℕ). take n operations) (add-one i) ∙ take-suc operations i a lt ∙ ap (λ (x : Operation). take i operations ++ x ∷ []) (sym is)
+front operations i a lt is = take_more operations i a lt ∙ ap (λ (x : Operation). take i operations ++ x ∷ []) (sym is)
 
 -- the first ones that pass a test, and one more
 module _ (test : Operation → Bool) (operations : List Operation) (i : ℕ) (a : Operation) (lt : i < length operations) (is : a ≡ slice_index_or operations i a) where
-  last : (passes : Bool) → test a ≡ passes → filter test (take (i + 1) operations) ≡ filter test (take i operations) ++ (if passes then a ∷ [] else [])
-  last true h = ap (filter test) (front operations i a lt is) ∙ filter-append test (take i operations) (a ∷ []) ∙ ap (λ (xs : List Operation). filter test (take i operations) ++ xs) (rw h refl)
-  last false h = ap (filter test) (front operations i a lt is) ∙ filter-append test (take i operations) (a ∷ []) ∙ ap (λ (xs : List Operation). filter test (take i operations) ++ xs) (rw h refl)
-
   pub one_kept : (old new : List Operation) (copy : Operation) → test a ≡ true → old ≡ filter test (take i operations) → copy ≡ a → new ≡ old ++ copy ∷ [] → new ≡ filter test (take (i + 1) operations)
-  one_kept old new copy h old_is copy_is new_is = new_is ∙ (λ j. old_is j ++ copy_is j ∷ []) ∙ sym (last true h)
+  one_kept old new copy h old_is copy_is new_is = rw (new_is, old_is, copy_is, front operations i a lt is, filter-append test (take i operations) (a ∷ []), h) refl
 
   pub one_left_out : (old new : List Operation) → test a ≡ false → old ≡ filter test (take i operations) → new ≡ old → new ≡ filter test (take (i + 1) operations)
-  one_left_out old new h old_is new_is = new_is ∙ old_is ∙ sym (last false h ∙ append-nil (filter test (take i operations)))
+  one_left_out old new h old_is new_is = rw (new_is, old_is, front operations i a lt is, filter-append test (take i operations) (a ∷ []), h) (sym (append-nil (filter test (take i operations))))
 
 -- what is held under the UUID is what a search tells
 found_by_test : (o : Operations) (uuid : List ℕ) (a : Operation) → IsContent o → IsOperation a → contains o (record_bytes a) ≡ true → is_found_under uuid a ≡ true → IsFoundUnder o uuid a

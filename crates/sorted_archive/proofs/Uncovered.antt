@@ -1,15 +1,15 @@
 -- Where no retirement is among operations, and where none of them is covered by one.
-use Rattle.std.proofs.Common.{◌≡◌, ℕ, Bool, true, false, not, ◌||◌, ◌&&◌, cond, List, [], ◌∷◌, map, filter, take, drop, slice_get, Some, refl, sym, ap, ◌∙◌}
-use mathlib.Core.Bool.{true≢false}
+use Rattle.std.proofs.Common.{◌≡◌, ℕ, Bool, true, false, not, ◌&&◌, cond, List, [], ◌∷◌, map, filter, take, drop, slice_get, get_or, Some, refl, sym, ap, ◌∙◌}
+use Rattle.std.proofs.lemmas.Bool.{or_from, false_from_ne_true}
 use Rattle.std.specs.declared.cmp.Ordering.TheVariants.{Less}
 use Rattle.std.specs.Ordering.{nat_cmp, eq_by_cmp, is_eq}
-use Rattle.std.specs.Cmp.{Equal-is, tied_itself}
+use Rattle.std.specs.Cmp.{tied_itself}
 use Rattle.std.specs.Cmp.Lexicographic.{slice_cmp, nat_list_cmp_total}
 use Rattle.std.specs.List.{AllByRecursion, All, list_any}
 use Rattle.std.specs.List.Sorted.{IsStrictlySortedBy}
 use Rattle.std.proofs.lemmas.List.Elements.{All-take, All-drop, All-from_recursion, recursion_from_All}
 use Rattle.std.specs.FinSet as set
-use Rattle.std.specs.FinSet.{contains, from_list, contains-from_list, contains-insert, contains-empty}
+use Rattle.std.specs.FinSet.{from_list, contains-from_list, contains-insert, contains-empty}
 use Rattle.sha2.specs.Sha256.{sha256}
 use Rattle.archive_core.specs.Key.{IsKey, key_bytes}
 use Rattle.archive_core.specs.Valid.{key_of, IsValid}
@@ -24,7 +24,8 @@ use Rattle.archive_core.specs.declared.operations.Operation.TheVariants.{Admit, 
 use Rattle.sorted_archive.specs.declared.range.RecordKind.TheVariants.{Admission}
 use Rattle.archive_core.proofs.Compare.{length_key_bytes}
 use Rattle.archive_core.proofs.Records.{same_parts, length-key_of}
-use Rattle.archive_core.proofs.Made.{bytes_same, and_false}
+use Rattle.archive_core.proofs.Made.{and_false}
+use Rattle.archive_core.proofs.Taken.{tied_is}
 use Rattle.sorted_archive.proofs.Falling.{filter_all, outside}
 use Rattle.sorted_archive.proofs.Put.{covered_slice}
 
@@ -32,10 +33,7 @@ use Rattle.sorted_archive.proofs.Put.{covered_slice}
 none_behind : (slice front : List ℕ) (xs : List Operation) → AllByRecursion (λ r. slice_cmp nat_cmp (admission_record slice) r ≡ Less) (map record_bytes xs) → list_any (eq_by_cmp (slice_cmp nat_cmp) (1 ∷ front)) (map record_bytes xs) ≡ false
 none_behind slice front [] up = refl
 none_behind slice front (Admit other ∷ xs) up = none_behind slice front xs up.1
-none_behind slice front (Retire key digest ∷ xs) up = absurd (greater up.0)
-  where
-    greater : slice_cmp nat_cmp (admission_record slice) (retirement_record key digest.0) ≡ Less → ⊥
-    greater h = cc
+none_behind slice front (Retire key digest ∷ xs) up = cc
 
 -- where the first of operations that ascend is no retirement, they cover nothing
 pub covers_none : (operations : List Operation) → IsHeld operations → ((key : SliceKey) (digest : Digest) → slice_get operations 0 ≡ Some (Retire key digest) → ⊥)
@@ -49,14 +47,7 @@ covers_none (Retire key digest ∷ xs) held h r = absurd (h key digest refl)
 
 -- and then nothing is dropped
 pub none_dropped : (o : Operations) (operations : List Operation) → ((r : List ℕ) → is_covered o r ≡ false) → filter (λ operation. not (is_covered o (record_bytes operation))) operations ≡ operations
-none_dropped o operations none = filter_all (λ operation. not (is_covered o (record_bytes operation))) operations (along operations)
-  where
-    along : (xs : List Operation) → AllByRecursion (λ operation. not (is_covered o (record_bytes operation)) ≡ true) xs
-    along [] = tt
-    along (x ∷ xs) = (ap not (none (record_bytes x)), along xs)
-
-tied_is : (q r : List ℕ) → eq_by_cmp (slice_cmp nat_cmp) q r ≡ true → q ≡ r
-tied_is q r h = bytes_same q r ((Equal-is (slice_cmp nat_cmp q r)).0 h)
+none_dropped o operations none = filter_all (λ operation. not (is_covered o (record_bytes operation))) operations (recursion_from_All _ operations (λ k d lt. ap not (none (record_bytes (get_or operations k d)))))
 
 -- a retirement alone, as a set
 only : SliceKey → Digest → Operations
@@ -66,22 +57,11 @@ only key digest = set.insert (set.empty {R = slice_cmp nat_cmp}) (retirement_rec
 other_key : (key : SliceKey) (digest : Digest) (slice : List ℕ) → IsKey key → IsValid slice → is_under_key Admission key (Admit slice) ≡ false → is_covered (only key digest) (admission_record slice) ≡ false
 unfolding only
 other_key key digest slice is_key valid apart =
-    covered_slice (only key digest) slice valid
-    ∙ contains-insert nat_list_cmp_total (set.empty {R = slice_cmp nat_cmp}) (retirement_record key digest.0) (retirement_record (key_of slice) (sha256 slice))
-    ∙ by (eq_by_cmp (slice_cmp nat_cmp) (retirement_record (key_of slice) (sha256 slice)) (retirement_record key digest.0)) refl
-  where
-    rest : contains (set.empty {R = slice_cmp nat_cmp}) (retirement_record (key_of slice) (sha256 slice)) ≡ false
-    rest = contains-empty (slice_cmp nat_cmp) (retirement_record (key_of slice) (sha256 slice))
-
-    by : (b : Bool) → eq_by_cmp (slice_cmp nat_cmp) (retirement_record (key_of slice) (sha256 slice)) (retirement_record key digest.0) ≡ b
-        → (b || contains (set.empty {R = slice_cmp nat_cmp}) (retirement_record (key_of slice) (sha256 slice))) ≡ false
-    by false h = rest
-    by true h =
-        let same : retirement_record (key_of slice) (sha256 slice) ≡ retirement_record key digest.0 = tied_is _ _ h in
-        let keys : key_bytes (key_of slice) ≡ key_bytes key = (same_parts (key_bytes (key_of slice)) (key_bytes key) (sha256 slice) digest.0 (length-key_of slice valid ∙ sym (length_key_bytes key is_key.uuid)) (ap (drop 1) same)).0 in
-        let ties : is_eq (slice_cmp nat_cmp (2 ∷ key_bytes (key_of slice)) (2 ∷ key_bytes key)) ≡ true =
-        ap (λ k. is_eq (slice_cmp nat_cmp (2 ∷ k) (2 ∷ key_bytes key))) keys ∙ ap is_eq (tied_itself nat_list_cmp_total (2 ∷ key_bytes key)) in
-        absurd (true≢false (sym ties ∙ apart))
+    rw (covered_slice (only key digest) slice valid, contains-insert nat_list_cmp_total set.empty (retirement_record key digest.0) (retirement_record (key_of slice) (sha256 slice)), contains-empty (slice_cmp nat_cmp) (retirement_record (key_of slice) (sha256 slice)))
+    (or_from _ false (false_from_ne_true _ (λ h.
+    let same : retirement_record (key_of slice) (sha256 slice) ≡ retirement_record key digest.0 = tied_is _ _ h in
+    let keys = (same_parts (key_bytes (key_of slice)) (key_bytes key) (sha256 slice) digest.0 (length-key_of slice valid ∙ sym (length_key_bytes key is_key.uuid)) (ap (drop 1) same)).0 in
+    cc (ap is_eq (tied_itself nat_list_cmp_total (2 ∷ key_bytes key)), rw keys at apart))) refl)
 
 -- so where no slice of its key is there, none of the operations is
 none_under : (key : SliceKey) (digest : Digest) (xs : List Operation) → IsKey key → AllByRecursion IsOperation xs → filter (is_under_key Admission key) xs ≡ []
@@ -90,13 +70,10 @@ none_under key digest [] is_key are none = tt
 none_under key digest (Retire other d ∷ xs) is_key are none = (refl, none_under key digest xs is_key are.1 none)
 none_under key digest (Admit slice ∷ xs) is_key are none = by (is_under_key Admission key (Admit slice)) refl none (none_under key digest xs is_key are.1)
   where
-    some : (l : List Operation) → Admit slice ∷ l ≡ [] → ⊥
-    some l h = cc
-
     by : (b : Bool) → is_under_key Admission key (Admit slice) ≡ b → cond b (Admit slice ∷ filter (is_under_key Admission key) xs) (filter (is_under_key Admission key) xs) ≡ []
         → (filter (is_under_key Admission key) xs ≡ [] → AllByRecursion (λ operation. not (is_covered (only key digest) (record_bytes operation)) ≡ true) xs)
         → AllByRecursion (λ operation. not (is_covered (only key digest) (record_bytes operation)) ≡ true) (Admit slice ∷ xs)
-    by true h none rest = absurd (some _ none)
+    by true h some rest = cc
     by false h none rest = (ap not (other_key key digest slice is_key are.0 h), rest none)
 
 -- whether a retirement leaves an operation

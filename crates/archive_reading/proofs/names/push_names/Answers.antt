@@ -2,7 +2,7 @@ use Rattle.std.proofs.Common.{List, ◌++◌, ◌∙◌, sym, ap, map}
 use Rattle.std.proofs.lemmas.List.{append-nil}
 use Rattle.archive_core.specs.Names.{NameRecord, owned_name_view}
 use Rattle.archive_reading.specs.InnerNames.{names_of}
-use Rattle.archive_reading.proofs.Gathered.{OnOk-then}
+use Rattle.std.proofs.lemmas.Result.{on_ok_weaker}
 use Rattle.archive_reading.proofs.Sought.{names_none, names_of_slice}
 use Rattle.archive_reading.proofs.names.push_names.Goals as goal
 
@@ -22,4 +22,4 @@ pub returns : goal.returns
 returns c =
     let before = map owned_name_view c.args.rows.now.items in
     let told = names_of_slice c.args.name.now c.in-Admit.slice (rw c.in-Admit.is at c.requires) in
-    OnOk-then c.push_rows.result c.push_rows.ensures (λ more. rw c.in-Admit.is (more ∙ ap (λ (l : List NameRecord). before ++ l) (sym told)))
+    on_ok_weaker c.push_rows.result (λ more. rw c.in-Admit.is (more ∙ ap (λ (l : List NameRecord). before ++ l) (sym told))) c.push_rows.ensures

@@ -1,6 +1,5 @@
 use Rattle.std.proofs.Common.{◌≡◌, ◌++◌, map}
-use Rattle.archive_core.specs.Names.{name_row, names_in}
-use Rattle.archive_core.specs.Names.{owned_name_view}
+use Rattle.archive_core.specs.Names.{name_row, names_in, owned_name_view}
 use Rattle.archive_reading.proofs.names.push_rows.Given as goal
 
 -- the rows of those that were found, and of those that are left

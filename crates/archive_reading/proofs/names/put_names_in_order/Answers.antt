@@ -2,9 +2,8 @@ use Rattle.std.proofs.Common.{rules}
 use Rattle.std.proofs.lemmas.Fn.{always_returns_same, dedup_same}
 use Rattle.std.proofs.lemmas.List.Sorted.{ranks_by}
 use Rattle.std.specs.Ordering.{is_lt, on, eq_by_cmp}
-use Rattle.archive_core.specs.Names.{name_cmp}
+use Rattle.archive_core.specs.Names.{name_cmp, owned_name_view}
 use Rattle.archive_core.proofs.NameOrder.{name_total}
-use Rattle.archive_core.specs.Names.{owned_name_view}
 use Rattle.archive_reading.proofs.Sought.{rows_ascending, rows_kept}
 use Rattle.archive_reading.proofs.names.put_names_in_order.Goals as goal
 

@@ -1,7 +1,6 @@
-use Rattle.std.proofs.Common.{◌≡◌, Bool, true, false, List, [], ◌∷◌, filter, rules, not, sym, refl, ap, ◌∙◌}
+use Rattle.std.proofs.Common.{◌≡◌, Bool, true, false, List, [], ◌∷◌, filter, rules, length, cond, arith, not, sym, refl, ap, ◌∙◌}
 use Rattle.std.specs.List.Retain.{IsFiltered, ReturnsInTurn}
 use Rattle.std.specs.List.{items_where_true}
-use Rattle.std.proofs.Common.{length, cond, arith}
 use denote.Ref.{Bor}
 use Rattle.sorted_archive.specs.declared.covered.Lent.{Lent}
 use Rattle.archive_core.specs.declared.operations.Operation.{Operation}

@@ -1,7 +1,6 @@
-use Rattle.std.proofs.Common.{◌≡◌, ◌∷◌, List, length, refl, ap, subst, arith}
+use Rattle.std.proofs.Common.{◌≡◌, ◌∷◌, List, length, refl, ap, arith}
 use Rattle.std.specs.FinSet.{from_list}
-use Rattle.std.specs.Vec.Iter.{into_iter_items, into_iter_len}
-use Rattle.sorted_archive.specs.InnerTaking.{IsParting, IsParted}
+use Rattle.std.specs.Vec.Iter.{into_iter_items}
 use Rattle.archive_core.specs.declared.operations.Operation.{Operation}
 use Rattle.sorted_archive.proofs.Parted.{parting_none, parted}
 use Rattle.sorted_archive.proofs.parting.parts_of.Goals as goal
@@ -26,22 +25,12 @@ operations-preserved c =
     record {
       can = tt;
       finite = tt;
-      way = λ old is.
-          c.in_ok-put.ensures old all rest (subst (λ (l : List Operation). IsParting old all l at.parts.admissions.items at.parts.retirements.items (from_list at.seen)) steps (at.invariant.way old is));
-      long =
-          let was : into_iter_len at.operation-iterator ≡ length left = at.invariant.long in
-          let gone = c.in-Some.ensures.steps.1 in
-          let short : length left ≡ length (c.in-Some.operation ∷ rest) = ap length steps in
-          omega arith;
+      way = λ old is. c.in_ok-put.ensures old all rest (rw steps at (at.invariant.way old is));
+      long = omega (arith, at.invariant.long, c.in-Some.ensures.steps.1, ap length steps);
     }
 
 pub returns : goal.returns
 returns c =
     let at = c.operations in
-    let left : List Operation = into_iter_items at.operation-iterator in
-    let all : List Operation = into_iter_items c.into_iter-operation-iterator.result in
-    let long : into_iter_len at.operation-iterator ≡ length left = at.invariant.long in
-    let none : length left ≡ 0 = omega (arith, long, c.in-None.ensures.steps) in
-    λ old made.
-    let is = parted old all left at.parts.admissions.items at.parts.retirements.items (from_list at.seen) (at.invariant.way old made) none in
-    subst (λ (l : List Operation). IsParted old l at.parts.admissions.items at.parts.retirements.items) c.into_iter-operation-iterator.ensures.into_iter_gives.0 is
+    let none : length (into_iter_items at.operation-iterator) ≡ 0 = omega (arith, at.invariant.long, c.in-None.ensures.steps) in
+    λ old made. rw (← c.into_iter-operation-iterator.ensures.into_iter_gives.0) (parted old _ _ at.parts.admissions.items at.parts.retirements.items (from_list at.seen) (at.invariant.way old made) none)

@@ -1,7 +1,7 @@
-use Rattle.std.proofs.Common.{◌≡◌, ◌-◌, ◌<◌, true, List, [], ◌∷◌, Some, None, Err, length, map, slice_get, get_or, refl, sym, ap, ◌∙◌, arith}
+use Rattle.std.proofs.Common.{◌≡◌, ◌-◌, ◌<◌, true, List, [], ◌∷◌, Some, Err, length, map, slice_get, get_or, sym, ap, ◌∙◌, arith}
 use Rattle.std.specs.Ordering.{nat_cmp, is_lt}
 use Rattle.std.specs.declared.cmp.Ordering.{Ordering}
-use Rattle.std.specs.declared.cmp.Ordering.TheVariants.{Less, Equal, Greater}
+use Rattle.std.specs.declared.cmp.Ordering.TheVariants.{Less}
 use Rattle.std.specs.Cmp.Lexicographic.{slice_cmp, nat_list_cmp_total}
 use Rattle.std.specs.List.Sorted.{IsStrictlySortedBy}
 use Rattle.std.proofs.Math.ListN.{length-map}
@@ -14,16 +14,11 @@ use Rattle.archive_core.specs.declared.operations.Operation.{Operation}
 use Rattle.sorted_archive.proofs.plain.search_from_end.Goals as goal
 
 less : (r : Ordering) → is_lt r ≡ true → r ≡ Less
-less Less h = refl
-less Equal h = cc
-less Greater h = cc
-
-some_none : (last : Operation) → Some last ≡ None → ⊥
-some_none last h = cc
+less r h = grind arith
 
 -- an operation above the last goes to the end
 at_end : (operations : List Operation) (last operation : Operation) → IsStrictlySortedBy (slice_cmp nat_cmp) (map record_bytes operations) → Some last ≡ slice_get operations (length operations - 1) → is_lt (slice_cmp nat_cmp (record_bytes last) (record_bytes operation)) ≡ true → IsFound (slice_cmp nat_cmp) (map record_bytes operations) (record_bytes operation) (Err (length operations))
-at_end [] last operation up is below = absurd (some_none last is)
+at_end [] last operation up is below = cc
 at_end (x ∷ xs) last operation up is below =
     let lt : length (x ∷ xs) - 1 < length (x ∷ xs) = omega arith in
     let at : Some last ≡ Some (get_or (x ∷ xs) (length (x ∷ xs) - 1) x) = is ∙ slice_get-get_or (x ∷ xs) (length (x ∷ xs) - 1) x lt in

@@ -1,5 +1,4 @@
 use Rattle.std.proofs.Common.{◌≡◌, false, Result, Ok, Err, sym, ◌∙◌, rules}
-use mathlib.Core.Bool.{true≢false}
 use Rattle.std.specs.Result.{OnOk, is_err}
 use Rattle.std.specs.Ordering.{nat_cmp, is_lt}
 use Rattle.std.specs.Cmp.Lexicographic.{slice_cmp, nat_list_cmp_total}
@@ -10,7 +9,7 @@ use Rattle.sorted_archive.proofs.plain.sort.Goals as goal
 
 at_ok : {T E P : Type 0} (r : Result T E) → is_err r ≡ false → OnOk r P → P
 at_ok (Ok x) e h = h
-at_ok (Err x) e h = absurd (true≢false e)
+at_ok (Err x) e h = cc
 
 pub returns-then-is_err-clause-sorted : goal.returns-then-is_err-clause-sorted
 returns-then-is_err-clause-sorted c = c.sort_unstable_by.ensures.sorted (λ x y. is_lt (slice_cmp nat_cmp (record_bytes x) (record_bytes y))) (ranks_by nat_list_cmp_total record_bytes) (always_returns_same _ _ _ (λ a r g called. (search rules, search rules)))

@@ -1,12 +1,11 @@
-use Rattle.std.proofs.Common.{◌≡◌, ◌∙◌, true, false, refl, sym, ap, drop, length, rules, subst, arith}
-use Rattle.std.specs.Ordering.{nat_cmp, is_lt, is_le, is_eq}
+use Rattle.std.proofs.Common.{◌∙◌, refl, sym, ap, length, rules, arith}
+use Rattle.std.specs.Ordering.{nat_cmp, is_lt, is_le}
 use Rattle.std.specs.Cmp.Lexicographic.{slice_cmp}
-use Rattle.std.specs.List.Sorted.{IsPartitionPoint}
 use Rattle.std.proofs.lemmas.List.Sorted.{IsPartitionPoint-from_clause}
 use Rattle.archive_core.specs.declared.operations.Operation.{Operation}
 use Rattle.sorted_archive.specs.InnerRange.{front, front_of}
-use Rattle.sorted_archive.proofs.Falling.{middle, parted, falls_drop}
-use Rattle.sorted_archive.proofs.Ranges.{below_place, none_at, falls, eq_of_lt, eq_of_gt, eq_of_both}
+use Rattle.sorted_archive.proofs.Falling.{middle, parted_drop}
+use Rattle.sorted_archive.proofs.Ranges.{below_place, none_at, parted}
 use Rattle.sorted_archive.proofs.range.range_of.Goals as goal
 
 pub returns-clause-range : goal.returns-clause-range
@@ -17,15 +16,13 @@ returns-clause-range c =
     let compared = λ (a : Operation). slice_cmp nat_cmp (front_of c.args.scope a) (front c.args.kind c.args.scope) in
     let before = λ (a : Operation). is_lt (compared a) in
     let upto = λ (a : Operation). is_le (compared a) in
-    let up = c.requires.ascending in
     let rest = c.split_at.ensures.back in
-    let first = IsPartitionPoint-from_clause before operations start c.partition_point-start.ensures.partitioned (parted before operations (falls is_lt refl refl c.args.scope (front c.args.kind c.args.scope) operations up c.requires.are)) (λ a r f called. (search rules, search rules)) in
-    let upto_falls = falls_drop upto operations start (falls is_le refl refl c.args.scope (front c.args.kind c.args.scope) operations up c.requires.are) in
+    let first = IsPartitionPoint-from_clause before operations start c.partition_point-start.ensures.partitioned (parted is_lt refl refl c.args.scope (front c.args.kind c.args.scope) operations c.requires.ascending c.requires.are) (λ a r f called. (search rules, search rules)) in
     let second =
     IsPartitionPoint-from_clause upto c.split_at.result.1.now count c.partition_point-count.ensures.partitioned
-    (rw rest (parted upto (drop start operations) upto_falls)) (λ a r f called. (search rules, search rules)) in
-    let later = subst (λ xs. IsPartitionPoint (λ y. upto y ≡ true) (λ y. upto y ≡ false) xs count) rest second in
-    middle before upto (λ a. is_eq (compared a)) operations start count (λ a. eq_of_lt (compared a)) (λ a. eq_of_gt (compared a)) (λ a. eq_of_both (compared a)) first.0 first.1 later.0 later.1
+    (rw rest (parted_drop upto operations start (parted is_le refl refl c.args.scope (front c.args.kind c.args.scope) operations c.requires.ascending c.requires.are))) (λ a r f called. (search rules, search rules)) in
+    let later = rw rest at second in
+    middle compared operations start count first.0 first.1 later.0 later.1
 
 pub returns-then-is_lt-clause-range : goal.returns-then-is_lt-clause-range
 returns-then-is_lt-clause-range c =

@@ -1,8 +1,9 @@
 use mir.Val.{bool_byte}
-use Rattle.std.proofs.Common.{Bool, true, false, refl, sym, ◌≡◌, ℕ, [], ◌∷◌, ◌+◌, List, length, map, ap, subst, ◌∙◌, arith, rules, if◌then◌else◌}
+use Rattle.std.proofs.Common.{Bool, ◌≡◌, ℕ, ◌∷◌, ◌+◌, List, length, map, ap, ◌∙◌, arith, rules, if◌then◌else◌}
 use Rattle.std.specs.Vec.Iter.{into_iter_items, into_iter_len}
+use Rattle.std.proofs.lemmas.List.{nil_from_length}
 use Rattle.std.proofs.lemmas.Result.{err_from_is_err_and}
-use Rattle.archive_core.specs.Content.{Operations, IsTakenInPart, changes, with_records, new_among}
+use Rattle.archive_core.specs.Content.{Operations, changes, with_records, new_among}
 use Rattle.archive_core.specs.Record.{record_bytes}
 use Rattle.archive_core.specs.declared.operations.Operation.{Operation}
 use Rattle.sorted_archive.proofs.Held.{content_with}
@@ -10,8 +11,7 @@ use Rattle.archive_core.proofs.Taken.{IsCounted, one_counted, all_counted, count
 use Rattle.sorted_archive.proofs.taking.take_in_turn.Goals as goal
 
 byte_is : (b : Bool) → bool_byte b ≡ (if b then 1 else 0)
-byte_is true = refl
-byte_is false = refl
+byte_is b = grind arith
 
 pub overflow_add-new : goal.overflow_add-new
 overflow_add-new g c =
@@ -36,11 +36,7 @@ operations-preserved g c =
       finite = tt;
       way = one_counted (g.A.Join.content c.args.archive.now) now next (into_iter_items c.into_iter-operation-iterator.result) left rest c.in-Some.operation at.new (at.new + c.from-new.result) at.invariant.way steps c.in_ok-changed.ensures.taken (ap (λ n. at.new + n) more);
       content = content_with now next c.in-Some.operation at.invariant.content (search rules) c.in_ok-changed.ensures.taken;
-      long =
-          let was : into_iter_len at.operation-iterator ≡ length left = at.invariant.long in
-          let gone = c.in-Some.ensures.steps.1 in
-          let short : length left ≡ length (c.in-Some.operation ∷ rest) = ap length steps in
-          omega arith;
+      long = omega (arith, at.invariant.long, c.in-Some.ensures.steps.1, ap length steps);
     }
 
 pub returns-in_err-changed-clause-taken : goal.returns-in_err-changed-clause-taken
@@ -49,12 +45,11 @@ returns-in_err-changed-clause-taken g c =
     let old = g.A.Join.content c.args.archive.now in
     let new = g.A.Join.content c.take.new.self in
     let part = taken_in_part old (g.A.Join.content c.operations.archive) new (into_iter_items c.into_iter-operation-iterator.result) (into_iter_items c.operations.operation-iterator) c.operations.invariant.content c.operations.invariant.way.way c.in_err-changed.ensures.refused in
-    rw p.1 (subst (λ (all : List Operation). IsTakenInPart old (map record_bytes all) new) c.into_iter-operation-iterator.ensures.into_iter_gives.0 part)
+    rw (p.1, ← c.into_iter-operation-iterator.ensures.into_iter_gives.0) part
 
 -- where none is left, each was taken, and those that were new are counted
 all_taken : (old now : Operations) (all left given : List Operation) (new : ℕ) → IsCounted old now all left new → length left ≡ 0 → all ≡ given → (now ≡ with_records old (map record_bytes given)) × (new ≡ new_among old (map record_bytes given))
-all_taken old now all [] given new at none is = rw (sym is) (at.way.content, all_counted old now all [] new at none)
-all_taken old now all (x ∷ xs) given new at none is = absurd (omega arith)
+all_taken old now all left given new at none is = let done = rw (nil_from_length left none) at at.way.content in rw (← is) (done, all_counted old now all left new at none)
 
 pub returns-clause-taken : goal.returns-clause-taken
 returns-clause-taken g c =

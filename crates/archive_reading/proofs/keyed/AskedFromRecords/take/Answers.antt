@@ -2,7 +2,7 @@ use Rattle.std.proofs.Common.{Some, ap, arith, length, sym, ◌∙◌}
 use Rattle.archive_core.specs.Content.{with_record}
 use Rattle.archive_reading.specs.InnerKeys.{front_of}
 use Rattle.archive_records.proofs.Forms.{long-admission}
-use Rattle.archive_reading.proofs.Gathered.{OnOk-then}
+use Rattle.std.proofs.lemmas.Result.{on_ok_weaker}
 use Rattle.archive_reading.proofs.Questioned.{admission_held, admission_other, asked_before, lent_admits, lent_retires, retirement_more}
 use Rattle.archive_reading.proofs.keyed.AskedFromRecords.take.Goals as goal
 
@@ -31,7 +31,7 @@ returns-then-not-is_next g c = λ questions records apart asked.
     passed.passed (sym (rw c.last.ensures at c.is_next.ensures) ∙ c.if-not-is_next.true)
 
 pub returns : goal.returns
-returns g c = OnOk-then c.take_record.result c.take_record.ensures (λ more questions records apart asked.
+returns g c = on_ok_weaker c.take_record.result (λ more questions records apart asked.
     let last = c.args.reader.now.last in
     let told = c.record-record.ensures in
     let passed = rw c.last.ensures at c.in_ok-answer_passed.ensures in
@@ -39,4 +39,4 @@ returns g c = OnOk-then c.take_record.result c.take_record.ensures (λ more ques
     admission_held (g.Q.Questions.left now.questions) (λ o. g.Q.Questions.answered questions o now.questions) (g.A.Join.content now.held) records last
     (lent_admits last c.in-Admit.field-0 (rw c.in-Admit.is at told.operation) (rw c.in-Admit.is at told.bytes))
     (passed.asked questions records (asked_before (g.Q.Questions.left c.args.self.now.questions) (λ o. g.Q.Questions.answered questions o c.args.self.now.questions) (g.A.Join.content c.args.self.now.held) records (Some (front_of last)) asked))
-    passed.passed (sym (rw c.last.ensures at c.is_next.ensures) ∙ c.if-not-is_next.false) apart (g.A.Join.content c.take_record.new.archive) (more ∙ ap (with_record (g.A.Join.content now.held)) told.bytes))
+    passed.passed (sym (rw c.last.ensures at c.is_next.ensures) ∙ c.if-not-is_next.false) apart (g.A.Join.content c.take_record.new.archive) (more ∙ ap (with_record (g.A.Join.content now.held)) told.bytes)) c.take_record.ensures

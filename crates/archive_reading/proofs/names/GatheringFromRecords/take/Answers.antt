@@ -5,7 +5,7 @@ use Rattle.archive_core.specs.Summary.{entry}
 use Rattle.archive_core.proofs.Entries.{retirement_entry}
 use Rattle.archive_records.specs.Entry.{entry_bytes}
 use Rattle.archive_reading.specs.InnerNames.{names_of}
-use Rattle.archive_reading.proofs.Gathered.{OnOk-then}
+use Rattle.std.proofs.lemmas.Result.{on_ok_weaker}
 use Rattle.archive_reading.proofs.Gatherings.{admitted_more, retired_more, rows_more, rows_same}
 use Rattle.archive_reading.proofs.Questioned.{lent_admits, lent_retires}
 use Rattle.archive_reading.proofs.names.GatheringFromRecords.take.Goals as goal
@@ -22,7 +22,7 @@ returns-in-Retire c = λ start records apart is.
     )
 
 pub returns : goal.returns
-returns c = OnOk-then c.push_names.result c.push_names.ensures (λ grown start records apart is.
+returns c = on_ok_weaker c.push_names.result (λ grown start records apart is.
     let last = c.args.reader.now.last in
     let before = map owned_name_view c.args.self.now.found.rows.items in
     let record_is = c.record-record.ensures in
@@ -31,4 +31,4 @@ returns c = OnOk-then c.push_names.result c.push_names.ensures (λ grown start r
       is.0,
       rows_more start.name.now records last _ before _ (more ∙ ap (λ (n : List ℕ). before ++ names_of n last) is.0) is.1,
       admitted_more records last _ _ admits is.2,
-    ))
+    )) c.push_names.ensures

@@ -1,7 +1,5 @@
-use Rattle.std.proofs.Common.{ℕ, List, [], ◌∷◌, ◌++◌, refl, ap, sym, subst, ◌∙◌}
+use Rattle.std.proofs.Common.{refl, ap, sym, ◌∙◌}
 use Rattle.std.specs.FinSet.{contains, from_list}
-use Rattle.sorted_archive.specs.InnerTaking.{IsParting}
-use Rattle.archive_core.specs.declared.operations.Operation.{Operation}
 use Rattle.archive_core.specs.declared.operations.Operation.TheVariants.{Admit}
 use Rattle.sorted_archive.proofs.Parted.{admission_passed, admission_put}
 use Rattle.archive_core.proofs.Entries.{covering_admission}
@@ -19,6 +17,6 @@ returns-then-covered c old all rest parting =
 pub returns : goal.returns
 returns c old all rest parting =
     let tells = rw c.lend-lent.ensures at c.covers-covered.ensures.covers in
-    subst (λ (items : List Operation). IsParting old all rest items c.args.self.now.retirements.items (from_list c.args.seen.now)) (sym (c.in_ok-push.ensures.items ∙ ap (λ (slice : List ℕ). c.args.self.now.admissions.items ++ Admit slice ∷ []) c.keep.ensures))
+    rw (c.in_ok-push.ensures.items, c.keep.ensures)
     (admission_put old all rest c.args.self.now.admissions.items c.args.self.now.retirements.items (from_list c.args.seen.now) (Admit c.args.slice) parting refl c.bytes-bytes.ensures.valid
     (ap (contains (from_list c.args.seen.now)) (covering_admission c.args.slice c.bytes-bytes.ensures.valid) ∙ sym tells ∙ c.if-covered.false))

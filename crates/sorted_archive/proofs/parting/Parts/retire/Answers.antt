@@ -1,11 +1,10 @@
-use Rattle.std.proofs.Common.{◌≡◌, true, refl, ap, sym, subst, ◌∙◌}
+use Rattle.std.proofs.Common.{◌≡◌, true, refl, ap, sym, ◌∙◌}
+use Rattle.std.proofs.lemmas.Bool.{not-false}
 use Rattle.std.specs.FinSet as set
 use Rattle.std.specs.FinSet.{contains, from_list}
 use Rattle.archive_core.specs.Record.{record_bytes}
-use Rattle.archive_core.specs.Content.{Operations}
-use Rattle.sorted_archive.specs.InnerTaking.{IsParting}
 use Rattle.archive_core.specs.declared.operations.Operation.TheVariants.{Retire}
-use Rattle.sorted_archive.proofs.Parted.{retirement_passed, retirement_put, parting_as, not_false}
+use Rattle.sorted_archive.proofs.Parted.{retirement_passed, retirement_put, parting_as}
 use Rattle.sorted_archive.proofs.parting.Parts.retire.Goals as goal
 
 pub returns-then-not-first : goal.returns-then-not-first
@@ -13,9 +12,8 @@ returns-then-not-first c old all rest parting =
     let kept = c.in_ok-first.ensures.kept ∙ ap (set.insert (from_list c.args.seen.now)) c.retirement_bytes.ensures in
     let seen = from_list c.args.seen.now in
     let retired = record_bytes (Retire c.args.key c.args.digest) in
-    let known : contains seen retired ≡ true = not_false (contains seen retired) (sym (rw c.retirement_bytes.ensures at c.in_ok-first.ensures.first) ∙ c.if-not-first.true) in
-    subst (λ (s : Operations). IsParting old all rest c.args.self.now.admissions.items c.args.self.now.retirements.items s) (sym kept)
-    (retirement_passed old all rest c.args.self.now.admissions.items c.args.self.now.retirements.items seen (Retire c.args.key c.args.digest) parting refl known)
+    let known : contains seen retired ≡ true = not-false (contains seen retired) (sym (rw c.retirement_bytes.ensures at c.in_ok-first.ensures.first) ∙ c.if-not-first.true) in
+    rw kept (retirement_passed old all rest c.args.self.now.admissions.items c.args.self.now.retirements.items seen (Retire c.args.key c.args.digest) parting refl known)
 
 pub returns : goal.returns
 returns c old all rest parting =

@@ -1,10 +1,9 @@
-use Rattle.std.proofs.Common.{rules, ◌≡◌, ◌≤◌, ℕ, List, true, false, sym, ◌∙◌, ap, arith, length, map, subst, refl}
+use Rattle.std.proofs.Common.{rules, ◌≡◌, ◌≤◌, ℕ, List, true, false, sym, ◌∙◌, ap, length, map, subst, refl}
 use Rattle.std.proofs.Math.ListN.{length-map}
 use Rattle.std.specs.Ordering.{nat_cmp}
 use Rattle.std.specs.Cmp.Lexicographic.{slice_cmp, nat_list_cmp_total}
 use Rattle.std.specs.List.{insert as insert_at}
 use Rattle.std.specs.FinSet as set
-use Rattle.join_core.specs.InnerSearch.{IsPlaceFor}
 use Rattle.join_core.specs.Listing.{listing}
 use Rattle.join_core.proofs.Listing.{listing_ascending}
 use Rattle.archive_core.specs.Content.{is_covered, IsMade}
@@ -21,17 +20,12 @@ use Rattle.sorted_archive.proofs.plain.PlainArchive.admit_at.Goals as goal
 -- the list of what a plain archive holds is that of its operations
 placed_within : (items : List Operation) (o : set.FinSet (slice_cmp nat_cmp)) (index : ℕ) → IsHeld items → set.from_list (map record_bytes items) ≡ o → index ≤ length items → index ≤ length (listing o)
 placed_within items o index held is within =
-    let listed : listing (set.from_list {R = slice_cmp nat_cmp} (map record_bytes items)) ≡ map record_bytes items = listing_ascending nat_list_cmp_total bytes_same (map record_bytes items) held.ascending in
-    let long : length (map record_bytes items) ≡ length items = length-map items record_bytes in
-    subst (λ s. index ≤ length (listing s)) is (omega (arith, ap length listed, long, within))
+    rw (← is, listing_ascending nat_list_cmp_total bytes_same (map record_bytes items) held.ascending, length-map items record_bytes) within
 
 placed_listing : (items : List Operation) (o new : set.FinSet (slice_cmp nat_cmp)) (index : ℕ) (slice : List ℕ) → IsHeld items → set.from_list (map record_bytes items) ≡ o → IsHeld (insert_at items index (Admit slice))
     → new ≡ set.from_list (map record_bytes (insert_at items index (Admit slice))) → listing new ≡ insert_at (listing o) index (admission_record slice)
 placed_listing items o new index slice held is held_new new_is =
-    ap listing new_is
-    ∙ listing_ascending nat_list_cmp_total bytes_same (map record_bytes (insert_at items index (Admit slice))) held_new.ascending
-    ∙ map_insert items index (Admit slice)
-    ∙ ap (λ rs. insert_at rs index (admission_record slice)) (sym (listing_ascending nat_list_cmp_total bytes_same (map record_bytes items) held.ascending) ∙ ap listing is)
+    rw (new_is, listing_ascending nat_list_cmp_total bytes_same (map record_bytes (insert_at items index (Admit slice))) held_new.ascending, map_insert items index (Admit slice), ← is, listing_ascending nat_list_cmp_total bytes_same (map record_bytes items) held.ascending) refl
 
 pub returns-then-retires-clause-taken : goal.returns-then-retires-clause-taken
 returns-then-retires-clause-taken c =
@@ -86,13 +80,9 @@ returns-in_ok-insert-in-Err-clause-place c =
     let items = c.self.inside.operations.items in
     let index = c.in-Err.index in
     let free : is_covered o (admission_record slice) ≡ false = covered_slice o slice c.retires.ensures.valid ∙ rw (c.of-lent.ensures, c.deref.ensures.value, c.self.view_is) at (sym c.retires.ensures.retires ∙ c.if-retires.false) in
-    let absent : IsPlaceFor (slice_cmp nat_cmp) (map record_bytes items) (admission_record slice) index = rw (← c.deref-2.ensures.value) c.in-Err.ensures.found.absent in
-    let covered : is_covered (set.from_list {R = slice_cmp nat_cmp} (map record_bytes items)) (admission_record slice) ≡ false = rw c.self.view_is free in
-    let held = held_admission items index slice c.self.invariant c.retires.ensures.valid absent covered in
-    let more = c.in_ok-insert-in-Err.ensures.items in
-    let within : index ≤ length items = rw (← c.deref-2.ensures.value) c.in-Err.ensures.bound in
-    let missing : set.contains o (admission_record slice) ≡ false = rw (← c.self.view_is, ← c.deref-2.ensures.value) c.in-Err.ensures.found.absent.absent in rw (← c.keep_digest.ensures) (
-      new_changes o (admission_record slice) missing free,
-      placed_within items o index c.self.invariant c.self.view_is within,
-      placed_listing items o _ index slice c.self.invariant c.self.view_is held (ap (λ xs. set.from_list {R = slice_cmp nat_cmp} (map record_bytes xs)) more),
+    let held = held_admission items index slice c.self.invariant c.retires.ensures.valid (rw (← c.deref-2.ensures.value) c.in-Err.ensures.found.absent) (rw c.self.view_is free) in
+    rw (← c.keep_digest.ensures) (
+      new_changes o (admission_record slice) (rw (← c.self.view_is, ← c.deref-2.ensures.value) c.in-Err.ensures.found.absent.absent) free,
+      placed_within items o index c.self.invariant c.self.view_is (rw (← c.deref-2.ensures.value) c.in-Err.ensures.bound),
+      placed_listing items o _ index slice c.self.invariant c.self.view_is held (ap (λ xs. set.from_list {R = slice_cmp nat_cmp} (map record_bytes xs)) c.in_ok-insert-in-Err.ensures.items),
     )

@@ -1,5 +1,5 @@
-use Rattle.std.proofs.Common.{refl, sym, subst, take, ◌+◌}
-use Rattle.sorted_archive.specs.InnerScan.{held_among, IsAnsweringOf}
+use Rattle.std.proofs.Common.{refl, take}
+use Rattle.sorted_archive.specs.InnerScan.{held_among}
 use Rattle.sorted_archive.proofs.Lookups.{one_more, none_more}
 use Rattle.sorted_archive.proofs.plain.PlainArchive.answering.Goals.{in-Some, in_default}
 use Rattle.sorted_archive.proofs.plain.PlainArchive.answering.Goals as goal
@@ -14,12 +14,11 @@ operations-preserved c =
     let i = c.operations.operation-index in
     let a = c.operation-item.result in
     let before = held_among c.args.key.now c.args.dsym (take i operations) in
-    let after = held_among c.args.key.now c.args.dsym (take (i + 1) operations) in
     elim c.match-held.branch [
       | in-Some w ↦
           let grown = one_more c.args.key.now c.args.dsym operations i a c.operations-test.true c.operation-item.is c.held.result w.in-Some.slice c.held.ensures w.in-Some.is in
-          subst (λ f. IsAnsweringOf f after) (sym w.answering-is) (subst (IsAnsweringOf w.and-answering.result) (sym grown) (w.and-answering.ensures before c.operations.invariant))
+          rw (w.answering-is, grown) (w.and-answering.ensures before c.operations.invariant)
       | in_default w ↦
           let same = none_more c.args.key.now c.args.dsym operations i a c.operations-test.true c.operation-item.is c.held.result c.held.ensures w.in_default.is in
-          subst (λ f. IsAnsweringOf f after) (sym w.answering-is) (subst (IsAnsweringOf c.operations.answering) (sym same) c.operations.invariant)
+          rw (w.answering-is, same) c.operations.invariant
     ]

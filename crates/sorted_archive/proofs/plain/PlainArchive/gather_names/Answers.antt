@@ -1,4 +1,4 @@
-use Rattle.std.proofs.Common.{◌++◌, ap, sym, ◌∙◌, map}
+use Rattle.std.proofs.Common.{ap, sym, map}
 use Rattle.std.proofs.lemmas.List.{map-append}
 use Rattle.archive_core.specs.Names.{name_view}
 use Rattle.sorted_archive.specs.InnerNames.{names_among}
@@ -11,8 +11,5 @@ operations-init c = ap (map name_view) c.new-rows.ensures.items
 
 pub operations-preserved : goal.operations-preserved
 operations-preserved c =
-    let more = c.in_ok-more.more.items in
-    ap (map name_view) c.in_ok-append.ensures.items
-    ∙ map-append name_view c.operations.rows.items more
-    ∙ (λ j. c.operations.invariant j ++ c.in_ok-more.ensures j)
-    ∙ sym (names_more c.args.name.now c.args.operations.now c.operations.operation-index c.operation-item.result c.operations-test.true c.operation-item.is)
+    rw (c.in_ok-append.ensures.items, map-append name_view c.operations.rows.items c.in_ok-more.more.items, c.operations.invariant, c.in_ok-more.ensures)
+    (sym (names_more c.args.name.now c.args.operations.now c.operations.operation-index c.operation-item.result c.operations-test.true c.operation-item.is))

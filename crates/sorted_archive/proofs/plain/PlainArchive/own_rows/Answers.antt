@@ -1,6 +1,4 @@
-use Rattle.std.proofs.Common.{sym, subst, ap, map, take, ◌∙◌}
-use Rattle.std.specs.List.{AllZip}
-use Rattle.archive_core.specs.Lookup.{IsOwnRow, own_row}
+use Rattle.std.proofs.Common.{ap, take, ◌∙◌}
 use Rattle.sorted_archive.specs.InnerScan.{held_among}
 use Rattle.sorted_archive.proofs.Lookups.{one_more, none_more, rows_more}
 use Rattle.sorted_archive.proofs.plain.PlainArchive.own_rows.Goals.{in-Some+in_ok-push, in_default}
@@ -20,10 +18,8 @@ operations-preserved c =
     elim c.match-held.branch [
       | in-Some+in_ok-push w ↦
           let grown = one_more c.args.key.now c.args.dsym operations i a c.operations-test.true c.operation-item.is c.held.result w.in-Some.slice c.held.ensures w.in-Some.is in
-          subst (λ slices. AllZip (IsOwnRow c.args.asked) slices (map own_row rows)) (sym grown)
-          (rows_more c.args.asked before c.operations.rows.items rows w.in-Some.slice w.row.result c.operations.invariant w.row.ensures (ap (λ v. v.items) w.rows-is ∙ w.in_ok-push.ensures.items))
+          rw grown (rows_more c.args.asked before c.operations.rows.items rows w.in-Some.slice w.row.result c.operations.invariant w.row.ensures (ap (λ v. v.items) w.rows-is ∙ w.in_ok-push.ensures.items))
       | in_default w ↦
           let same = none_more c.args.key.now c.args.dsym operations i a c.operations-test.true c.operation-item.is c.held.result c.held.ensures w.in_default.is in
-          subst (λ slices. AllZip (IsOwnRow c.args.asked) slices (map own_row rows)) (sym same)
-          (subst (λ items. AllZip (IsOwnRow c.args.asked) before (map own_row items)) (sym (ap (λ v. v.items) w.rows-is)) c.operations.invariant)
+          rw (same, w.rows-is) c.operations.invariant
     ]

@@ -1,8 +1,6 @@
-use Rattle.std.proofs.Common.{◌≡◌, ◌∷◌, List, length, map, refl, ap, subst, arith, rules}
-use Rattle.std.specs.Vec.Iter.{into_iter_items, into_iter_len}
+use Rattle.std.proofs.Common.{◌≡◌, ◌∷◌, List, length, refl, ap, arith, rules}
+use Rattle.std.specs.Vec.Iter.{into_iter_items}
 use Rattle.std.proofs.lemmas.Result.{err_from_is_err_and}
-use Rattle.archive_core.specs.Content.{IsTakenInPart}
-use Rattle.archive_core.specs.Record.{record_bytes}
 use Rattle.archive_core.specs.declared.operations.Operation.{Operation}
 use Rattle.sorted_archive.proofs.Held.{content_with}
 use Rattle.archive_core.proofs.Taken.{at_first, one_taken, taken_in_part}
@@ -22,15 +20,11 @@ operations-preserved c =
       finite = tt;
       way = one_taken c.args.self.now at.self c.take.new.self (into_iter_items c.into_iter-operation-iterator.result) left rest c.in-Some.operation at.invariant.way steps c.in_ok-take.ensures.taken;
       content = content_with at.self c.take.new.self c.in-Some.operation at.invariant.content (search rules) c.in_ok-take.ensures.taken;
-      long =
-          let was : into_iter_len at.operation-iterator ≡ length left = at.invariant.long in
-          let gone = c.in-Some.ensures.steps.1 in
-          let short : length left ≡ length (c.in-Some.operation ∷ rest) = ap length steps in
-          omega arith;
+      long = omega (arith, at.invariant.long, c.in-Some.ensures.steps.1, ap length steps);
     }
 
 pub returns-in_err-take : goal.returns-in_err-take
 returns-in_err-take c =
     let p = err_from_is_err_and c.from_residual.result c.from_residual.ensures.1 in
     let part = taken_in_part c.args.self.now c.operations.self c.take.new.self (into_iter_items c.into_iter-operation-iterator.result) (into_iter_items c.operations.operation-iterator) c.operations.invariant.content c.operations.invariant.way c.in_err-take.ensures.refused in
-    rw p.1 (subst (λ (all : List Operation). IsTakenInPart c.args.self.now (map record_bytes all) c.take.new.self) c.into_iter-operation-iterator.ensures.into_iter_gives.0 part)
+    rw (p.1, ← c.into_iter-operation-iterator.ensures.into_iter_gives.0) part

@@ -8,8 +8,8 @@ use Rattle.sorted_archive.specs.declared.range.RecordKind.TheVariants.{Admission
 use Rattle.sorted_archive.proofs.Ranges.{live_under}
 use Rattle.sorted_archive.proofs.plain.PlainArchiveArchive.lookup.Goals as goal
 
-pub returns-in-Nothing-clause-answer : goal.returns-in-Nothing-clause-answer
-returns-in-Nothing-clause-answer c =
+pub returns-in-Nothing : goal.returns-in-Nothing
+returns-in-Nothing c =
     let o = c.args.self.now in
     let key = c.args.key.now in
     let operations = c.self.inside.operations.items in
@@ -17,22 +17,16 @@ returns-in-Nothing-clause-answer c =
     let under = c.under-admissions.ensures.range ∙ ap (filter (is_under_key Admission key)) c.deref.ensures.value in
     let none = sym (live_under key true operations) ∙ ap (held_among key true) (sym under) ∙ c.in-Nothing.ensures in
     let answering = images_answer o key operations c.self.invariant c.self.view_is c.under-admissions.ensures.key none in
-    IfOk-weaker c.answer_of.result (λ answer. IsAnswerOf c.args.asked slices (answer_view answer)) (λ answer. IsAnswer o key c.args.asked (answer_view answer))
-    (λ answer is. record { slices = slices; answering = answering; answer_is = is })
-    (rw (under, live_under key false operations) at c.answer_of.ensures.answer)
-
-pub returns-in-Nothing-clause-memory : goal.returns-in-Nothing-clause-memory
-returns-in-Nothing-clause-memory c =
-    let o = c.args.self.now in
-    let key = c.args.key.now in
-    let operations = c.self.inside.operations.items in
-    let slices = held_among key false operations in
-    let under = c.under-admissions.ensures.range ∙ ap (filter (is_under_key Admission key)) c.deref.ensures.value in
-    let none = sym (live_under key true operations) ∙ ap (held_among key true) (sym under) ∙ c.in-Nothing.ensures in
-    let answering = images_answer o key operations c.self.invariant c.self.view_is c.under-admissions.ensures.key none in
-    on_err_weaker c.answer_of.result
-    (λ (several : 2 ≤ length slices). record { slices = slices; answering = answering; several = several })
-    (rw (under, live_under key false operations) at c.answer_of.ensures.memory)
+    record {
+      answer =
+          IfOk-weaker c.answer_of.result (λ answer. IsAnswerOf c.args.asked slices (answer_view answer)) (λ answer. IsAnswer o key c.args.asked (answer_view answer))
+          (λ answer is. record { slices = slices; answering = answering; answer_is = is })
+          (rw (under, live_under key false operations) at c.answer_of.ensures.answer);
+      memory =
+          on_err_weaker c.answer_of.result
+          (λ (several : 2 ≤ length slices). record { slices = slices; answering = answering; several = several })
+          (rw (under, live_under key false operations) at c.answer_of.ensures.memory);
+    }
 
 pub returns-in_default : goal.returns-in_default
 returns-in_default c =
