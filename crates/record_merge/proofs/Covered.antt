@@ -1,6 +1,6 @@
 -- What of ascending records is written: those that no retirement among them covers.
-use Rattle.std.proofs.Common.{◌≡◌, ◌≢◌, ℕ, Bool, true, false, ◌&&◌, ◌||◌, List, [], ◌∷◌, ◌++◌, Option, refl, sym, ap, ◌∙◌, subst, inl, inr, ◌⊎◌}
-use Rattle.std.proofs.lemmas.Bool.{false≢true, cases_Bool}
+use Rattle.std.proofs.Common.{◌≡◌, ◌≢◌, ℕ, Bool, true, false, ◌&&◌, ◌||◌, List, [], ◌∷◌, ◌++◌, Option, refl, sym, ap, ◌∙◌, inl, inr}
+use Rattle.std.proofs.lemmas.Bool.{cases_Bool, or_cases, or_left, or_right}
 use Rattle.std.specs.FinSet.{contains}
 use Rattle.archive_core.specs.Content.{is_admission, key_and_digest, covering, is_covered}
 use Rattle.archive_records.specs.declared.format.Format.{Format}
@@ -16,7 +16,6 @@ use Rattle.record_merge.specs.MergeSteps.{Stands, Joins}
 use Rattle.archive_records.proofs.Apart.{in_set, from_set, and_first, and_second, both_true, is_false, one_test, covering_below, contains-push, covered_push, same_as}
 use Rattle.archive_records.proofs.Contents.{same_bytes}
 use Rattle.archive_records.proofs.Ascending.{below-trans, below-self, last_of-append}
-use Rattle.archive_records.proofs.Formats.{no_operations_text, no_summary_text}
 
 -- ---- what the sides' retirements cover
 
@@ -27,14 +26,14 @@ not_same q y other = is_false (same_as q y) (λ h. other (sym (same_bytes q y h)
 pub retired_of : (f : Format) → kind_of f ≡ Archive_text → (retired records : List (List ℕ)) → AreRetired f retired records → RetireAlike (set_of retired) (set_of records)
 retired_of Archive k retired records are = are
 retired_of OldArchive k retired records are = are
-retired_of Operations_file k retired records are = absurd (no_operations_text k)
-retired_of Summary_file k retired records are = absurd (no_summary_text k)
+retired_of Operations_file k retired records are = cc
+retired_of Summary_file k retired records are = cc
 
 dropped_of : (f : Format) → kind_of f ≡ Archive_text → (dropped : Bool) (records : List (List ℕ)) → DropsLast f dropped records → dropped ≡ is_covered (set_of records) (last_of [] records)
 dropped_of Archive k dropped records is = is
 dropped_of OldArchive k dropped records is = is
-dropped_of Operations_file k dropped records is = absurd (no_operations_text k)
-dropped_of Summary_file k dropped records is = absurd (no_summary_text k)
+dropped_of Operations_file k dropped records is = cc
+dropped_of Summary_file k dropped records is = cc
 
 -- whether its own retirements cover the last record of a side is what its reader tells
 pub dropped_own : (f : Format) → kind_of f ≡ Archive_text → (dropped : Bool) (mine : List (List ℕ)) (x : List ℕ) → DropsLast f dropped (mine ++ x ∷ []) → dropped ≡ is_covered (set_of mine) x
@@ -50,23 +49,12 @@ module _ (a b : Option (List ℕ)) (done : List (List ℕ)) (low : List ℕ) (s 
   pub retired_is : s.ahead ≢ Unread → (s.ahead ≡ Held → s.reader.last ≡ 1 ∷ q → ⊥) → contains (set_of s.reader.retired) (1 ∷ q) ≡ contains (set_of done) (1 ∷ q)
   retired_is read other = retired_by s.ahead refl read other
 
-pub or_cases : (a b : Bool) → (a || b) ≡ true → (a ≡ true) ⊎ (b ≡ true)
-or_cases true b e = inl refl
-or_cases false b e = inr e
-
-pub or_left : (a b : Bool) → a ≡ true → (a || b) ≡ true
-or_left a b e = ap (λ (x : Bool). x || b) e
-
-pub or_right : (a b : Bool) → b ≡ true → (a || b) ≡ true
-or_right true b e = refl
-or_right false b e = e
-
 -- what covers a record that is not above what the side holds is a retirement that it has read
 pub covered_by : (a b : Option (List ℕ)) (done : List (List ℕ)) (low : List ℕ) (s : MergeInput) (x : List ℕ) → Stands a b done low s → s.ahead ≢ Unread → (s.ahead ≡ Held → may_follow Archive x s.reader.last ≡ true)
     → is_covered (set_of s.reader.retired) x ≡ is_covered (set_of done) x
 covered_by a b done low s x p read above = elim (cases_Bool (is_admission x)) [
-  | inl t ↦ ap (λ c. is_admission x && c) (retired_is a b done low s p (key_and_digest x) read (λ held e. false≢true (sym (below-self x) ∙ below-trans x (covering x) x (subst (λ (y : List ℕ). may_follow Archive x y ≡ true) e (above held)) (covering_below x t))))
-  | inr f ↦ ap (λ c. c && contains (set_of s.reader.retired) (covering x)) f ∙ sym (ap (λ c. c && contains (set_of done) (covering x)) f)
+  | inl t ↦ ap (λ c. is_admission x && c) (retired_is a b done low s p (key_and_digest x) read (λ held e. cc (below-self x, below-trans x (covering x) x (rw (← e) (above held)) (covering_below x t))))
+  | inr f ↦ rw f
 ]
 
 -- what covers the record that is next is a retirement of either side

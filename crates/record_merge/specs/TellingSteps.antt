@@ -49,9 +49,9 @@ is_withdrawn o p r = is_covered p r && not (is_covered o r)
 pub record Telling (a1 b1 a2 b2 w0 w1 : Option (List ℕ)) (m : Sides) (turns : List Turn) (withdraws : Bool)
     : Type 0 where
   pub merging : Merging a1 b1 a2 b2 w0 w1 m
-  pub turns_are : turns ≡ map (turn_of (set_of merging.lefts)) merging.rights
+  pub turns_are : turns ≡ map (turn_of (set_of merging.both.lefts)) merging.both.rights
   pub withdraws_is : withdraws
-      ≡ list_any (is_withdrawn (set_of merging.lefts) (set_of merging.rights)) merging.lefts
+      ≡ list_any (is_withdrawn (set_of merging.both.lefts) (set_of merging.both.rights)) merging.both.lefts
 
 -- What a call makes of such a merge, of the inputs and the output before it and after it, and of what is told.
 abbrev pub TellsOn : {T : Type 0} → Option (List ℕ) → Option (List ℕ) → Option (List ℕ) → Option (List ℕ)

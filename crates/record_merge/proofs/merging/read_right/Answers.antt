@@ -17,7 +17,7 @@ returns-in-Ok-clause-telling g c = λ a1 b1 a2 w0 w1 told withdraws t.
 pub returns-in-Err-clause-merging : goal.returns-in-Err-clause-merging
 returns-in-Err-clause-merging g c = λ b1 w1 a1 a2 w0 p.
     let right = c.in-Err.ensures in
-    right_stops a1 a2 w0 w1 b1 _ _ (sides_of c.args.m.now) p c.requires.read (side_with c.args.m.now.shared c.read_on.new.self) c.in-Err.fault c.right_refused.result c.right_refused.ensures c.requires.fits.left_few (λ done low s. right.stands a2 done low s)
+    right_stops a1 a2 w0 w1 b1 _ _ (sides_of c.args.m.now) p c.requires.read (side_with c.args.m.now.shared c.read_on.new.self) c.in-Err.fault c.right_refused.result c.right_refused.ensures c.requires.fits.left_few right.unread (λ done low s. right.stands a2 done low s)
 
 pub returns-in-Err-clause-blames : goal.returns-in-Err-clause-blames
 returns-in-Err-clause-blames g c =
