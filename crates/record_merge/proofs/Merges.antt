@@ -1,11 +1,11 @@
 -- From the bytes that a merge took to whole inputs.
-use Rattle.std.proofs.Common.{◌≡◌, ℕ, ◌+◌, ◌^◌, length-take-le, take, ◌<◌, List, [], ◌∷◌, ◌++◌, length, Option, Some, None, Result, Ok, Err, refl, sym, ap, ◌∙◌, subst, arith, inl, inr, length-append}
+use Rattle.std.proofs.Common.{append_assoc, ◌≡◌, ℕ, ◌+◌, ◌^◌, length-take-le, take, ◌<◌, List, [], ◌∷◌, ◌++◌, length, Option, Some, None, Result, Ok, Err, refl, sym, ap, ◌∙◌, subst, arith, inl, inr, length-append, IfErr, IfSome}
 use Rattle.record_merge.specs.declared.side.Lookahead.TheVariants.{Held}
 use Rattle.record_merge.specs.declared.side.MergeInput.{MergeInput}
 use Rattle.archive_records.specs.Front.{front_length}
-use Rattle.std.specs.Prelude.{IfErr, IfSome}
+use Rattle.std.specs.List.{concat}
 use Rattle.std.specs.FinSet as set
-use Rattle.std.specs.Io.KnownBytes.{IsAtEnd, Appends}
+use Rattle.std.specs.Io.KnownBytes.{Consumes, IsAtEnd, Appends}
 use Rattle.join_core.specs.Listing.{listing}
 use Rattle.byte_device.specs.Writes.{WritesFirst}
 use Rattle.archive_core.specs.Content.{Operations, IsContent, joined}
@@ -18,13 +18,14 @@ use Rattle.archive_records.specs.declared.format.Format.{Format}
 use Rattle.archive_records.specs.declared.format.Format.TheVariants.{Archive}
 use Rattle.archive_records.specs.declared.kind.TextKind.TheVariants.{Archive as Archive_text}
 use Rattle.archive_records.specs.declared.writing.Sizes.{Sizes}
-use Rattle.archive_records.specs.Kind.{magic_of, kind_of}
-use Rattle.archive_records.specs.Text.{text_of, last_of, written, kept, taken_of, InOrder, IsArchiveOf}
+use Rattle.archive_records.specs.Kind.{magic, magic_of, kind_of}
+use Rattle.archive_records.specs.Text.{end_record, text_of, last_of, written, kept, taken_of, InOrder, IsArchiveOf}
 use Rattle.archive_records.specs.Fault.{IsOfText}
 use Rattle.archive_records.specs.Reading.{Blames, IsOfMachine, IsReadWhole}
 use Rattle.archive_records.specs.Reader.{HasReadAll, HasStopped, Position}
-use Rattle.record_merge.specs.Merging.{IsArchiveText, AreGoodRecords, LeftStops, RightStops, of_both, IsWrittenBefore, IsMerged, IsRefusedAlone, IsUnfailed, StopsBy, Merges}
+use Rattle.record_merge.specs.Merging.{IsArchiveText, AreGoodRecords, LeftStops, RightStops, of_both, IsMerged, IsRefusedAlone, IsUnfailed, StopsBy, Merges}
 use Rattle.byte_device.specs.Devices.{Stream, stream}
+use Rattle.byte_device.proofs.Known.{Appends-then}
 use Rattle.archive_records.proofs.FaultKinds.{memory_blames}
 use Rattle.record_merge.specs.Sides.{Sides}
 use Rattle.record_merge.specs.MergeSteps.{LeftTold, RightTold, StopsMerge, Merging, Stands, WriteStopped, memory_behind, Leaves, MergedAll, BlamesBy, BlamesDevices}
@@ -32,13 +33,13 @@ use Rattle.archive_records.proofs.Puts.{length_written, concat-push}
 use Rattle.record_merge.proofs.MergeSteps.{first_greater, first_held}
 use Rattle.archive_records.proofs.Apart.{apart_front}
 use Rattle.archive_records.proofs.Undecided.{cut_behind}
-use Rattle.record_merge.proofs.Starts.{memory_stops}
+use Rattle.record_merge.proofs.Starts.{memory_stopped, memory_stops}
 use Rattle.record_merge.proofs.Unread.{text_none}
 use Rattle.record_merge.proofs.Orders.{left_order, right_order}
 use Rattle.archive_records.proofs.Contents.{written_text}
 use Rattle.archive_records.proofs.Inputs.{IsReadTo, read_whole as text_read, refused}
 use Rattle.record_merge.proofs.Fronts.{taken_rest, both_taken}
-use Rattle.record_merge.proofs.Places.{kept_listing, begun, begun_all, begun_none, begun_whole, no_magic, left_begun, left_place, left_first, right_begun, right_place, right_first, write_begun, left_later, right_later, full_begun}
+use Rattle.record_merge.proofs.Places.{Later, Place, kept_listing, begun, begun_all, begun_none, begun_whole, no_magic, left_begun, left_place, left_first, right_begun, right_place, right_first, write_begun, left_later, right_later, full_begun}
 
 -- ---- one input
 
@@ -69,16 +70,9 @@ held_stopped : (a b : Option (List ℕ)) (done : List (List ℕ)) (low : List �
 held_stopped a b done low s fault p held few is =
     let h = (p.held held).0 in
     let short : length done + 1 < 2 ^ 63 = omega (arith, few, h.count_is, length-append done (s.reader.last ∷ [])) in
-    rw is (inr (s.reader.file, p.archive, done, record {
-      rest = s.reader.last;
-      taken = rw (← concat-push done s.reader.last) h.taken;
-      ordered = front_in s.reader.file [] done s.reader.last h.ordered;
-      apart = apart_front s.reader.file done (s.reader.last ∷ []) h.apart;
-      few = omega (arith, short);
-      unended = λ known. absurd (known.1 refl);
-      stops = inl (refl, λ known. absurd (known refl));
-      undecided = λ _. cut_behind s.reader.file done s.reader.last h.ordered h.apart (omega (arith, short));
-    }))
+    let taken : Consumes a b (magic_of s.reader.file ++ (concat done ++ s.reader.last)) = rw (← concat-push done s.reader.last) h.taken in
+    let cut = cut_behind s.reader.file done s.reader.last h.ordered h.apart (omega (arith, short)) in
+    inr (s.reader.file, p.archive, done, memory_stopped s.reader.file a b done s.reader.last fault taken (front_in s.reader.file [] done s.reader.last h.ordered) (apart_front s.reader.file done (s.reader.last ∷ []) h.apart) (omega (arith, short)) is cut)
 
 -- ---- both
 
@@ -89,18 +83,12 @@ module _ (w0 w1 : Option (List ℕ)) (n : ℕ) where
   abbrev Begins : List ℕ → List ℕ → List (List ℕ) → List (List ℕ) → Type 0
   Begins t u xs ys = WritesFirst w0 w1 (written (of_both xs ys)) n
 
-  abbrev Place : List ℕ → List ℕ → List (List ℕ) → List (List ℕ) → List ℕ → Type 0
-  Place t u xs ys low = (bytes : List ℕ) × IsWrittenBefore t u (of_both xs ys) low bytes × Appends w0 w1 bytes × (n ≡ length bytes)
-
-  abbrev Later : List ℕ → List ℕ → List (List ℕ) → List (List ℕ) → List ℕ → Type 0
-  Later t u xs ys low = (bytes : List ℕ) × IsWrittenBefore t u (of_both xs ys) low bytes × WritesFirst w0 w1 bytes n
-
   -- what is said of a side that stopped, where its text is known: that it stops the merge, if that is known, and where
   module _ (known : Type 0) (Stops : List ℕ → List ℕ → List (List ℕ) → List (List ℕ) → Type 0) (ends : List (List ℕ) → List (List ℕ) → List (List ℕ)) where
     abbrev Told : List ℕ → List ℕ → List (List ℕ) → List (List ℕ) → Type 0
-    Told t u xs ys = (known → Stops t u xs ys × Place t u xs ys (last_of [] (ends xs ys))) × Begins t u xs ys
+    Told t u xs ys = (known → Stops t u xs ys × Place t u w0 w1 xs ys n (last_of [] (ends xs ys))) × Begins t u xs ys
 
-    parts : (a1 a2 : Option (List ℕ)) → ForBoth a1 a2 Told → (known → ForBoth a1 a2 Stops) × (known → ForBoth a1 a2 (λ t u xs ys. Place t u xs ys (last_of [] (ends xs ys)))) × ForBoth a1 a2 Begins
+    parts : (a1 a2 : Option (List ℕ)) → ForBoth a1 a2 Told → (known → ForBoth a1 a2 Stops) × (known → ForBoth a1 a2 (λ t u xs ys. Place t u w0 w1 xs ys n (last_of [] (ends xs ys)))) × ForBoth a1 a2 Begins
     parts None a2 told = (λ k. tt, λ k. tt, tt)
     parts (Some t) None told = (λ k. tt, λ k. tt, tt)
     parts (Some t) (Some u) told = (λ k xs ys gx gy. ((told xs ys gx gy).0 k).0, λ k xs ys gx gy. ((told xs ys gx gy).0 k).1, λ xs ys gx gy. (told xs ys gx gy).1)
@@ -158,7 +146,7 @@ module _ (b1 b2 w0 w1 : Option (List ℕ)) (n : ℕ) where
 
   -- ---- the writer did
 
-  write_told : (a1 a2 : Option (List ℕ)) → WriteStopped a1 b1 a2 b2 w0 w1 n → ForBoth a1 a2 (Begins w0 w1 n) × ForBoth a1 a2 (λ t u xs ys. LeftStops t u xs ys → Later w0 w1 n t u xs ys (last_of [] xs)) × ForBoth a1 a2 (λ t u xs ys. RightStops t u xs ys → Later w0 w1 n t u xs ys (last_of [] ys))
+  write_told : (a1 a2 : Option (List ℕ)) → WriteStopped a1 b1 a2 b2 w0 w1 n → ForBoth a1 a2 (Begins w0 w1 n) × ForBoth a1 a2 (λ t u xs ys. LeftStops t u xs ys → Later t u w0 w1 xs ys n (last_of [] xs)) × ForBoth a1 a2 (λ t u xs ys. RightStops t u xs ys → Later t u w0 w1 xs ys n (last_of [] ys))
   write_told None a2 s = (tt, tt, tt)
   write_told (Some t) None s = (tt, tt, tt)
   write_told (Some t) (Some u) s = (λ xs ys gx gy. write_begun t u b1 b2 w0 w1 xs ys gx gy n s, λ xs ys gx gy. left_later t u b1 b2 w0 w1 xs ys gx gy n s, λ xs ys gx gy. right_later t u b1 b2 w0 w1 xs ys gx gy n s)
@@ -185,10 +173,14 @@ module _ (a1 b1 a2 b2 w0 w1 : Option (List ℕ)) (n : ℕ) where
   written_by (Right fault) (inl s) = none s.0 s.1
   written_by (Right fault) (inr (inl s)) = stood b1 s.0.before s.0.sides s.0.merging s.0.written_is
   written_by (Right fault) (inr (inr f)) = stood b1 b2 f.0.sides f.0.merging f.0.written_is
-  written_by Write s = (s.out, s.both.joins.ordered, elim s.within [
-    | inl lt ↦ begun_whole w0 w1 (kept s.out) n (omega (arith, lt), s.gained)
-    | inr e ↦ record { within = e.2; gained = s.gained }
-  ])
+  written_by Write s = (
+    s.out,
+    s.both.joins.ordered,
+    elim s.within [
+      | inl lt ↦ begun_whole w0 w1 (kept s.out) n (omega (arith, lt), s.gained)
+      | inr e ↦ record { within = e.2; gained = s.gained }
+    ],
+  )
 
 -- so many bytes
 pub counted : (a1 b1 a2 b2 w0 w1 : Option (List ℕ)) (r : Result Sizes MergeFault) → Leaves a1 b1 a2 b2 w0 w1 r → IfErr r (λ e. (bytes : List ℕ) × Appends w0 w1 bytes × (e.written ≡ length bytes))
@@ -220,25 +212,30 @@ module _ {R S W : Type 0} (left : Stream R) (right : Stream S) (out : Stream W) 
 
   unfoldable pub merged : (sizes : Sizes) → MergedAll (left.bytes left.old) (left.bytes left.new) (right.bytes right.old) (right.bytes right.new) (out.bytes out.old) (out.bytes out.new) sizes → IsUnfailed left × IsUnfailed right × IsUnfailed out → IsMerged left right out sizes
   merged sizes m unfailed =
-      let f : Format = m.left.reader.file in
-      let g : Format = m.right.reader.file in
-      let l = m.left_read.0 in
-      let r = m.right_read.0 in
-      let o : Operations = set.from_list (taken_of f m.lefts) in
-      let p : Operations = set.from_list (taken_of g m.rights) in
-      let join : joined o p ≡ of_both m.lefts m.rights = sym (both_taken f g m.left_archive m.right_archive m.lefts m.rights l.ordered l.apart r.ordered r.apart) in
-      let whole : listing (joined o p) ≡ kept m.out = ap listing join ∙ kept_listing m.lefts m.rights m.out m.joins in
-      let text : text_of Archive (kept m.out) ≡ written (joined o p) = sym (written_text (joined o p) ∙ ap (text_of Archive) whole) in
+      let both = m.merging.both in
+      let out_records : List (List ℕ) = kept m.merging.out in
+      let f : Format = m.sides.left.reader.file in
+      let g : Format = m.sides.right.reader.file in
+      let l = both.left.ended m.ended.left in
+      let r = both.right.ended m.ended.right in
+      let o : Operations = set.from_list (taken_of f both.lefts) in
+      let p : Operations = set.from_list (taken_of g both.rights) in
+      let join : joined o p ≡ of_both both.lefts both.rights = sym (both_taken f g both.left.archive both.right.archive both.lefts both.rights l.0.ordered l.0.apart r.0.ordered r.0.apart) in
+      let whole : listing (joined o p) ≡ out_records = ap listing join ∙ kept_listing both.lefts both.rights m.merging.out both.joins in
+      let number : m.sides.written.records ≡ set.len (joined o p) = m.merging.records ∙ ap length (sym whole) ∙ length_written (joined o p) in
+      let front : List ℕ = magic ++ concat out_records in
+      let end : List ℕ = end_record m.sides.written.records in
+      let text : front ++ end ≡ written (joined o p) = append_assoc magic (concat out_records) end ∙ ap (λ (n : ℕ). magic ++ (concat out_records ++ end_record n)) m.merging.records ∙ sym (written_text (joined o p) ∙ ap (text_of Archive) whole) in
       record {
         o = o;
         p = p;
-        left_is = read_whole left f m.left_archive m.lefts m.left.reader l m.left_read.1 unfailed.0;
-        right_is = read_whole right g m.right_archive m.rights m.right.reader r m.right_read.1 unfailed.1;
-        few = subst (λ (n : ℕ). n < 2 ^ 63) (ap length (sym whole) ∙ length_written (joined o p)) m.few;
+        left_is = read_whole left f both.left.archive both.lefts m.sides.left.reader l.0 l.1 unfailed.0;
+        right_is = read_whole right g both.right.archive both.rights m.sides.right.reader r.0 r.1 unfailed.1;
+        few = subst (λ (n : ℕ). n < 2 ^ 63) number m.ended.fits.few;
         written_is = record {
-          written = subst (Appends (out.bytes out.old) (out.bytes out.new)) text m.gained;
-          records_are = m.records ∙ ap length (sym whole) ∙ length_written (joined o p);
-          bytes_are = m.bytes ∙ ap length text;
+          written = subst (Appends (out.bytes out.old) (out.bytes out.new)) text (Appends-then (out.bytes out.old) m.before (out.bytes out.new) front end m.merging.gained m.gained);
+          records_are = m.records ∙ number;
+          bytes_are = omega (arith, m.bytes, m.merging.bytes, ap length text, length-append front end, length-append magic (concat out_records));
           unfailed = unfailed.2;
         };
       }

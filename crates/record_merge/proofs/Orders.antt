@@ -1,8 +1,6 @@
 -- What was taken of the sides of a merge where one of them stopped it.
-use Rattle.std.proofs.Common.{◌≡◌, ◌≢◌, ℕ, ◌+◌, true, false, List, [], ◌∷◌, ◌++◌, length, Option, refl, sym, ap, ◌∙◌, subst, arith, inl, inr, ◌⊎◌, length-append}
+use Rattle.std.proofs.Common.{◌≡◌, ◌≢◌, ℕ, ◌+◌, true, false, List, [], ◌∷◌, ◌++◌, length, Option, refl, sym, ap, ◌∙◌, subst, arith, inl, inr, ◌⊎◌, length-append, Less, Equal, Greater, Ordering}
 use Rattle.std.proofs.lemmas.List.{append-nil}
-use Rattle.std.specs.declared.cmp.Ordering.TheVariants.{Less, Equal, Greater}
-use Rattle.std.specs.declared.cmp.Ordering.{Ordering}
 use Rattle.std.specs.Ordering.{nat_cmp, ordering_reverse}
 use Rattle.std.specs.Cmp.Lexicographic.{slice_cmp, nat_list_cmp_total}
 use Rattle.std.specs.FinSet as set
@@ -158,7 +156,7 @@ module _ {W : Type 0} (out : Stream W) (os lefts rights : List (List ℕ)) (n : 
 
 module _ {R S W : Type 0} (left : Stream R) (right : Stream S) (out : Stream W) (n : ℕ) (fault : RecordFault) where
   -- of the bytes that they took and gave
-  abbrev Of : (Option (List ℕ) → Option (List ℕ) → Option (List ℕ) → Option (List ℕ) → Option (List ℕ) → Option (List ℕ) → RecordFault → ℕ → Type 0) → Type 0
+  abbrev Of : ((a1 b1 a2 b2 w0 w1 : Option (List ℕ)) → RecordFault → ℕ → Type 0) → Type 0
   Of P = P (left.bytes left.old) (left.bytes left.new) (right.bytes right.old) (right.bytes right.new) (out.bytes out.old) (out.bytes out.new) fault n
 
   left_behind : Of LeftStopped → IsLeftBehind left right out fault n

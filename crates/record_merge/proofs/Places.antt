@@ -120,10 +120,8 @@ up_to-none low (x ∷ xs) h = rw (h x (here x xs)) (up_to-none low xs (λ z c. h
 
 up_to_is : (out more us : List (List ℕ)) → us ≡ kept out ++ more → InOrder Archive [] out → IsAbove (last_of [] out) more → up_to (last_of [] out) us ≡ kept out
 up_to_is out more us e b above =
-    let low : List ℕ = last_of [] out in
-    ap (up_to low) e ∙ filter-append (λ r. not (may_follow Archive low r)) (kept out) more
-    ∙ ap (λ (t : List (List ℕ)). t ++ up_to low more) (up_to-all low (kept out) (λ z c. up_to_last [] z out b (from_kept out z c)))
-    ∙ ap (λ (t : List (List ℕ)). kept out ++ t) (up_to-none low more above) ∙ append-nil (kept out)
+    let written = up_to-all (last_of [] out) (kept out) (λ z c. up_to_last [] z out b (from_kept out z c)) in
+    rw (e, filter-append (λ r. not (may_follow Archive (last_of [] out) r)) (kept out) more, written, up_to-none (last_of [] out) more above) (append-nil (kept out))
 
 -- ---- beginnings of its text
 
@@ -207,10 +205,15 @@ module _ (t low : List ℕ) (b : Option (List ℕ)) (done xs : List (List ℕ)) 
 
 -- ---- both texts are known
 
-module _ (t u : List ℕ) (b1 b2 w0 w1 : Option (List ℕ)) (xs ys : List (List ℕ)) (gx : AreGoodRecords t xs) (gy : AreGoodRecords u ys) (n : ℕ) where
-  abbrev Place : List ℕ → Type 0
-  Place low = (bytes : List ℕ) × IsWrittenBefore t u (of_both xs ys) low bytes × Appends w0 w1 bytes × (n ≡ length bytes)
+-- what was written where the side that ends with `low` stops the merge
+abbrev pub Place : (t u : List ℕ) (w0 w1 : Option (List ℕ)) (xs ys : List (List ℕ)) (n : ℕ) (low : List ℕ) → Type 0
+Place t u w0 w1 xs ys n low = (bytes : List ℕ) × IsWrittenBefore t u (of_both xs ys) low bytes × Appends w0 w1 bytes × (n ≡ length bytes)
 
+-- no side had stopped the merge
+abbrev pub Later : (t u : List ℕ) (w0 w1 : Option (List ℕ)) (xs ys : List (List ℕ)) (n : ℕ) (low : List ℕ) → Type 0
+Later t u w0 w1 xs ys n low = (bytes : List ℕ) × IsWrittenBefore t u (of_both xs ys) low bytes × WritesFirst w0 w1 bytes n
+
+module _ (t u : List ℕ) (b1 b2 w0 w1 : Option (List ℕ)) (xs ys : List (List ℕ)) (gx : AreGoodRecords t xs) (gy : AreGoodRecords u ys) (n : ℕ) where
   -- both go on above what was written
   module _ (out lefts rights : List (List ℕ)) (joins : Joins out lefts rights) (l : GoesAbove (last_of [] out) lefts xs) (r : GoesAbove (last_of [] out) rights ys) where
     both_more : (more : List (List ℕ)) × (listing (of_both xs ys) ≡ kept out ++ more) × IsAbove (last_of [] out) more
@@ -220,7 +223,7 @@ module _ (t u : List ℕ) (b1 b2 w0 w1 : Option (List ℕ)) (xs ys : List (List 
     both_begun g = begun w0 w1 (kept out) n g (of_both xs ys) both_more.0 both_more.1
 
     -- What was written is the text of its first records. The side that stopped ends with the last of these.
-    both_place : n ≡ 8 + length (concat (kept out)) → Appends w0 w1 (magic ++ concat (kept out)) → HasMagic t → HasMagic u → (low : List ℕ) → low ≡ last_of [] out → Place low
+    both_place : n ≡ 8 + length (concat (kept out)) → Appends w0 w1 (magic ++ concat (kept out)) → HasMagic t → HasMagic u → (low : List ℕ) → low ≡ last_of [] out → Place t u w0 w1 xs ys n low
     both_place is gained left right low low_is =
         let whole : up_to low (listing (of_both xs ys)) ≡ kept out = ap (λ (x : List ℕ). up_to x (listing (of_both xs ys))) low_is ∙ up_to_is out both_more.0 (listing (of_both xs ys)) both_more.1 joins.ordered both_more.2 in
         (magic ++ concat (kept out), inr (left, right, ap (λ (x : List (List ℕ)). magic ++ concat x) (sym whole)), gained, omega (arith, is, length-append magic (concat (kept out))))
@@ -228,62 +231,59 @@ module _ (t u : List ℕ) (b1 b2 w0 w1 : Option (List ℕ)) (xs ys : List (List 
   -- ---- the left side stopped
 
   module _ (fault : RecordFault) (s : LeftStopped (Some t) b1 (Some u) b2 w0 w1 fault n) where
-    abbrev left_both : Both (Some t) s.before (Some u) b2 s.sides.left s.sides.right s.merging.out
-    left_both = s.merging.both
+    left_above : GoesAbove (last_of [] s.merging.out) s.merging.both.lefts xs
+    left_above = stopped_above t (last_of [] s.merging.out) s.before s.merging.both.lefts xs s.sides.left s.merging.both.left gx b1 fault s.unread s.left
 
-    left_above : GoesAbove (last_of [] s.merging.out) left_both.lefts xs
-    left_above = stopped_above t (last_of [] s.merging.out) s.before left_both.lefts xs s.sides.left left_both.left gx b1 fault s.unread s.left
-
-    other_right : GoesOn u (last_of [] s.merging.out) left_both.rights ys s.sides.right.ahead
-    other_right = side_goes u (last_of [] s.merging.out) b2 left_both.rights ys s.sides.right left_both.right gy
+    other_right : GoesOn u (last_of [] s.merging.out) s.merging.both.rights ys s.sides.right.ahead
+    other_right = side_goes u (last_of [] s.merging.out) b2 s.merging.both.rights ys s.sides.right s.merging.both.right gy
 
     pub left_begun : WritesFirst w0 w1 (written (of_both xs ys)) n
-    left_begun = both_begun s.merging.out left_both.lefts left_both.rights left_both.joins left_above other_right.above (begun_all w0 w1 (kept s.merging.out) n (s.written_is ∙ s.merging.bytes) s.merging.gained)
+    left_begun = both_begun s.merging.out s.merging.both.lefts s.merging.both.rights s.merging.both.joins left_above other_right.above (begun_all w0 w1 (kept s.merging.out) n (s.written_is ∙ s.merging.bytes) s.merging.gained)
 
     module _ (known : IsOfText fault.kind) (ended : fault.kind ≡ Truncated → IsAtEnd b1) where
       low_left : last_of [] xs ≡ last_of [] s.merging.out
-      low_left = stopped_last t (last_of [] s.merging.out) s.before left_both.lefts xs s.sides.left left_both.left gx b1 fault s.unread s.left known ended
+      low_left = stopped_last t (last_of [] s.merging.out) s.before s.merging.both.lefts xs s.sides.left s.merging.both.left gx b1 fault s.unread s.left known ended
 
       magic_right : HasMagic u
-      magic_right = side_begins u (last_of [] s.merging.out) b2 left_both.rights s.sides.right left_both.right
+      magic_right = side_begins u (last_of [] s.merging.out) b2 s.merging.both.rights s.sides.right s.merging.both.right
 
-      pub left_place : Place (last_of [] xs)
-      left_place = both_place s.merging.out left_both.lefts left_both.rights left_both.joins left_above other_right.above (s.written_is ∙ s.merging.bytes) s.merging.gained (side_begins t (last_of [] s.merging.out) s.before left_both.lefts s.sides.left left_both.left) magic_right (last_of [] xs) low_left
+      pub left_place : Place t u w0 w1 xs ys n (last_of [] xs)
+      left_place = both_place s.merging.out s.merging.both.lefts s.merging.both.rights s.merging.both.joins left_above other_right.above (s.written_is ∙ s.merging.bytes) s.merging.gained (side_begins t (last_of [] s.merging.out) s.before s.merging.both.lefts s.sides.left s.merging.both.left) magic_right (last_of [] xs) low_left
 
       pub left_first : (IsArchiveText t → ⊥) → LeftStops t u xs ys
       left_first faulty = record {
         faulty = faulty;
-        first = inr (magic_right, elim other_right.place [
-          | inl a ↦ inl a
-          | inr (inl e) ↦ inr (λ b. cc (below-self (last_of [] s.merging.out), e.1, low_left, b))
-          | inr (inr a) ↦ inr (λ b. cc (below-back (last_of [] s.merging.out) (last_of [] ys) a, low_left, b))
-        ]);
+        first = inr (
+          magic_right,
+          elim other_right.place [
+            | inl a ↦ inl a
+            | inr (inl e) ↦ inr (λ b. cc (below-self (last_of [] s.merging.out), e.1, low_left, b))
+            | inr (inr a) ↦ inr (λ b. cc (below-back (last_of [] s.merging.out) (last_of [] ys) a, low_left, b))
+          ],
+        );
       }
 
   -- ---- the right side did
 
   module _ (fault : RecordFault) (s : RightStopped (Some t) b1 (Some u) b2 w0 w1 fault n) where
-    abbrev right_both : Both (Some t) b1 (Some u) s.before s.sides.left s.sides.right s.merging.out
-    right_both = s.merging.both
+    right_above : GoesAbove (last_of [] s.merging.out) s.merging.both.rights ys
+    right_above = stopped_above u (last_of [] s.merging.out) s.before s.merging.both.rights ys s.sides.right s.merging.both.right gy b2 fault s.unread s.right
 
-    right_above : GoesAbove (last_of [] s.merging.out) right_both.rights ys
-    right_above = stopped_above u (last_of [] s.merging.out) s.before right_both.rights ys s.sides.right right_both.right gy b2 fault s.unread s.right
-
-    other_left : GoesOn t (last_of [] s.merging.out) right_both.lefts xs s.sides.left.ahead
-    other_left = side_goes t (last_of [] s.merging.out) b1 right_both.lefts xs s.sides.left right_both.left gx
+    other_left : GoesOn t (last_of [] s.merging.out) s.merging.both.lefts xs s.sides.left.ahead
+    other_left = side_goes t (last_of [] s.merging.out) b1 s.merging.both.lefts xs s.sides.left s.merging.both.left gx
 
     pub right_begun : WritesFirst w0 w1 (written (of_both xs ys)) n
-    right_begun = both_begun s.merging.out right_both.lefts right_both.rights right_both.joins other_left.above right_above (begun_all w0 w1 (kept s.merging.out) n (s.written_is ∙ s.merging.bytes) s.merging.gained)
+    right_begun = both_begun s.merging.out s.merging.both.lefts s.merging.both.rights s.merging.both.joins other_left.above right_above (begun_all w0 w1 (kept s.merging.out) n (s.written_is ∙ s.merging.bytes) s.merging.gained)
 
     module _ (known : IsOfText fault.kind) (ended : fault.kind ≡ Truncated → IsAtEnd b2) where
       low_right : last_of [] ys ≡ last_of [] s.merging.out
-      low_right = stopped_last u (last_of [] s.merging.out) s.before right_both.rights ys s.sides.right right_both.right gy b2 fault s.unread s.right known ended
+      low_right = stopped_last u (last_of [] s.merging.out) s.before s.merging.both.rights ys s.sides.right s.merging.both.right gy b2 fault s.unread s.right known ended
 
       magic_left : HasMagic t
-      magic_left = side_begins t (last_of [] s.merging.out) b1 right_both.lefts s.sides.left right_both.left
+      magic_left = side_begins t (last_of [] s.merging.out) b1 s.merging.both.lefts s.sides.left s.merging.both.left
 
-      pub right_place : Place (last_of [] ys)
-      right_place = both_place s.merging.out right_both.lefts right_both.rights right_both.joins other_left.above right_above (s.written_is ∙ s.merging.bytes) s.merging.gained magic_left (side_begins u (last_of [] s.merging.out) s.before right_both.rights s.sides.right right_both.right) (last_of [] ys) low_right
+      pub right_place : Place t u w0 w1 xs ys n (last_of [] ys)
+      right_place = both_place s.merging.out s.merging.both.lefts s.merging.both.rights s.merging.both.joins other_left.above right_above (s.written_is ∙ s.merging.bytes) s.merging.gained magic_left (side_begins u (last_of [] s.merging.out) s.before s.merging.both.rights s.sides.right s.merging.both.right) (last_of [] ys) low_right
 
       pub right_first : (IsArchiveText u → ⊥) → RightStops t u xs ys
       right_first faulty = record {
@@ -323,17 +323,13 @@ module _ (t u : List ℕ) (b1 b2 w0 w1 : Option (List ℕ)) (xs ys : List (List 
               record { within = omega (arith, e.2, ap length whole); gained = subst (λ (x : List ℕ). Appends w0 w1 (take n x)) whole s.gained }
         ]
 
-    -- no side had stopped the merge
-    abbrev Later : List ℕ → Type 0
-    Later low = (bytes : List ℕ) × IsWrittenBefore t u (of_both xs ys) low bytes × WritesFirst w0 w1 bytes n
-
     -- what was to be written is not above the last good record of a side that is no text
     reached : (v low : List ℕ) (ahead : Lookahead) → (IsArchiveText v → ⊥) → IsArchiveText v ⊎ (((ahead ≡ Unread) × (low ≡ last_of [] s.out)) ⊎ (may_follow Archive (last_of [] s.out) low ≡ true)) → (z : List ℕ) → Contains (kept s.out) z → may_follow Archive low z ≡ false
     reached v low ahead faulty (inl text) z c = absurd (faulty text)
     reached v low ahead faulty (inr (inl e)) z c = rw e.1 (up_to_last [] z s.out s.both.joins.ordered (from_kept s.out z c))
     reached v low ahead faulty (inr (inr above)) z c = is_false (may_follow Archive low z) (λ h. cc (up_to_last [] z s.out s.both.joins.ordered (from_kept s.out z c), below-trans (last_of [] s.out) low z above h))
 
-    is_later : (low : List ℕ) → ((z : List ℕ) → Contains (kept s.out) z → may_follow Archive low z ≡ false) → n < 8 + length (concat (kept s.out)) → Later low
+    is_later : (low : List ℕ) → ((z : List ℕ) → Contains (kept s.out) z → may_follow Archive low z ≡ false) → n < 8 + length (concat (kept s.out)) → Later t u w0 w1 xs ys n low
     is_later low up lt =
         let f = left_goes s.out s.left_side s.right_side s.both in
         let g = right_goes s.out s.left_side s.right_side s.both in
@@ -343,13 +339,13 @@ module _ (t u : List ℕ) (b1 b2 w0 w1 : Option (List ℕ)) (xs ys : List (List 
           begun_before w0 w1 (kept s.out) n (omega (arith, lt), s.gained) (of_both xs ys) m.0 low m.1 up lt,
         )
 
-    pub left_later : LeftStops t u xs ys → Later (last_of [] xs)
+    pub left_later : LeftStops t u xs ys → Later t u w0 w1 xs ys n (last_of [] xs)
     left_later stops = elim s.within [
       | inl lt ↦ is_later (last_of [] xs) (reached t (last_of [] xs) s.left_side.ahead stops.faulty (left_goes s.out s.left_side s.right_side s.both).place) lt
       | inr e ↦ absurd (stops.faulty (ended_text t (last_of [] s.out) b1 s.both.lefts s.left_side s.both.left e.0))
     ]
 
-    pub right_later : RightStops t u xs ys → Later (last_of [] ys)
+    pub right_later : RightStops t u xs ys → Later t u w0 w1 xs ys n (last_of [] ys)
     right_later stops = elim s.within [
       | inl lt ↦ is_later (last_of [] ys) (reached u (last_of [] ys) s.right_side.ahead stops.faulty (right_goes s.out s.left_side s.right_side s.both).place) lt
       | inr e ↦ absurd (stops.faulty (ended_text u (last_of [] s.out) b2 s.both.rights s.right_side s.both.right e.1))

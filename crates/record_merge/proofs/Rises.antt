@@ -1,6 +1,6 @@
 -- Nothing is lost just where the new archive is above the old one.
 use Rattle.std.proofs.Common.{◌≡◌, ◌↔◌, ℕ, ◌+◌, Bool, true, false, not, ◌&&◌, ◌||◌, List, [], ◌∷◌, refl, sym, ap, ◌∙◌, arith, cond, count_by, inl, inr}
-use Rattle.std.proofs.lemmas.Bool.{and_parts, cases_Bool, not-false, or_left, or_right}
+use Rattle.std.proofs.lemmas.Bool.{not-false}
 use Rattle.std.proofs.lemmas.List.Sums.{sum_by-cons}
 use Rattle.std.specs.List.{Contains}
 use Rattle.std.specs.FinSet.{contains}
@@ -8,7 +8,6 @@ use Rattle.join_core.specs.Listing.{listing}
 use Rattle.archive_core.specs.Content.{Operations, is_admission, covering, is_covered, IsBelow, changes}
 use Rattle.archive_core.proofs.Members.{in_cons, in_front, in_rest}
 use Rattle.archive_records.proofs.Contents.{members_listed}
-use Rattle.archive_records.proofs.Apart.{both_true}
 
 -- ---- a count is zero just where no member is counted
 
@@ -38,24 +37,22 @@ not_lost : (new : Operations) (r : List ℕ) → (changes new r ≡ false) ↔ (
 unfolding changes
 not_lost new r = (not-false (contains new r || is_covered new r), ap not)
 
-or_is : (a b c : Bool) → (b ≡ true → c ≡ true) → (a || b) ≡ true → (a || c) ≡ true
-or_is a b c f e = grind arith
-
 first_of : (a b c : Bool) → b ≡ false → (a || (b && c)) ≡ true → a ≡ true
 first_of a b c n e = grind arith
+
+either_of : (a b c : Bool) → (a || (b && c)) ≡ true → (a || c) ≡ true
+either_of a b c e = grind arith
+
+above_by : (a n c o : Bool) → (a ≡ false → n ≡ true) → (o ≡ true → c ≡ true) → (a ≡ true → o ≡ false → (n || c) ≡ true)
+    → (n || (a && c)) ≡ true
+above_by a n c o other gone live = grind arith
 
 -- a record of the old archive is there or covered, a covered one by its retirement, which is there too
 kept_above : (new old : Operations) → IsBelow old new → (r : List ℕ) → contains old r ≡ true
     → (contains new r || is_covered new r) ≡ true
-kept_above new old below r has = elim (cases_Bool (is_admission r)) [
-  | inr other ↦ or_left (contains new r) (is_covered new r) (below.retirements r other has)
-  | inl is ↦ elim (cases_Bool (contains old (covering r))) [
-    | inl gone ↦ or_right (contains new r) (is_covered new r)
-        (both_true (is_admission r) (contains new (covering r)) is (below.retirements (covering r) refl gone))
-    | inr live ↦ or_is (contains new r) (contains new (covering r)) (is_covered new r)
-        (both_true (is_admission r) (contains new (covering r)) is) (below.live r is has live)
-  ]
-]
+kept_above new old below r has = above_by (is_admission r) (contains new r) (contains new (covering r))
+    (contains old (covering r)) (λ other. below.retirements r other has)
+    (λ gone. below.retirements (covering r) refl gone) (λ is live. below.live r is has live)
 
 pub rises : (new old : Operations) → (count_by (changes new) (listing old) ≡ 0) ↔ IsBelow old new
 rises new old = (
@@ -64,8 +61,7 @@ rises new old = (
       λ r has. (not_lost new r).0 (none_is (changes new) (listing old) r none ((members_listed old r).1 has)) in
       record {
         retirements = λ r other has. first_of (contains new r) (is_admission r) (contains new (covering r)) other (kept r has);
-        live = λ r is has live. or_is (contains new r) (is_covered new r) (contains new (covering r))
-            (λ both. (and_parts (is_admission r) (contains new (covering r)) both).1) (kept r has);
+        live = λ r is has live. either_of (contains new r) (is_admission r) (contains new (covering r)) (kept r has);
       },
   λ below. is_none (changes new) (listing old)
       (λ r listed. (not_lost new r).1 (kept_above new old below r ((members_listed old r).0 listed))),

@@ -1,11 +1,9 @@
 -- Retirements that both sides hold, kept once.
-use Rattle.std.proofs.Common.{◌≡◌, ℕ, Bool, true, false, arith, List, [], ◌∷◌, ◌++◌, drop, Option, Some, sym, ap, ◌∙◌, subst}
+use Rattle.std.proofs.Common.{◌≡◌, ℕ, Bool, true, false, arith, List, [], ◌∷◌, ◌++◌, drop, Option, Some, sym, ap, ◌∙◌, subst, Ordering, Equal}
 use Rattle.std.proofs.lemmas.Bool.Decides.{nat_tests}
 use Rattle.std.proofs.lemmas.List.Elements.{Contains-push}
 use Rattle.std.specs.List.{Contains}
 use Rattle.std.specs.Ordering.{is_ne}
-use Rattle.std.specs.declared.cmp.Ordering.{Ordering}
-use Rattle.std.specs.declared.cmp.Ordering.TheVariants.{Equal}
 use Rattle.std.specs.Cmp.Lexicographic.{nat_list_cmp_total}
 use Rattle.std.specs.FinSet as set
 use Rattle.std.specs.FinSet.{contains, from_list_push}
@@ -26,6 +24,7 @@ use Rattle.record_merge.specs.MergeSteps.{Merging, Stands, first_of}
 use Rattle.record_merge.specs.TellingSteps.{Telling}
 use Rattle.record_merge.proofs.Covered.{retired_of}
 use Rattle.record_merge.proofs.MergeSteps.{first_equal}
+use Rattle.record_merge.proofs.Starts.{with_both}
 
 -- ---- the same retirements, kept elsewhere
 
@@ -97,20 +96,14 @@ has_own a b done low s q p held is =
 
 module _ (a1 b1 a2 b2 w0 w1 : Option (List ℕ)) (m : Sides) (p : Merging a1 b1 a2 b2 w0 w1 m) where
   abbrev merging_as : (lefts rights : List (List ℕ)) → set_of lefts ≡ set_of m.left.reader.retired → set_of rights ≡ set_of m.right.reader.retired → Merging a1 b1 a2 b2 w0 w1 (record { left = with_retired lefts m.left; right = with_retired rights m.right; written = m.written })
-  merging_as lefts rights left right = record {
-    out = p.out;
-    both = record {
-      lefts = p.both.lefts;
-      rights = p.both.rights;
-      left = stands_as a1 b1 p.both.lefts (last_of [] p.out) m.left lefts left p.both.left;
-      right = stands_as a2 b2 p.both.rights (last_of [] p.out) m.right rights right p.both.right;
-      order = p.both.order;
-      joins = p.both.joins;
-    };
-    records = p.records;
-    bytes = p.bytes;
-    gained = p.gained;
-  }
+  merging_as lefts rights left right = with_both a1 b1 b1 a2 b2 b2 w0 w1 m p (with_retired lefts m.left) (with_retired rights m.right) (record {
+    lefts = p.both.lefts;
+    rights = p.both.rights;
+    left = stands_as a1 b1 p.both.lefts (last_of [] p.out) m.left lefts left p.both.left;
+    right = stands_as a2 b2 p.both.rights (last_of [] p.out) m.right rights right p.both.right;
+    order = p.both.order;
+    joins = p.both.joins;
+  })
 
   -- a retirement that both sides hold is among those of each
   both_have : (r : List ℕ) → first_of m.left m.right ≡ Equal → retirement_in m.left.reader.last ≡ Some r → (contains (set_of m.left.reader.retired) r ≡ true) × (contains (set_of m.right.reader.retired) r ≡ true)

@@ -13,8 +13,8 @@ use Rattle.record_merge.specs.Sides.{Sides}
 use Rattle.record_merge.specs.declared.side.Lookahead.TheVariants.{Unread, Held}
 use Rattle.record_merge.specs.declared.side.MergeInput.{MergeInput}
 use Rattle.archive_records.specs.Kind.{magic, magic_of, kind_of, may_follow, IsItem, end_length}
-use Rattle.archive_records.specs.Text.{end_record, text_of, last_of, kept}
-use Rattle.archive_records.specs.Reader.{HasRead, Passes, Position, HasWhole, StoppedWith}
+use Rattle.archive_records.specs.Text.{end_record, text_of, last_of, kept, InOrder, AreApart}
+use Rattle.archive_records.specs.Reader.{HasRead, Passes, Position, HasWhole, Stopped, StoppedWith}
 use Rattle.archive_records.specs.declared.fault.RecordFault.{RecordFault}
 use Rattle.archive_records.proofs.Steps.{HasRead-grows}
 use Rattle.archive_records.proofs.Formats.{follows_of}
@@ -26,6 +26,8 @@ use Rattle.archive_records.proofs.FaultKinds.{memory_blames}
 use Rattle.archive_records.proofs.Forms.{item-framed, item-no_end}
 use Rattle.archive_records.proofs.Ends.{framed_end, end-is_end}
 use Rattle.archive_records.specs.declared.fault.RecordFaultKind.TheVariants.{OutOfMemory}
+use Rattle.archive_records.specs.Fault.{IsCutAtMost}
+use Rattle.archive_records.specs.Front.{front_length}
 use Rattle.archive_records.specs.Layout.{framed}
 use Rattle.archive_records.specs.Reading.{Blames}
 use Rattle.byte_device.specs.Devices.{FailedIn, Stream, stream}
@@ -114,6 +116,19 @@ pub told_right : {S : Type 0} (right : Stream S) (m : Sides) (fault : RecordFaul
 told_right right m fault e (inl (memory, both, is)) blames = rw is (refl, blames.1 (λ device. cc))
 told_right right m fault e (inr (alone, is)) blames = rw is blames
 
+-- memory was wanted behind these records
+abbrev pub memory_stopped : (f : Format) (a b : Option (List ℕ)) (done : List (List ℕ)) (rest : List ℕ) (fault : RecordFault) → Consumes a b (magic_of f ++ (concat done ++ rest)) → InOrder f [] done → AreApart f done → length done < 2 ^ 63 → fault ≡ memory_behind (front_length done) → IsCutAtMost f (magic_of f ++ (concat done ++ rest)) → Stopped f a b done fault
+memory_stopped f a b done rest fault taken ordered apart few is cut = record {
+  rest = rest;
+  taken = taken;
+  ordered = ordered;
+  apart = apart;
+  few = few;
+  unended = λ known. absurd (known.1 (ap (λ (t : RecordFault). t.kind) is));
+  stops = inl (ap (λ (t : RecordFault). t.offset) is, λ known. absurd (known (ap (λ (t : RecordFault). t.kind) is)));
+  undecided = λ _. cut;
+}
+
 -- want of memory blames no device
 module _ {R S : Type 0} (left : Stream R) (right : Stream S) where
   no_device : {D : Type 0} (device : Stream D) (fault : RecordFault) → fault.kind ≡ OutOfMemory → IsUnfailed device → Blames device.bytes device.failures device.old device.new fault.kind
@@ -143,6 +158,10 @@ blamed_later a f bytes h r0 r1 r2 s0 s1 s2 w0 w1 w2 Write r s w blames = (blames
 
 -- ---- both sides are read on
 
+-- the same was written where the sides stand otherwise
+abbrev pub with_both : (a1 b1 c1 a2 b2 c2 w0 w1 : Option (List ℕ)) (m : Sides) (p : Merging a1 b1 a2 b2 w0 w1 m) (left right : MergeInput) → Both a1 c1 a2 c2 left right p.out → Merging a1 c1 a2 c2 w0 w1 (record { left = left; right = right; written = m.written })
+with_both a1 b1 c1 a2 b2 c2 w0 w1 m p left right both = record { out = p.out; both = both; records = p.records; bytes = p.bytes; gained = p.gained }
+
 -- the left side was read on from where the merge stood
 module _ (a1 a2 w0 w1 b1 b2 c1 : Option (List ℕ)) (m : Sides) (p : Merging a1 b1 a2 b2 w0 w1 m) where
   -- and stopped
@@ -153,20 +172,14 @@ module _ (a1 a2 w0 w1 b1 b2 c1 : Option (List ℕ)) (m : Sides) (p : Merging a1 
       rw is (inl (record { before = b1; sides = m; merging = p; unread = unread; left = s.0.0; written_is = refl }))
 
   unfoldable pub left_read : (left : MergeInput) → left.ahead ≢ Unread → ((done : List (List ℕ)) (low : List ℕ) → Stands a1 b1 done low m.left → Stands a1 c1 done low left) → Merging a1 c1 a2 b2 w0 w1 (record { left = left; right = m.right; written = m.written })
-  left_read left read stands = record {
-    out = p.out;
-    both = record {
-      lefts = p.both.lefts;
-      rights = p.both.rights;
-      left = stands p.both.lefts (last_of [] p.out) p.both.left;
-      right = p.both.right;
-      order = λ t _. absurd (read t);
-      joins = p.both.joins;
-    };
-    records = p.records;
-    bytes = p.bytes;
-    gained = p.gained;
-  }
+  left_read left read stands = with_both a1 b1 c1 a2 b2 b2 w0 w1 m p left m.right (record {
+    lefts = p.both.lefts;
+    rights = p.both.rights;
+    left = stands p.both.lefts (last_of [] p.out) p.both.left;
+    right = p.both.right;
+    order = λ t _. absurd (read t);
+    joins = p.both.joins;
+  })
 
 -- and so was the right side behind it
 module _ (a1 a2 w0 w1 b1 b2 c2 : Option (List ℕ)) (m : Sides) (p : Merging a1 b1 a2 b2 w0 w1 m) (read : m.left.ahead ≢ Unread) where
@@ -192,20 +205,14 @@ module _ (a1 a2 w0 w1 b1 b2 c2 : Option (List ℕ)) (m : Sides) (p : Merging a1 
       ]
 
   unfoldable pub right_read : (right : MergeInput) → ((done : List (List ℕ)) (low : List ℕ) → Stands a2 b2 done low m.right → Stands a2 c2 done low right) → Merging a1 b1 a2 c2 w0 w1 (record { left = m.left; right = right; written = m.written })
-  right_read right stands = record {
-    out = p.out;
-    both = record {
-      lefts = p.both.lefts;
-      rights = p.both.rights;
-      left = p.both.left;
-      right = stands p.both.rights (last_of [] p.out) p.both.right;
-      order = λ t _. absurd (read t);
-      joins = p.both.joins;
-    };
-    records = p.records;
-    bytes = p.bytes;
-    gained = p.gained;
-  }
+  right_read right stands = with_both a1 b1 b1 a2 b2 c2 w0 w1 m p m.left right (record {
+    lefts = p.both.lefts;
+    rights = p.both.rights;
+    left = p.both.left;
+    right = stands p.both.rights (last_of [] p.out) p.both.right;
+    order = λ t _. absurd (read t);
+    joins = p.both.joins;
+  })
 
 -- ---- the magics
 

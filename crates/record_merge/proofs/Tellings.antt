@@ -1,8 +1,7 @@
 -- What a merge told of its sides, once it ended.
-use Rattle.std.proofs.Common.{◌≡◌, ℕ, Bool, not, ◌&&◌, List, [], ◌∷◌, ◌++◌, map, arith, Option, Some, None, refl, sym, ap, ◌∙◌, subst, inl, inr}
+use Rattle.std.proofs.Common.{◌≡◌, ℕ, Bool, not, ◌&&◌, List, [], ◌∷◌, ◌++◌, map, arith, Option, Some, None, refl, sym, ap, ◌∙◌, subst, inl, inr, IfSome}
 use Rattle.std.proofs.lemmas.List.{append-nil}
 use Rattle.std.specs.List.{filter, list_any}
-use Rattle.std.specs.Prelude.{IfSome}
 use Rattle.std.specs.Cmp.Lexicographic.{nat_list_cmp_total}
 use Rattle.std.specs.FinSet as set
 use Rattle.std.specs.Io.KnownBytes.{Consumes, IsAtEnd}
@@ -99,21 +98,22 @@ module _ {R S W : Type 0} (left : Stream R) (right : Stream S) (out : Stream W) 
       → IsUnfailed left × IsUnfailed right × IsUnfailed out → IsMergedTelling left right out sizes turns withdraws
   unfolding merged
   merged_telling t unfailed =
-      let m = t.merged in
-      let l = m.left_read.0 in
-      let r = m.right_read.0 in
-      let lefts_in : InOrder Archive [] m.lefts = in_order_of m.left.reader.file m.left_archive [] m.lefts l.ordered in
-      let rights_in : InOrder Archive [] m.rights = in_order_of m.right.reader.file m.right_archive [] m.rights r.ordered in
-      let taken : set_of (taken_of m.left.reader.file m.lefts) ≡ content_of (set_of m.lefts) = taken_made m.left.reader.file m.left_archive m.lefts lefts_in l.apart in
+      let m = t.merged.merging.both in
+      let f : Format = t.merged.sides.left.reader.file in
+      let l = m.left.ended t.merged.ended.left in
+      let r = m.right.ended t.merged.ended.right in
+      let lefts_in : InOrder Archive [] m.lefts = in_order_of f m.left.archive [] m.lefts l.0.ordered in
+      let rights_in : InOrder Archive [] m.rights = in_order_of t.merged.sides.right.reader.file m.right.archive [] m.rights r.0.ordered in
+      let taken : set_of (taken_of f m.lefts) ≡ content_of (set_of m.lefts) = taken_made f m.left.archive m.lefts lefts_in l.0.apart in
       record {
-        merged = merged left right out sizes m unfailed;
+        merged = merged left right out sizes t.merged unfailed;
         operations = set_of m.rights;
         are = are_records m.rights rights_in;
-        right_is = of_taken (right.bytes right.old) (right.bytes right.new) (set_of m.rights) (text_of m.right.reader.file m.rights) r.taken m.right_read.1 (of_text m.right.reader.file m.right_archive m.rights rights_in r.apart);
-        makes = taken_made m.right.reader.file m.right_archive m.rights rights_in r.apart;
+        right_is = of_taken (right.bytes right.old) (right.bytes right.new) (set_of m.rights) (text_of t.merged.sides.right.reader.file m.rights) r.0.taken r.1 (of_text t.merged.sides.right.reader.file m.right.archive m.rights rights_in r.0.apart);
+        makes = taken_made t.merged.sides.right.reader.file m.right.archive m.rights rights_in r.0.apart;
         turns_are = t.turns_are
-            ∙ same_answers (turn_of (set_of m.lefts)) (turn_of (set_of (taken_of m.left.reader.file m.lefts))) m.rights (λ x _. sym (turn_made (set_of m.lefts) x) ∙ ap (λ (o : Operations). turn_of o x) (sym taken))
-            ∙ ap (map (turn_of (set_of (taken_of m.left.reader.file m.lefts)))) (sym (listing_of m.rights rights_in));
+            ∙ same_answers (turn_of (set_of m.lefts)) (turn_of (set_of (taken_of f m.lefts))) m.rights (λ x _. sym (turn_made (set_of m.lefts) x) ∙ ap (λ (o : Operations). turn_of o x) (sym taken))
+            ∙ ap (map (turn_of (set_of (taken_of f m.lefts)))) (sym (listing_of m.rights rights_in));
         withdraws_is = t.withdraws_is ∙ withdrawn_kept m.lefts (set_of m.rights) lefts_in
             ∙ ap (λ (o : Operations). list_any (is_covered (set_of m.rights)) (listing o)) (sym taken);
       }
@@ -128,9 +128,13 @@ module _ (P : Operations → Operations → Type 0) where
   told_by o operations is (Some t) None alone has = tt
   told_by o operations is (Some t) (Some u) alone has = λ q p content text other. rw (← alone q content text, ← one_set u operations p has other) is
 
-module _ {R S W : Type 0} (left : Stream R) (right : Stream S) (out : Stream W) (sizes : Sizes) (turns : List Turn) (withdraws : Bool) (t : IsMergedTelling left right out sizes turns withdraws) where
+module _ {R S W : Type 0} (left : Stream R) (right : Stream S) (out : Stream W) (sizes : Sizes) (turns : List Turn) (withdraws : Bool) (told : ToldAll (left.bytes left.old) (left.bytes left.new) (right.bytes right.old) (right.bytes right.new) (out.bytes out.old) (out.bytes out.new) sizes turns withdraws) (unfailed : IsUnfailed left × IsUnfailed right × IsUnfailed out) where
   pub turns_of_texts : ToldOfTexts (λ o p. turns ≡ map (turn_of o) (listing p)) (left.bytes left.old) (right.bytes right.old)
-  turns_of_texts = told_by (λ o p. turns ≡ map (turn_of o) (listing p)) t.merged.o t.operations t.turns_are (left.bytes left.old) (right.bytes right.old) t.merged.left_is.alone t.right_is
+  turns_of_texts =
+      let t = merged_telling left right out sizes turns withdraws told unfailed in
+      told_by (λ o p. turns ≡ map (turn_of o) (listing p)) t.merged.o t.operations t.turns_are (left.bytes left.old) (right.bytes right.old) t.merged.left_is.alone t.right_is
 
   pub withdraws_of_texts : ToldOfTexts (λ o p. withdraws ≡ list_any (is_covered p) (listing o)) (left.bytes left.old) (right.bytes right.old)
-  withdraws_of_texts = told_by (λ o p. withdraws ≡ list_any (is_covered p) (listing o)) t.merged.o t.operations t.withdraws_is (left.bytes left.old) (right.bytes right.old) t.merged.left_is.alone t.right_is
+  withdraws_of_texts =
+      let t = merged_telling left right out sizes turns withdraws told unfailed in
+      told_by (λ o p. withdraws ≡ list_any (is_covered p) (listing o)) t.merged.o t.operations t.withdraws_is (left.bytes left.old) (right.bytes right.old) t.merged.left_is.alone t.right_is

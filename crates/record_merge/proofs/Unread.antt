@@ -1,7 +1,7 @@
 -- What a merge that is refused has written is no archive's text.
-use Rattle.std.proofs.Common.{◌≡◌, ℕ, ◌+◌, ◌<◌, Bool, true, false, List, [], ◌∷◌, ◌++◌, length, take, drop, Option, Some, None, refl, sym, ap, ◌∙◌, subst, arith, inl, inr, length-take, take-append-drop}
+use Rattle.std.proofs.Common.{◌≡◌, ℕ, ◌+◌, ◌<◌, List, [], ◌∷◌, ◌++◌, length, take, drop, Option, Some, None, refl, sym, ap, ◌∙◌, subst, arith, inl, inr, length-take, take-append-drop, IfSome}
+use Rattle.std.proofs.lemmas.Bool.{cases_Bool}
 use Rattle.std.proofs.lemmas.List.{append-nil, append_cancel_left}
-use Rattle.std.specs.Prelude.{IfSome}
 use Rattle.std.specs.List.{concat}
 use Rattle.std.specs.FinSet as set
 use Rattle.std.specs.Cmp.Lexicographic.{nat_list_cmp_total}
@@ -40,13 +40,12 @@ good_content left right lefts rights l r =
 abbrev Begins : List ℕ → List (List ℕ) → Type 0
 Begins low xs = (more : List (List ℕ)) × (xs ≡ up_to low xs ++ more)
 
-begins_by : (low prev x : List ℕ) (xs : List (List ℕ)) → InOrder Archive prev (x ∷ xs) → Begins low xs → (b : Bool) → may_follow Archive low x ≡ b → Begins low (x ∷ xs)
-begins_by low prev x xs a n true e = (x ∷ xs, sym (ap (λ (t : List (List ℕ)). t ++ (x ∷ xs)) (up_to-none low (x ∷ xs) (λ z c. all_above low z (x ∷ xs) (a.0, e, a.2) c))))
-begins_by low prev x xs a n false e = (n.0, rw e (ap (λ (t : List (List ℕ)). x ∷ t) n.1))
-
 begins : (low prev : List ℕ) (xs : List (List ℕ)) → InOrder Archive prev xs → Begins low xs
 begins low prev [] a = ([], refl)
-begins low prev (x ∷ xs) a = begins_by low prev x xs a (begins low x xs a.2) (may_follow Archive low x) refl
+begins low prev (x ∷ xs) a = elim (cases_Bool (may_follow Archive low x)) [
+  | inl e ↦ (x ∷ xs, rw (up_to-none low (x ∷ xs) (λ z c. all_above low z (x ∷ xs) (a.0, e, a.2) c)) refl)
+  | inr e ↦ let n = begins low x xs a.2 in (n.0, rw e (ap (λ (t : List (List ℕ)). x ∷ t) n.1))
+]
 
 -- what is written where a side stops a merge is a beginning of the text, and not all of it
 pub written_first : (left right : List ℕ) (o : Operations) (low bytes : List ℕ) → IsContent o → IsWrittenBefore left right o low bytes → (n : ℕ) × (n < length (written o)) × (bytes ≡ take n (written o))

@@ -215,22 +215,19 @@ abbrev pub memory_behind : ℕ → RecordFault
 memory_behind offset = record { kind = OutOfMemory; offset = offset }
 
 -- The left side's record is the next, and memory is wanted for it.
-abbrev pub LeftFull : Option (List ℕ) → Option (List ℕ) → Option (List ℕ) → Option (List ℕ)
-    → Option (List ℕ) → Option (List ℕ) → RecordFault → ℕ → Type 0
+abbrev pub LeftFull : (a1 b1 a2 b2 w0 w1 : Option (List ℕ)) → RecordFault → ℕ → Type 0
 LeftFull a1 b1 a2 b2 w0 w1 fault written =
     (full : IsFull a1 b1 a2 b2 w0 w1 written) × (first_of full.sides.left full.sides.right ≢ Greater)
     × (fault ≡ memory_behind (front_length full.merging.both.lefts))
 
 -- The right side's is.
-abbrev pub RightFull : Option (List ℕ) → Option (List ℕ) → Option (List ℕ) → Option (List ℕ)
-    → Option (List ℕ) → Option (List ℕ) → RecordFault → ℕ → Type 0
+abbrev pub RightFull : (a1 b1 a2 b2 w0 w1 : Option (List ℕ)) → RecordFault → ℕ → Type 0
 RightFull a1 b1 a2 b2 w0 w1 fault written =
     (full : IsFull a1 b1 a2 b2 w0 w1 written) × (first_of full.sides.left full.sides.right ≡ Greater)
     × (fault ≡ memory_behind (front_length full.merging.both.rights))
 
 -- Memory was wanted at the right side's turn, for the record that the left side holds, too: it is told of the left one.
-abbrev pub BothWanted : Option (List ℕ) → Option (List ℕ) → Option (List ℕ) → Option (List ℕ)
-    → Option (List ℕ) → Option (List ℕ) → RecordFault → ℕ → Type 0
+abbrev pub BothWanted : (a1 b1 a2 b2 w0 w1 : Option (List ℕ)) → RecordFault → ℕ → Type 0
 BothWanted a1 b1 a2 b2 w0 w1 fault written =
     (own : RecordFault) × (s : RightStopped a1 b1 a2 b2 w0 w1 own written) × (s.sides.left.ahead ≡ Held)
     × (s.right.rest ≡ s.sides.left.reader.last) × (s.sides.left.reader.count < 2 ^ 63)
@@ -238,23 +235,20 @@ BothWanted a1 b1 a2 b2 w0 w1 fault written =
 
 -- The right side stopped the merge, and memory that it wanted was not for what the left side has: a record that it
 -- holds, or its end record.
-abbrev pub RightAlone : Option (List ℕ) → Option (List ℕ) → Option (List ℕ) → Option (List ℕ)
-    → Option (List ℕ) → Option (List ℕ) → RecordFault → ℕ → Type 0
+abbrev pub RightAlone : (a1 b1 a2 b2 w0 w1 : Option (List ℕ)) → RecordFault → ℕ → Type 0
 RightAlone a1 b1 a2 b2 w0 w1 fault written =
     (s : RightStopped a1 b1 a2 b2 w0 w1 fault written) × (fault.kind ≡ OutOfMemory
     → (s.sides.left.ahead ≡ Held → s.right.rest ≢ s.sides.left.reader.last) × ((n : ℕ) → s.right.rest ≢ end_record n))
 
 -- the left side is told
-abbrev pub LeftRefused : Option (List ℕ) → Option (List ℕ) → Option (List ℕ) → Option (List ℕ)
-    → Option (List ℕ) → Option (List ℕ) → RecordFault → ℕ → Type 0
+abbrev pub LeftRefused : (a1 b1 a2 b2 w0 w1 : Option (List ℕ)) → RecordFault → ℕ → Type 0
 LeftRefused a1 b1 a2 b2 w0 w1 fault written =
     LeftStopped a1 b1 a2 b2 w0 w1 fault written
     ⊎ LeftFull a1 b1 a2 b2 w0 w1 fault written
     ⊎ BothWanted a1 b1 a2 b2 w0 w1 fault written
 
 -- the right side is
-abbrev pub RightRefused : Option (List ℕ) → Option (List ℕ) → Option (List ℕ) → Option (List ℕ)
-    → Option (List ℕ) → Option (List ℕ) → RecordFault → ℕ → Type 0
+abbrev pub RightRefused : (a1 b1 a2 b2 w0 w1 : Option (List ℕ)) → RecordFault → ℕ → Type 0
 RightRefused a1 b1 a2 b2 w0 w1 fault written =
     RightAlone a1 b1 a2 b2 w0 w1 fault written ⊎ RightFull a1 b1 a2 b2 w0 w1 fault written
 
@@ -296,64 +290,37 @@ BlamesDevices left right w0 w1 result =
     MatchResult result (λ _. IsUnfailed left × IsUnfailed right × (w1 ≡ w0)) (λ e. BlamesBy left right w0 w1 e.cause)
 
 -- how a merge stops after the magic
-abbrev pub HasStoppedMerge : Option (List ℕ) → Option (List ℕ) → Option (List ℕ) → Option (List ℕ)
-    → Option (List ℕ) → Option (List ℕ) → MergeFault → Type 0
+abbrev pub HasStoppedMerge : (a1 b1 a2 b2 w0 w1 : Option (List ℕ)) → MergeFault → Type 0
 HasStoppedMerge a1 b1 a2 b2 w0 w1 e = ByCause e.cause
     (λ fault. LeftRefused a1 b1 a2 b2 w0 w1 fault e.written)
     (λ fault. RightRefused a1 b1 a2 b2 w0 w1 fault e.written)
     (WriteStopped a1 b1 a2 b2 w0 w1 e.written)
 
 -- What a call makes of a merge, of the inputs and the output before it and after it: it goes on, or stops.
-abbrev pub MergesOn : {T : Type 0} → Option (List ℕ) → Option (List ℕ) → Option (List ℕ) → Option (List ℕ)
-    → Option (List ℕ) → Option (List ℕ) → Sides → Sides → Result T MergeFault → Type 0
+abbrev pub MergesOn : {T : Type 0} → (b1 c1 b2 c2 w1 w2 : Option (List ℕ)) → Sides → Sides
+    → Result T MergeFault → Type 0
 MergesOn b1 c1 b2 c2 w1 w2 old new result =
     (a1 a2 w0 : Option (List ℕ)) → Merging a1 b1 a2 b2 w0 w1 old
     → MatchResult result (λ _. Merging a1 c1 a2 c2 w0 w2 new) (λ e. HasStoppedMerge a1 c1 a2 c2 w0 w2 e)
 
 -- the left side is told, before the magic is written, too
-abbrev pub LeftTold : Option (List ℕ) → Option (List ℕ) → Option (List ℕ) → Option (List ℕ)
-    → Option (List ℕ) → Option (List ℕ) → RecordFault → ℕ → Type 0
+abbrev pub LeftTold : (a1 b1 a2 b2 w0 w1 : Option (List ℕ)) → RecordFault → ℕ → Type 0
 LeftTold a1 b1 a2 b2 w0 w1 fault written =
     ((written ≡ 0) × Appends w0 w1 [] × Consumes a2 b2 [] × StopsBeforeRecords a1 b1 fault)
     ⊎ LeftRefused a1 b1 a2 b2 w0 w1 fault written
 
 -- the right side is
-abbrev pub RightTold : Option (List ℕ) → Option (List ℕ) → Option (List ℕ) → Option (List ℕ)
-    → Option (List ℕ) → Option (List ℕ) → RecordFault → ℕ → Type 0
+abbrev pub RightTold : (a1 b1 a2 b2 w0 w1 : Option (List ℕ)) → RecordFault → ℕ → Type 0
 RightTold a1 b1 a2 b2 w0 w1 fault written =
     ((written ≡ 0) × Appends w0 w1 [] × HasMagicRead a1 b1 × StopsBeforeRecords a2 b2 fault)
     ⊎ RightRefused a1 b1 a2 b2 w0 w1 fault written
 
 -- how it stops at all
-abbrev pub StopsMerge : Option (List ℕ) → Option (List ℕ) → Option (List ℕ) → Option (List ℕ)
-    → Option (List ℕ) → Option (List ℕ) → MergeFault → Type 0
+abbrev pub StopsMerge : (a1 b1 a2 b2 w0 w1 : Option (List ℕ)) → MergeFault → Type 0
 StopsMerge a1 b1 a2 b2 w0 w1 e = ByCause e.cause
     (λ fault. LeftTold a1 b1 a2 b2 w0 w1 fault e.written)
     (λ fault. RightTold a1 b1 a2 b2 w0 w1 fault e.written)
     (WriteStopped a1 b1 a2 b2 w0 w1 e.written)
-
--- Two whole texts were read, and the text of the join was written.
-pub record MergedAll (a1 b1 a2 b2 w0 w1 : Option (List ℕ)) (sizes : Sizes) : Type 0 where
-  pub lefts : List (List ℕ)
-  pub rights : List (List ℕ)
-  pub out : List (List ℕ)
-  pub left : MergeInput
-  pub right : MergeInput
-  pub left_archive : kind_of left.reader.file ≡ Archive_text
-  pub right_archive : kind_of right.reader.file ≡ Archive_text
-  pub left_read : HasReadAll left.reader.file a1 b1 lefts left.reader × IsAtEnd b1
-  pub right_read : HasReadAll right.reader.file a2 b2 rights right.reader × IsAtEnd b2
-  pub joins : Joins out lefts rights
-  pub few : length (kept out) < 2 ^ 63
-  pub gained : Appends w0 w1 (text_of Archive (kept out))
-  pub records : sizes.records ≡ length (kept out)
-  pub bytes : sizes.bytes ≡ length (text_of Archive (kept out))
-
--- what a merge leaves
-abbrev pub Leaves : Option (List ℕ) → Option (List ℕ) → Option (List ℕ) → Option (List ℕ)
-    → Option (List ℕ) → Option (List ℕ) → Result Sizes MergeFault → Type 0
-Leaves a1 b1 a2 b2 w0 w1 (Ok sizes) = MergedAll a1 b1 a2 b2 w0 w1 sizes
-Leaves a1 b1 a2 b2 w0 w1 (Err e) = StopsMerge a1 b1 a2 b2 w0 w1 e
 
 -- ---- turns
 
@@ -408,3 +375,18 @@ pub record HasEnded (m : Sides) : Type 0 where
   pub fits : Fits m
   pub left : m.left.ahead ≡ Ended
   pub right : m.right.ahead ≡ Ended
+
+-- Two whole texts were read, and the end record was written behind what was written of both.
+pub record MergedAll (a1 b1 a2 b2 w0 w1 : Option (List ℕ)) (sizes : Sizes) : Type 0 where
+  pub before : Option (List ℕ)
+  pub sides : Sides
+  pub merging : Merging a1 b1 a2 b2 w0 before sides
+  pub ended : HasEnded sides
+  pub gained : Appends before w1 (end_record sides.written.records)
+  pub records : sizes.records ≡ sides.written.records
+  pub bytes : sizes.bytes ≡ sides.written.bytes + length (end_record sides.written.records)
+
+-- what a merge leaves
+abbrev pub Leaves : (a1 b1 a2 b2 w0 w1 : Option (List ℕ)) → Result Sizes MergeFault → Type 0
+Leaves a1 b1 a2 b2 w0 w1 (Ok sizes) = MergedAll a1 b1 a2 b2 w0 w1 sizes
+Leaves a1 b1 a2 b2 w0 w1 (Err e) = StopsMerge a1 b1 a2 b2 w0 w1 e
