@@ -1,23 +1,18 @@
 -- Sites that are empty.
-use Rattle.std.proofs.Common.{◌≡◌, ℕ, zero, suc, ◌+◌, List, [], ◌∷◌, ◌++◌, length, length-append, slice_get, refl, sym, ap, ◌∙◌, subst}
-use Rattle.std.specs.declared.option.Option.TheVariants.{Some}
+use Rattle.std.proofs.Common.{◌≡◌, ℕ, zero, suc, ◌+◌, List, [], ◌∷◌, ◌++◌, length, length-append, slice_get, refl, ap, ◌∙◌, Some}
 use Rattle.std.specs.FinSet as set
 use Rattle.std.specs.FinSet.{contains-empty}
 use Rattle.std.specs.Ordering.{nat_cmp}
 use Rattle.std.specs.Cmp.Lexicographic.{slice_cmp}
-use mathlib.Core.Bool.{true≢false}
 use Rattle.archive_core.specs.Content.{IsContent}
 use Rattle.archive_core.proofs.Made.{made_empty}
 use Rattle.archive_records.specs.Text.{written}
-use Rattle.exchange_model.specs.World.{Message, start}
+use Rattle.exchange_model.specs.World.{start}
 use Rattle.archive_exchange.specs.SiteState.{SiteState}
-use Rattle.archive_exchange.specs.Rehearsal.{IsSound, IsSite, Represents}
+use Rattle.archive_exchange.specs.Rehearsal.{IsSite, Represents}
 
 empty_content : IsContent set.empty
-empty_content = record { itself = made_empty; records = λ r h. absurd (true≢false (sym h ∙ contains-empty (slice_cmp nat_cmp) r)) }
-
-no_message : (m : ℕ) (x : Message) → slice_get [] m ≡ Some x → IsSound x
-no_message m x h = cc
+empty_content = record { itself = made_empty; records = λ r h. cc (contains-empty (slice_cmp nat_cmp) r) }
 
 pub none_shown : Represents [] [] start
 none_shown = record {
@@ -25,13 +20,13 @@ none_shown = record {
   sent = refl;
   held = λ i. empty_content;
   saved = λ i. empty_content;
-  sound = no_message;
+  sound = λ m x h. cc;
 }
 
 -- one empty site more
 pub shown_more : (sites : List SiteState) (site : SiteState) → Represents sites [] start → site ≡ record { held = set.empty; saved = written set.empty } → Represents (sites ++ site ∷ []) [] start
 shown_more sites site sh is = record {
-  each = λ i s h. each sites i s (λ j t k. sh.each j t k) h;
+  each = λ i s h. each sites i s sh.each h;
   sent = refl;
   held = sh.held;
   saved = sh.saved;
@@ -43,7 +38,7 @@ shown_more sites site sh is = record {
 
     -- at the start all sites are alike, so that the number does not matter
     each : (row : List SiteState) (i : ℕ) (s : SiteState) → ((j : ℕ) (t : SiteState) → slice_get row j ≡ Some t → IsSite start j t) → slice_get (row ++ site ∷ []) i ≡ Some s → IsSite start i s
-    each [] zero s all h = let P : SiteState → Type 0 = λ t. IsSite start zero t in let e : site ≡ s = cc in subst P e (fresh zero)
+    each [] zero s all h = let e : site ≡ s = cc in rw (← e) (fresh zero)
     each [] (suc i) s all h = cc
     each (y ∷ row) zero s all h = all zero s h
     each (y ∷ row) (suc i) s all h =

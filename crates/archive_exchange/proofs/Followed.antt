@@ -1,23 +1,19 @@
 -- What happens at a site is what the definitions say of its event.
-use Rattle.std.proofs.Common.{◌≡◌, ◌≢◌, inl, ℕ, ◌<◌, Bool, List, [], ◌∷◌, ◌++◌, map, length, slice_get, refl, sym, ap, ◌∙◌, subst, if◌then◌else◌, get_or}
-use Rattle.std.specs.Prelude.{slice_set}
-use Rattle.std.specs.declared.option.Option.{Option}
-use Rattle.std.specs.declared.option.Option.TheVariants.{None, Some}
-use Rattle.std.specs.declared.result.Result.TheVariants.{Ok, Err}
+use Rattle.std.proofs.Common.{◌≡◌, ◌≢◌, inl, ℕ, ◌<◌, Bool, List, [], ◌∷◌, ◌++◌, map, length, slice_get, refl, sym, ap, ◌∙◌, if◌then◌else◌, get_or, slice_set, None, Some, Ok, Err}
 use Rattle.std.proofs.lemmas.Bool.{lt-ltb}
 use Rattle.std.proofs.lemmas.Option.{slice_get_within, slice_get_read}
 use Rattle.std.proofs.lemmas.List.{length-map}
 use Rattle.archive_core.specs.Content.{with_record, with_records, changes, joined}
 use Rattle.archive_core.specs.Summary.{summary, delta}
 use Rattle.archive_core.specs.Record.{IsRecord}
+use Rattle.archive_core.proofs.Made.{joined_content}
 use Rattle.archive_core.proofs.Summaries.{delta_content}
 use Rattle.archive_records.specs.declared.fault.RecordFault.{RecordFault}
 use Rattle.archive_records.specs.Text.{written, summary_text}
-use Rattle.archive_records.specs.Fault.{IsFault, IsSummaryFault}
 use Rattle.archive_records.proofs.Summarised.{AreEntries-summary}
 use Rattle.archive_records.proofs.Versions.{one_content}
 use Rattle.exchange_model.specs.World as model
-use Rattle.exchange_model.specs.World.{World, Event, File, Fault, Message, Content, Summary, site_of, records, fault_at_site, fault_of, effect, answer, unless, refused_or, happens, outcome, with_saved}
+use Rattle.exchange_model.specs.World.{World, Event, File, Fault, Message, Content, Summary, site_of, records, fault_at_site, fault_of, effect, answer, refused_or, with_saved}
 use Rattle.admission.specs.File.{IsAcceptedFile, IsTakeFault, admissible, parts}
 use Rattle.admission.specs.Take.{admitted}
 use Rattle.archive_exchange.specs.SiteState.{SiteState, IsArchiveTextOf, HasJoined, IsDeliverFault, IsReplyFault, RepliesTo}
@@ -33,7 +29,7 @@ use Rattle.archive_exchange.specs.declared.outcome.EventFault.TheVariants as fau
 use Rattle.archive_exchange.specs.declared.outcome.Outcome.{Outcome}
 use Rattle.archive_exchange.specs.declared.outcome.Outcome.TheVariants as told
 use Rattle.archive_exchange.proofs.RunStates.{set_same, shows_held, shows_saved, shows_sent, message_at, IsMessage}
-use Rattle.archive_exchange.proofs.Gained.{content_gain, content_joined, recorded_take, recorded_retire, content_seen}
+use Rattle.archive_exchange.proofs.Gained.{content_gain, recorded_take, recorded_retire, records_seen}
 use Rattle.archive_exchange.proofs.Magics.{gives_no_summary, not_an_archive, not_a_summary}
 
 -- an event of a site that is there is refused for what is at the site alone
@@ -52,12 +48,10 @@ follow_by : (e : Event TakeFault) (old new : SiteState) (texts later : List (Lis
 follow_by e old new texts later a all = record {
   shows = λ sites w at sh.
       let p : Allowed e old new texts later a sites w = all sites w at sh in
-      let P : World → Type 0 = λ v. Represents (slice_set sites (site_of e) new) later v in
-      subst P (sym (ap (λ f. unless f w (effect w e)) (here e sites old w at ∙ p.none))) p.shows;
+      rw (here e sites old w at ∙ p.none) p.shows;
   tells = λ sites w at sh.
       let p : Allowed e old new texts later a sites w = all sites w at sh in
-      let P : model.Outcome TakeFault → Type 0 = λ v. OutcomeIs a v in
-      subst P (sym (ap (λ f. refused_or f (answer w e)) (here e sites old w at ∙ p.none))) p.tells;
+      rw (here e sites old w at ∙ p.none) p.tells;
 }
 
 record Barred (e : Event TakeFault) (a : Outcome) (w : World) : Type 0 where
@@ -69,22 +63,15 @@ refuse_by : (e : Event TakeFault) (old : SiteState) (texts : List (List ℕ)) (a
     → ((sites : List SiteState) (w : World) → slice_get sites (site_of e) ≡ Some old → Represents sites texts w → Barred e a w)
     → Follows e old old texts texts a
 refuse_by e old texts a all = record {
-  shows = λ sites w at sh.
-      let P : World → Type 0 = λ v. Represents (slice_set sites (site_of e) old) texts v in
-      let Q : List SiteState → Type 0 = λ s. Represents s texts w in
-      subst P (sym (ap (λ g. unless g w (effect w e)) (here e sites old w at ∙ (all sites w at sh).is))) (subst Q (sym (set_same sites (site_of e) old at)) sh);
+  shows = λ sites w at sh. rw (here e sites old w at ∙ (all sites w at sh).is, set_same sites (site_of e) old at) sh;
   tells = λ sites w at sh.
       let p : Barred e a w = all sites w at sh in
-      let P : Outcome → Type 0 = λ b. OutcomeIs b (outcome (length sites) w e) in
-      subst P (sym p.told) (p.why, refl, ap (λ g. refused_or g (answer w e)) (here e sites old w at ∙ p.is));
+      rw p.told (p.why, refl, ap (λ g. refused_or g (answer w e)) (here e sites old w at ∙ p.is));
 }
 
 -- the number of the messages is that of their texts
 sent_number : (sites : List SiteState) (texts : List (List ℕ)) (w : World) → Represents sites texts w → length texts ≡ length w.messages
 sent_number sites texts w sh = ap length sh.sent ∙ length-map w.messages message_text
-
-unchanged : (sites : List SiteState) (i : ℕ) (old : SiteState) (texts : List (List ℕ)) (w : World) → slice_get sites i ≡ Some old → Represents sites texts w → Represents (slice_set sites i old) texts w
-unchanged sites i old texts w at sh = let Q : List SiteState → Type 0 = λ s. Represents s texts w in subst Q (sym (set_same sites i old at)) sh
 
 pub took : (i : ℕ) (file : List ℕ) (is : File TakeFault) (texts : List (List ℕ)) (old new : SiteState) (a : Outcome)
     → ((f : TakeFault) → IsAcceptedFile file → IsTakeFault file f → f ≡ OutOfMemory)
@@ -93,12 +80,11 @@ pub took : (i : ℕ) (file : List ℕ) (is : File TakeFault) (texts : List (List
     → Follows (model.Take i is) old new texts texts a
 took i file (Err f) texts old new a none is accepted held saved tell = absurd (is.1 (none f accepted is.0))
 took i file (Ok given) texts old new a none is accepted held saved tell =
-    let P : List (Option (List ℕ)) → Type 0 = λ g. Follows (model.Take i (Ok g)) old new texts texts a in
-    subst P (sym is.1) (follow_by (model.Take i (Ok (map part_record (parts file)))) old new texts texts a (λ sites w at sh.
+    rw is.1 (follow_by (model.Take i (Ok (map part_record (parts file)))) old new texts texts a (λ sites w at sh.
     record {
       none = refl;
       shows = shows_held sites texts w i old new (with_records (w.held i) (records (map part_record (parts file)))) at sh
-          (held ∙ sym (content_seen old.held (parts file)) ∙ ap (λ o. with_records o (records (map part_record (parts file)))) (sh.each i old at).held)
+          (held ∙ sym (ap (with_records old.held) (records_seen (parts file))) ∙ ap (λ o. with_records o (records (map part_record (parts file)))) (sh.each i old at).held)
           saved (content_gain (w.held i) (records (map part_record (parts file))) (sh.held i) (recorded_take i file accepted));
       tells = tell _ (ap (λ o. model.Took (model.rows o (map part_record (parts file)))) (sym (sh.each i old at).held));
     }))
@@ -125,22 +111,18 @@ retired i r texts old new b is held saved answer = follow_by (model.Retire i r) 
 
 pub sent_full : (i : ℕ) (old : SiteState) (texts later : List (List ℕ)) → later ≡ texts ++ written old.held ∷ [] → Follows (model.Full i) old old texts later (told.Sent (length texts))
 sent_full i old texts later is = follow_by (model.Full i) old old texts later (told.Sent (length texts)) (λ sites w at sh.
-    let P : List (List ℕ) → Type 0 = λ t. Represents (slice_set sites i old) t (model.with_sent w (Content (w.held i))) in
     record {
       none = refl;
-      shows = subst P (ap (λ o. texts ++ written o ∷ []) (sym (sh.each i old at).held) ∙ sym is)
-          (shows_sent (slice_set sites i old) texts w (Content (w.held i)) (unchanged sites i old texts w at sh) (sh.held i));
+      shows = rw (set_same sites i old at, is ∙ ap (λ o. texts ++ written o ∷ []) (sh.each i old at).held) (shows_sent sites texts w (Content (w.held i)) sh (sh.held i));
       tells = ap (λ (n : ℕ). model.Sent n) (sym (sent_number sites texts w sh));
     })
 
 pub asked : (i : ℕ) (old new : SiteState) (texts later : List (List ℕ)) → new.held ≡ old.held → new.saved ≡ written old.held → later ≡ texts ++ summary_text (summary old.held) ∷ []
     → Follows (model.Ask i) old new texts later (told.Sent (length texts))
 asked i old new texts later held saved is = follow_by (model.Ask i) old new texts later (told.Sent (length texts)) (λ sites w at sh.
-    let P : List (List ℕ) → Type 0 = λ t. Represents (slice_set sites i new) t (model.with_sent (with_saved w i) (Summary (summary (w.held i)))) in
     record {
       none = refl;
-      shows = subst P (ap (λ o. texts ++ summary_text (summary o) ∷ []) (sym (sh.each i old at).held) ∙ sym is)
-          (shows_sent (slice_set sites i new) texts (with_saved w i) (Summary (summary (w.held i))) (shows_saved sites texts w i old new at sh held saved) (AreEntries-summary (w.held i) (sh.held i)));
+      shows = rw (is, (sh.each i old at).held) (shows_sent (slice_set sites i new) texts (with_saved w i) (Summary (summary (w.held i))) (shows_saved sites texts w i old new at sh held saved) (AreEntries-summary (w.held i) (sh.held i)));
       tells = ap (λ (n : ℕ). model.Sent n) (sym (sent_number sites texts w sh));
     })
 
@@ -152,16 +134,9 @@ replied_to : (i m : ℕ) (old : SiteState) (texts later : List (List ℕ)) (text
 replied_to i m old texts later text reply sites w at sh replies is (Content o) there same sound = absurd (gives_no_summary o (written o) replies.named (inl refl) (sym same ∙ replies.names.is))
 replied_to i m old texts later text reply sites w at sh replies is (Summary s) there same sound =
     let named : replies.named ≡ s = replies.alone s (record { entries = sound; is = same }) in
-    let P : List (List ℕ) → Type 0 = λ t. Represents (slice_set sites i old) t (model.with_sent w (Content (delta (w.held i) (model.entries_of (model.message_or (slice_get w.messages m)))))) in
-    let Q : Option Message → Type 0 = λ x. Represents (slice_set sites i old) (texts ++ written (delta (w.held i) (model.entries_of (model.message_or x))) ∷ []) (model.with_sent w (Content (delta (w.held i) (model.entries_of (model.message_or x))))) in
     record {
       none = ap (λ x. model.reply_fault {F = TakeFault} x) there;
-      shows = subst P
-          (ap (λ x. texts ++ written (delta (w.held i) (model.entries_of (model.message_or x))) ∷ []) there
-          ∙ ap (λ o. texts ++ written (delta o s) ∷ []) (sym (sh.each i old at).held)
-          ∙ ap (λ t. texts ++ written (delta old.held t) ∷ []) (sym named)
-          ∙ ap (λ t. texts ++ t ∷ []) (sym replies.is) ∙ sym is)
-          (subst Q (sym there) (shows_sent (slice_set sites i old) texts w (Content (delta (w.held i) s)) (unchanged sites i old texts w at sh) (delta_content (w.held i) s (sh.held i))));
+      shows = rw (set_same sites i old at, is, replies.is ∙ ap (λ o. written (delta o replies.named)) (sh.each i old at).held, named, there) (shows_sent sites texts w (Content (delta (w.held i) s)) sh (delta_content (w.held i) s (sh.held i)));
       tells = ap (λ (n : ℕ). model.Sent n) (sym (sent_number sites texts w sh));
     }
 
@@ -175,10 +150,9 @@ not_replied_to : (w : World) (i m : ℕ) (text : List ℕ) (f : RecordFault) →
     → (x : Message) → slice_get w.messages m ≡ Some x → text ≡ message_text x → IsSound x
     → Barred (model.Reply i m) (told.Refused (fault.NotASummary f)) w
 not_replied_to w i m text f refused (Content o) there same sound =
-    let P : List ℕ → Type 0 = λ t. IsSummaryFault t f in
     record {
       why = model.NotASummary;
-      told = ap (λ g. told.Refused (fault.NotASummary g)) (not_a_summary o f (subst P same refused.0));
+      told = ap (λ g. told.Refused (fault.NotASummary g)) (not_a_summary o f (rw same at refused.0));
       is = ap (λ x. model.reply_fault {F = TakeFault} x) there;
     }
 not_replied_to w i m text f refused (Summary s) there same sound = absurd (refused.2 (s, record { entries = sound; is = same }))
@@ -197,11 +171,10 @@ delivered_at : (i m : ℕ) (old new : SiteState) (texts : List (List ℕ)) (text
 delivered_at i m old new texts text sites w at sh joins (Summary s) there same sound = absurd (gives_no_summary joins.message text s joins.gives.is same)
 delivered_at i m old new texts text sites w at sh joins (Content o) there same sound =
     let is : joins.message ≡ o = one_content text joins.message o joins.gives.content sound joins.gives.is (inl same) in
-    let Q : Option Message → Type 0 = λ x. Represents (slice_set sites i new) texts (model.with_held w i (joined (w.held i) (model.operations_of (model.message_or x)))) in
     record {
       none = ap (λ x. model.deliver_fault {F = TakeFault} x) there;
-      shows = subst Q (sym there) (shows_held sites texts w i old new (joined (w.held i) o) at sh
-          (joins.held ∙ ap (λ p. joined old.held p) is ∙ ap (λ p. joined p o) (sh.each i old at).held) joins.saved (content_joined (w.held i) o (sh.held i) sound));
+      shows = rw there (shows_held sites texts w i old new (joined (w.held i) o) at sh
+          (joins.held ∙ ap (λ p. joined old.held p) is ∙ ap (λ p. joined p o) (sh.each i old at).held) joins.saved (joined_content (w.held i) o (sh.held i) sound));
       tells = refl;
     }
 
@@ -214,10 +187,9 @@ not_delivered_at : (w : World) (i m : ℕ) (text : List ℕ) (f : RecordFault) �
     → (x : Message) → slice_get w.messages m ≡ Some x → text ≡ message_text x → IsSound x
     → Barred (model.Deliver i m) (told.Refused (fault.Refused f)) w
 not_delivered_at w i m text f refused (Summary s) there same sound =
-    let P : List ℕ → Type 0 = λ t. IsFault t f in
     record {
       why = model.NotAContent;
-      told = ap (λ g. told.Refused (fault.Refused g)) (not_an_archive s f (subst P same refused.0));
+      told = ap (λ g. told.Refused (fault.Refused g)) (not_an_archive s f (rw same at refused.0));
       is = ap (λ x. model.deliver_fault {F = TakeFault} x) there;
     }
 not_delivered_at w i m text f refused (Content o) there same sound = absurd (refused.2 (o, record { content = sound; is = inl same }))
@@ -242,11 +214,11 @@ stops i old new texts says saved = follow_by (model.Stop i) old new texts texts 
 
 -- the same, told by an equal outcome
 pub follows_as : (e : Event TakeFault) (old new : SiteState) (texts later : List (List ℕ)) (a b : Outcome) → b ≡ a → Follows e old new texts later a → Follows e old new texts later b
-follows_as e old new texts later a b is follows = let P : Outcome → Type 0 = λ x. Follows e old new texts later x in subst P (sym is) follows
+follows_as e old new texts later a b is follows = rw is follows
 
 -- the same, where the site stays as it was
 pub kept_as : (e : Event TakeFault) (old new : SiteState) (texts later : List (List ℕ)) (a : Outcome) → new ≡ old → Follows e old old texts later a → Follows e old new texts later a
-kept_as e old new texts later a is follows = let P : SiteState → Type 0 = λ k. Follows e old k texts later a in subst P (sym is) follows
+kept_as e old new texts later a is follows = rw is follows
 
 pub deliver_ne : (d : DeliverFault) (f : RecordFault) → d ≡ deliver.Refused f → d ≢ deliver.OutOfMemory
 deliver_ne d f e q = cc

@@ -1,6 +1,5 @@
 -- Each list of events is one list to the definitions of sites.
-use Rattle.std.proofs.Common.{◌≡◌, ◌≢◌, ℕ, List, [], ◌∷◌, map, refl, sym, ap, ◌∙◌, ◌⊎◌, inl, inr}
-use Rattle.std.specs.declared.result.Result.TheVariants.{Ok, Err}
+use Rattle.std.proofs.Common.{◌≡◌, ◌≢◌, ℕ, List, [], ◌∷◌, map, refl, sym, ap, ◌∙◌, ◌⊎◌, inl, inr, Ok, Err}
 use Rattle.archive_core.specs.Record.{retirement_record}
 use Rattle.exchange_model.specs.World as model
 use Rattle.admission.specs.File.{IsAcceptedFile, IsTakeFault, parts}

@@ -25,9 +25,6 @@ begun_again old held saved text o is says same gives =
     let e : says.0 ≡ o = one_message text says.0 o (record { content = says.1.content; is = inl (same ∙ says.1.is) }) gives in
     subst (λ (k : SiteState). IsArchiveTextOf k.saved o) is (subst (IsArchiveTextOf saved) e says.1)
 
-pub above_old : (text : List ℕ) (old mid : SiteState) → HasJoinedInPart text old mid → IsBelow old.held mid.held
-above_old text old mid part = part.held.above_old
-
 pub below_asked : (text : List ℕ) (old mid new : SiteState) → HasJoinedInPart text old mid → HasJoined text old new → IsBelow mid.held new.held
 below_asked text old mid new part whole =
     subst (IsBelow mid.held) (ap (joined old.held) (one_message text part.message whole.message part.gives whole.gives) ∙ sym whole.held)

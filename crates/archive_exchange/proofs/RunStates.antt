@@ -1,11 +1,7 @@
 -- What a change at one site is to a world that sites show.
-use Rattle.std.proofs.Common.{◌≡◌, ◌≢◌, ℕ, zero, suc, true, false, List, [], ◌∷◌, ◌++◌, slice_get, refl, sym, ap, ◌∙◌, subst, if◌then◌else◌, ◌==◌, eq-eqb}
-use Rattle.std.specs.Prelude.{slice_set}
-use mathlib.Core.Bool.{true≢false}
-use Rattle.std.specs.declared.option.Option.{Option}
-use Rattle.std.specs.declared.option.Option.TheVariants.{None, Some}
+use Rattle.std.proofs.Common.{inl, inr, ◌≡◌, ◌≢◌, ℕ, zero, suc, true, false, List, [], ◌∷◌, ◌++◌, slice_get, refl, sym, ap, ◌∙◌, if◌then◌else◌, ◌==◌, eq-eqb, slice_set, Option, None, Some}
 use Rattle.std.specs.Option.{option_map}
-use Rattle.std.proofs.lemmas.Bool.{eqb-true}
+use Rattle.std.proofs.lemmas.Bool.{cases_eq, ne_eqb}
 use Rattle.std.proofs.lemmas.Option.{slice_get-map}
 use Rattle.std.proofs.lemmas.List.{map-append}
 use Rattle.archive_core.specs.Content.{Operations, IsContent}
@@ -39,14 +35,8 @@ set_same (z ∷ xs) (suc i) x h = ap (λ ys. z ∷ ys) (set_same xs i x h)
 updated_same : (f : ℕ → Operations) (i : ℕ) (o : Operations) → updated f i o i ≡ o
 updated_same f i o = ap (λ b. if b then o else f i) (eq-eqb i i refl)
 
-differ : (i j : ℕ) → j ≢ i → (j == i) ≡ false
-differ i j ne = elim (j == i) as (λ b. (j == i) ≡ b → b ≡ false) [
-  | true ↦ λ e. absurd (ne (eqb-true j i e))
-  | false ↦ λ e. refl
-] refl
-
 updated_other : (f : ℕ → Operations) (i : ℕ) (o : Operations) (j : ℕ) → j ≢ i → updated f i o j ≡ f j
-updated_other f i o j ne = ap (λ b. if b then o else f j) (differ i j ne)
+updated_other f i o j ne = ap (λ b. if b then o else f j) (ne_eqb j i ne)
 
 updated_each : (f : ℕ → Operations) (i : ℕ) (o : Operations) → IsContent o → ((j : ℕ) → IsContent (f j)) → (j : ℕ) → IsContent (updated f i o j)
 updated_each f i o is all j = elim (j == i) as (λ b. IsContent (if b then o else f j)) [ true ↦ is | false ↦ all j ]
@@ -59,18 +49,14 @@ record IsElsewhere (w v : World) (j : ℕ) : Type 0 where
 each_by : (sites : List SiteState) (w v : World) (i : ℕ) (new : SiteState)
     → ((j : ℕ) (site : SiteState) → slice_get sites j ≡ Some site → IsSite w j site) → IsSite v i new → ((j : ℕ) → j ≢ i → IsElsewhere w v j)
     → (j : ℕ) (site : SiteState) → slice_get (slice_set sites i new) j ≡ Some site → IsSite v j site
-each_by sites w v i new each here elsewhere j site h = elim (j == i) as (λ b. (j == i) ≡ b → IsSite v j site) [
-  | true ↦ λ e.
-      let at : j ≡ i = eqb-true j i e in
-      let P : ℕ → Type 0 = λ k. slice_get (slice_set sites i new) k ≡ Some site in
-      let Q : SiteState → Type 0 = λ s. IsSite v i s in
-      let R : ℕ → Type 0 = λ k. IsSite v k site in
-      subst R (sym at) (subst Q (same sites i new site (subst P at h)) here)
-  | false ↦ λ e.
-      let ne : j ≢ i = λ q. true≢false (sym (eq-eqb j i q) ∙ e) in
+each_by sites w v i new each here elsewhere j site h = elim (cases_eq j i) [
+  | inl at ↦
+      let there : slice_get (slice_set sites i new) i ≡ Some site = rw at at h in
+      rw (at, ← same sites i new site there) here
+  | inr ne ↦
       let is : IsSite w j site = each j site (other sites i j new site ne h) in
       record { held = is.held ∙ sym (elsewhere j ne).held; saved = is.saved ∙ ap written (sym (elsewhere j ne).saved) }
-] refl
+]
 
 pub shows_held : (sites : List SiteState) (texts : List (List ℕ)) (w : World) (i : ℕ) (old new : SiteState) (o : Operations)
     → slice_get sites i ≡ Some old → Represents sites texts w → new.held ≡ o → new.saved ≡ old.saved → IsContent o → Represents (slice_set sites i new) texts (with_held w i o)
@@ -101,7 +87,7 @@ shows_saved sites texts w i old new at sh held saved = record {
 
 sound_more : (ms : List Message) (m : Message) → ((k : ℕ) (x : Message) → slice_get ms k ≡ Some x → IsSound x) → IsSound m
     → (k : ℕ) (x : Message) → slice_get (ms ++ m ∷ []) k ≡ Some x → IsSound x
-sound_more [] m all is zero x h = let P : Message → Type 0 = λ y. IsSound y in let e : m ≡ x = cc in subst P e is
+sound_more [] m all is zero x h = let e : m ≡ x = cc in rw (← e) is
 sound_more [] m all is (suc k) x h = cc
 sound_more (y ∷ ms) m all is zero x h = all zero x h
 sound_more (y ∷ ms) m all is (suc k) x h = sound_more ms m (λ j. all (suc j)) is k x h
@@ -128,11 +114,3 @@ message_at sites texts w m text sh h = by (slice_get w.messages m) refl (sym h �
     by : (o : Option Message) → slice_get w.messages m ≡ o → Some text ≡ option_map message_text o → IsMessage w m text
     by None e t = cc
     by (Some x) e t = record { message = x; is = e; text_is = cc; sound = sh.sound m x e }
-
--- where a text is not there, no message is
-pub no_message_at : (sites : List SiteState) (texts : List (List ℕ)) (w : World) (m : ℕ) → Represents sites texts w → slice_get texts m ≡ None → slice_get w.messages m ≡ None
-no_message_at sites texts w m sh h = by (slice_get w.messages m) refl (sym h ∙ ap (λ l. slice_get l m) sh.sent ∙ slice_get-map message_text w.messages m)
-  where
-    by : (o : Option Message) → slice_get w.messages m ≡ o → None ≡ option_map message_text o → slice_get w.messages m ≡ None
-    by None e t = e
-    by (Some x) e t = cc

@@ -1,9 +1,6 @@
 -- What a site holds stays a content, and what want of memory leaves is between two contents.
-use Rattle.std.proofs.Common.{◌≡◌, ℕ, Bool, List, [], ◌∷◌, map, take, slice_index_or, get_or, length, ◌<◌, refl, sym, subst, inl}
-use Rattle.std.specs.Prelude.{Some, slice_get, OnOk, OnErr, IfErr}
+use Rattle.std.proofs.Common.{◌≡◌, ℕ, Bool, List, [], ◌∷◌, map, take, slice_index_or, get_or, length, ◌<◌, refl, inl, Some, slice_get, OnOk, OnErr, IfErr, Result, Ok, Err}
 use Rattle.std.specs.List.{All}
-use Rattle.std.specs.declared.result.Result.{Result}
-use Rattle.std.specs.declared.result.Result.TheVariants.{Ok, Err}
 use Rattle.std.proofs.lemmas.Option.{slice_get_read}
 use Rattle.std.proofs.lemmas.List.Elements.{All-map, All-take}
 use Rattle.archive_core.specs.Valid.{IsValid}
@@ -22,14 +19,10 @@ use Rattle.archive_exchange.specs.Rehearsal.{RunState, AreSites, Represents}
 use Rattle.archive_exchange.proofs.Gained.{all_in, content_gain, recorded_retire}
 use Rattle.admission.proofs.Resumed.{grows, above_old, below_asked}
 
--- a site that holds another content, and has saved the same
-pub whole_as : (old new : Operations) (saved : List ℕ) → IsWhole (record { held = old; saved = saved }) → IsContent new → IsWhole (record { held = new; saved = saved })
-whole_as old new saved whole is = record { held = is; saved = whole.saved }
-
 -- a record more
 pub content_taken : {E : Type 0} (r : Result Bool E) (old new : Operations) (x : List ℕ) → IsContent old → IsRecord x → OnOk r (new ≡ with_record old x) → OnErr r (new ≡ old) → IsContent new
-content_taken (Ok b) old new x is recorded taken kept = subst IsContent (sym taken) (content_gain old (x ∷ []) is (recorded_retire 0 x recorded))
-content_taken (Err e) old new x is recorded taken kept = subst IsContent (sym kept) is
+content_taken (Ok b) old new x is recorded taken kept = rw taken (content_gain old (x ∷ []) is (recorded_retire 0 x recorded))
+content_taken (Err e) old new x is recorded taken kept = rw kept is
 
 -- images more
 content_admitted : (o : Operations) (images : List (List ℕ)) → IsContent o → All IsValid images → IsContent (admitted o images)
@@ -45,21 +38,17 @@ file_is file (Universal universal found) is = is.1
 
 pub content_of_file : (file : List ℕ) (a : AcceptedFile) (o new : Operations) → IsContent o → IsAcceptedFile file → IsAcceptedAs file a → new ≡ admitted o (admissible (file_of a)) → IsContent new
 content_of_file file a o new is accepted as_is all =
-    let P : List ℕ → Type 0 = λ f. new ≡ admitted o (admissible f) in
-    subst IsContent (sym (subst P (file_is file a as_is) all)) (content_admitted o (admissible file) is accepted.valid)
+    rw (rw (file_is file a as_is) at all) (content_admitted o (admissible file) is accepted.valid)
 
 -- where it was taken in part
-parts_of : (file : List ℕ) (o mid : Operations) → IsContent o → IsAcceptedFile file → HoldsFirstParts file o mid → IsBetween o mid (admitted o (admissible file))
-parts_of file o mid is accepted part = record {
-  content = subst IsContent (sym part.content) (content_admitted o (take part.count (admissible file)) is (All-take IsValid part.count (admissible file) accepted.valid));
-  above_old = above_old file o mid part;
-  below_new = below_asked file o mid part;
-}
-
 pub between_parts : (file : List ℕ) (a : AcceptedFile) (o mid : Operations) → IsContent o → IsAcceptedFile file → IsAcceptedAs file a → HoldsFirstParts (file_of a) o mid → IsBetween o mid (admitted o (admissible file))
-between_parts file a o mid is accepted as_is part =
-    let P : List ℕ → Type 0 = λ f. HoldsFirstParts f o mid in
-    parts_of file o mid is accepted (subst P (file_is file a as_is) part)
+between_parts file a o mid is accepted as_is first =
+    let part : HoldsFirstParts file o mid = rw (file_is file a as_is) at first in
+    record {
+      content = rw part.content (content_admitted o (take part.count (admissible file)) is (All-take IsValid part.count (admissible file) accepted.valid));
+      above_old = above_old file o mid part;
+      below_new = below_asked file o mid part;
+    }
 
 pub between_none : (o : Operations) (images : List (List ℕ)) → IsContent o → IsBetween o o (admitted o images)
 between_none o images is = record { content = is; above_old = below_reflexive o; below_new = grows o images }
@@ -74,11 +63,10 @@ pub shown_whole : (sites : List SiteState) (texts : List (List ℕ)) (w : World)
 shown_whole sites texts w sh i site at =
     let is = sh.each i site at in
     record {
-      held = subst IsContent (sym is.held) (sh.held i);
+      held = rw is.held (sh.held i);
       saved = (w.saved i, record { content = sh.saved i; is = is.saved });
     }
 
 pub read_whole : (sites : List SiteState) (texts : List (List ℕ)) (state : RunState) (i : ℕ) (site : SiteState) → AreSites sites → record { sites = sites; messages = texts } ≡ state → i < length state.sites → site ≡ get_or sites i site → IsWhole site
 read_whole sites texts state i site are view lt is =
-    let P : RunState → Type 0 = λ s. i < length s.sites in
-    are.whole i site (slice_get_read sites (length sites) i site refl (subst P (sym view) lt) is)
+    are.whole i site (slice_get_read sites (length sites) i site refl (rw (← view) at lt) is)

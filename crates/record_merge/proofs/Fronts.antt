@@ -27,7 +27,7 @@ use Rattle.archive_records.proofs.Puts.{concat-push}
 use Rattle.archive_records.proofs.Steps.{InOrder-push}
 use Rattle.archive_records.proofs.Ends.{end-is_end}
 use Rattle.archive_records.proofs.Longest.{Goes, longest, unique, behind_magic, end-stops}
-use Rattle.archive_records.proofs.Formats.{no_operations_text, no_summary_text, in_order_of, ending_of, kind_archive, format_magic}
+use Rattle.archive_records.proofs.Formats.{in_order_of, ending_of, kind_archive, format_magic}
 use Rattle.archive_records.proofs.Versions.{kept_set, Formed, formed, formed_content, formed_text}
 use Rattle.archive_records.proofs.Exact.{fault_longest}
 use Rattle.archive_records.proofs.Inputs.{record_stop, grown_behind}
@@ -56,18 +56,18 @@ text_magic t x =
     (s.format, s.archive, concat s.records ++ ending s.format (length s.records), s.whole)
 
 -- what is taken of records is what they make
-taken_made : (f : Format) → kind_of f ≡ Archive_text → (xs : List (List ℕ)) → InOrder f [] xs → AreApart f xs → set_of (taken_of f xs) ≡ content_of (set_of xs)
+pub taken_made : (f : Format) → kind_of f ≡ Archive_text → (xs : List (List ℕ)) → InOrder Archive [] xs → AreApart f xs → set_of (taken_of f xs) ≡ content_of (set_of xs)
 taken_made Archive k xs a apart = sym apart
-taken_made OldArchive k xs a apart = kept_set xs (in_order_of OldArchive k [] xs a)
-taken_made Operations_file k xs a apart = absurd (no_operations_text k)
-taken_made Summary_file k xs a apart = absurd (no_summary_text k)
+taken_made OldArchive k xs a apart = kept_set xs a
+taken_made Operations_file k xs a apart = cc
+taken_made Summary_file k xs a apart = cc
 
 -- so the records of two texts make the join of what the texts give
 pub both_taken : (f g : Format) → kind_of f ≡ Archive_text → kind_of g ≡ Archive_text → (xs ys : List (List ℕ)) → InOrder f [] xs → AreApart f xs → InOrder g [] ys → AreApart g ys → of_both xs ys ≡ joined (set_of (taken_of f xs)) (set_of (taken_of g ys))
 both_taken f g k l xs ys a p b q =
-    sym (joined_made (set_of xs) (set_of ys))
-    ∙ ap (λ (o : Operations). joined o (content_of (set_of ys))) (sym (taken_made f k xs a p))
-    ∙ ap (joined (set_of (taken_of f xs))) (sym (taken_made g l ys b q))
+    let lefts = taken_made f k xs (in_order_of f k [] xs a) p in
+    let rights = taken_made g l ys (in_order_of g l [] ys b) q in
+    cc (joined_made (set_of xs) (set_of ys), lefts, rights)
 
 -- ---- fronts
 
@@ -77,7 +77,7 @@ front_magic t xs l = (archive_format t, kind_archive t, concat xs ++ l.front.res
 
 -- the records of a text with the magic of a version are those of its longest good front
 pub front_of : (f : Format) → kind_of f ≡ Archive_text → (t : List ℕ) (xs : List (List ℕ)) → (rest : List ℕ) × (t ≡ magic_of f ++ rest) → AreGoodRecords t xs → IsLongestFront f t xs
-front_of f k t xs m (inl l) = subst (λ (g : Format). IsLongestFront g t xs) (format_magic f k t m.0 m.1) l
+front_of f k t xs m (inl l) = rw (← format_magic f k t m.0 m.1) l
 front_of f k t xs m (inr n) = absurd (n.0 (f, k, m.0, m.1))
 
 module _ (f : Format) where
@@ -119,19 +119,17 @@ module _ (f : Format) where
       let behind : IsFaultBehind f records (s.rest ++ k.0) fault = grown_behind f records s.rest k.0 fault (λ p. k.2 (ended p)) (record_stop f records s.rest fault known s.stops) in
       one_longest t xs records l (fault_longest f t records front fault behind)
 
-  pub stopped_magic : (t : List ℕ) (b : Option (List ℕ)) (records : List (List ℕ)) (fault : RecordFault) → Stopped f (Some t) b records fault → (rest : List ℕ) × (t ≡ magic_of f ++ rest)
-  stopped_magic t b records fault s = let k = stopped_whole t b records fault s in (concat records ++ (s.rest ++ k.0), k.1)
+-- the records of a text go on behind these, above low
+abbrev pub GoesAbove : List ℕ → List (List ℕ) → List (List ℕ) → Type 0
+GoesAbove low done xs = (more : List (List ℕ)) × (xs ≡ done ++ more) × InOrder Archive low more
 
 module _ (f : Format) (archive : kind_of f ≡ Archive_text) where
-  abbrev ordered_of : (xs : List (List ℕ)) → InOrder f [] xs → InOrder Archive [] xs
-  ordered_of xs a = in_order_of f archive [] xs a
-
   -- whatever the fault, it goes on above its last record
-  pub stopped_goes : (t : List ℕ) (b : Option (List ℕ)) (records xs : List (List ℕ)) (fault : RecordFault) → Stopped f (Some t) b records fault → IsLongestFront f t xs → (more : List (List ℕ)) × (xs ≡ records ++ more) × InOrder Archive (last_of [] records) more
+  pub stopped_goes : (t : List ℕ) (b : Option (List ℕ)) (records xs : List (List ℕ)) (fault : RecordFault) → Stopped f (Some t) b records fault → IsLongestFront f t xs → GoesAbove (last_of [] records) records xs
   stopped_goes t b records xs fault s l =
       let k = stopped_whole f t b records fault s in
       let n = longest f xs records l.front.rest (s.rest ++ k.0) l.front.ordered s.ordered s.apart (behind_magic f t (concat xs ++ l.front.rest) (concat records ++ (s.rest ++ k.0)) l.front.whole k.1) (longest_stops f t xs l) in
-      (n.more, n.records, InOrder-behind [] records n.more (subst (InOrder Archive []) n.records (ordered_of xs l.front.ordered)))
+      (n.more, n.records, InOrder-behind [] records n.more (subst (InOrder Archive []) n.records (in_order_of f archive [] xs l.front.ordered)))
 
   -- the longest good front of a text has all its records
   pub whole_front : (t : List ℕ) (done ys : List (List ℕ)) → InOrder f [] done → AreApart f done → t ≡ text_of f done → IsLongestFront f t ys → ys ≡ done
@@ -148,22 +146,11 @@ by_ahead Unread = inl refl
 by_ahead Held = inr (inl refl)
 by_ahead Ended = inr (inr refl)
 
-unread_end : (s : Lookahead) → s ≡ Unread → s ≡ Ended → ⊥
-unread_end s p q = cc
-
-held_end : (s : Lookahead) → s ≡ Held → s ≡ Ended → ⊥
-held_end s p q = cc
-
 -- Its longest good front goes on above low: the text is whole, or what was read ends at low, or there is more.
 pub record GoesOn (t low : List ℕ) (done ys : List (List ℕ)) (ahead : Lookahead) : Type 0 where
-  pub more : List (List ℕ)
-  pub is : ys ≡ done ++ more
-  pub ordered : InOrder Archive low more
+  pub above : GoesAbove low done ys
   pub ended : ahead ≡ Ended → ys ≡ done
   pub place : IsArchiveText t ⊎ (((ahead ≡ Unread) × (last_of [] ys ≡ low)) ⊎ (may_follow Archive low (last_of [] ys) ≡ true))
-
-above_low : (low : List ℕ) (more : List (List ℕ)) → InOrder Archive low more → (last_of low more ≡ low) ⊎ (may_follow Archive low (last_of low more) ≡ true)
-above_low low more a = elim (last_above low more a) [ inl e ↦ inl (sym e) | inr b ↦ inr b ]
 
 pub text_whole : (f : Format) (t : List ℕ) (b : Option (List ℕ)) (done : List (List ℕ)) → Consumes (Some t) b (text_of f done) → IsAtEnd b → t ≡ text_of f done
 text_whole f t b done taken end =
@@ -185,13 +172,11 @@ goes_on t low b done ys side s l =
           let h = s.unread unread in
           let n = before f t b done ys h.0.taken h.0.ordered h.0.apart l in
           let a : InOrder Archive low n.0 = subst (λ (x : List ℕ). InOrder Archive x n.0) h.1 (InOrder-behind [] done n.0 (subst (InOrder Archive []) n.1 ys_ordered)) in
-          let last : last_of [] ys ≡ last_of low n.0 = ap (last_of []) n.1 ∙ last_of-append [] done n.0 ∙ ap (λ (x : List ℕ). last_of x n.0) h.1 in
+          let last : last_of [] ys ≡ last_of low n.0 = cc (n.1, last_of-append [] done n.0, h.1) in
           record {
-            more = n.0;
-            is = n.1;
-            ordered = a;
-            ended = λ t. absurd (unread_end side.ahead unread t);
-            place = inr (elim (above_low low n.0 a) [ inl e ↦ inl (unread, last ∙ e) | inr p ↦ inr (subst (λ (x : List ℕ). may_follow Archive low x ≡ true) (sym last) p) ]);
+            above = (n.0, n.1, a);
+            ended = λ t. cc;
+            place = inr (elim (last_above low n.0 a) [ inl e ↦ inl (unread, last ∙ sym e) | inr p ↦ inr (rw last p) ]);
           }
       | inr (inl held) ↦
           let h = s.held held in
@@ -199,28 +184,25 @@ goes_on t low b done ys side s l =
           let n = before f t b (done ++ y ∷ []) ys h.0.taken h.0.ordered h.0.apart l in
           let is : ys ≡ done ++ (y ∷ n.0) = n.1 ∙ append_assoc done (y ∷ []) n.0 in
           let a = InOrder-behind [] done (y ∷ n.0) (subst (InOrder Archive []) is ys_ordered) in
-          let up : InOrder Archive low (y ∷ n.0) = (a.0, h.1, a.2) in
           let last : last_of [] ys ≡ last_of y n.0 = ap (last_of []) is ∙ last_of-append [] done (y ∷ n.0) in
-          let p : may_follow Archive low (last_of y n.0) ≡ true = elim (last_above y n.0 a.2) [ inl e ↦ subst (λ (x : List ℕ). may_follow Archive low x ≡ true) e h.1 | inr q ↦ below-trans low y (last_of y n.0) h.1 q ] in
           record {
-            more = y ∷ n.0;
-            is = is;
-            ordered = up;
-            ended = λ t. absurd (held_end side.ahead held t);
-            place = inr (inr (subst (λ (x : List ℕ). may_follow Archive low x ≡ true) (sym last) p));
+            above = (y ∷ n.0, is, (a.0, h.1, a.2));
+            ended = λ t. cc;
+            place = inr (inr (rw last (elim (last_above y n.0 a.2) [ inl e ↦ rw (← e) h.1 | inr q ↦ below-trans low y (last_of y n.0) h.1 q ])));
           }
       | inr (inr end) ↦
           let h = s.ended end in
           let whole = text_whole f t b done h.0.taken h.1 in
           let u = whole_front f s.archive t done ys h.0.ordered h.0.apart whole l in
-          record { more = []; is = u ∙ sym (append-nil done); ordered = tt; ended = λ _. u; place = inl (archive_text f s.archive t done h.0.ordered h.0.apart whole) }
+          record { above = ([], u ∙ sym (append-nil done), tt); ended = λ _. u; place = inl (archive_text f s.archive t done h.0.ordered h.0.apart whole) }
     ]
 
 pub has_magic : (t low : List ℕ) (b : Option (List ℕ)) (done : List (List ℕ)) (side : MergeInput) → Stands (Some t) b done low side → (rest : List ℕ) × (t ≡ magic_of side.reader.file ++ rest)
 has_magic t low b done side s =
     let magic : List ℕ = magic_of side.reader.file in
+    let begins : (x : List ℕ) → Consumes (Some t) b (magic ++ x) → (rest : List ℕ) × (t ≡ magic ++ rest) = λ x taken. let k = taken_rest t (magic ++ x) b taken in (x ++ k.0, k.1 ∙ append_assoc magic x k.0) in
     elim (by_ahead side.ahead) [
-      | inl unread ↦ let k = taken_rest t (magic ++ concat done) b (s.unread unread).0.taken in (concat done ++ k.0, k.1 ∙ append_assoc magic (concat done) k.0)
-      | inr (inl held) ↦ let k = taken_rest t (magic ++ concat (done ++ side.reader.last ∷ [])) b (s.held held).0.taken in (concat (done ++ side.reader.last ∷ []) ++ k.0, k.1 ∙ append_assoc magic (concat (done ++ side.reader.last ∷ [])) k.0)
-      | inr (inr end) ↦ let k = taken_rest t (text_of side.reader.file done) b (s.ended end).0.taken in ((concat done ++ ending side.reader.file (length done)) ++ k.0, k.1 ∙ append_assoc magic (concat done ++ ending side.reader.file (length done)) k.0)
+      | inl unread ↦ begins (concat done) (s.unread unread).0.taken
+      | inr (inl held) ↦ begins (concat (done ++ side.reader.last ∷ [])) (s.held held).0.taken
+      | inr (inr end) ↦ begins (concat done ++ ending side.reader.file (length done)) (s.ended end).0.taken
     ]

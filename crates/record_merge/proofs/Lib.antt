@@ -7,7 +7,6 @@ pub mod Places
 pub mod Orders
 pub mod Unread
 pub mod Merges
-pub mod Gained
 pub mod Tells
 pub mod Shares
 pub mod Tellings

@@ -1,5 +1,5 @@
 -- What is lost is what was told as new.
-use Rattle.std.proofs.Common.{◌≡◌, ℕ, ◌+◌, ◌||◌, Bool, true, false, not, List, map, count_by, refl, ap, ◌∙◌, subst, cond}
+use Rattle.std.proofs.Common.{arith, ◌≡◌, ℕ, ◌+◌, ◌||◌, Bool, not, List, map, count_by, ap, ◌∙◌, subst, cond}
 use Rattle.std.proofs.lemmas.List.Folds.{fold-map}
 use Rattle.std.specs.FinSet as set
 use Rattle.join_core.specs.Listing.{listing}
@@ -13,16 +13,13 @@ use Rattle.record_merge.specs.Losses.{Loses}
 use Rattle.record_merge.specs.Telling.{IsMergedTelling}
 use Rattle.record_merge.specs.Turns.{is_new, turn_by, turn_of}
 
+new_by : (has covered : Bool) → is_new (turn_by covered has) ≡ not (has || covered)
+new_by has covered = grind arith
+
 -- a record is new where it changes the content
 pub new_changes : (o : Operations) (r : List ℕ) → is_new (turn_of o r) ≡ changes o r
 unfolding turn_of changes
-new_changes o r = by_cases (set.contains o r) (is_covered o r)
-  where
-    by_cases : (has covered : Bool) → is_new (turn_by covered has) ≡ not (has || covered)
-    by_cases true true = refl
-    by_cases true false = refl
-    by_cases false true = refl
-    by_cases false false = refl
+new_changes o r = new_by (set.contains o r) (is_covered o r)
 
 pub count_new : (o : Operations) (rs : List (List ℕ)) → count_by is_new (map (turn_of o) rs) ≡ count_by (changes o) rs
 count_new o rs = fold-map (λ n t. n + cond (is_new t) 1 0) (turn_of o) 0 rs ∙ (λ i. count_by (λ r. new_changes o r i) rs)

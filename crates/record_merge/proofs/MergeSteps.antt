@@ -1,7 +1,5 @@
 -- A turn of a merge: the record that is next is written.
-use Rattle.std.proofs.Common.{◌≡◌, ◌≢◌, ℕ, ◌+◌, ◌-◌, Bool, true, false, ◌||◌, List, [], ◌∷◌, ◌++◌, length, Option, refl, sym, ap, ◌∙◌, subst, arith, inl, inr, append_assoc, length-append}
-use Rattle.std.specs.declared.cmp.Ordering.{Ordering}
-use Rattle.std.specs.declared.cmp.Ordering.TheVariants.{Less, Equal, Greater}
+use Rattle.std.proofs.Common.{◌≡◌, ◌≢◌, ℕ, ◌+◌, ◌-◌, Bool, true, false, List, [], ◌∷◌, ◌++◌, length, Option, refl, sym, ap, ◌∙◌, subst, arith, inl, inr, append_assoc, length-append, Ordering, Less, Equal, Greater}
 use Rattle.std.specs.List.{concat}
 use Rattle.std.specs.Io.KnownBytes.{Appends}
 use Rattle.byte_device.specs.Writes.{WritesFirst}
@@ -16,17 +14,14 @@ use Rattle.record_merge.specs.declared.side.MergeInput.{MergeInput}
 use Rattle.archive_records.specs.declared.writing.Sizes.{Sizes}
 use Rattle.archive_records.specs.Kind.{magic, kind_of, IsItem, may_follow}
 use Rattle.archive_records.specs.Text.{end_record, text_of, last_of, kept}
-use Rattle.archive_records.specs.Reader.{HasRead}
+use Rattle.archive_records.specs.Reader.{HasRead, set_of}
 use Rattle.archive_records.specs.Front.{front_length}
-use Rattle.record_merge.specs.Merging.{most_records}
-use Rattle.archive_records.specs.declared.fault.MergeCause.{MergeCause}
 use Rattle.archive_records.specs.declared.fault.MergeFault.{MergeFault}
-use Rattle.record_merge.specs.MergeSteps.{TellsBy, TellsCovered, Stands, Joins, Merging, WriteStopped, IsFull, LeftRefused, RightRefused, ByCause, HasStoppedMerge, IsBeforeTurn, first_by, first_of, IsRefusedMore, after_turn, left_after, memory_behind, next_record, next_record_by, right_after, unread_of}
+use Rattle.record_merge.specs.MergeSteps.{TellsBy, TellsCovered, Stands, Merging, WriteStopped, IsFull, HasStoppedMerge, IsBeforeTurn, first_by, first_of, IsRefusedMore, after_turn, left_after, memory_behind, next_record, next_record_by, right_after, unread_of, Both}
 use Rattle.archive_records.proofs.Puts.{bytes_same, concat-push}
 use Rattle.archive_records.proofs.Apart.{covered_push, last_of-push}
 use Rattle.archive_records.proofs.Ascending.{below-less, below-greater, last_is_record, last_under}
 use Rattle.archive_core.specs.Content.{is_covered}
-use Rattle.archive_records.specs.Reader.{set_of}
 use Rattle.archive_records.proofs.KeptRecords.{kept_push, kept_pass}
 use Rattle.record_merge.proofs.Covered.{dropped_own, by_both, by_other}
 use Rattle.archive_records.proofs.Formats.{in_order_of}
@@ -35,25 +30,13 @@ use Rattle.record_merge.proofs.Unions.{Joins-left, Joins-right, Joins-both, Join
 -- ---- which is first
 
 pub first_less : (l r : Lookahead) (o : Ordering) → first_by l r o ≡ Less → (l ≡ Held) × (r ≡ Held → o ≡ Less)
-first_less Held Held o e = (refl, λ _. e)
-first_less Held Ended o e = (refl, λ t. absurd cc)
-first_less Held Unread o e = (refl, λ t. absurd cc)
-first_less Ended r o e = absurd cc
-first_less Unread r o e = absurd cc
+first_less l r o e = grind arith
 
 pub first_equal : (l r : Lookahead) (o : Ordering) → first_by l r o ≡ Equal → (l ≡ Held) × (r ≡ Held) × (o ≡ Equal)
-first_equal Held Held o e = (refl, refl, e)
-first_equal Held Ended o e = absurd cc
-first_equal Held Unread o e = absurd cc
-first_equal Ended r o e = absurd cc
-first_equal Unread r o e = absurd cc
+first_equal l r o e = grind arith
 
 pub first_greater : (l r : Lookahead) (o : Ordering) → l ≢ Unread → (l ≡ Ended → r ≡ Held) → first_by l r o ≡ Greater → (r ≡ Held) × (l ≡ Held → o ≡ Greater)
-first_greater Held Held o read some e = (refl, λ _. e)
-first_greater Held Ended o read some e = absurd cc
-first_greater Held Unread o read some e = absurd cc
-first_greater Ended r o read some e = (some refl, λ t. absurd cc)
-first_greater Unread r o read some e = absurd (read refl)
+first_greater l r o read some e = grind arith
 
 -- ---- one side
 
@@ -88,52 +71,44 @@ held_dropped a b done low s p held = dropped_own s.reader.file p.archive s.reade
 
 -- ---- both sides, once the record that is next is behind the others
 
-pub record Next (a1 b1 a2 b2 : Option (List ℕ)) (l r : MergeInput) (out : List (List ℕ)) : Type 0 where
-  pub lefts : List (List ℕ)
-  pub rights : List (List ℕ)
-  pub left : Stands a1 b1 lefts (last_of [] out) l
-  pub right : Stands a2 b2 rights (last_of [] out) r
-  pub order : l.ahead ≡ Unread → r.ahead ≢ Unread → may_follow Archive (last_of [] rights) (last_of [] out) ≡ true
-  pub joins : Joins out lefts rights
-
 module _ (a1 b1 a2 b2 w0 w1 : Option (List ℕ)) (m : Sides) (p : Merging a1 b1 a2 b2 w0 w1 m) (before : IsBeforeTurn m) where
-  unfoldable pub next_turn : (o : Ordering) → first_of m.left m.right ≡ o → Next a1 b1 a2 b2 (left_after o m.left) (right_after o m.right) (p.out ++ next_record_by o m ∷ [])
+  unfoldable pub next_turn : (o : Ordering) → first_of m.left m.right ≡ o → Both a1 b1 a2 b2 (left_after o m.left) (right_after o m.right) (p.out ++ next_record_by o m ∷ [])
   next_turn Less first =
       let x = m.left.reader.last in
       let f = first_less m.left.ahead m.right.ahead _ first in
-      let h = p.left.held f.0 in
+      let h = p.both.left.held f.0 in
       record {
-        lefts = p.lefts ++ x ∷ [];
-        rights = p.rights;
-        left = wrote_own a1 b1 p.lefts p.out x m.left refl p.left.archive h.0;
-        right = wrote_other a2 b2 p.rights p.out _ x m.right before.read.right (λ t. below-less _ _ (f.1 t)) p.right;
-        order = λ _ _. subst (λ (t : List ℕ). may_follow Archive (last_of [] p.rights) t ≡ true) (sym (last_of-push [] p.out x)) (last_under p.out p.rights x p.joins.ordered p.joins.right h.1);
-        joins = Joins-left p.out p.lefts p.rights x p.joins (held_record a1 b1 p.lefts (last_of [] p.out) m.left p.left f.0) h.1;
+        lefts = p.both.lefts ++ x ∷ [];
+        rights = p.both.rights;
+        left = wrote_own a1 b1 p.both.lefts p.out x m.left refl p.both.left.archive h.0;
+        right = wrote_other a2 b2 p.both.rights p.out _ x m.right before.read.right (λ t. below-less _ _ (f.1 t)) p.both.right;
+        order = λ _ _. subst (λ (t : List ℕ). may_follow Archive (last_of [] p.both.rights) t ≡ true) (sym (last_of-push [] p.out x)) (last_under p.out p.both.rights x p.both.joins.ordered p.both.joins.right h.1);
+        joins = Joins-left p.out p.both.lefts p.both.rights x p.both.joins (held_record a1 b1 p.both.lefts (last_of [] p.out) m.left p.both.left f.0) h.1;
       }
   next_turn Equal first =
       let x = m.left.reader.last in
       let f = first_equal m.left.ahead m.right.ahead _ first in
-      let h = p.left.held f.0 in
-      let k = p.right.held f.1 in
+      let h = p.both.left.held f.0 in
+      let k = p.both.right.held f.1 in
       record {
-        lefts = p.lefts ++ x ∷ [];
-        rights = p.rights ++ x ∷ [];
-        left = wrote_own a1 b1 p.lefts p.out x m.left refl p.left.archive h.0;
-        right = wrote_own a2 b2 p.rights p.out x m.right (bytes_same _ _ f.2) p.right.archive k.0;
+        lefts = p.both.lefts ++ x ∷ [];
+        rights = p.both.rights ++ x ∷ [];
+        left = wrote_own a1 b1 p.both.lefts p.out x m.left refl p.both.left.archive h.0;
+        right = wrote_own a2 b2 p.both.rights p.out x m.right (bytes_same _ _ f.2) p.both.right.archive k.0;
         order = λ _ t. absurd (t refl);
-        joins = Joins-both p.out p.lefts p.rights x p.joins (held_record a1 b1 p.lefts (last_of [] p.out) m.left p.left f.0) h.1;
+        joins = Joins-both p.out p.both.lefts p.both.rights x p.both.joins (held_record a1 b1 p.both.lefts (last_of [] p.out) m.left p.both.left f.0) h.1;
       }
   next_turn Greater first =
       let x = m.right.reader.last in
       let f = first_greater m.left.ahead m.right.ahead _ before.read.left before.some first in
-      let h = p.right.held f.0 in
+      let h = p.both.right.held f.0 in
       record {
-        lefts = p.lefts;
-        rights = p.rights ++ x ∷ [];
-        left = wrote_other a1 b1 p.lefts p.out _ x m.left before.read.left (λ t. below-greater _ _ (f.1 t)) p.left;
-        right = wrote_own a2 b2 p.rights p.out x m.right refl p.right.archive h.0;
+        lefts = p.both.lefts;
+        rights = p.both.rights ++ x ∷ [];
+        left = wrote_other a1 b1 p.both.lefts p.out _ x m.left before.read.left (λ t. below-greater _ _ (f.1 t)) p.both.left;
+        right = wrote_own a2 b2 p.both.rights p.out x m.right refl p.both.right.archive h.0;
         order = λ t _. absurd (before.read.left t);
-        joins = Joins-right p.out p.lefts p.rights x p.joins (held_record a2 b2 p.rights (last_of [] p.out) m.right p.right f.0) h.1;
+        joins = Joins-right p.out p.both.lefts p.both.rights x p.both.joins (held_record a2 b2 p.both.rights (last_of [] p.out) m.right p.both.right f.0) h.1;
       }
 
   -- whether a retirement of either side covers it
@@ -141,24 +116,22 @@ module _ (a1 b1 a2 b2 w0 w1 : Option (List ℕ)) (m : Sides) (p : Merging a1 b1 
   covered_by_turn b Less first told =
       let x = m.left.reader.last in
       let f = first_less m.left.ahead m.right.ahead _ first in
-      by_other p.out p.lefts p.rights x p.joins a2 b2 (last_of [] p.out) m.right p.right before.read.right (λ t. below-less _ _ (f.1 t))
-      ∙ ap (λ (c : Bool). c || is_covered (set_of m.right.reader.retired) x) (sym (held_dropped a1 b1 p.lefts (last_of [] p.out) m.left p.left f.0))
-      ∙ sym (told (held_record a1 b1 p.lefts (last_of [] p.out) m.left p.left f.0))
+      let either = by_other p.out p.both.lefts p.both.rights x p.both.joins a2 b2 (last_of [] p.out) m.right p.both.right before.read.right (λ t. below-less _ _ (f.1 t)) in
+      let own = held_dropped a1 b1 p.both.lefts (last_of [] p.out) m.left p.both.left f.0 in
+      cc (either, own, told (held_record a1 b1 p.both.lefts (last_of [] p.out) m.left p.both.left f.0))
   covered_by_turn b Equal first told =
       let x = m.left.reader.last in
       let f = first_equal m.left.ahead m.right.ahead _ first in
+      let own = held_dropped a1 b1 p.both.lefts (last_of [] p.out) m.left p.both.left f.0 in
+      let other = held_dropped a2 b2 p.both.rights (last_of [] p.out) m.right p.both.right f.1 in
       let same : x ≡ m.right.reader.last = bytes_same _ _ f.2 in
-      by_both p.out p.lefts p.rights x p.joins
-      ∙ ap (λ (c : Bool). c || is_covered (set_of p.rights) x) (sym (held_dropped a1 b1 p.lefts (last_of [] p.out) m.left p.left f.0))
-      ∙ ap (λ (r : List ℕ). m.left.reader.dropped || is_covered (set_of p.rights) r) same
-      ∙ ap (λ (c : Bool). m.left.reader.dropped || c) (sym (held_dropped a2 b2 p.rights (last_of [] p.out) m.right p.right f.1))
-      ∙ sym told
+      cc (by_both p.out p.both.lefts p.both.rights x p.both.joins, own, other, same, told)
   covered_by_turn b Greater first told =
       let x = m.right.reader.last in
       let f = first_greater m.left.ahead m.right.ahead _ before.read.left before.some first in
-      by_other p.out p.rights p.lefts x (Joins-swap p.out p.lefts p.rights p.joins) a1 b1 (last_of [] p.out) m.left p.left before.read.left (λ t. below-greater _ _ (f.1 t))
-      ∙ ap (λ (c : Bool). c || is_covered (set_of m.left.reader.retired) x) (sym (held_dropped a2 b2 p.rights (last_of [] p.out) m.right p.right f.0))
-      ∙ sym (told (held_record a2 b2 p.rights (last_of [] p.out) m.right p.right f.0))
+      let either = by_other p.out p.both.rights p.both.lefts x (Joins-swap p.out p.both.lefts p.both.rights p.both.joins) a1 b1 (last_of [] p.out) m.left p.both.left before.read.left (λ t. below-greater _ _ (f.1 t)) in
+      let own = held_dropped a2 b2 p.both.rights (last_of [] p.out) m.right p.both.right f.0 in
+      cc (either, own, told (held_record a2 b2 p.both.rights (last_of [] p.out) m.right p.both.right f.0))
 
   pub covered_next : (b : Bool) → TellsCovered m.left m.right b → is_covered (set_of (p.out ++ next_record m ∷ [])) (next_record m) ≡ b
   covered_next b tells = covered_by_turn b (first_of m.left m.right) refl tells
@@ -170,13 +143,8 @@ module _ (a1 b1 a2 b2 w0 w1 : Option (List ℕ)) (m : Sides) (p : Merging a1 b1 
       let n = next_turn (first_of m.left m.right) refl in
       let same : kept (p.out ++ x ∷ []) ≡ kept p.out = kept_pass p.out x n.joins.ordered (covered_next true tells) in
       record {
-        lefts = n.lefts;
-        rights = n.rights;
         out = p.out ++ x ∷ [];
-        left = n.left;
-        right = n.right;
-        order = n.order;
-        joins = n.joins;
+        both = n;
         records = p.records ∙ ap length (sym same);
         bytes = p.bytes ∙ ap (λ (t : List (List ℕ)). 8 + length (concat t)) (sym same);
         gained = subst (λ (t : List (List ℕ)). Appends w0 w1 (magic ++ concat t)) (sym same) p.gained;
@@ -198,13 +166,8 @@ module _ (a1 b1 a2 b2 w0 w1 : Option (List ℕ)) (m : Sides) (p : Merging a1 b1 
         let x = next_record m in
         let n = next_turn (first_of m.left m.right) refl in
         record {
-          lefts = n.lefts;
-          rights = n.rights;
           out = p.out ++ x ∷ [];
-          left = n.left;
-          right = n.right;
-          order = n.order;
-          joins = n.joins;
+          both = n;
           records = omega (arith, records, p.records, ap length grown, length-append (kept p.out) (x ∷ []));
           bytes = omega (arith, bytes, p.bytes, ap length grown_bytes, length-append (concat (kept p.out)) x);
           gained = subst (Appends w0 w2) (append_assoc magic (concat (kept p.out)) x ∙ ap (λ (t : List ℕ). magic ++ t) (sym grown_bytes)) (Appends-then w0 w1 w2 (magic ++ concat (kept p.out)) x p.gained gained);
@@ -220,14 +183,10 @@ module _ (a1 b1 a2 b2 w0 w1 : Option (List ℕ)) (m : Sides) (p : Merging a1 b1 
         let text : text_of Archive after ≡ (magic ++ concat before) ++ (x ++ end) = ap (λ (t : List ℕ). magic ++ t) (ap (λ (t : List ℕ). t ++ end) grown_bytes ∙ append_assoc (concat before) x end) ∙ sym (append_assoc magic (concat before) (x ++ end)) in
         let s = stopped w0 w1 w2 (magic ++ concat before) x end (text_of Archive after) m.written.bytes k (p.bytes ∙ sym (length-append magic (concat before))) text p.gained q in
         record {
-          lefts = n.lefts;
-          rights = n.rights;
           out = p.out ++ x ∷ [];
           left_side = left_after (first_of m.left m.right) m.left;
           right_side = right_after (first_of m.left m.right) m.right;
-          left = n.left;
-          right = n.right;
-          joins = n.joins;
+          both = n;
           within = inl (omega (arith, is, q.within, p.bytes, ap length grown_bytes, length-append (concat before) x));
           gained = rw is s.gained;
         }
@@ -235,9 +194,7 @@ module _ (a1 b1 a2 b2 w0 w1 : Option (List ℕ)) (m : Sides) (p : Merging a1 b1 
 -- ---- as many records were written as there may be
 
 pub first_held : (l r : Lookahead) (o : Ordering) → first_by l r o ≢ Greater → l ≡ Held
-first_held Held r o n = refl
-first_held Ended r o n = absurd (n refl)
-first_held Unread r o n = absurd (n refl)
+first_held l r o n = grind arith
 
 -- the offset before the last record
 pub before_last : (a b : Option (List ℕ)) (done : List (List ℕ)) (low : List ℕ) (s : MergeInput) → Stands a b done low s → s.ahead ≡ Held → s.reader.offset - length s.reader.last ≡ front_length done
@@ -245,52 +202,17 @@ before_last a b done low s p held =
     let h = (p.held held).0 in
     omega (arith, h.offset_is, ap length (concat-push done s.reader.last), length-append (concat done) s.reader.last)
 
-module _ (a1 b1 a2 b2 w0 w1 : Option (List ℕ)) (m : Sides) (p : Merging a1 b1 a2 b2 w0 w1 m) (before : IsBeforeTurn m) (tells : TellsCovered m.left m.right false) where
-  -- the record that is next is not covered
-  free : (o : Ordering) → first_of m.left m.right ≡ o → is_covered (set_of p.out) (next_record_by o m) ≡ false
-  free o first = subst (λ (q : Ordering). is_covered (set_of p.out) (next_record_by q m) ≡ false) first (sym (covered_push p.out (next_record m)) ∙ covered_next a1 b1 a2 b2 w0 w1 m p before false tells)
-
-  left_free : (o : Ordering) → first_of m.left m.right ≡ o → o ≢ Greater → is_covered (set_of p.out) m.left.reader.last ≡ false
-  left_free Less e n = free Less e
-  left_free Equal e n = free Equal e
-  left_free Greater e n = absurd (n refl)
-
-  is_full : (written : ℕ) → m.written.records ≡ most_records → written ≡ m.written.bytes → IsFull a1 b1 a2 b2 w0 w1 written
-  is_full written most is = record {
-    lefts = p.lefts;
-    rights = p.rights;
-    out = p.out;
-    left_side = m.left;
-    right_side = m.right;
-    left = p.left;
-    right = p.right;
-    left_read = before.read.left;
-    right_read = before.read.right;
-    left_few = before.fits.left_few;
-    right_few = before.fits.right_few;
-    some = before.some;
-    left_kept = λ n. left_free (first_of m.left m.right) refl n;
-    right_kept = free Greater;
-    joins = p.joins;
-    most = sym p.records ∙ most;
-    written_is = is ∙ p.bytes;
-    gained = p.gained;
-  }
-
-  pub full_stops : (e : MergeFault) → IsRefusedMore m e → HasStoppedMerge a1 b1 a2 b2 w0 w1 e
-  unfolding is_full
-  full_stops e (most, is, inl (first, cause)) =
-      let offset = before_last a1 b1 p.lefts (last_of [] p.out) m.left p.left (first_held m.left.ahead m.right.ahead _ first) in
-      subst (λ (c : MergeCause). ByCause c
-      (λ fault. LeftRefused a1 b1 a2 b2 w0 w1 fault e.written)
-      (λ fault. RightRefused a1 b1 a2 b2 w0 w1 fault e.written)
-      (WriteStopped a1 b1 a2 b2 w0 w1 e.written)) (sym cause)
-      (inr (inl (is_full e.written most is, first, ap (λ (n : ℕ). memory_behind n) offset)))
-  full_stops e (most, is, inr (first, cause)) =
-      let held = (first_greater m.left.ahead m.right.ahead _ before.read.left before.some first).0 in
-      let offset = before_last a2 b2 p.rights (last_of [] p.out) m.right p.right held in
-      subst (λ (c : MergeCause). ByCause c
-      (λ fault. LeftRefused a1 b1 a2 b2 w0 w1 fault e.written)
-      (λ fault. RightRefused a1 b1 a2 b2 w0 w1 fault e.written)
-      (WriteStopped a1 b1 a2 b2 w0 w1 e.written)) (sym cause)
-      (inr (is_full e.written most is, first, ap (λ (n : ℕ). memory_behind n) offset))
+pub full_stops : (a1 b1 a2 b2 w0 w1 : Option (List ℕ)) (m : Sides) → Merging a1 b1 a2 b2 w0 w1 m → IsBeforeTurn m → TellsCovered m.left m.right false → (e : MergeFault) → IsRefusedMore m e → HasStoppedMerge a1 b1 a2 b2 w0 w1 e
+full_stops a1 b1 a2 b2 w0 w1 m p before tells e (most, is, at) =
+    let full : IsFull a1 b1 a2 b2 w0 w1 e.written = record {
+      sides = m;
+      merging = p;
+      before = before;
+      free = sym (covered_push p.out (next_record m)) ∙ covered_next a1 b1 a2 b2 w0 w1 m p before false tells;
+      most = most;
+      written_is = is;
+    } in
+    elim at [
+      | inl l ↦ rw l.1 (inr (inl (full, l.0, ap (λ (n : ℕ). memory_behind n) (before_last a1 b1 p.both.lefts (last_of [] p.out) m.left p.both.left (first_held m.left.ahead m.right.ahead _ l.0)))))
+      | inr r ↦ rw r.1 (inr (full, r.0, ap (λ (n : ℕ). memory_behind n) (before_last a2 b2 p.both.rights (last_of [] p.out) m.right p.both.right (first_greater m.left.ahead m.right.ahead _ before.read.left before.some r.0).0)))
+    ]

@@ -1,12 +1,12 @@
 -- Where a merge of two known inputs stops, and what was written then.
-use Rattle.std.proofs.Common.{◌≡◌, ℕ, ◌+◌, ◌<◌, true, false, cond, not, ◌↔◌, List, [], ◌∷◌, ◌++◌, length, take, Option, Some, refl, sym, ap, ◌∙◌, subst, arith, inl, inr, ◌⊎◌, append_assoc, length-append}
+use Rattle.std.proofs.Common.{◌≡◌, ℕ, ◌+◌, ◌<◌, ◌≤◌, true, false, not, List, [], ◌∷◌, ◌++◌, length, take, Option, Some, refl, sym, ap, ◌∙◌, subst, arith, inl, inr, ◌⊎◌, append_assoc, length-append}
 use Rattle.std.proofs.lemmas.List.{append-nil, take_at, take-append-le}
 use Rattle.std.proofs.lemmas.List.Folds.{concat-append}
 use Rattle.std.proofs.lemmas.List.Elements.{Contains-append_left, Contains-append_cases, filter-append}
-use Rattle.std.proofs.lemmas.Bool.{false≢true}
+use Rattle.std.proofs.lemmas.Bool.{or_cases, or_left, or_right}
 use Rattle.std.specs.List.{concat, Contains, filter}
 use Rattle.std.specs.FinSet as set
-use Rattle.std.specs.FinSet.{contains-from_list, contains-union}
+use Rattle.std.specs.FinSet.{contains-union}
 use Rattle.std.specs.Cmp.Lexicographic.{nat_list_cmp_total}
 use Rattle.std.specs.Io.KnownBytes.{IsAtEnd, Appends}
 use Rattle.join_core.specs.Listing.{listing}
@@ -19,45 +19,38 @@ use Rattle.archive_records.specs.declared.fault.RecordFaultKind.TheVariants.{Tru
 use Rattle.archive_records.specs.declared.fault.RecordFault.{RecordFault}
 use Rattle.archive_records.specs.declared.format.Format.{Format}
 use Rattle.archive_records.specs.declared.format.Format.TheVariants.{Archive}
-use Rattle.archive_records.specs.declared.kind.TextKind.TheVariants.{Archive as Archive_text}
 use Rattle.record_merge.specs.declared.side.MergeInput.{MergeInput}
-use Rattle.archive_records.specs.Kind.{magic, magic_of, kind_of, may_follow}
+use Rattle.archive_records.specs.Kind.{magic, archive_format, may_follow}
 use Rattle.archive_records.specs.Text.{end_record, text_of, InOrder, last_of, written, kept}
 use Rattle.archive_records.specs.Fault.{IsOfText}
 use Rattle.archive_records.specs.Front.{IsLongestFront}
 use Rattle.record_merge.specs.Merging.{HasMagic, IsArchiveText, AreGoodRecords, LeftStops, RightStops, all_of, of_both, up_to, IsWrittenBefore}
-use Rattle.record_merge.specs.MergeSteps.{Stands, Joins, StopsBeforeRecords, LeftStopped, RightStopped, WriteStopped, IsFull}
-use Rattle.archive_records.proofs.Contents.{order, contained, containing, listing_is, members_listed, sorted-InOrder, InOrder-set, are_records, content_is, written_text}
-use Rattle.archive_records.specs.Reader.{set_of}
+use Rattle.record_merge.specs.MergeSteps.{Both, Stands, Joins, StopsBeforeRecords, LeftStopped, RightStopped, WriteStopped, IsFull}
+use Rattle.archive_records.proofs.Contents.{listing_is, members_listed, sorted-InOrder, InOrder-set, are_records, content_is, written_text}
+use Rattle.archive_records.specs.Reader.{set_of, Stopped}
 use Rattle.archive_records.proofs.Puts.{bytes_same}
-use Rattle.record_merge.proofs.Covered.{or_cases, or_left, or_right}
 use Rattle.archive_records.proofs.KeptRecords.{kept_more, behind, behind_above, from_kept}
 use Rattle.archive_records.proofs.Exact.{no_magic_fault}
 use Rattle.archive_records.proofs.Inputs.{magic_stop, grown_magic}
-use Rattle.archive_records.proofs.Apart.{is_false}
+use Rattle.archive_records.proofs.Apart.{in_set, from_set, is_false}
 use Rattle.record_merge.specs.declared.side.Lookahead.{Lookahead}
 use Rattle.record_merge.specs.declared.side.Lookahead.TheVariants.{Unread}
 use Rattle.archive_records.proofs.Ascending.{below-back, below-trans, below-self, all_above, up_to_last, prefix, here, later}
 use Rattle.archive_records.proofs.Ends.{length-end_record}
-use Rattle.archive_records.proofs.Formats.{in_order_of}
-use Rattle.record_merge.proofs.Fronts.{taken_rest, front_of, front_is, stopped_goes, stopped_magic, GoesOn, goes_on, has_magic, ended_text}
+use Rattle.archive_records.proofs.Formats.{in_order_of, kind_archive}
+use Rattle.record_merge.proofs.Fronts.{taken_rest, front_of, front_is, stopped_goes, GoesAbove, GoesOn, goes_on, has_magic, ended_text}
 
 -- ---- the content that the records of both make
 
-member_of : (xs : List (List ℕ)) (r : List ℕ) → Contains xs r ↔ (set.contains {R = order} (set.from_list xs) r ≡ true)
-member_of xs r = (λ c. contains-from_list nat_list_cmp_total xs r ∙ contained xs r c, λ e. containing xs r (sym (contains-from_list nat_list_cmp_total xs r) ∙ e))
-
 module _ (xs ys : List (List ℕ)) where
-  member_left : (r : List ℕ) → Contains xs r → set.contains (all_of xs ys) r ≡ true
-  member_left r c = contains-union nat_list_cmp_total (set.from_list xs) (set.from_list ys) r ∙ or_left _ _ ((member_of xs r).0 c)
-
-  member_right : (r : List ℕ) → Contains ys r → set.contains (all_of xs ys) r ≡ true
-  member_right r c = contains-union nat_list_cmp_total (set.from_list xs) (set.from_list ys) r ∙ or_right _ _ ((member_of ys r).0 c)
+  member_in : (r : List ℕ) → Contains xs r ⊎ Contains ys r → set.contains (all_of xs ys) r ≡ true
+  member_in r (inl c) = contains-union nat_list_cmp_total (set.from_list xs) (set.from_list ys) r ∙ or_left _ _ (in_set xs r c)
+  member_in r (inr c) = contains-union nat_list_cmp_total (set.from_list xs) (set.from_list ys) r ∙ or_right _ _ (in_set ys r c)
 
   member_from : (r : List ℕ) → set.contains (all_of xs ys) r ≡ true → Contains xs r ⊎ Contains ys r
   member_from r e = elim (or_cases _ _ (sym (contains-union nat_list_cmp_total (set.from_list xs) (set.from_list ys) r) ∙ e)) [
-    | inl a ↦ inl ((member_of xs r).1 a)
-    | inr b ↦ inr ((member_of ys r).1 b)
+    | inl a ↦ inl (from_set xs r a)
+    | inr b ↦ inr (from_set ys r b)
   ]
 
   -- the records of both are the join of both
@@ -65,13 +58,13 @@ module _ (xs ys : List (List ℕ)) where
   listing_joins a b = record {
     ordered = InOrder-set (all_of xs ys) (union_members nat_list_cmp_total IsRecord (set.from_list xs) (set.from_list ys) (are_records xs a) (are_records ys b));
     from = λ r c. member_from r ((members_listed (all_of xs ys) r).0 c);
-    left = λ r c. (members_listed (all_of xs ys) r).1 (member_left r c);
-    right = λ r c. (members_listed (all_of xs ys) r).1 (member_right r c);
+    left = λ r c. (members_listed (all_of xs ys) r).1 (member_in r (inl c));
+    right = λ r c. (members_listed (all_of xs ys) r).1 (member_in r (inr c));
   }
 
   pub joins_listing : (out : List (List ℕ)) → Joins out xs ys → listing (all_of xs ys) ≡ out
   joins_listing out j = listing_is (all_of xs ys) out (sorted-InOrder [] out j.ordered).1 (λ r. (
-    λ c. elim (j.from r c) [ inl l ↦ member_left r l | inr m ↦ member_right r m ],
+    λ c. member_in r (j.from r c),
     λ e. elim (member_from r e) [ inl l ↦ j.left r l | inr m ↦ j.right r m ],
   ))
 
@@ -88,103 +81,95 @@ module _ (xs ys : List (List ℕ)) where
 
 -- ---- what was written begins it
 
--- both fronts go on above what was written
-module _ (out lefts rights m1 m2 us : List (List ℕ)) (j : Joins out lefts rights) (a1 : InOrder Archive (last_of [] out) m1) (a2 : InOrder Archive (last_of [] out) m2) (u : Joins us (lefts ++ m1) (rights ++ m2)) where
-  back_in : (z : List ℕ) → Contains us z → may_follow Archive (last_of [] out) z ≡ false → Contains out z
-  back_in z c f = elim (u.from z c) [
-    | inl l ↦ elim (Contains-append_cases lefts m1 z l) [ inl d ↦ j.left z d | inr m ↦ absurd (false≢true (sym f ∙ all_above (last_of [] out) z m1 a1 m)) ]
-    | inr r ↦ elim (Contains-append_cases rights m2 z r) [ inl d ↦ j.right z d | inr m ↦ absurd (false≢true (sym f ∙ all_above (last_of [] out) z m2 a2 m)) ]
+-- a side's records go on above what was written
+module _ (low : List ℕ) (done xs : List (List ℕ)) (g : GoesAbove low done xs) where
+  on_side : (z : List ℕ) → Contains done z → Contains xs z
+  on_side z c = subst (λ (t : List (List ℕ)). Contains t z) (sym g.1) (Contains-append_left done g.0 z c)
+
+  back_side : (z : List ℕ) → Contains xs z → may_follow Archive low z ≡ false → Contains done z
+  back_side z c under = elim (Contains-append_cases done g.0 z (subst (λ (t : List (List ℕ)). Contains t z) g.1 c)) [
+    | inl d ↦ d
+    | inr m ↦ absurd (cc (all_above low z g.0 g.2 m))
   ]
-
-  begins_union : (more : List (List ℕ)) × (us ≡ out ++ more)
-  begins_union =
-      prefix [] (last_of [] out) us out u.ordered j.ordered
-      (λ z c. elim (j.from z c) [ inl l ↦ u.left z (Contains-append_left lefts m1 z l) | inr r ↦ u.right z (Contains-append_left rights m2 z r) ])
-      (λ z c. up_to_last [] z out j.ordered c)
-      back_in
-
-at_fronts : (us xs ys xs' ys' : List (List ℕ)) → xs ≡ xs' → ys ≡ ys' → Joins us xs ys → Joins us xs' ys'
-at_fronts us xs ys xs' ys' p q j = subst (λ (t : List (List ℕ)). Joins us t ys') p (subst (λ (t : List (List ℕ)). Joins us xs t) q j)
 
 -- what stands behind what was written is above it
 abbrev pub IsAbove : List ℕ → List (List ℕ) → Type 0
 IsAbove low more = (z : List ℕ) → Contains more z → may_follow Archive low z ≡ true
 
 -- the records of the content begin with those that were written
-pub begins : (out lefts rights m1 m2 xs ys : List (List ℕ)) → Joins out lefts rights → InOrder Archive [] xs → InOrder Archive [] ys → xs ≡ lefts ++ m1 → ys ≡ rights ++ m2 → InOrder Archive (last_of [] out) m1 → InOrder Archive (last_of [] out) m2
-    → (more : List (List ℕ)) × (listing (of_both xs ys) ≡ kept out ++ more) × IsAbove (last_of [] out) more
-begins out lefts rights m1 m2 xs ys j a b e f a1 a2 =
+pub begins : (out lefts rights xs ys : List (List ℕ)) → Joins out lefts rights → InOrder Archive [] xs → InOrder Archive [] ys → GoesAbove (last_of [] out) lefts xs → GoesAbove (last_of [] out) rights ys → (more : List (List ℕ)) × (listing (of_both xs ys) ≡ kept out ++ more) × IsAbove (last_of [] out) more
+begins out lefts rights xs ys j a b l r =
+    let low : List ℕ = last_of [] out in
     let us : List (List ℕ) = listing (all_of xs ys) in
-    let joins : Joins us xs ys = listing_joins xs ys a b in
-    let n : (more : List (List ℕ)) × (us ≡ out ++ more) = begins_union out lefts rights m1 m2 us j a1 a2 (at_fronts us xs ys (lefts ++ m1) (rights ++ m2) e f joins) in
-    let up : InOrder Archive [] (out ++ n.0) = subst (InOrder Archive []) n.1 joins.ordered in
-    (behind out n.0 up j.ordered, kept_listing xs ys us joins ∙ ap kept n.1 ∙ kept_more out n.0 up j.ordered, behind_above out n.0 up j.ordered)
+    let u : Joins us xs ys = listing_joins xs ys a b in
+    let n : (more : List (List ℕ)) × (us ≡ out ++ more) = prefix [] low us out u.ordered j.ordered
+    (λ z c. elim (j.from z c) [ inl d ↦ u.left z (on_side low lefts xs l z d) | inr d ↦ u.right z (on_side low rights ys r z d) ])
+    (λ z c. up_to_last [] z out j.ordered c)
+    (λ z c under. elim (u.from z c) [ inl d ↦ j.left z (back_side low lefts xs l z d under) | inr d ↦ j.right z (back_side low rights ys r z d under) ]) in
+    let up : InOrder Archive [] (out ++ n.0) = subst (InOrder Archive []) n.1 u.ordered in
+    (behind out n.0 up j.ordered, kept_listing xs ys us u ∙ ap kept n.1 ∙ kept_more out n.0 up j.ordered, behind_above out n.0 up j.ordered)
 
 -- those up to low
 up_to-all : (low : List ℕ) (xs : List (List ℕ)) → ((z : List ℕ) → Contains xs z → may_follow Archive low z ≡ false) → up_to low xs ≡ xs
 up_to-all low [] h = refl
-up_to-all low (x ∷ xs) h = ap (λ b. cond (not b) (x ∷ up_to low xs) (up_to low xs)) (h x (here x xs)) ∙ ap (λ (t : List (List ℕ)). x ∷ t) (up_to-all low xs (λ z c. h z (later x z xs c)))
+up_to-all low (x ∷ xs) h = rw (h x (here x xs)) (ap (λ (t : List (List ℕ)). x ∷ t) (up_to-all low xs (λ z c. h z (later x z xs c))))
 
 pub up_to-none : (low : List ℕ) (xs : List (List ℕ)) → ((z : List ℕ) → Contains xs z → may_follow Archive low z ≡ true) → up_to low xs ≡ []
 up_to-none low [] h = refl
-up_to-none low (x ∷ xs) h = ap (λ b. cond (not b) (x ∷ up_to low xs) (up_to low xs)) (h x (here x xs)) ∙ up_to-none low xs (λ z c. h z (later x z xs c))
+up_to-none low (x ∷ xs) h = rw (h x (here x xs)) (up_to-none low xs (λ z c. h z (later x z xs c)))
 
 up_to_is : (out more us : List (List ℕ)) → us ≡ kept out ++ more → InOrder Archive [] out → IsAbove (last_of [] out) more → up_to (last_of [] out) us ≡ kept out
 up_to_is out more us e b above =
-    let low : List ℕ = last_of [] out in
-    ap (up_to low) e ∙ filter-append (λ r. not (may_follow Archive low r)) (kept out) more
-    ∙ ap (λ (t : List (List ℕ)). t ++ up_to low more) (up_to-all low (kept out) (λ z c. up_to_last [] z out b (from_kept out z c)))
-    ∙ ap (λ (t : List (List ℕ)). kept out ++ t) (up_to-none low more above) ∙ append-nil (kept out)
+    let written = up_to-all (last_of [] out) (kept out) (λ z c. up_to_last [] z out b (from_kept out z c)) in
+    rw (e, filter-append (λ r. not (may_follow Archive (last_of [] out) r)) (kept out) more, written, up_to-none (last_of [] out) more above) (append-nil (kept out))
 
 -- ---- beginnings of its text
 
-text_parts : (o : Operations) (out more : List (List ℕ)) → listing o ≡ out ++ more → written o ≡ (magic ++ concat out) ++ (concat more ++ end_record (length (listing o)))
-text_parts o out more e =
-    written_text o ∙ ap (λ (t : List ℕ). magic ++ (t ++ end_record (length (listing o)))) (ap concat e ∙ concat-append out more) ∙ ap (λ (t : List ℕ). magic ++ t) (append_assoc (concat out) (concat more) (end_record (length (listing o)))) ∙ sym (append_assoc magic (concat out) (concat more ++ end_record (length (listing o))))
+-- a first part of the magic and these records was written
+abbrev pub Begun : Option (List ℕ) → Option (List ℕ) → List (List ℕ) → ℕ → Type 0
+Begun w0 w1 out n = (n ≤ 8 + length (concat out)) × Appends w0 w1 (take n (text_of Archive out))
 
-pub begun_whole : (w0 w1 : Option (List ℕ)) (o : Operations) (out more : List (List ℕ)) (n : ℕ) → listing o ≡ out ++ more → n ≡ 8 + length (concat out) → Appends w0 w1 (magic ++ concat out) → WritesFirst w0 w1 (written o) n
-begun_whole w0 w1 o out more n e is p =
-    let t = text_parts o out more e in
-    let end : List ℕ = end_record (length (listing o)) in
-    let rest : List ℕ = concat more ++ end in
-    let l : length (magic ++ concat out) ≡ 8 + length (concat out) = length-append magic (concat out) in
-    record {
-      within = omega (arith, ap length t, length-append (magic ++ concat out) rest, length-append (concat more) end, length-end_record (length (listing o)));
-      gained = subst (Appends w0 w1) (sym (ap (take n) t ∙ take_at (magic ++ concat out) rest n (l ∙ sym is))) p;
-    }
+module _ (w0 w1 : Option (List ℕ)) (out : List (List ℕ)) (n : ℕ) where
+  pub begun_none : n ≡ 0 → Appends w0 w1 [] → Begun w0 w1 out n
+  begun_none e p = rw e (omega arith, p)
 
-pub begun_part : (w0 w1 : Option (List ℕ)) (o : Operations) (out more : List (List ℕ)) (n : ℕ) → listing o ≡ out ++ more → n < 8 + length (concat out) → Appends w0 w1 (take n (text_of Archive out)) → WritesFirst w0 w1 (written o) n
-begun_part w0 w1 o out more n e lt p =
-    let t = text_parts o out more e in
-    let rest : List ℕ = concat more ++ end_record (length (listing o)) in
-    let l : length (magic ++ concat out) ≡ 8 + length (concat out) = length-append magic (concat out) in
-    let a : take n (text_of Archive out) ≡ take n (magic ++ concat out) = ap (take n) (sym (append_assoc magic (concat out) (end_record (length out)))) ∙ take-append-le n (magic ++ concat out) (end_record (length out)) (omega arith) in
-    let b : take n (written o) ≡ take n (magic ++ concat out) = ap (take n) t ∙ take-append-le n (magic ++ concat out) rest (omega arith) in
-    record {
-      within = omega (arith, ap length t, length-append (magic ++ concat out) rest);
-      gained = subst (Appends w0 w1) (a ∙ sym b) p;
-    }
+  pub begun_all : n ≡ 8 + length (concat out) → Appends w0 w1 (magic ++ concat out) → Begun w0 w1 out n
+  begun_all is p =
+      let end : List ℕ = end_record (length out) in
+      let long : length (magic ++ concat out) ≡ n = length-append magic (concat out) ∙ sym is in
+      (omega arith, subst (Appends w0 w1) (sym (ap (take n) (sym (append_assoc magic (concat out) end)) ∙ take_at (magic ++ concat out) end n long)) p)
 
--- of the text up to low, where what was to be written is not above it
-pub begun_before : (w0 w1 : Option (List ℕ)) (o : Operations) (out more : List (List ℕ)) (low : List ℕ) (n : ℕ) → listing o ≡ out ++ more → ((z : List ℕ) → Contains out z → may_follow Archive low z ≡ false) → n < 8 + length (concat out) → Appends w0 w1 (take n (text_of Archive out))
-    → WritesFirst w0 w1 (magic ++ concat (up_to low (listing o))) n
-begun_before w0 w1 o out more low n e reached lt p =
-    let rest : List ℕ = concat (up_to low more) in
-    let us : up_to low (listing o) ≡ out ++ up_to low more = ap (up_to low) e ∙ filter-append (λ r. not (may_follow Archive low r)) out more ∙ ap (λ (t : List (List ℕ)). t ++ up_to low more) (up_to-all low out reached) in
-    let t : magic ++ concat (up_to low (listing o)) ≡ (magic ++ concat out) ++ rest = ap (λ (x : List ℕ). magic ++ x) (ap concat us ∙ concat-append out (up_to low more)) ∙ sym (append_assoc magic (concat out) rest) in
-    let l : length (magic ++ concat out) ≡ 8 + length (concat out) = length-append magic (concat out) in
-    let a : take n (text_of Archive out) ≡ take n (magic ++ concat out) = ap (take n) (sym (append_assoc magic (concat out) (end_record (length out)))) ∙ take-append-le n (magic ++ concat out) (end_record (length out)) (omega arith) in
-    let b : take n (magic ++ concat (up_to low (listing o))) ≡ take n (magic ++ concat out) = ap (take n) t ∙ take-append-le n (magic ++ concat out) rest (omega arith) in
-    record {
-      within = omega (arith, ap length t, length-append (magic ++ concat out) rest);
-      gained = subst (Appends w0 w1) (a ∙ sym b) p;
-    }
+  module _ (g : Begun w0 w1 out n) where
+    -- so a first part of each longer text that begins with them was
+    begun_text : (text rest : List ℕ) → text ≡ (magic ++ concat out) ++ rest → n < length text → WritesFirst w0 w1 text n
+    begun_text text rest t lt =
+        let le : n ≤ length (magic ++ concat out) = omega (arith, g.0, length-append magic (concat out)) in
+        let end : List ℕ = end_record (length out) in
+        let a : take n (text_of Archive out) ≡ take n (magic ++ concat out) = ap (take n) (sym (append_assoc magic (concat out) end)) ∙ take-append-le n (magic ++ concat out) end le in
+        let b : take n text ≡ take n (magic ++ concat out) = ap (take n) t ∙ take-append-le n (magic ++ concat out) rest le in
+        record { within = lt; gained = subst (Appends w0 w1) (a ∙ sym b) g.1 }
 
-pub begun_nothing : (w0 w1 : Option (List ℕ)) (o : Operations) (n : ℕ) → n ≡ 0 → Appends w0 w1 [] → WritesFirst w0 w1 (written o) n
-begun_nothing w0 w1 o n e p = record {
-  within = omega (arith, ap length (written_text o), length-append magic (concat (listing o) ++ end_record (length (listing o))));
-  gained = rw e p;
-}
+    begun_records : (more : List (List ℕ)) (count : ℕ) → WritesFirst w0 w1 (magic ++ (concat (out ++ more) ++ end_record count)) n
+    begun_records more count =
+        let end : List ℕ = end_record count in
+        let text : List ℕ = magic ++ (concat (out ++ more) ++ end) in
+        let rest : List ℕ = concat more ++ end in
+        let t : text ≡ (magic ++ concat out) ++ rest = rw (concat-append out more, append_assoc (concat out) (concat more) end) (sym (append_assoc magic (concat out) rest)) in
+        begun_text text rest t (omega (arith, g.0, ap length t, length-append (magic ++ concat out) rest, length-append magic (concat out), length-append (concat more) end, length-end_record count))
+
+    pub begun_whole : WritesFirst w0 w1 (text_of Archive out) n
+    begun_whole = subst (λ (t : List (List ℕ)). WritesFirst w0 w1 (magic ++ (concat t ++ end_record (length out))) n) (append-nil out) (begun_records [] (length out))
+
+    pub begun : (o : Operations) (more : List (List ℕ)) → listing o ≡ out ++ more → WritesFirst w0 w1 (written o) n
+    begun o more e = subst (λ (t : List ℕ). WritesFirst w0 w1 t n) (sym (written_text o ∙ ap (λ (t : List (List ℕ)). magic ++ (concat t ++ end_record (length (listing o)))) e)) (begun_records more (length (listing o)))
+
+    -- of the text up to low, where what was to be written is not above it
+    pub begun_before : (o : Operations) (more : List (List ℕ)) (low : List ℕ) → listing o ≡ out ++ more → ((z : List ℕ) → Contains out z → may_follow Archive low z ≡ false) → n < 8 + length (concat out) → WritesFirst w0 w1 (magic ++ concat (up_to low (listing o))) n
+    begun_before o more low e reached lt =
+        let rest : List ℕ = concat (up_to low more) in
+        let us : up_to low (listing o) ≡ out ++ up_to low more = ap (up_to low) e ∙ filter-append (λ r. not (may_follow Archive low r)) out more ∙ ap (λ (t : List (List ℕ)). t ++ up_to low more) (up_to-all low out reached) in
+        let t : magic ++ concat (up_to low (listing o)) ≡ (magic ++ concat out) ++ rest = ap (λ (x : List ℕ). magic ++ x) (ap concat us ∙ concat-append out (up_to low more)) ∙ sym (append_assoc magic (concat out) rest) in
+        begun_text (magic ++ concat (up_to low (listing o))) rest t (omega (arith, ap length t, length-append (magic ++ concat out) rest, length-append magic (concat out)))
 
 -- ---- a text without the magic
 
@@ -194,204 +179,174 @@ no_magic t b fault known ended s m =
     let k = taken_rest t s.bytes b s.taken in
     no_magic_fault f t m.2 fault.kind m.3 (grown_magic f t s.bytes k.0 fault.kind k.1 (λ p. k.2 (ended p)) (magic_stop f s.bytes fault.kind known (s.stops f m.1)))
 
--- a text of which a side was read has the magic
-pub text_begins : (f : Format) → kind_of f ≡ Archive_text → (t : List ℕ) → (rest : List ℕ) × (t ≡ magic_of f ++ rest) → HasMagic t
-text_begins f k t m = (f, k, m.0, m.1)
+pub good_order : (text : List ℕ) (xs : List (List ℕ)) → AreGoodRecords text xs → InOrder Archive [] xs
+good_order text xs (inl l) = in_order_of (archive_format text) (kind_archive text) [] xs l.front.ordered
+good_order text xs (inr n) = rw n.1 tt
 
-pub side_begins : (t low : List ℕ) (b : Option (List ℕ)) (done : List (List ℕ)) (side : MergeInput) → Stands (Some t) b done low side → HasMagic t
-side_begins t low b done side s = text_begins side.reader.file s.archive t (has_magic t low b done side s)
+-- a text of which a side was read has the magic
+side_begins : (t low : List ℕ) (b : Option (List ℕ)) (done : List (List ℕ)) (side : MergeInput) → Stands (Some t) b done low side → HasMagic t
+side_begins t low b done side s = let m = has_magic t low b done side s in (side.reader.file, s.archive, m.0, m.1)
 
 -- and its good records are those of its longest good front
-side_front : (t low : List ℕ) (b : Option (List ℕ)) (done xs : List (List ℕ)) (side : MergeInput) → Stands (Some t) b done low side → AreGoodRecords t xs → IsLongestFront side.reader.file t xs
-side_front t low b done xs side s g = front_of side.reader.file s.archive t xs (has_magic t low b done side s) g
+module _ (t low : List ℕ) (b : Option (List ℕ)) (done xs : List (List ℕ)) (side : MergeInput) (s : Stands (Some t) b done low side) (g : AreGoodRecords t xs) where
+  side_front : IsLongestFront side.reader.file t xs
+  side_front = front_of side.reader.file s.archive t xs (has_magic t low b done side s) g
 
-side_ordered : (t low : List ℕ) (b : Option (List ℕ)) (done xs : List (List ℕ)) (side : MergeInput) → Stands (Some t) b done low side → AreGoodRecords t xs → InOrder Archive [] xs
-side_ordered t low b done xs side s g = in_order_of side.reader.file s.archive [] xs (side_front t low b done xs side s g).front.ordered
+  side_goes : GoesOn t low done xs side.ahead
+  side_goes = goes_on t low b done xs side s side_front
 
-side_goes : (t low : List ℕ) (b : Option (List ℕ)) (done xs : List (List ℕ)) (side : MergeInput) → Stands (Some t) b done low side → AreGoodRecords t xs → GoesOn t low done xs side.ahead
-side_goes t low b done xs side s g = goes_on t low b done xs side s (side_front t low b done xs side s g)
+  -- where it stopped, too
+  module _ (c : Option (List ℕ)) (fault : RecordFault) (unread : side.ahead ≡ Unread) (stopped : Stopped side.reader.file (Some t) c done fault) where
+    stopped_above : GoesAbove low done xs
+    stopped_above = let n = stopped_goes side.reader.file s.archive t c done xs fault stopped side_front in (n.0, n.1, subst (λ (x : List ℕ). InOrder Archive x n.0) (s.unread unread).1 n.2)
+
+    stopped_last : IsOfText fault.kind → (fault.kind ≡ Truncated → IsAtEnd c) → last_of [] xs ≡ low
+    stopped_last known ended = ap (last_of []) (front_is side.reader.file t c done xs fault known ended stopped side_front) ∙ (s.unread unread).1
 
 -- ---- both texts are known
 
--- What was written is the text of its first records. The side that stopped ends with the last of these.
-record IsPlace (t u : List ℕ) (w0 w1 : Option (List ℕ)) (xs ys : List (List ℕ)) (n : ℕ) (low : List ℕ) : Type 0 where
-  out : List (List ℕ)
-  more : List (List ℕ)
-  is : listing (of_both xs ys) ≡ kept out ++ more
-  above : IsAbove (last_of [] out) more
-  magic_left : HasMagic t
-  magic_right : HasMagic u
-  low_is : low ≡ last_of [] out
-  ordered : InOrder Archive [] out
-  count : n ≡ 8 + length (concat (kept out))
-  gained : Appends w0 w1 (magic ++ concat (kept out))
+-- what was written where the side that ends with `low` stops the merge
+abbrev pub Place : (t u : List ℕ) (w0 w1 : Option (List ℕ)) (xs ys : List (List ℕ)) (n : ℕ) (low : List ℕ) → Type 0
+Place t u w0 w1 xs ys n low = (bytes : List ℕ) × IsWrittenBefore t u (of_both xs ys) low bytes × Appends w0 w1 bytes × (n ≡ length bytes)
 
-place_written : (t u : List ℕ) (w0 w1 : Option (List ℕ)) (xs ys : List (List ℕ)) (n : ℕ) (low : List ℕ) → IsPlace t u w0 w1 xs ys n low → (bytes : List ℕ) × IsWrittenBefore t u (of_both xs ys) low bytes × Appends w0 w1 bytes × (n ≡ length bytes)
-place_written t u w0 w1 xs ys n low p =
-    let whole : up_to low (listing (of_both xs ys)) ≡ kept p.out = ap (λ (x : List ℕ). up_to x (listing (of_both xs ys))) p.low_is ∙ up_to_is p.out p.more (listing (of_both xs ys)) p.is p.ordered p.above in (
-      magic ++ concat (kept p.out),
-      inr (p.magic_left, p.magic_right, ap (λ (x : List (List ℕ)). magic ++ concat x) (sym whole)),
-      p.gained,
-      omega (arith, p.count, length-append magic (concat (kept p.out))),
-    )
+-- no side had stopped the merge
+abbrev pub Later : (t u : List ℕ) (w0 w1 : Option (List ℕ)) (xs ys : List (List ℕ)) (n : ℕ) (low : List ℕ) → Type 0
+Later t u w0 w1 xs ys n low = (bytes : List ℕ) × IsWrittenBefore t u (of_both xs ys) low bytes × WritesFirst w0 w1 bytes n
 
-module _ (t u : List ℕ) (b1 b2 w0 w1 : Option (List ℕ)) (xs ys : List (List ℕ)) (gx : AreGoodRecords t xs) (gy : AreGoodRecords u ys) (fault : RecordFault) (n : ℕ) where
+module _ (t u : List ℕ) (b1 b2 w0 w1 : Option (List ℕ)) (xs ys : List (List ℕ)) (gx : AreGoodRecords t xs) (gy : AreGoodRecords u ys) (n : ℕ) where
+  -- both go on above what was written
+  module _ (out lefts rights : List (List ℕ)) (joins : Joins out lefts rights) (l : GoesAbove (last_of [] out) lefts xs) (r : GoesAbove (last_of [] out) rights ys) where
+    both_more : (more : List (List ℕ)) × (listing (of_both xs ys) ≡ kept out ++ more) × IsAbove (last_of [] out) more
+    both_more = begins out lefts rights xs ys joins (good_order t xs gx) (good_order u ys gy) l r
+
+    both_begun : Begun w0 w1 (kept out) n → WritesFirst w0 w1 (written (of_both xs ys)) n
+    both_begun g = begun w0 w1 (kept out) n g (of_both xs ys) both_more.0 both_more.1
+
+    -- What was written is the text of its first records. The side that stopped ends with the last of these.
+    both_place : n ≡ 8 + length (concat (kept out)) → Appends w0 w1 (magic ++ concat (kept out)) → HasMagic t → HasMagic u → (low : List ℕ) → low ≡ last_of [] out → Place t u w0 w1 xs ys n low
+    both_place is gained left right low low_is =
+        let whole : up_to low (listing (of_both xs ys)) ≡ kept out = ap (λ (x : List ℕ). up_to x (listing (of_both xs ys))) low_is ∙ up_to_is out both_more.0 (listing (of_both xs ys)) both_more.1 joins.ordered both_more.2 in
+        (magic ++ concat (kept out), inr (left, right, ap (λ (x : List (List ℕ)). magic ++ concat x) (sym whole)), gained, omega (arith, is, length-append magic (concat (kept out))))
+
   -- ---- the left side stopped
 
-  module _ (s : LeftStopped (Some t) b1 (Some u) b2 w0 w1 fault n) where
-    lx : IsLongestFront s.format t xs
-    lx = front_of s.format s.archive t xs (stopped_magic s.format t b1 s.lefts fault s.left) gx
+  module _ (fault : RecordFault) (s : LeftStopped (Some t) b1 (Some u) b2 w0 w1 fault n) where
+    left_above : GoesAbove (last_of [] s.merging.out) s.merging.both.lefts xs
+    left_above = stopped_above t (last_of [] s.merging.out) s.before s.merging.both.lefts xs s.sides.left s.merging.both.left gx b1 fault s.unread s.left
 
-    gy' : GoesOn u (last_of [] s.out) s.rights ys s.other.ahead
-    gy' = side_goes u (last_of [] s.out) b2 s.rights ys s.other s.right gy
-
-    left_more : (more : List (List ℕ)) × (listing (of_both xs ys) ≡ kept s.out ++ more) × IsAbove (last_of [] s.out) more
-    left_more =
-        let f = stopped_goes s.format s.archive t b1 s.lefts xs fault s.left lx in
-        begins s.out s.lefts s.rights f.0 gy'.more xs ys s.joins (in_order_of s.format s.archive [] xs lx.front.ordered) (side_ordered u (last_of [] s.out) b2 s.rights ys s.other s.right gy) f.1 gy'.is (subst (λ (x : List ℕ). InOrder Archive x f.0) s.last f.2) gy'.ordered
+    other_right : GoesOn u (last_of [] s.merging.out) s.merging.both.rights ys s.sides.right.ahead
+    other_right = side_goes u (last_of [] s.merging.out) b2 s.merging.both.rights ys s.sides.right s.merging.both.right gy
 
     pub left_begun : WritesFirst w0 w1 (written (of_both xs ys)) n
-    left_begun = begun_whole w0 w1 (of_both xs ys) (kept s.out) left_more.0 n left_more.1 s.written_is s.gained
+    left_begun = both_begun s.merging.out s.merging.both.lefts s.merging.both.rights s.merging.both.joins left_above other_right.above (begun_all w0 w1 (kept s.merging.out) n (s.written_is ∙ s.merging.bytes) s.merging.gained)
 
     module _ (known : IsOfText fault.kind) (ended : fault.kind ≡ Truncated → IsAtEnd b1) where
-      low_left : last_of [] xs ≡ last_of [] s.out
-      low_left = ap (last_of []) (front_is s.format t b1 s.lefts xs fault known ended s.left lx) ∙ s.last
+      low_left : last_of [] xs ≡ last_of [] s.merging.out
+      low_left = stopped_last t (last_of [] s.merging.out) s.before s.merging.both.lefts xs s.sides.left s.merging.both.left gx b1 fault s.unread s.left known ended
 
-      pub left_place : (bytes : List ℕ) × IsWrittenBefore t u (of_both xs ys) (last_of [] xs) bytes × Appends w0 w1 bytes × (n ≡ length bytes)
-      left_place = place_written t u w0 w1 xs ys n (last_of [] xs) (record {
-        out = s.out;
-        more = left_more.0;
-        is = left_more.1;
-        above = left_more.2;
-        magic_left = text_begins s.format s.archive t (stopped_magic s.format t b1 s.lefts fault s.left);
-        magic_right = side_begins u (last_of [] s.out) b2 s.rights s.other s.right;
-        low_is = low_left;
-        ordered = s.joins.ordered;
-        count = s.written_is;
-        gained = s.gained;
-      })
+      magic_right : HasMagic u
+      magic_right = side_begins u (last_of [] s.merging.out) b2 s.merging.both.rights s.sides.right s.merging.both.right
+
+      pub left_place : Place t u w0 w1 xs ys n (last_of [] xs)
+      left_place = both_place s.merging.out s.merging.both.lefts s.merging.both.rights s.merging.both.joins left_above other_right.above (s.written_is ∙ s.merging.bytes) s.merging.gained (side_begins t (last_of [] s.merging.out) s.before s.merging.both.lefts s.sides.left s.merging.both.left) magic_right (last_of [] xs) low_left
 
       pub left_first : (IsArchiveText t → ⊥) → LeftStops t u xs ys
       left_first faulty = record {
         faulty = faulty;
         first = inr (
-          side_begins u (last_of [] s.out) b2 s.rights s.other s.right,
-          elim gy'.place [
+          magic_right,
+          elim other_right.place [
             | inl a ↦ inl a
-            | inr (inl e) ↦ inr (λ b. false≢true (sym (below-self (last_of [] s.out)) ∙ subst (λ (x : List ℕ). may_follow Archive x (last_of [] s.out) ≡ true) e.1 (subst (λ (x : List ℕ). may_follow Archive (last_of [] ys) x ≡ true) low_left b)))
-            | inr (inr a) ↦ inr (λ b. false≢true (sym (below-back (last_of [] s.out) (last_of [] ys) a) ∙ subst (λ (x : List ℕ). may_follow Archive (last_of [] ys) x ≡ true) low_left b))
+            | inr (inl e) ↦ inr (λ b. cc (below-self (last_of [] s.merging.out), e.1, low_left, b))
+            | inr (inr a) ↦ inr (λ b. cc (below-back (last_of [] s.merging.out) (last_of [] ys) a, low_left, b))
           ],
         );
       }
 
   -- ---- the right side did
 
-  module _ (s : RightStopped (Some t) b1 (Some u) b2 w0 w1 fault n) where
-    ry : IsLongestFront s.format u ys
-    ry = front_of s.format s.archive u ys (stopped_magic s.format u b2 s.rights fault s.right) gy
+  module _ (fault : RecordFault) (s : RightStopped (Some t) b1 (Some u) b2 w0 w1 fault n) where
+    right_above : GoesAbove (last_of [] s.merging.out) s.merging.both.rights ys
+    right_above = stopped_above u (last_of [] s.merging.out) s.before s.merging.both.rights ys s.sides.right s.merging.both.right gy b2 fault s.unread s.right
 
-    gx' : GoesOn t (last_of [] s.out) s.lefts xs s.other.ahead
-    gx' = side_goes t (last_of [] s.out) b1 s.lefts xs s.other s.left gx
-
-    right_more : (more : List (List ℕ)) × (listing (of_both xs ys) ≡ kept s.out ++ more) × IsAbove (last_of [] s.out) more
-    right_more =
-        let f = stopped_goes s.format s.archive u b2 s.rights ys fault s.right ry in
-        begins s.out s.lefts s.rights gx'.more f.0 xs ys s.joins (side_ordered t (last_of [] s.out) b1 s.lefts xs s.other s.left gx) (in_order_of s.format s.archive [] ys ry.front.ordered) gx'.is f.1 gx'.ordered (subst (λ (x : List ℕ). InOrder Archive x f.0) s.last f.2)
+    other_left : GoesOn t (last_of [] s.merging.out) s.merging.both.lefts xs s.sides.left.ahead
+    other_left = side_goes t (last_of [] s.merging.out) b1 s.merging.both.lefts xs s.sides.left s.merging.both.left gx
 
     pub right_begun : WritesFirst w0 w1 (written (of_both xs ys)) n
-    right_begun = begun_whole w0 w1 (of_both xs ys) (kept s.out) right_more.0 n right_more.1 s.written_is s.gained
+    right_begun = both_begun s.merging.out s.merging.both.lefts s.merging.both.rights s.merging.both.joins other_left.above right_above (begun_all w0 w1 (kept s.merging.out) n (s.written_is ∙ s.merging.bytes) s.merging.gained)
 
     module _ (known : IsOfText fault.kind) (ended : fault.kind ≡ Truncated → IsAtEnd b2) where
-      low_right : last_of [] ys ≡ last_of [] s.out
-      low_right = ap (last_of []) (front_is s.format u b2 s.rights ys fault known ended s.right ry) ∙ s.last
+      low_right : last_of [] ys ≡ last_of [] s.merging.out
+      low_right = stopped_last u (last_of [] s.merging.out) s.before s.merging.both.rights ys s.sides.right s.merging.both.right gy b2 fault s.unread s.right known ended
 
-      pub right_place : (bytes : List ℕ) × IsWrittenBefore t u (of_both xs ys) (last_of [] ys) bytes × Appends w0 w1 bytes × (n ≡ length bytes)
-      right_place = place_written t u w0 w1 xs ys n (last_of [] ys) (record {
-        out = s.out;
-        more = right_more.0;
-        is = right_more.1;
-        above = right_more.2;
-        magic_left = side_begins t (last_of [] s.out) b1 s.lefts s.other s.left;
-        magic_right = text_begins s.format s.archive u (stopped_magic s.format u b2 s.rights fault s.right);
-        low_is = low_right;
-        ordered = s.joins.ordered;
-        count = s.written_is;
-        gained = s.gained;
-      })
+      magic_left : HasMagic t
+      magic_left = side_begins t (last_of [] s.merging.out) b1 s.merging.both.lefts s.sides.left s.merging.both.left
+
+      pub right_place : Place t u w0 w1 xs ys n (last_of [] ys)
+      right_place = both_place s.merging.out s.merging.both.lefts s.merging.both.rights s.merging.both.joins other_left.above right_above (s.written_is ∙ s.merging.bytes) s.merging.gained magic_left (side_begins u (last_of [] s.merging.out) s.before s.merging.both.rights s.sides.right s.merging.both.right) (last_of [] ys) low_right
 
       pub right_first : (IsArchiveText u → ⊥) → RightStops t u xs ys
       right_first faulty = record {
         faulty = faulty;
-        magic_left = side_begins t (last_of [] s.out) b1 s.lefts s.other s.left;
-        first = inr (elim gx'.place [
-          | inl a ↦ inl a
-          | inr (inl e) ↦ absurd (s.read e.0)
-          | inr (inr a) ↦ inr (subst (λ (x : List ℕ). may_follow Archive x (last_of [] xs) ≡ true) (sym low_right) a)
-        ]);
+        magic_left = magic_left;
+        first = inr (elim other_left.place [ inl a ↦ inl a | inr (inl e) ↦ absurd (s.read e.0) | inr (inr a) ↦ inr (rw low_right a) ]);
       }
 
   -- ---- both sides stand
 
-  module _ (out lefts rights : List (List ℕ)) (left right : MergeInput) (l : Stands (Some t) b1 lefts (last_of [] out) left) (r : Stands (Some u) b2 rights (last_of [] out) right) (joins : Joins out lefts rights) where
-    left_goes : GoesOn t (last_of [] out) lefts xs left.ahead
-    left_goes = side_goes t (last_of [] out) b1 lefts xs left l gx
+  module _ (out : List (List ℕ)) (left right : MergeInput) (both : Both (Some t) b1 (Some u) b2 left right out) where
+    left_goes : GoesOn t (last_of [] out) both.lefts xs left.ahead
+    left_goes = side_goes t (last_of [] out) b1 both.lefts xs left both.left gx
 
-    right_goes : GoesOn u (last_of [] out) rights ys right.ahead
-    right_goes = side_goes u (last_of [] out) b2 rights ys right r gy
+    right_goes : GoesOn u (last_of [] out) both.rights ys right.ahead
+    right_goes = side_goes u (last_of [] out) b2 both.rights ys right both.right gy
 
-    both_more : (more : List (List ℕ)) × (listing (of_both xs ys) ≡ kept out ++ more) × IsAbove (last_of [] out) more
-    both_more = begins out lefts rights left_goes.more right_goes.more xs ys joins (side_ordered t (last_of [] out) b1 lefts xs left l gx) (side_ordered u (last_of [] out) b2 rights ys right r gy) left_goes.is right_goes.is left_goes.ordered right_goes.ordered
+    standing_begun : Begun w0 w1 (kept out) n → WritesFirst w0 w1 (written (of_both xs ys)) n
+    standing_begun g = both_begun out both.lefts both.rights both.joins left_goes.above right_goes.above g
+
+  -- as many records were written as there may be
+  pub full_begun : IsFull (Some t) b1 (Some u) b2 w0 w1 n → WritesFirst w0 w1 (written (of_both xs ys)) n
+  full_begun s = standing_begun s.merging.out s.sides.left s.sides.right s.merging.both (begun_all w0 w1 (kept s.merging.out) n (s.written_is ∙ s.merging.bytes) s.merging.gained)
 
   -- ---- the writer did
 
   module _ (s : WriteStopped (Some t) b1 (Some u) b2 w0 w1 n) where
     pub write_begun : WritesFirst w0 w1 (written (of_both xs ys)) n
     write_begun =
-        let f = left_goes s.out s.lefts s.rights s.left_side s.right_side s.left s.right s.joins in
-        let g = right_goes s.out s.lefts s.rights s.left_side s.right_side s.left s.right s.joins in
-        let m = both_more s.out s.lefts s.rights s.left_side s.right_side s.left s.right s.joins in
+        let f = left_goes s.out s.left_side s.right_side s.both in
+        let g = right_goes s.out s.left_side s.right_side s.both in
         elim s.within [
-          | inl lt ↦ begun_part w0 w1 (of_both xs ys) (kept s.out) m.0 n m.1 lt s.gained
+          | inl lt ↦ standing_begun s.out s.left_side s.right_side s.both (omega (arith, lt), s.gained)
           | inr e ↦
-              let here : Joins s.out xs ys = at_fronts s.out s.lefts s.rights xs ys (sym (f.ended e.0)) (sym (g.ended e.1)) s.joins in
-              let whole : text_of Archive (kept s.out) ≡ written (of_both xs ys) = sym (written_text (of_both xs ys) ∙ ap (text_of Archive) (kept_listing xs ys s.out here)) in
+              let joins : Joins s.out xs ys = rw (f.ended e.0, g.ended e.1) s.both.joins in
+              let whole : text_of Archive (kept s.out) ≡ written (of_both xs ys) = sym (written_text (of_both xs ys) ∙ ap (text_of Archive) (kept_listing xs ys s.out joins)) in
               record { within = omega (arith, e.2, ap length whole); gained = subst (λ (x : List ℕ). Appends w0 w1 (take n x)) whole s.gained }
         ]
-
-    -- no side had stopped the merge
-    abbrev Later : List ℕ → Type 0
-    Later low = (bytes : List ℕ) × IsWrittenBefore t u (of_both xs ys) low bytes × WritesFirst w0 w1 bytes n
 
     -- what was to be written is not above the last good record of a side that is no text
     reached : (v low : List ℕ) (ahead : Lookahead) → (IsArchiveText v → ⊥) → IsArchiveText v ⊎ (((ahead ≡ Unread) × (low ≡ last_of [] s.out)) ⊎ (may_follow Archive (last_of [] s.out) low ≡ true)) → (z : List ℕ) → Contains (kept s.out) z → may_follow Archive low z ≡ false
     reached v low ahead faulty (inl text) z c = absurd (faulty text)
-    reached v low ahead faulty (inr (inl e)) z c = subst (λ (x : List ℕ). may_follow Archive x z ≡ false) (sym e.1) (up_to_last [] z s.out s.joins.ordered (from_kept s.out z c))
-    reached v low ahead faulty (inr (inr above)) z c = is_false (may_follow Archive low z) (λ h. false≢true (sym (up_to_last [] z s.out s.joins.ordered (from_kept s.out z c)) ∙ below-trans (last_of [] s.out) low z above h))
+    reached v low ahead faulty (inr (inl e)) z c = rw e.1 (up_to_last [] z s.out s.both.joins.ordered (from_kept s.out z c))
+    reached v low ahead faulty (inr (inr above)) z c = is_false (may_follow Archive low z) (λ h. cc (up_to_last [] z s.out s.both.joins.ordered (from_kept s.out z c), below-trans (last_of [] s.out) low z above h))
 
-    is_later : (low : List ℕ) → ((z : List ℕ) → Contains (kept s.out) z → may_follow Archive low z ≡ false) → n < 8 + length (concat (kept s.out)) → Later low
+    is_later : (low : List ℕ) → ((z : List ℕ) → Contains (kept s.out) z → may_follow Archive low z ≡ false) → n < 8 + length (concat (kept s.out)) → Later t u w0 w1 xs ys n low
     is_later low up lt =
-        let m = both_more s.out s.lefts s.rights s.left_side s.right_side s.left s.right s.joins in (
+        let f = left_goes s.out s.left_side s.right_side s.both in
+        let g = right_goes s.out s.left_side s.right_side s.both in
+        let m = both_more s.out s.both.lefts s.both.rights s.both.joins f.above g.above in (
           magic ++ concat (up_to low (listing (of_both xs ys))),
-          inr (side_begins t (last_of [] s.out) b1 s.lefts s.left_side s.left, side_begins u (last_of [] s.out) b2 s.rights s.right_side s.right, refl),
-          begun_before w0 w1 (of_both xs ys) (kept s.out) m.0 low n m.1 up lt s.gained,
+          inr (side_begins t (last_of [] s.out) b1 s.both.lefts s.left_side s.both.left, side_begins u (last_of [] s.out) b2 s.both.rights s.right_side s.both.right, refl),
+          begun_before w0 w1 (kept s.out) n (omega (arith, lt), s.gained) (of_both xs ys) m.0 low m.1 up lt,
         )
 
-    pub left_later : LeftStops t u xs ys → Later (last_of [] xs)
+    pub left_later : LeftStops t u xs ys → Later t u w0 w1 xs ys n (last_of [] xs)
     left_later stops = elim s.within [
-      | inl lt ↦ is_later (last_of [] xs) (reached t (last_of [] xs) s.left_side.ahead stops.faulty (left_goes s.out s.lefts s.rights s.left_side s.right_side s.left s.right s.joins).place) lt
-      | inr e ↦ absurd (stops.faulty (ended_text t (last_of [] s.out) b1 s.lefts s.left_side s.left e.0))
+      | inl lt ↦ is_later (last_of [] xs) (reached t (last_of [] xs) s.left_side.ahead stops.faulty (left_goes s.out s.left_side s.right_side s.both).place) lt
+      | inr e ↦ absurd (stops.faulty (ended_text t (last_of [] s.out) b1 s.both.lefts s.left_side s.both.left e.0))
     ]
 
-    pub right_later : RightStops t u xs ys → Later (last_of [] ys)
+    pub right_later : RightStops t u xs ys → Later t u w0 w1 xs ys n (last_of [] ys)
     right_later stops = elim s.within [
-      | inl lt ↦ is_later (last_of [] ys) (reached u (last_of [] ys) s.right_side.ahead stops.faulty (right_goes s.out s.lefts s.rights s.left_side s.right_side s.left s.right s.joins).place) lt
-      | inr e ↦ absurd (stops.faulty (ended_text u (last_of [] s.out) b2 s.rights s.right_side s.right e.1))
+      | inl lt ↦ is_later (last_of [] ys) (reached u (last_of [] ys) s.right_side.ahead stops.faulty (right_goes s.out s.left_side s.right_side s.both).place) lt
+      | inr e ↦ absurd (stops.faulty (ended_text u (last_of [] s.out) b2 s.both.rights s.right_side s.both.right e.1))
     ]
-
-  -- as many records were written as there may be
-
-  module _ (s : IsFull (Some t) b1 (Some u) b2 w0 w1 n) where
-    pub full_begun : WritesFirst w0 w1 (written (of_both xs ys)) n
-    full_begun =
-        let m = both_more s.out s.lefts s.rights s.left_side s.right_side s.left s.right s.joins in
-        begun_whole w0 w1 (of_both xs ys) (kept s.out) m.0 n m.1 s.written_is s.gained

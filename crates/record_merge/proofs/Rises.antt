@@ -1,6 +1,6 @@
 -- Nothing is lost just where the new archive is above the old one.
 use Rattle.std.proofs.Common.{◌≡◌, ◌↔◌, ℕ, ◌+◌, Bool, true, false, not, ◌&&◌, ◌||◌, List, [], ◌∷◌, refl, sym, ap, ◌∙◌, arith, cond, count_by, inl, inr}
-use Rattle.std.proofs.lemmas.Bool.{false≢true, cases_Bool}
+use Rattle.std.proofs.lemmas.Bool.{not-false}
 use Rattle.std.proofs.lemmas.List.Sums.{sum_by-cons}
 use Rattle.std.specs.List.{Contains}
 use Rattle.std.specs.FinSet.{contains}
@@ -8,18 +8,11 @@ use Rattle.join_core.specs.Listing.{listing}
 use Rattle.archive_core.specs.Content.{Operations, is_admission, covering, is_covered, IsBelow, changes}
 use Rattle.archive_core.proofs.Members.{in_cons, in_front, in_rest}
 use Rattle.archive_records.proofs.Contents.{members_listed}
-use Rattle.archive_records.proofs.Apart.{both_true}
-use Rattle.record_merge.proofs.Covered.{or_left, or_right}
 
 -- ---- a count is zero just where no member is counted
 
 not_one : (b : Bool) (n : ℕ) → cond b 1 0 + n ≡ 0 → (b ≡ false) × (n ≡ 0)
-not_one true n e = absurd (omega (arith, e))
-not_one false n e = (refl, omega (arith, e))
-
-no_more : (b : Bool) (n : ℕ) → b ≡ false → n ≡ 0 → cond b 1 0 + n ≡ 0
-no_more true n b_is n_is = absurd (false≢true (sym b_is))
-no_more false n b_is n_is = omega (arith, n_is)
+not_one b n e = grind arith
 
 module _ {X : Type 0} (p : X → Bool) where
   at_first : (x : X) (xs : List X) → count_by p (x ∷ xs) ≡ cond (p x) 1 0 + count_by p xs
@@ -36,44 +29,30 @@ module _ {X : Type 0} (p : X → Bool) where
 
   is_none : (xs : List X) → ((x : X) → Contains xs x → p x ≡ false) → count_by p xs ≡ 0
   is_none [] each = refl
-  is_none (y ∷ ys) each = at_first y ys ∙ no_more (p y) (count_by p ys) (each y (in_front y ys))
-      (is_none ys (λ x has. each x (in_rest y ys x has)))
+  is_none (y ∷ ys) each = grind (arith, at_first y ys, each y (in_front y ys), is_none ys (λ x has. each x (in_rest y ys x has)))
 
 -- ---- what is not lost
 
-not_true : (b : Bool) → not b ≡ false → b ≡ true
-not_true true e = refl
-not_true false e = absurd (false≢true (sym e))
-
 not_lost : (new : Operations) (r : List ℕ) → (changes new r ≡ false) ↔ ((contains new r || is_covered new r) ≡ true)
 unfolding changes
-not_lost new r = (not_true (contains new r || is_covered new r), ap not)
-
-second : (a b : Bool) → (a && b) ≡ true → b ≡ true
-second true b e = e
-second false b e = absurd (false≢true e)
-
-or_is : (a b c : Bool) → (b ≡ true → c ≡ true) → (a || b) ≡ true → (a || c) ≡ true
-or_is true b c f e = refl
-or_is false b c f e = f e
+not_lost new r = (not-false (contains new r || is_covered new r), ap not)
 
 first_of : (a b c : Bool) → b ≡ false → (a || (b && c)) ≡ true → a ≡ true
-first_of true b c n e = refl
-first_of false false c n e = e
-first_of false true c n e = absurd (false≢true (sym n))
+first_of a b c n e = grind arith
+
+either_of : (a b c : Bool) → (a || (b && c)) ≡ true → (a || c) ≡ true
+either_of a b c e = grind arith
+
+above_by : (a n c o : Bool) → (a ≡ false → n ≡ true) → (o ≡ true → c ≡ true) → (a ≡ true → o ≡ false → (n || c) ≡ true)
+    → (n || (a && c)) ≡ true
+above_by a n c o other gone live = grind arith
 
 -- a record of the old archive is there or covered, a covered one by its retirement, which is there too
 kept_above : (new old : Operations) → IsBelow old new → (r : List ℕ) → contains old r ≡ true
     → (contains new r || is_covered new r) ≡ true
-kept_above new old below r has = elim (cases_Bool (is_admission r)) [
-  | inr other ↦ or_left (contains new r) (is_covered new r) (below.retirements r other has)
-  | inl is ↦ elim (cases_Bool (contains old (covering r))) [
-    | inl gone ↦ or_right (contains new r) (is_covered new r)
-        (both_true (is_admission r) (contains new (covering r)) is (below.retirements (covering r) refl gone))
-    | inr live ↦ or_is (contains new r) (contains new (covering r)) (is_covered new r)
-        (both_true (is_admission r) (contains new (covering r)) is) (below.live r is has live)
-  ]
-]
+kept_above new old below r has = above_by (is_admission r) (contains new r) (contains new (covering r))
+    (contains old (covering r)) (λ other. below.retirements r other has)
+    (λ gone. below.retirements (covering r) refl gone) (λ is live. below.live r is has live)
 
 pub rises : (new old : Operations) → (count_by (changes new) (listing old) ≡ 0) ↔ IsBelow old new
 rises new old = (
@@ -82,8 +61,7 @@ rises new old = (
       λ r has. (not_lost new r).0 (none_is (changes new) (listing old) r none ((members_listed old r).1 has)) in
       record {
         retirements = λ r other has. first_of (contains new r) (is_admission r) (contains new (covering r)) other (kept r has);
-        live = λ r is has live. or_is (contains new r) (is_covered new r) (contains new (covering r))
-            (second (is_admission r) (contains new (covering r))) (kept r has);
+        live = λ r is has live. either_of (contains new r) (is_admission r) (contains new (covering r)) (kept r has);
       },
   λ below. is_none (changes new) (listing old)
       (λ r listed. (not_lost new r).1 (kept_above new old below r ((members_listed old r).0 listed))),

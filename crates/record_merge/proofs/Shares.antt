@@ -1,11 +1,9 @@
 -- Retirements that both sides hold, kept once.
-use Rattle.std.proofs.Common.{◌≡◌, ℕ, ◌==◌, Bool, true, false, ◌&&◌, cond, List, [], ◌∷◌, ◌++◌, length, drop, get_or, Option, Some, None, refl, sym, ap, ◌∙◌, subst}
-use Rattle.std.proofs.lemmas.Bool.{eqb-true}
+use Rattle.std.proofs.Common.{◌≡◌, ℕ, Bool, true, false, arith, List, [], ◌∷◌, ◌++◌, drop, Option, Some, sym, ap, ◌∙◌, subst, Ordering, Equal}
+use Rattle.std.proofs.lemmas.Bool.Decides.{nat_tests}
 use Rattle.std.proofs.lemmas.List.Elements.{Contains-push}
 use Rattle.std.specs.List.{Contains}
 use Rattle.std.specs.Ordering.{is_ne}
-use Rattle.std.specs.declared.cmp.Ordering.{Ordering}
-use Rattle.std.specs.declared.cmp.Ordering.TheVariants.{Less, Equal, Greater}
 use Rattle.std.specs.Cmp.Lexicographic.{nat_list_cmp_total}
 use Rattle.std.specs.FinSet as set
 use Rattle.std.specs.FinSet.{contains, from_list_push}
@@ -15,7 +13,7 @@ use Rattle.archive_records.specs.declared.format.Format.{Format}
 use Rattle.archive_records.specs.declared.format.Format.TheVariants.{Archive, OldArchive, Operations as Operations_file, Summary as Summary_file}
 use Rattle.archive_records.specs.Text.{last_of}
 use Rattle.archive_records.specs.Reader.{set_of, AreRetired, HasRead, HasReadAll, Position, beside, retirement_in}
-use Rattle.archive_records.proofs.Apart.{in_set, and_second}
+use Rattle.archive_records.proofs.Apart.{in_set}
 use Rattle.archive_records.proofs.Puts.{bytes_same}
 use Rattle.record_merge.specs.declared.side.Lookahead.TheVariants.{Held}
 use Rattle.record_merge.specs.declared.side.MergeInput.{MergeInput}
@@ -26,6 +24,7 @@ use Rattle.record_merge.specs.MergeSteps.{Merging, Stands, first_of}
 use Rattle.record_merge.specs.TellingSteps.{Telling}
 use Rattle.record_merge.proofs.Covered.{retired_of}
 use Rattle.record_merge.proofs.MergeSteps.{first_equal}
+use Rattle.record_merge.proofs.Starts.{with_both}
 
 -- ---- the same retirements, kept elsewhere
 
@@ -82,24 +81,12 @@ stands_as a b done low s retired same p = record {
 -- ---- what both sides hold
 
 pub equal_not_ne : (o : Ordering) → is_ne o ≡ false → o ≡ Equal
-equal_not_ne Less e = absurd cc
-equal_not_ne Equal e = refl
-equal_not_ne Greater e = absurd cc
+equal_not_ne o e = grind arith
 
 -- a record that is told to be a retirement is that
 told_retirement : (bytes r : List ℕ) → retirement_in bytes ≡ Some r → (bytes ≡ r) × (bytes ≡ 1 ∷ drop 1 bytes)
-told_retirement bytes r is = by (length bytes == 57 && get_or bytes 0 0 == 1) refl is
-  where
-    first : (xs : List ℕ) → get_or xs 0 0 ≡ 1 → xs ≡ 1 ∷ drop 1 xs
-    first [] e = absurd cc
-    first (y ∷ ys) e = ap (λ (n : ℕ). n ∷ ys) e
-
-    some : (x y : List ℕ) → Some x ≡ Some y → x ≡ y
-    some x y e = cc
-
-    by : (b : Bool) → (length bytes == 57 && get_or bytes 0 0 == 1) ≡ b → cond b (Some bytes) None ≡ Some r → (bytes ≡ r) × (bytes ≡ 1 ∷ drop 1 bytes)
-    by true e h = (some bytes r h, first bytes (eqb-true (get_or bytes 0 0) 1 (and_second _ _ e)))
-    by false e h = absurd cc
+told_retirement [] r is = cc
+told_retirement (y ∷ ys) r is = grind (arith, nat_tests)
 
 -- the side has it among its own
 has_own : (a b : Option (List ℕ)) (done : List (List ℕ)) (low : List ℕ) (s : MergeInput) (q : List ℕ) → Stands a b done low s → s.ahead ≡ Held → s.reader.last ≡ 1 ∷ q → contains (set_of s.reader.retired) (1 ∷ q) ≡ true
@@ -109,18 +96,14 @@ has_own a b done low s q p held is =
 
 module _ (a1 b1 a2 b2 w0 w1 : Option (List ℕ)) (m : Sides) (p : Merging a1 b1 a2 b2 w0 w1 m) where
   abbrev merging_as : (lefts rights : List (List ℕ)) → set_of lefts ≡ set_of m.left.reader.retired → set_of rights ≡ set_of m.right.reader.retired → Merging a1 b1 a2 b2 w0 w1 (record { left = with_retired lefts m.left; right = with_retired rights m.right; written = m.written })
-  merging_as lefts rights left right = record {
-    lefts = p.lefts;
-    rights = p.rights;
-    out = p.out;
-    left = stands_as a1 b1 p.lefts (last_of [] p.out) m.left lefts left p.left;
-    right = stands_as a2 b2 p.rights (last_of [] p.out) m.right rights right p.right;
-    order = p.order;
-    joins = p.joins;
-    records = p.records;
-    bytes = p.bytes;
-    gained = p.gained;
-  }
+  merging_as lefts rights left right = with_both a1 b1 b1 a2 b2 b2 w0 w1 m p (with_retired lefts m.left) (with_retired rights m.right) (record {
+    lefts = p.both.lefts;
+    rights = p.both.rights;
+    left = stands_as a1 b1 p.both.lefts (last_of [] p.out) m.left lefts left p.both.left;
+    right = stands_as a2 b2 p.both.rights (last_of [] p.out) m.right rights right p.both.right;
+    order = p.both.order;
+    joins = p.both.joins;
+  })
 
   -- a retirement that both sides hold is among those of each
   both_have : (r : List ℕ) → first_of m.left m.right ≡ Equal → retirement_in m.left.reader.last ≡ Some r → (contains (set_of m.left.reader.retired) r ≡ true) × (contains (set_of m.right.reader.retired) r ≡ true)
@@ -129,8 +112,8 @@ module _ (a1 b1 a2 b2 w0 w1 : Option (List ℕ)) (m : Sides) (p : Merging a1 b1 
       let t = told_retirement m.left.reader.last r is in
       let q = drop 1 m.left.reader.last in
       let r_is : 1 ∷ q ≡ r = sym t.1 ∙ t.0 in (
-        subst (λ (x : List ℕ). contains (set_of m.left.reader.retired) x ≡ true) r_is (has_own a1 b1 p.lefts (last_of [] p.out) m.left q p.left f.0 t.1),
-        subst (λ (x : List ℕ). contains (set_of m.right.reader.retired) x ≡ true) r_is (has_own a2 b2 p.rights (last_of [] p.out) m.right q p.right f.1 (sym (bytes_same _ _ f.2) ∙ t.1)),
+        rw (← r_is) (has_own a1 b1 p.both.lefts (last_of [] p.out) m.left q p.both.left f.0 t.1),
+        rw (← r_is) (has_own a2 b2 p.both.rights (last_of [] p.out) m.right q p.both.right f.1 (sym (bytes_same _ _ f.2) ∙ t.1)),
       )
 
 -- ---- a retirement that both sides hold is shared, and both forget it

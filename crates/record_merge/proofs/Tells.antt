@@ -1,21 +1,17 @@
 -- What a merge tells of the records of its sides that had their turn.
-use Rattle.std.proofs.Common.{◌≡◌, ◌≢◌, ℕ, ◌+◌, ◌^◌, ◌<◌, Bool, true, false, not, ◌||◌, ◌&&◌, List, [], ◌∷◌, ◌++◌, length, map, Option, Result, Ok, Err, refl, sym, ap, ◌∙◌, subst, arith, inl, inr, lit≤, append_assoc, length-append}
+use Rattle.std.proofs.Common.{◌≡◌, ◌≢◌, ℕ, ◌+◌, ◌^◌, ◌<◌, Bool, true, false, not, ◌||◌, ◌&&◌, List, [], ◌∷◌, ◌++◌, length, map, Option, Result, Ok, Err, refl, sym, ap, ◌∙◌, arith, inl, inr, lit≤, MatchResult, OnOk, Ordering, Less, Equal, Greater}
 use Rattle.std.proofs.lemmas.List.{append-nil, map-append}
 use Rattle.std.proofs.lemmas.List.Elements.{Contains-push}
-use Rattle.std.proofs.lemmas.Bool.{false≢true, cases_Bool}
+use Rattle.std.proofs.lemmas.Bool.{cases_Bool}
 use Rattle.std.proofs.lemmas.List.Folds.{list_any-append}
-use Rattle.std.specs.Prelude.{MatchResult, OnOk}
-use Rattle.std.specs.declared.cmp.Ordering.{Ordering}
-use Rattle.std.specs.declared.cmp.Ordering.TheVariants.{Less, Equal, Greater}
 use Rattle.std.specs.FinSet.{contains}
 use Rattle.std.specs.List.{concat, list_any, Contains}
 use Rattle.std.specs.Io.KnownBytes.{Appends, Consumes}
-use Rattle.byte_device.proofs.Known.{Appends-then}
 use Rattle.archive_core.specs.Content.{covering, is_admission, is_covered}
 use Rattle.archive_records.specs.declared.fault.MergeCause.TheVariants.{Right}
 use Rattle.archive_records.specs.declared.fault.MergeFault.{MergeFault}
 use Rattle.archive_records.specs.declared.fault.RecordFault.{RecordFault}
-use Rattle.archive_records.specs.declared.fault.RecordFaultKind.TheVariants.{Truncated, OutOfMemory}
+use Rattle.archive_records.specs.declared.fault.RecordFaultKind.TheVariants.{Truncated}
 use Rattle.archive_records.specs.declared.format.Format.{Format}
 use Rattle.archive_records.specs.declared.format.Format.TheVariants.{Archive}
 use Rattle.archive_records.specs.declared.kind.TextKind.TheVariants.{Archive as Archive_text}
@@ -23,8 +19,8 @@ use Rattle.archive_records.specs.declared.writing.Sizes.{Sizes}
 use Rattle.archive_records.specs.Fault.{next, next_by}
 use Rattle.archive_records.specs.Front.{front_length}
 use Rattle.archive_records.specs.Kind.{magic, magic_of, kind_of, may_follow}
-use Rattle.archive_records.specs.Reader.{set_of, HasRead, Stopped}
-use Rattle.archive_records.specs.Text.{end_record, kept, last_of, text_of}
+use Rattle.archive_records.specs.Reader.{set_of, HasRead}
+use Rattle.archive_records.specs.Text.{end_record, kept, last_of}
 use Rattle.archive_records.proofs.Apart.{in_set, from_set, is_false, covering_below, contains-push, covered_push}
 use Rattle.archive_records.proofs.Ascending.{below-greater, below-less, below-trans, up_to_last, here, later}
 use Rattle.archive_records.proofs.Ends.{length-end_record}
@@ -36,56 +32,40 @@ use Rattle.record_merge.specs.Sides.{Sides}
 use Rattle.record_merge.specs.declared.side.Lookahead.TheVariants.{Unread}
 use Rattle.record_merge.specs.declared.side.MergeInput.{MergeInput}
 use Rattle.record_merge.specs.declared.turns.Turn.{Turn}
-use Rattle.record_merge.specs.MergeSteps.{HasEnded, HasStoppedMerge, IsBeforeTurn, Joins, MergedAll, Merging, Stands, TellsBy, TellsCovered, after_turn, first_of, left_after, memory_behind, next_record, next_record_by, right_after}
+use Rattle.record_merge.specs.MergeSteps.{HasEnded, HasStoppedMerge, IsBeforeTurn, Joins, MergedAll, Merging, Stands, TellsBy, TellsCovered, after_turn, first_of, left_after, memory_behind, next_record, next_record_by, right_after, Both}
 use Rattle.record_merge.specs.TellingSteps.{Telling, TellsNextBy, TellsNext, ToldAll, has_next, has_next_by, is_withdrawn, told_with}
 use Rattle.record_merge.specs.Turns.{turn_by, turn_of}
 use Rattle.record_merge.proofs.Covered.{covered_by, not_same}
-use Rattle.record_merge.proofs.MergeSteps.{Next, first_less, first_equal, first_greater, held_dropped, held_record, next_turn, passed, wrote}
-use Rattle.record_merge.proofs.Starts.{left_read, right_read, right_stopped, merging_start}
+use Rattle.record_merge.proofs.MergeSteps.{first_less, first_equal, first_greater, held_dropped, held_record, next_turn, passed, wrote}
+use Rattle.record_merge.proofs.Starts.{left_read, right_read, memory_stopped, merging_start}
 
 -- ---- lists of answers
 
 pub same_answers : {A : Type 0} (f g : List ℕ → A) (xs : List (List ℕ)) → ((r : List ℕ) → Contains xs r → f r ≡ g r) → map f xs ≡ map g xs
 same_answers f g [] same = refl
-same_answers f g (x ∷ xs) same =
-    let first : f x ≡ g x = same x (here x xs) in
-    let rest : map f xs ≡ map g xs = same_answers f g xs (λ r c. same r (later x r xs c)) in
-    λ i. first i ∷ rest i
+same_answers f g (x ∷ xs) same = cc (same x (here x xs), same_answers f g xs (λ r c. same r (later x r xs c)))
 
 same_tests : (f g : List ℕ → Bool) (xs : List (List ℕ)) → ((r : List ℕ) → Contains xs r → f r ≡ g r) → list_any f xs ≡ list_any g xs
 same_tests f g [] same = refl
-same_tests f g (x ∷ xs) same =
-    let first : f x ≡ g x = same x (here x xs) in
-    let rest : list_any f xs ≡ list_any g xs = same_tests f g xs (λ r c. same r (later x r xs c)) in
-    λ i. first i || rest i
+same_tests f g (x ∷ xs) same = cc (same x (here x xs), same_tests f g xs (λ r c. same r (later x r xs c)))
 
 -- ---- one record more, x, above all that had their turn
 
 module _ (out : List (List ℕ)) (x : List ℕ) (above : may_follow Archive (last_of [] out) x ≡ true) where
-  -- none that had its turn is that record
-  other : (r : List ℕ) → may_follow Archive (last_of [] out) r ≡ false → x ≡ r → ⊥
-  other r under same = false≢true (sym under ∙ subst (λ (y : List ℕ). may_follow Archive (last_of [] out) y ≡ true) same above)
-
-  -- nor covered by it
-  uncovered : (r : List ℕ) → may_follow Archive (last_of [] out) r ≡ false → is_admission r ≡ true → x ≡ covering r → ⊥
-  uncovered r under admission same =
-      let below : may_follow Archive (last_of [] out) (covering r) ≡ true = subst (λ (y : List ℕ). may_follow Archive (last_of [] out) y ≡ true) same above in
-      false≢true (sym under ∙ below-trans (last_of [] out) (covering r) r below (covering_below r admission))
-
+  -- none that had its turn is covered by that record
   covered_as : (mine : List (List ℕ)) (r : List ℕ) → may_follow Archive (last_of [] out) r ≡ false → is_covered (set_of (mine ++ x ∷ [])) r ≡ is_covered (set_of mine) r
   covered_as mine r under = elim (cases_Bool (is_admission r)) [
-    | inl t ↦ ap (λ c. is_admission r && c) (contains-push mine x (covering r) ∙ ap (λ b. b || contains (set_of mine) (covering r)) (not_same (covering r) x (uncovered r under t)))
-    | inr f ↦ ap (λ c. c && contains (set_of (mine ++ x ∷ [])) (covering r)) f ∙ sym (ap (λ c. c && contains (set_of mine) (covering r)) f)
+    | inl t ↦
+        let uncovered : x ≡ covering r → ⊥ = λ same. let above_it : may_follow Archive (last_of [] out) (covering r) ≡ true = cc in cc (under, below-trans (last_of [] out) (covering r) r above_it (covering_below r t)) in
+        rw (contains-push mine x (covering r), not_same (covering r) x uncovered)
+    | inr f ↦ rw f
   ]
 
 module _ (out lefts rights : List (List ℕ)) (x : List ℕ) (j : Joins out lefts rights) (above : may_follow Archive (last_of [] out) x ≡ true) where
   -- of the left side: what was told stays
   turn_as : (r : List ℕ) → may_follow Archive (last_of [] out) r ≡ false → turn_of (set_of (lefts ++ x ∷ [])) r ≡ turn_of (set_of lefts) r
   unfolding turn_of
-  turn_as r under =
-      let has : contains (set_of (lefts ++ x ∷ [])) r ≡ contains (set_of lefts) r = contains-push lefts x r ∙ ap (λ b. b || contains (set_of lefts) r) (not_same r x (other out x above r under)) in
-      let covers : is_covered (set_of (lefts ++ x ∷ [])) r ≡ is_covered (set_of lefts) r = covered_as out x above lefts r under in
-      λ i. turn_by (covers i) (has i)
+  turn_as r under = rw (contains-push lefts x r, not_same r x (λ same. cc), covered_as out x above lefts r under)
 
   told_still : map (turn_of (set_of (lefts ++ x ∷ []))) rights ≡ map (turn_of (set_of lefts)) rights
   told_still = same_answers (turn_of (set_of (lefts ++ x ∷ []))) (turn_of (set_of lefts)) rights (λ r c. turn_as r (up_to_last [] r out j.ordered (j.right r c)))
@@ -93,49 +73,25 @@ module _ (out lefts rights : List (List ℕ)) (x : List ℕ) (j : Joins out left
   -- it is there, or covered
   turn_there : turn_of (set_of (lefts ++ x ∷ [])) x ≡ turn_by (is_covered (set_of lefts) x) true
   unfolding turn_of
-  turn_there =
-      let has : contains (set_of (lefts ++ x ∷ [])) x ≡ true = in_set (lefts ++ x ∷ []) x (Contains-push lefts x) in
-      let covers : is_covered (set_of (lefts ++ x ∷ [])) x ≡ is_covered (set_of lefts) x = covered_push lefts x in
-      λ i. turn_by (covers i) (has i)
+  turn_there = rw (in_set (lefts ++ x ∷ []) x (Contains-push lefts x), covered_push lefts x)
 
   -- of the right side alone: it is new, or covered
   turn_alone : turn_of (set_of lefts) x ≡ turn_by (is_covered (set_of lefts) x) false
   unfolding turn_of
-  turn_alone = ap (turn_by (is_covered (set_of lefts) x)) (is_false (contains (set_of lefts) x) (λ has. other out x above x (up_to_last [] x out j.ordered (j.left x (from_set lefts x has))) refl))
+  turn_alone = ap (turn_by (is_covered (set_of lefts) x)) (is_false (contains (set_of lefts) x) (λ has. cc (above, up_to_last [] x out j.ordered (j.left x (from_set lefts x has)))))
 
   -- what is retired of the left side stays
-  abbrev withdrawn : Bool
-  withdrawn = list_any (is_withdrawn (set_of lefts) (set_of rights)) lefts
-
-  withdrawn_left : list_any (is_withdrawn (set_of (lefts ++ x ∷ [])) (set_of rights)) lefts ≡ withdrawn
+  withdrawn_left : list_any (is_withdrawn (set_of (lefts ++ x ∷ [])) (set_of rights)) lefts ≡ list_any (is_withdrawn (set_of lefts) (set_of rights)) lefts
   withdrawn_left = same_tests (is_withdrawn (set_of (lefts ++ x ∷ [])) (set_of rights)) (is_withdrawn (set_of lefts) (set_of rights)) lefts
-      (λ r c. ap (λ b. is_covered (set_of rights) r && not b) (covered_as out x above lefts r (up_to_last [] r out j.ordered (j.left r c))))
+      (λ r c. cc (covered_as out x above lefts r (up_to_last [] r out j.ordered (j.left r c))))
 
-  withdrawn_right : list_any (is_withdrawn (set_of lefts) (set_of (rights ++ x ∷ []))) lefts ≡ withdrawn
-  withdrawn_right = same_tests (is_withdrawn (set_of lefts) (set_of (rights ++ x ∷ []))) (is_withdrawn (set_of lefts) (set_of rights)) lefts
-      (λ r c. ap (λ b. b && not (is_covered (set_of lefts) r)) (covered_as out x above rights r (up_to_last [] r out j.ordered (j.left r c))))
-
-  withdrawn_both : list_any (is_withdrawn (set_of (lefts ++ x ∷ [])) (set_of (rights ++ x ∷ []))) lefts ≡ withdrawn
-  withdrawn_both = same_tests (is_withdrawn (set_of (lefts ++ x ∷ [])) (set_of (rights ++ x ∷ []))) (is_withdrawn (set_of lefts) (set_of rights)) lefts
-      (λ r c. let under : may_follow Archive (last_of [] out) r ≡ false = up_to_last [] r out j.ordered (j.left r c) in
-      let mine : is_covered (set_of (lefts ++ x ∷ [])) r ≡ is_covered (set_of lefts) r = covered_as out x above lefts r under in
-      let others : is_covered (set_of (rights ++ x ∷ [])) r ≡ is_covered (set_of rights) r = covered_as out x above rights r under in
-      λ i. others i && not (mine i))
+  withdrawn_right : (os : List (List ℕ)) → list_any (is_withdrawn (set_of os) (set_of (rights ++ x ∷ []))) lefts ≡ list_any (is_withdrawn (set_of os) (set_of rights)) lefts
+  withdrawn_right os = same_tests (is_withdrawn (set_of os) (set_of (rights ++ x ∷ []))) (is_withdrawn (set_of os) (set_of rights)) lefts
+      (λ r c. cc (covered_as out x above rights r (up_to_last [] r out j.ordered (j.left r c))))
 
 -- one record more of the left side, that its own retirements cover or not (d), and the other side's (c)
 withdraws_more : (d c w : Bool) → (((d || c) && not d) || w) ≡ (w || ((c && not d) || false))
-withdraws_more true true true = refl
-withdraws_more true true false = refl
-withdraws_more true false true = refl
-withdraws_more true false false = refl
-withdraws_more false true true = refl
-withdraws_more false true false = refl
-withdraws_more false false true = refl
-withdraws_more false false false = refl
-
-withdraws_same : (passed w : Bool) → ((passed && false) || w) ≡ w
-withdraws_same true w = refl
-withdraws_same false w = refl
+withdraws_more d c w = grind arith
 
 -- ---- a turn
 
@@ -143,30 +99,27 @@ module _ (a1 b1 a2 b2 w0 w1 : Option (List ℕ)) (m : Sides) (told : List Turn) 
   abbrev p : Merging a1 b1 a2 b2 w0 w1 m
   p = t.merging
 
-  abbrev after : (o : Ordering) → first_of m.left m.right ≡ o → Next a1 b1 a2 b2 (left_after o m.left) (right_after o m.right) (p.out ++ next_record_by o m ∷ [])
+  abbrev after : (o : Ordering) → first_of m.left m.right ≡ o → Both a1 b1 a2 b2 (left_after o m.left) (right_after o m.right) (p.out ++ next_record_by o m ∷ [])
   after o first = next_turn a1 b1 a2 b2 w0 w1 m p before o first
 
   told_next : (o : Ordering) (first : first_of m.left m.right ≡ o) → TellsNextBy o m.left m.right turn → told_with told turn ≡ map (turn_of (set_of (after o first).lefts)) (after o first).rights
   unfolding next_turn
   told_next Less first is =
       let f = first_less m.left.ahead m.right.ahead _ first in
-      ap (told_with told) is ∙ t.turns_are ∙ sym (told_still p.out p.lefts p.rights m.left.reader.last p.joins (p.left.held f.0).1)
+      ap (told_with told) is ∙ t.turns_are ∙ sym (told_still p.out p.both.lefts p.both.rights m.left.reader.last p.both.joins (p.both.left.held f.0).1)
   told_next Equal first is =
       let x = m.left.reader.last in
       let f = first_equal m.left.ahead m.right.ahead _ first in
-      let above = (p.left.held f.0).1 in
-      let own : m.left.reader.dropped ≡ is_covered (set_of p.lefts) x = held_dropped a1 b1 p.lefts (last_of [] p.out) m.left p.left f.0 in
-      let before : told ≡ map (turn_of (set_of (p.lefts ++ x ∷ []))) p.rights = t.turns_are ∙ sym (told_still p.out p.lefts p.rights x p.joins above) in
-      let here : turn_by m.left.reader.dropped true ≡ turn_of (set_of (p.lefts ++ x ∷ [])) x = ap (λ b. turn_by b true) own ∙ sym (turn_there p.out p.lefts p.rights x p.joins above) in
-      ap (told_with told) is ∙ (λ i. before i ++ here i ∷ []) ∙ sym (map-append (turn_of (set_of (p.lefts ++ x ∷ []))) p.rights (x ∷ []))
+      let above = (p.both.left.held f.0).1 in
+      let own = held_dropped a1 b1 p.both.lefts (last_of [] p.out) m.left p.both.left f.0 in
+      let same = told_still p.out p.both.lefts p.both.rights x p.both.joins above in
+      ap (told_with told) is ∙ cc (t.turns_are, same, own, turn_there p.out p.both.lefts p.both.rights x p.both.joins above, map-append (turn_of (set_of (p.both.lefts ++ x ∷ []))) p.both.rights (x ∷ []))
   told_next Greater first is =
       let x = m.right.reader.last in
       let f = first_greater m.left.ahead m.right.ahead _ before.read.left before.some first in
-      let above = (p.right.held f.0).1 in
-      let whole = held_record a2 b2 p.rights (last_of [] p.out) m.right p.right f.0 in
-      let covers : is_covered (set_of m.left.reader.retired) x ≡ is_covered (set_of p.lefts) x = covered_by a1 b1 p.lefts (last_of [] p.out) m.left x p.left before.read.left (λ held. below-greater _ _ (f.1 held)) in
-      let here : turn_by (is_covered (set_of m.left.reader.retired) x) false ≡ turn_of (set_of p.lefts) x = ap (λ b. turn_by b false) covers ∙ sym (turn_alone p.out p.lefts p.rights x p.joins above) in
-      ap (told_with told) (is whole) ∙ (λ i. t.turns_are i ++ here i ∷ []) ∙ sym (map-append (turn_of (set_of p.lefts)) p.rights (x ∷ []))
+      let whole = held_record a2 b2 p.both.rights (last_of [] p.out) m.right p.both.right f.0 in
+      let covers = covered_by a1 b1 p.both.lefts (last_of [] p.out) m.left x p.both.left before.read.left (λ held. below-greater _ _ (f.1 held)) in
+      ap (told_with told) (is whole) ∙ cc (t.turns_are, covers, turn_alone p.out p.both.lefts p.both.rights x p.both.joins (p.both.right.held f.0).1, map-append (turn_of (set_of p.both.lefts)) p.both.rights (x ∷ []))
 
   -- whether the record that is passed over or written is one that the right side retires
   withdraws_next : (passed : Bool) (o : Ordering) (first : first_of m.left m.right ≡ o) → TellsBy o m.left m.right passed
@@ -175,34 +128,29 @@ module _ (a1 b1 a2 b2 w0 w1 : Option (List ℕ)) (m : Sides) (told : List Turn) 
   withdraws_next passed Less first covers =
       let x = m.left.reader.last in
       let f = first_less m.left.ahead m.right.ahead _ first in
-      let above = (p.left.held f.0).1 in
-      let all = p.lefts ++ x ∷ [] in
-      let test = is_withdrawn (set_of all) (set_of p.rights) in
-      let d = m.left.reader.dropped in
-      let c = is_covered (set_of m.right.reader.retired) x in
-      let is : passed ≡ (d || c) = covers (held_record a1 b1 p.lefts (last_of [] p.out) m.left p.left f.0) in
-      let own : d ≡ is_covered (set_of all) x = held_dropped a1 b1 p.lefts (last_of [] p.out) m.left p.left f.0 ∙ sym (covered_push p.lefts x) in
-      let others : c ≡ is_covered (set_of p.rights) x = covered_by a2 b2 p.rights (last_of [] p.out) m.right x p.right before.read.right (λ held. below-less _ _ (f.1 held)) in
-      let before : withdraws ≡ list_any test p.lefts = t.withdraws_is ∙ sym (withdrawn_left p.out p.lefts p.rights x p.joins above) in
-      (λ i. (is i && not d) || withdraws) ∙ withdraws_more d c withdraws ∙ (λ i. before i || ((others i && not (own i)) || false)) ∙ sym (list_any-append test p.lefts (x ∷ []))
+      let all = p.both.lefts ++ x ∷ [] in
+      let test = is_withdrawn (set_of all) (set_of p.both.rights) in
+      let is = covers (held_record a1 b1 p.both.lefts (last_of [] p.out) m.left p.both.left f.0) in
+      let own = held_dropped a1 b1 p.both.lefts (last_of [] p.out) m.left p.both.left f.0 in
+      let others = covered_by a2 b2 p.both.rights (last_of [] p.out) m.right x p.both.right before.read.right (λ held. below-less _ _ (f.1 held)) in
+      let still = withdrawn_left p.out p.both.lefts p.both.rights x p.both.joins (p.both.left.held f.0).1 in
+      cc (withdraws_more m.left.reader.dropped (is_covered (set_of m.right.reader.retired) x) withdraws, is, own, covered_push p.both.lefts x, others, t.withdraws_is, still, list_any-append test p.both.lefts (x ∷ []))
   withdraws_next passed Equal first covers =
       let x = m.left.reader.last in
       let f = first_equal m.left.ahead m.right.ahead _ first in
-      let above = (p.left.held f.0).1 in
-      let all = p.lefts ++ x ∷ [] in
-      let ours = p.rights ++ x ∷ [] in
-      let test = is_withdrawn (set_of all) (set_of ours) in
-      let d = m.left.reader.dropped in
-      let c = m.right.reader.dropped in
-      let own : d ≡ is_covered (set_of all) x = held_dropped a1 b1 p.lefts (last_of [] p.out) m.left p.left f.0 ∙ sym (covered_push p.lefts x) in
-      let same : m.right.reader.last ≡ x = sym (bytes_same _ _ f.2) in
-      let others : c ≡ is_covered (set_of ours) x = held_dropped a2 b2 p.rights (last_of [] p.out) m.right p.right f.1 ∙ ap (λ (r : List ℕ). is_covered (set_of p.rights) r) same ∙ sym (covered_push p.rights x) in
-      let before : withdraws ≡ list_any test p.lefts = t.withdraws_is ∙ sym (withdrawn_both p.out p.lefts p.rights x p.joins above) in
-      (λ i. (covers i && not d) || withdraws) ∙ withdraws_more d c withdraws ∙ (λ i. before i || ((others i && not (own i)) || false)) ∙ sym (list_any-append test p.lefts (x ∷ []))
+      let above = (p.both.left.held f.0).1 in
+      let all = p.both.lefts ++ x ∷ [] in
+      let test = is_withdrawn (set_of all) (set_of (p.both.rights ++ x ∷ [])) in
+      let own = held_dropped a1 b1 p.both.lefts (last_of [] p.out) m.left p.both.left f.0 in
+      let same : x ≡ m.right.reader.last = bytes_same _ _ f.2 in
+      let others = held_dropped a2 b2 p.both.rights (last_of [] p.out) m.right p.both.right f.1 in
+      let still = withdrawn_right p.out p.both.lefts p.both.rights x p.both.joins above all ∙ withdrawn_left p.out p.both.lefts p.both.rights x p.both.joins above in
+      cc (withdraws_more m.left.reader.dropped m.right.reader.dropped withdraws, covers, own, covered_push p.both.lefts x, same, others, covered_push p.both.rights x, t.withdraws_is, still, list_any-append test p.both.lefts (x ∷ []))
   withdraws_next passed Greater first covers =
       let x = m.right.reader.last in
       let f = first_greater m.left.ahead m.right.ahead _ before.read.left before.some first in
-      withdraws_same passed withdraws ∙ t.withdraws_is ∙ sym (withdrawn_right p.out p.lefts p.rights x p.joins (p.right.held f.0).1)
+      let same : ((passed && false) || withdraws) ≡ withdraws = grind arith in
+      same ∙ t.withdraws_is ∙ sym (withdrawn_right p.out p.both.lefts p.both.rights x p.both.joins (p.both.right.held f.0).1 p.both.lefts)
 
   -- the record is passed over
   pub tells_passed : TellsCovered m.left m.right true → Telling a1 b1 a2 b2 w0 w1 (after_turn m m.written) (told_with told turn) (has_next m || withdraws)
@@ -243,25 +191,16 @@ nothing_more file low count = ap (λ r. next_by file r low count []) (framed-emp
 pub no_room : (a1 b1 a2 b2 w0 w1 : Option (List ℕ)) (m : Sides) → Merging a1 b1 a2 b2 w0 w1 m → m.left.ahead ≢ Unread → m.right.ahead ≡ Unread → m.right.reader.count < 2 ^ 63 → (e : MergeFault) (fault : RecordFault) (offset : ℕ) → e ≡ record { cause = Right fault; written = m.written.bytes }
     → fault ≡ memory_behind offset → offset ≡ m.right.reader.offset → HasStoppedMerge a1 b1 a2 b2 w0 w1 e
 no_room a1 b1 a2 b2 w0 w1 m p read unread few e fault offset is memory at =
-    let h = (p.right.unread unread).0 in
+    let h = (p.both.right.unread unread).0 in
     let f : Format = m.right.reader.file in
-    let short : length p.rights < 2 ^ 63 = omega (arith, few, h.count_is) in
-    let kind : fault.kind ≡ OutOfMemory = ap (λ (t : RecordFault). t.kind) memory in
-    let behind : fault.offset ≡ front_length p.rights = ap (λ (t : RecordFault). t.offset) memory ∙ at ∙ h.offset_is in
-    let stopped : Stopped f a2 b2 p.rights fault = record {
-      rest = [];
-      taken = subst (λ (t : List ℕ). Consumes a2 b2 (magic_of f ++ t)) (sym (append-nil (concat p.rights))) h.taken;
-      ordered = h.ordered;
-      apart = h.apart;
-      few = short;
-      unended = λ known. absurd (known.1 kind);
-      stops = inl (behind, λ known. absurd (known kind));
-      undecided = λ _. cut_off f p.rights h.ordered h.apart (omega (arith, short)) [] (inl (nothing_more f (last_of [] p.rights) (length p.rights)));
-    } in
-    subst (HasStoppedMerge a1 b1 a2 b2 w0 w1) (sym is) (inl (
-      right_stopped a1 a2 w0 w1 b1 b2 b2 m p read fault stopped (p.right.unread unread).1,
+    let taken : Consumes a2 b2 (magic_of f ++ (concat p.both.rights ++ [])) = rw (append-nil (concat p.both.rights)) h.taken in
+    let behind : fault ≡ memory_behind (front_length p.both.rights) = memory ∙ ap (λ (n : ℕ). memory_behind n) (at ∙ h.offset_is) in
+    let cut = cut_off f p.both.rights h.ordered h.apart (omega (arith, few, h.count_is)) [] (inl (nothing_more f (last_of [] p.both.rights) (length p.both.rights))) in
+    let stopped = memory_stopped f a2 b2 p.both.rights [] fault taken h.ordered h.apart (omega (arith, few, h.count_is)) behind cut in
+    rw is (inl (
+      record { before = b2; sides = m; merging = p; read = read; unread = unread; right = stopped; written_is = refl },
       λ _. (
-        λ held same. absurd (omega (arith, long_record m.left.reader.last (held_record a1 b1 p.lefts (last_of [] p.out) m.left p.left held), ap length same)),
+        λ held same. absurd (omega (arith, long_record m.left.reader.last (held_record a1 b1 p.both.lefts (last_of [] p.out) m.left p.both.left held), ap length same)),
         λ n same. absurd (omega (arith, length-end_record n, ap length same)),
       ),
     ))
@@ -285,26 +224,7 @@ told_or_stopped P M Q (Err e) told merging = merging
 module _ (a1 b1 a2 b2 w0 w1 w2 : Option (List ℕ)) (m : Sides) (ended : HasEnded m) (sizes : Sizes) (gained : Appends w1 w2 (end_record m.written.records)) (records : sizes.records ≡ m.written.records)
     (bytes : sizes.bytes ≡ m.written.bytes + length (end_record m.written.records)) where
   abbrev pub merging_end : Merging a1 b1 a2 b2 w0 w1 m → MergedAll a1 b1 a2 b2 w0 w2 sizes
-  merging_end p =
-      let front : List ℕ = magic ++ concat (kept p.out) in
-      let end : List ℕ = end_record m.written.records in
-      let text : text_of Archive (kept p.out) ≡ front ++ end = ap (λ (n : ℕ). magic ++ (concat (kept p.out) ++ end_record n)) (sym p.records) ∙ sym (append_assoc magic (concat (kept p.out)) end) in
-      record {
-        lefts = p.lefts;
-        rights = p.rights;
-        out = p.out;
-        left = m.left;
-        right = m.right;
-        left_archive = p.left.archive;
-        right_archive = p.right.archive;
-        left_read = p.left.ended ended.left;
-        right_read = p.right.ended ended.right;
-        joins = p.joins;
-        few = subst (λ (n : ℕ). n < 2 ^ 63) p.records ended.fits.few;
-        gained = subst (Appends w0 w2) (sym text) (Appends-then w0 w1 w2 front end p.gained gained);
-        records = records ∙ p.records;
-        bytes = omega (arith, bytes, p.bytes, ap length text, length-append front end, length-append magic (concat (kept p.out)));
-      }
+  merging_end p = record { before = w1; sides = m; merging = p; ended = ended; gained = gained; records = records; bytes = bytes }
 
   pub tells_end : (told : List Turn) (withdraws : Bool) → Telling a1 b1 a2 b2 w0 w1 m told withdraws → ToldAll a1 b1 a2 b2 w0 w2 sizes told withdraws
   tells_end told withdraws t = record { merged = merging_end t.merging; turns_are = t.turns_are; withdraws_is = t.withdraws_is }

@@ -7,7 +7,7 @@ use Rattle.std.specs.Ordering.{nat_cmp}
 use Rattle.std.specs.Cmp.Lexicographic.{slice_cmp}
 use Rattle.std.specs.List.{concat, Contains}
 use Rattle.std.specs.Io.KnownBytes.{Appends, Consumes, IsAtEnd}
-use Rattle.byte_device.specs.Devices.{FailedIn}
+use Rattle.byte_device.specs.Devices.{FailedIn, Stream}
 use Rattle.archive_core.specs.Content.{is_covered}
 use Rattle.archive_core.specs.Record.{IsRecord}
 use Rattle.archive_records.specs.declared.fault.RecordFault.{RecordFault}
@@ -27,7 +27,6 @@ use Rattle.archive_records.specs.declared.writing.Sizes.{Sizes}
 use Rattle.archive_records.specs.Kind.{magic, magic_of, kind_of, may_follow}
 use Rattle.archive_records.specs.Text.{end_record, text_of, InOrder, kept, last_of}
 use Rattle.archive_records.specs.Reading.{Blames}
-use Rattle.byte_device.specs.Devices.{Stream}
 use Rattle.record_merge.specs.Merging.{IsUnfailed, most_records}
 use Rattle.archive_records.specs.Reader.{set_of, HasRead, HasReadAll, Stopped, StopsInMagicOf}
 
@@ -128,136 +127,128 @@ pub record Joins (out lefts rights : List (List ℕ)) : Type 0 where
   pub left : (r : List ℕ) → Contains lefts r → Contains out r
   pub right : (r : List ℕ) → Contains rights r → Contains out r
 
--- What was read of both, but for what is held, which is above it, ascends as `out`: that was written but for what is
--- covered in it. Where the left side is to be read on and the right one was, the right one's last record is not the
--- last of both.
-pub record Merging (a1 b1 a2 b2 w0 w1 : Option (List ℕ)) (m : Sides) : Type 0 where
+-- What was read of both, but for what is held, which is above it, ascends as `out`. Where the left side is to be read
+-- on and the right one was, the right one's last record is not the last of both.
+pub record Both (a1 b1 a2 b2 : Option (List ℕ)) (left_side right_side : MergeInput) (out : List (List ℕ))
+    : Type 0 where
   pub lefts : List (List ℕ)
   pub rights : List (List ℕ)
-  pub out : List (List ℕ)
-  pub left : Stands a1 b1 lefts (last_of [] out) m.left
-  pub right : Stands a2 b2 rights (last_of [] out) m.right
-  pub order : m.left.ahead ≡ Unread → m.right.ahead ≢ Unread
+  pub left : Stands a1 b1 lefts (last_of [] out) left_side
+  pub right : Stands a2 b2 rights (last_of [] out) right_side
+  pub order : left_side.ahead ≡ Unread → right_side.ahead ≢ Unread
       → may_follow Archive (last_of [] rights) (last_of [] out) ≡ true
   pub joins : Joins out lefts rights
+
+-- What was read of both was written but for what is covered in it.
+pub record Merging (a1 b1 a2 b2 w0 w1 : Option (List ℕ)) (m : Sides) : Type 0 where
+  pub out : List (List ℕ)
+  pub both : Both a1 b1 a2 b2 m.left m.right out
   pub records : m.written.records ≡ length (kept out)
   pub bytes : m.written.bytes ≡ 8 + length (concat (kept out))
   pub gained : Appends w0 w1 (magic ++ concat (kept out))
 
--- The left side stopped it. What was written is what of both was read, but for what the right side holds and what is
--- covered.
+-- The left side, which was to be read on, stopped the merge that stood so.
 pub record LeftStopped (a1 b1 a2 b2 w0 w1 : Option (List ℕ)) (fault : RecordFault) (written : ℕ) : Type 0 where
-  pub lefts : List (List ℕ)
-  pub rights : List (List ℕ)
-  pub out : List (List ℕ)
-  pub other : MergeInput
-  pub format : Format
-  pub archive : kind_of format ≡ Archive_text
-  pub left : Stopped format a1 b1 lefts fault
-  pub last : last_of [] lefts ≡ last_of [] out
-  pub right : Stands a2 b2 rights (last_of [] out) other
-  pub order : other.ahead ≢ Unread → may_follow Archive (last_of [] rights) (last_of [] out) ≡ true
-  pub joins : Joins out lefts rights
-  pub written_is : written ≡ 8 + length (concat (kept out))
-  pub gained : Appends w0 w1 (magic ++ concat (kept out))
+  pub before : Option (List ℕ)
+  pub sides : Sides
+  pub merging : Merging a1 before a2 b2 w0 w1 sides
+  pub unread : sides.left.ahead ≡ Unread
+  pub left : Stopped sides.left.reader.file a1 b1 merging.both.lefts fault
+  pub written_is : written ≡ sides.written.bytes
 
 -- The right side did, and the left one holds a record, or was read to its end.
 pub record RightStopped (a1 b1 a2 b2 w0 w1 : Option (List ℕ)) (fault : RecordFault) (written : ℕ) : Type 0 where
-  pub lefts : List (List ℕ)
-  pub rights : List (List ℕ)
-  pub out : List (List ℕ)
-  pub other : MergeInput
-  pub left : Stands a1 b1 lefts (last_of [] out) other
-  pub read : other.ahead ≢ Unread
-  pub format : Format
-  pub archive : kind_of format ≡ Archive_text
-  pub right : Stopped format a2 b2 rights fault
-  pub last : last_of [] rights ≡ last_of [] out
-  pub joins : Joins out lefts rights
-  pub written_is : written ≡ 8 + length (concat (kept out))
-  pub gained : Appends w0 w1 (magic ++ concat (kept out))
+  pub before : Option (List ℕ)
+  pub sides : Sides
+  pub merging : Merging a1 b1 a2 before w0 w1 sides
+  pub read : sides.left.ahead ≢ Unread
+  pub unread : sides.right.ahead ≡ Unread
+  pub right : Stopped sides.right.reader.file a2 b2 merging.both.rights fault
+  pub written_is : written ≡ sides.written.bytes
 
 -- The writer failed inside the text of what was read of both, but for what is held and what is covered; inside its end
 -- record only where both texts were read to their ends.
 pub record WriteStopped (a1 b1 a2 b2 w0 w1 : Option (List ℕ)) (written : ℕ) : Type 0 where
-  pub lefts : List (List ℕ)
-  pub rights : List (List ℕ)
   pub out : List (List ℕ)
   pub left_side : MergeInput
   pub right_side : MergeInput
-  pub left : Stands a1 b1 lefts (last_of [] out) left_side
-  pub right : Stands a2 b2 rights (last_of [] out) right_side
-  pub joins : Joins out lefts rights
+  pub both : Both a1 b1 a2 b2 left_side right_side out
   pub within : (written < 8 + length (concat (kept out)))
       ⊎ ((left_side.ahead ≡ Ended) × (right_side.ahead ≡ Ended) × (written < length (text_of Archive (kept out))))
   pub gained : Appends w0 w1 (take written (text_of Archive (kept out)))
 
--- As many records were written as there may be, and a side holds one more.
+-- ---- numbers
+
+-- The numbers of a merge fit.
+pub record Fits (m : Sides) : Type 0 where
+  pub left_archive : kind_of m.left.reader.file ≡ Archive_text
+  pub right_archive : kind_of m.right.reader.file ≡ Archive_text
+  pub left_few : m.left.reader.count < 2 ^ 63
+  pub right_few : m.right.reader.count < 2 ^ 63
+  pub few : m.written.records < 2 ^ 63
+  pub bytes : m.written.bytes ≤ 8 + m.written.records * 2 ^ 64
+
+-- nothing is to be read
+pub record IsRead (m : Sides) : Type 0 where
+  pub left : m.left.ahead ≢ Unread
+  pub right : m.right.ahead ≢ Unread
+
+-- A record is next, whichever side has it, and the numbers fit.
+pub record IsBeforeTurn (m : Sides) : Type 0 where
+  pub fits : Fits m
+  pub read : IsRead m
+  pub some : m.left.ahead ≡ Ended → m.right.ahead ≡ Held
+
+-- ---- refusals
+
+-- As many records were written as there may be, and one more is next, which is not covered.
 pub record IsFull (a1 b1 a2 b2 w0 w1 : Option (List ℕ)) (written : ℕ) : Type 0 where
-  pub lefts : List (List ℕ)
-  pub rights : List (List ℕ)
-  pub out : List (List ℕ)
-  pub left_side : MergeInput
-  pub right_side : MergeInput
-  pub left : Stands a1 b1 lefts (last_of [] out) left_side
-  pub right : Stands a2 b2 rights (last_of [] out) right_side
-  pub left_read : left_side.ahead ≢ Unread
-  pub right_read : right_side.ahead ≢ Unread
-  pub left_few : left_side.reader.count < 2 ^ 63
-  pub right_few : right_side.reader.count < 2 ^ 63
-  pub some : left_side.ahead ≡ Ended → right_side.ahead ≡ Held
-  pub left_kept : first_of left_side right_side ≢ Greater → is_covered (set_of out) left_side.reader.last ≡ false
-  pub right_kept : first_of left_side right_side ≡ Greater → is_covered (set_of out) right_side.reader.last ≡ false
-  pub joins : Joins out lefts rights
-  pub most : length (kept out) ≡ most_records
-  pub written_is : written ≡ 8 + length (concat (kept out))
-  pub gained : Appends w0 w1 (magic ++ concat (kept out))
+  pub sides : Sides
+  pub merging : Merging a1 b1 a2 b2 w0 w1 sides
+  pub before : IsBeforeTurn sides
+  pub free : is_covered (set_of merging.out) (next_record sides) ≡ false
+  pub most : sides.written.records ≡ most_records
+  pub written_is : written ≡ sides.written.bytes
 
 -- want of memory behind so many bytes
 abbrev pub memory_behind : ℕ → RecordFault
 memory_behind offset = record { kind = OutOfMemory; offset = offset }
 
 -- The left side's record is the next, and memory is wanted for it.
-abbrev pub LeftFull : Option (List ℕ) → Option (List ℕ) → Option (List ℕ) → Option (List ℕ)
-    → Option (List ℕ) → Option (List ℕ) → RecordFault → ℕ → Type 0
+abbrev pub LeftFull : (a1 b1 a2 b2 w0 w1 : Option (List ℕ)) → RecordFault → ℕ → Type 0
 LeftFull a1 b1 a2 b2 w0 w1 fault written =
-    (full : IsFull a1 b1 a2 b2 w0 w1 written) × (first_of full.left_side full.right_side ≢ Greater)
-    × (fault ≡ memory_behind (front_length full.lefts))
+    (full : IsFull a1 b1 a2 b2 w0 w1 written) × (first_of full.sides.left full.sides.right ≢ Greater)
+    × (fault ≡ memory_behind (front_length full.merging.both.lefts))
 
 -- The right side's is.
-abbrev pub RightFull : Option (List ℕ) → Option (List ℕ) → Option (List ℕ) → Option (List ℕ)
-    → Option (List ℕ) → Option (List ℕ) → RecordFault → ℕ → Type 0
+abbrev pub RightFull : (a1 b1 a2 b2 w0 w1 : Option (List ℕ)) → RecordFault → ℕ → Type 0
 RightFull a1 b1 a2 b2 w0 w1 fault written =
-    (full : IsFull a1 b1 a2 b2 w0 w1 written) × (first_of full.left_side full.right_side ≡ Greater)
-    × (fault ≡ memory_behind (front_length full.rights))
+    (full : IsFull a1 b1 a2 b2 w0 w1 written) × (first_of full.sides.left full.sides.right ≡ Greater)
+    × (fault ≡ memory_behind (front_length full.merging.both.rights))
 
 -- Memory was wanted at the right side's turn, for the record that the left side holds, too: it is told of the left one.
-abbrev pub BothWanted : Option (List ℕ) → Option (List ℕ) → Option (List ℕ) → Option (List ℕ)
-    → Option (List ℕ) → Option (List ℕ) → RecordFault → ℕ → Type 0
+abbrev pub BothWanted : (a1 b1 a2 b2 w0 w1 : Option (List ℕ)) → RecordFault → ℕ → Type 0
 BothWanted a1 b1 a2 b2 w0 w1 fault written =
-    (own : RecordFault) × (s : RightStopped a1 b1 a2 b2 w0 w1 own written) × (s.other.ahead ≡ Held)
-    × (s.right.rest ≡ s.other.reader.last) × (s.other.reader.count < 2 ^ 63)
-    × (fault ≡ memory_behind (front_length s.lefts))
+    (own : RecordFault) × (s : RightStopped a1 b1 a2 b2 w0 w1 own written) × (s.sides.left.ahead ≡ Held)
+    × (s.right.rest ≡ s.sides.left.reader.last) × (s.sides.left.reader.count < 2 ^ 63)
+    × (fault ≡ memory_behind (front_length s.merging.both.lefts))
 
 -- The right side stopped the merge, and memory that it wanted was not for what the left side has: a record that it
 -- holds, or its end record.
-abbrev pub RightAlone : Option (List ℕ) → Option (List ℕ) → Option (List ℕ) → Option (List ℕ)
-    → Option (List ℕ) → Option (List ℕ) → RecordFault → ℕ → Type 0
+abbrev pub RightAlone : (a1 b1 a2 b2 w0 w1 : Option (List ℕ)) → RecordFault → ℕ → Type 0
 RightAlone a1 b1 a2 b2 w0 w1 fault written =
     (s : RightStopped a1 b1 a2 b2 w0 w1 fault written) × (fault.kind ≡ OutOfMemory
-    → (s.other.ahead ≡ Held → s.right.rest ≢ s.other.reader.last) × ((n : ℕ) → s.right.rest ≢ end_record n))
+    → (s.sides.left.ahead ≡ Held → s.right.rest ≢ s.sides.left.reader.last) × ((n : ℕ) → s.right.rest ≢ end_record n))
 
 -- the left side is told
-abbrev pub LeftRefused : Option (List ℕ) → Option (List ℕ) → Option (List ℕ) → Option (List ℕ)
-    → Option (List ℕ) → Option (List ℕ) → RecordFault → ℕ → Type 0
+abbrev pub LeftRefused : (a1 b1 a2 b2 w0 w1 : Option (List ℕ)) → RecordFault → ℕ → Type 0
 LeftRefused a1 b1 a2 b2 w0 w1 fault written =
     LeftStopped a1 b1 a2 b2 w0 w1 fault written
     ⊎ LeftFull a1 b1 a2 b2 w0 w1 fault written
     ⊎ BothWanted a1 b1 a2 b2 w0 w1 fault written
 
 -- the right side is
-abbrev pub RightRefused : Option (List ℕ) → Option (List ℕ) → Option (List ℕ) → Option (List ℕ)
-    → Option (List ℕ) → Option (List ℕ) → RecordFault → ℕ → Type 0
+abbrev pub RightRefused : (a1 b1 a2 b2 w0 w1 : Option (List ℕ)) → RecordFault → ℕ → Type 0
 RightRefused a1 b1 a2 b2 w0 w1 fault written =
     RightAlone a1 b1 a2 b2 w0 w1 fault written ⊎ RightFull a1 b1 a2 b2 w0 w1 fault written
 
@@ -299,63 +290,39 @@ BlamesDevices left right w0 w1 result =
     MatchResult result (λ _. IsUnfailed left × IsUnfailed right × (w1 ≡ w0)) (λ e. BlamesBy left right w0 w1 e.cause)
 
 -- how a merge stops after the magic
-abbrev pub HasStoppedMerge : Option (List ℕ) → Option (List ℕ) → Option (List ℕ) → Option (List ℕ)
-    → Option (List ℕ) → Option (List ℕ) → MergeFault → Type 0
+abbrev pub HasStoppedMerge : (a1 b1 a2 b2 w0 w1 : Option (List ℕ)) → MergeFault → Type 0
 HasStoppedMerge a1 b1 a2 b2 w0 w1 e = ByCause e.cause
     (λ fault. LeftRefused a1 b1 a2 b2 w0 w1 fault e.written)
     (λ fault. RightRefused a1 b1 a2 b2 w0 w1 fault e.written)
     (WriteStopped a1 b1 a2 b2 w0 w1 e.written)
 
 -- What a call makes of a merge, of the inputs and the output before it and after it: it goes on, or stops.
-abbrev pub MergesOn : {T : Type 0} → Option (List ℕ) → Option (List ℕ) → Option (List ℕ) → Option (List ℕ)
-    → Option (List ℕ) → Option (List ℕ) → Sides → Sides → Result T MergeFault → Type 0
+abbrev pub MergesOn : {T : Type 0} → (b1 c1 b2 c2 w1 w2 : Option (List ℕ)) → Sides → Sides
+    → Result T MergeFault → Type 0
 MergesOn b1 c1 b2 c2 w1 w2 old new result =
     (a1 a2 w0 : Option (List ℕ)) → Merging a1 b1 a2 b2 w0 w1 old
     → MatchResult result (λ _. Merging a1 c1 a2 c2 w0 w2 new) (λ e. HasStoppedMerge a1 c1 a2 c2 w0 w2 e)
 
--- how it stops at all: before the magic is written, too
-abbrev pub StopsMerge : Option (List ℕ) → Option (List ℕ) → Option (List ℕ) → Option (List ℕ)
-    → Option (List ℕ) → Option (List ℕ) → MergeFault → Type 0
+-- the left side is told, before the magic is written, too
+abbrev pub LeftTold : (a1 b1 a2 b2 w0 w1 : Option (List ℕ)) → RecordFault → ℕ → Type 0
+LeftTold a1 b1 a2 b2 w0 w1 fault written =
+    ((written ≡ 0) × Appends w0 w1 [] × Consumes a2 b2 [] × StopsBeforeRecords a1 b1 fault)
+    ⊎ LeftRefused a1 b1 a2 b2 w0 w1 fault written
+
+-- the right side is
+abbrev pub RightTold : (a1 b1 a2 b2 w0 w1 : Option (List ℕ)) → RecordFault → ℕ → Type 0
+RightTold a1 b1 a2 b2 w0 w1 fault written =
+    ((written ≡ 0) × Appends w0 w1 [] × HasMagicRead a1 b1 × StopsBeforeRecords a2 b2 fault)
+    ⊎ RightRefused a1 b1 a2 b2 w0 w1 fault written
+
+-- how it stops at all
+abbrev pub StopsMerge : (a1 b1 a2 b2 w0 w1 : Option (List ℕ)) → MergeFault → Type 0
 StopsMerge a1 b1 a2 b2 w0 w1 e = ByCause e.cause
-    (λ fault. ((e.written ≡ 0) × Appends w0 w1 [] × Consumes a2 b2 [] × StopsBeforeRecords a1 b1 fault)
-    ⊎ LeftRefused a1 b1 a2 b2 w0 w1 fault e.written)
-    (λ fault. ((e.written ≡ 0) × Appends w0 w1 [] × HasMagicRead a1 b1 × StopsBeforeRecords a2 b2 fault)
-    ⊎ RightRefused a1 b1 a2 b2 w0 w1 fault e.written)
+    (λ fault. LeftTold a1 b1 a2 b2 w0 w1 fault e.written)
+    (λ fault. RightTold a1 b1 a2 b2 w0 w1 fault e.written)
     (WriteStopped a1 b1 a2 b2 w0 w1 e.written)
 
--- Two whole texts were read, and the text of the join was written.
-pub record MergedAll (a1 b1 a2 b2 w0 w1 : Option (List ℕ)) (sizes : Sizes) : Type 0 where
-  pub lefts : List (List ℕ)
-  pub rights : List (List ℕ)
-  pub out : List (List ℕ)
-  pub left : MergeInput
-  pub right : MergeInput
-  pub left_archive : kind_of left.reader.file ≡ Archive_text
-  pub right_archive : kind_of right.reader.file ≡ Archive_text
-  pub left_read : HasReadAll left.reader.file a1 b1 lefts left.reader × IsAtEnd b1
-  pub right_read : HasReadAll right.reader.file a2 b2 rights right.reader × IsAtEnd b2
-  pub joins : Joins out lefts rights
-  pub few : length (kept out) < 2 ^ 63
-  pub gained : Appends w0 w1 (text_of Archive (kept out))
-  pub records : sizes.records ≡ length (kept out)
-  pub bytes : sizes.bytes ≡ length (text_of Archive (kept out))
-
--- what a merge leaves
-abbrev pub Leaves : Option (List ℕ) → Option (List ℕ) → Option (List ℕ) → Option (List ℕ)
-    → Option (List ℕ) → Option (List ℕ) → Result Sizes MergeFault → Type 0
-Leaves a1 b1 a2 b2 w0 w1 (Ok sizes) = MergedAll a1 b1 a2 b2 w0 w1 sizes
-Leaves a1 b1 a2 b2 w0 w1 (Err e) = StopsMerge a1 b1 a2 b2 w0 w1 e
-
--- ---- numbers
-
--- The numbers of a merge fit.
-pub record Fits (m : Sides) : Type 0 where
-  pub left_archive : kind_of m.left.reader.file ≡ Archive_text
-  pub right_archive : kind_of m.right.reader.file ≡ Archive_text
-  pub left_few : m.left.reader.count < 2 ^ 63
-  pub right_few : m.right.reader.count < 2 ^ 63
-  pub few : m.written.records < 2 ^ 63
-  pub bytes : m.written.bytes ≤ 8 + m.written.records * 2 ^ 64
+-- ---- turns
 
 -- want of memory for the record that the side holds
 abbrev pub memory_for : MergeInput → RecordFault
@@ -385,17 +352,6 @@ IsToldOfRight m fault e =
 abbrev pub cost_of : Sides → ℕ
 cost_of m = weight m.left + weight m.right
 
--- nothing is to be read
-pub record IsRead (m : Sides) : Type 0 where
-  pub left : m.left.ahead ≢ Unread
-  pub right : m.right.ahead ≢ Unread
-
--- A record is next, whichever side has it, and the numbers fit.
-pub record IsBeforeTurn (m : Sides) : Type 0 where
-  pub fits : Fits m
-  pub read : IsRead m
-  pub some : m.left.ahead ≡ Ended → m.right.ahead ≡ Held
-
 -- The record that was next had its turn: where the right side has it, that side is to be read on. The numbers fit,
 -- and there is less to do.
 pub record HadTurn (old new : Sides) : Type 0 where
@@ -419,3 +375,18 @@ pub record HasEnded (m : Sides) : Type 0 where
   pub fits : Fits m
   pub left : m.left.ahead ≡ Ended
   pub right : m.right.ahead ≡ Ended
+
+-- Two whole texts were read, and the end record was written behind what was written of both.
+pub record MergedAll (a1 b1 a2 b2 w0 w1 : Option (List ℕ)) (sizes : Sizes) : Type 0 where
+  pub before : Option (List ℕ)
+  pub sides : Sides
+  pub merging : Merging a1 b1 a2 b2 w0 before sides
+  pub ended : HasEnded sides
+  pub gained : Appends before w1 (end_record sides.written.records)
+  pub records : sizes.records ≡ sides.written.records
+  pub bytes : sizes.bytes ≡ sides.written.bytes + length (end_record sides.written.records)
+
+-- what a merge leaves
+abbrev pub Leaves : (a1 b1 a2 b2 w0 w1 : Option (List ℕ)) → Result Sizes MergeFault → Type 0
+Leaves a1 b1 a2 b2 w0 w1 (Ok sizes) = MergedAll a1 b1 a2 b2 w0 w1 sizes
+Leaves a1 b1 a2 b2 w0 w1 (Err e) = StopsMerge a1 b1 a2 b2 w0 w1 e

@@ -49,14 +49,13 @@ is_withdrawn o p r = is_covered p r && not (is_covered o r)
 pub record Telling (a1 b1 a2 b2 w0 w1 : Option (List ℕ)) (m : Sides) (turns : List Turn) (withdraws : Bool)
     : Type 0 where
   pub merging : Merging a1 b1 a2 b2 w0 w1 m
-  pub turns_are : turns ≡ map (turn_of (set_of merging.lefts)) merging.rights
+  pub turns_are : turns ≡ map (turn_of (set_of merging.both.lefts)) merging.both.rights
   pub withdraws_is : withdraws
-      ≡ list_any (is_withdrawn (set_of merging.lefts) (set_of merging.rights)) merging.lefts
+      ≡ list_any (is_withdrawn (set_of merging.both.lefts) (set_of merging.both.rights)) merging.both.lefts
 
 -- What a call makes of such a merge, of the inputs and the output before it and after it, and of what is told.
-abbrev pub TellsOn : {T : Type 0} → Option (List ℕ) → Option (List ℕ) → Option (List ℕ) → Option (List ℕ)
-    → Option (List ℕ) → Option (List ℕ) → Sides → Sides → List Turn → List Turn → Bool → Bool → Result T MergeFault
-    → Type 0
+abbrev pub TellsOn : {T : Type 0} → (b1 c1 b2 c2 w1 w2 : Option (List ℕ)) → Sides → Sides → List Turn → List Turn
+    → Bool → Bool → Result T MergeFault → Type 0
 TellsOn b1 c1 b2 c2 w1 w2 old new turns more withdrew withdraws result =
     (a1 a2 w0 : Option (List ℕ)) → Telling a1 b1 a2 b2 w0 w1 old turns withdrew
     → MatchResult result (λ _. Telling a1 c1 a2 c2 w0 w2 new more withdraws)
@@ -66,5 +65,6 @@ TellsOn b1 c1 b2 c2 w1 w2 old new turns more withdrew withdraws result =
 pub record ToldAll (a1 b1 a2 b2 w0 w1 : Option (List ℕ)) (sizes : Sizes) (turns : List Turn) (withdraws : Bool)
     : Type 0 where
   pub merged : MergedAll a1 b1 a2 b2 w0 w1 sizes
-  pub turns_are : turns ≡ map (turn_of (set_of merged.lefts)) merged.rights
-  pub withdraws_is : withdraws ≡ list_any (is_withdrawn (set_of merged.lefts) (set_of merged.rights)) merged.lefts
+  pub turns_are : turns ≡ map (turn_of (set_of merged.merging.both.lefts)) merged.merging.both.rights
+  pub withdraws_is : withdraws ≡ list_any
+      (is_withdrawn (set_of merged.merging.both.lefts) (set_of merged.merging.both.rights)) merged.merging.both.lefts

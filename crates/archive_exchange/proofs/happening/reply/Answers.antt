@@ -1,6 +1,4 @@
-use Rattle.std.proofs.Common.{subst, arith}
-use Rattle.archive_exchange.specs.SiteState.{IsReplyFault}
-use Rattle.archive_exchange.specs.declared.fault.ReplyFault.{ReplyFault}
+use Rattle.std.proofs.Common.{arith}
 use Rattle.archive_exchange.proofs.Followed.{replied, not_replied, follows_as, sent_at}
 use Rattle.archive_exchange.proofs.happening.reply.Goals as goal
 
@@ -11,7 +9,6 @@ returns-in_ok-outcome-in-Ok g c = λ i. follows_as _ _ _ _ _ _ _ c.in_ok-outcome
 
 pub returns-in-Err-NotASummary : goal.returns-in-Err-NotASummary
 returns-in-Err-NotASummary g c = λ i.
-    let P : ReplyFault → Type 0 = λ d. IsReplyFault c.text.result.now d in
     not_replied i c.args.message c.args.site.now c.args.messages.now.items c.text.result.now c.in-Err-NotASummary.fault
     (sent_at c.args.messages.now.items c.args.message c.index.result.now c.text.result.now (omega arith) c.index.ensures c.text.ensures)
-    (subst P c.in-Err-NotASummary.field-0-is c.in-Err-NotASummary.ensures.refused)
+    (rw c.in-Err-NotASummary.field-0-is at c.in-Err-NotASummary.ensures.refused)

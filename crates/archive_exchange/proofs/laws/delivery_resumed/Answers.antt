@@ -1,9 +1,9 @@
-use Rattle.archive_exchange.proofs.Redelivered.{above_old, below_asked, asked_again}
+use Rattle.archive_exchange.proofs.Redelivered.{below_asked, asked_again}
 use Rattle.archive_exchange.proofs.laws.delivery_resumed.Goals as goal
 
 pub returns : goal.returns
 returns c = record {
-  above = λ text old mid part. above_old text old mid part;
+  above = λ text old mid part. part.held.above_old;
   below = λ text old mid new part whole. below_asked text old mid new part whole;
   again = λ text old mid new is part rest. asked_again text old mid new is part rest;
 }

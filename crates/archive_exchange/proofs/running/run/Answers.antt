@@ -1,13 +1,14 @@
 use Rattle.std.proofs.Common.{suc, max, sym, ◌∙◌, subst}
 use Rattle.archive_core.specs.Content.{IsContent}
 use Rattle.exchange_model.proofs.Kept.{held_content}
-use Rattle.archive_exchange.proofs.Runs.{records_of, alike, held_at}
+use Rattle.archive_exchange.proofs.Runs.{records_of, alike}
 use Rattle.archive_exchange.proofs.running.run.Goals as goal
 
 pub returns-clause-same_operations_same_bytes : goal.returns-clause-same_operations_same_bytes
 returns-clause-same_operations_same_bytes g c = λ seen are i site others later j at same.
     let shows = (c.in_ok-done.ensures.has_run seen are).shows in
-    alike _ _ (subst IsContent (sym (held_at _ _ _ i site shows at)) (shows.held i)) (held_at _ _ _ i site shows at ∙ c.same_reached.ensures c.args.sites others seen later i j same)
+    let held = (shows.each i site at).held in
+    alike _ _ (subst IsContent (sym held) (shows.held i)) (held ∙ c.same_reached.ensures c.args.sites others seen later i j same)
 
 pub returns-clause-records : goal.returns-clause-records
 returns-clause-records g c = λ seen are. records_of c.args.sites seen _ _ _ (c.in_ok-done.ensures.has_run seen are)

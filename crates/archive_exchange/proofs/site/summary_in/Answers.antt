@@ -1,9 +1,11 @@
-use Rattle.archive_exchange.proofs.Texts.{refused_summary}
+use Rattle.archive_records.specs.Fault.{IsSummaryFault}
+use Rattle.archive_exchange.specs.SiteState.{IsSummaryText}
+use Rattle.archive_exchange.proofs.Texts.{refused_by}
 use Rattle.archive_exchange.proofs.site.summary_in.Goals as goal
 
 pub returns-in_default : goal.returns-in_default
 returns-in_default c = record {
   names = tt;
   alone = tt;
-  refused = refused_summary c.new-input.result.rest.now c.args.text.now c.in-Err.fault c.new-input.ensures.left c.in-Err.ensures.0.blames.0 c.in_default.not-OutOfMemory c.in-Err.ensures.0.faulty c.in-Err.ensures.1;
+  refused = refused_by IsSummaryFault IsSummaryText c.new-input.result.rest.now c.args.text.now c.in-Err.fault c.new-input.ensures.left c.in-Err.ensures.0.blames.0 c.in_default.not-OutOfMemory c.in-Err.ensures.0.faulty (λ text. c.in-Err.ensures.1 text.0 text.1.entries text.1.is);
 }

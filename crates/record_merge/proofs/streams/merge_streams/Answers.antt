@@ -1,6 +1,5 @@
 use Rattle.byte_device.specs.Devices.{stream}
-use Rattle.record_merge.proofs.Gained.{counted}
-use Rattle.record_merge.proofs.Merges.{merges}
+use Rattle.record_merge.proofs.Merges.{counted, merges}
 use Rattle.record_merge.proofs.streams.merge_streams.Goals as goal
 
 pub returns : goal.returns

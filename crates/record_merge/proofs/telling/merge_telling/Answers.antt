@@ -27,15 +27,9 @@ returns-clause-tells g c =
 pub returns-clause-turns : goal.returns-clause-turns
 returns-clause-turns g c =
     let taken = c.in_ok-sizes.ensures in
-    let left = stream g.R.Source.left g.R.Source.failures c.args.left.now c.tell_taken.new.r1 in
-    let right = stream g.S.Source.left g.S.Source.failures c.args.right.now c.tell_taken.new.r2 in
-    let out = stream g.W.Sink.held g.W.Sink.failures c.args.w.now c.tell_taken.new.w in
-    turns_of_texts left right out c.in_ok-sizes.sizes c.tell_taken.new.told.turns.items c.tell_taken.new.told.withdraws (merged_telling left right out c.in_ok-sizes.sizes c.tell_taken.new.told.turns.items c.tell_taken.new.told.withdraws taken.told taken.devices)
+    turns_of_texts (stream g.R.Source.left g.R.Source.failures c.args.left.now c.tell_taken.new.r1) (stream g.S.Source.left g.S.Source.failures c.args.right.now c.tell_taken.new.r2) (stream g.W.Sink.held g.W.Sink.failures c.args.w.now c.tell_taken.new.w) c.in_ok-sizes.sizes c.tell_taken.new.told.turns.items c.tell_taken.new.told.withdraws taken.told taken.devices
 
 pub returns-clause-withdraws : goal.returns-clause-withdraws
 returns-clause-withdraws g c =
     let taken = c.in_ok-sizes.ensures in
-    let left = stream g.R.Source.left g.R.Source.failures c.args.left.now c.tell_taken.new.r1 in
-    let right = stream g.S.Source.left g.S.Source.failures c.args.right.now c.tell_taken.new.r2 in
-    let out = stream g.W.Sink.held g.W.Sink.failures c.args.w.now c.tell_taken.new.w in
-    withdraws_of_texts left right out c.in_ok-sizes.sizes c.tell_taken.new.told.turns.items c.tell_taken.new.told.withdraws (merged_telling left right out c.in_ok-sizes.sizes c.tell_taken.new.told.turns.items c.tell_taken.new.told.withdraws taken.told taken.devices)
+    withdraws_of_texts (stream g.R.Source.left g.R.Source.failures c.args.left.now c.tell_taken.new.r1) (stream g.S.Source.left g.S.Source.failures c.args.right.now c.tell_taken.new.r2) (stream g.W.Sink.held g.W.Sink.failures c.args.w.now c.tell_taken.new.w) c.in_ok-sizes.sizes c.tell_taken.new.told.turns.items c.tell_taken.new.told.withdraws taken.told taken.devices

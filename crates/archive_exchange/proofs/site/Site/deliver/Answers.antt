@@ -1,9 +1,8 @@
-use Rattle.std.proofs.Common.{sym, ap, ◌∙◌, subst}
-use Rattle.archive_core.specs.Content.{IsContent, joined}
+use Rattle.std.proofs.Common.{ap, ◌∙◌}
+use Rattle.archive_core.specs.Content.{joined}
 use Rattle.archive_exchange.specs.SiteState.{SiteState}
 use Rattle.archive_exchange.proofs.Texts.{on_err, towards_by}
-use Rattle.archive_exchange.proofs.Gained.{content_joined}
-use Rattle.archive_exchange.proofs.Whole.{whole_as}
+use Rattle.archive_core.proofs.Made.{joined_content}
 use Rattle.archive_exchange.proofs.site.Site.deliver.Goals as goal
 
 pub returns-in_err-take_all-clause-stopped : goal.returns-in_err-take_all-clause-stopped
@@ -20,15 +19,13 @@ returns-clause-joined g c = record {
 }
 
 pub invariant_of-self-2 : goal.invariant_of-self-2
-invariant_of-self-2 g c =
-    let held = g.A.Join.content c.self.inside.archive in
-    let other = g.A.Join.content c.in_ok-other.other in
-    whole_as held (g.A.Join.content c.take_all.new.archive) c.self.inside.saved.items c.self.invariant
-    (subst IsContent (sym c.in_ok-take_all.ensures.joined) (content_joined held other c.self.invariant.held c.in_ok-other.ensures.gives.content))
+invariant_of-self-2 g c = record {
+  held = rw c.in_ok-take_all.ensures.joined (joined_content (g.A.Join.content c.self.inside.archive) (g.A.Join.content c.in_ok-other.other) c.self.invariant.held c.in_ok-other.ensures.gives.content);
+  saved = c.self.invariant.saved;
+}
 
 pub returns-clause-whole : goal.returns-clause-whole
-returns-clause-whole g c =
-    let held = g.A.Join.content c.self.inside.archive in
-    let other = g.A.Join.content c.in_ok-other.other in
-    whole_as held (g.A.Join.content c.take_all.new.archive) c.self.inside.saved.items c.self.invariant
-    (subst IsContent (sym c.in_ok-take_all.ensures.joined) (content_joined held other c.self.invariant.held c.in_ok-other.ensures.gives.content))
+returns-clause-whole g c = record {
+  held = rw c.in_ok-take_all.ensures.joined (joined_content (g.A.Join.content c.self.inside.archive) (g.A.Join.content c.in_ok-other.other) c.self.invariant.held c.in_ok-other.ensures.gives.content);
+  saved = c.self.invariant.saved;
+}

@@ -2,7 +2,7 @@ use Rattle.admission.specs.File.{admissible}
 use Rattle.archive_exchange.specs.SiteState.{SiteState, IsBetween}
 use Rattle.admission.specs.Take.{admitted}
 use Rattle.std.proofs.Common.{subst}
-use Rattle.archive_exchange.proofs.Whole.{whole_as, content_of_file, between_parts, between_none, if_err}
+use Rattle.archive_exchange.proofs.Whole.{content_of_file, between_parts, between_none, if_err}
 use Rattle.archive_exchange.proofs.site.Site.take_file.Goals as goal
 
 pub returns-in_err-clone-clause-between : goal.returns-in_err-clone-clause-between
@@ -12,9 +12,10 @@ returns-in_err-clone-clause-between g c =
     (between_none (g.A.Join.content c.self.inside.archive) (admissible c.args.file.now) c.self.invariant.held))
 
 pub returns-in_err-rows-clause-whole : goal.returns-in_err-rows-clause-whole
-returns-in_err-rows-clause-whole g c =
-    whole_as (g.A.Join.content c.self.inside.archive) (g.A.Join.content c.take_accepted.new.archive) c.self.inside.saved.items c.self.invariant
-    (between_parts c.args.file.now c.in_ok-accepted.accepted (g.A.Join.content c.self.inside.archive) (g.A.Join.content c.take_accepted.new.archive) c.self.invariant.held c.in_ok-accepted.ensures.accepted c.in_ok-accepted.ensures.found c.in_err-rows.ensures.stopped).content
+returns-in_err-rows-clause-whole g c = record {
+  held = (between_parts c.args.file.now c.in_ok-accepted.accepted (g.A.Join.content c.self.inside.archive) (g.A.Join.content c.take_accepted.new.archive) c.self.invariant.held c.in_ok-accepted.ensures.accepted c.in_ok-accepted.ensures.found c.in_err-rows.ensures.stopped).content;
+  saved = c.self.invariant.saved;
+}
 
 pub returns-in_err-rows-clause-between : goal.returns-in_err-rows-clause-between
 returns-in_err-rows-clause-between g c =
@@ -23,16 +24,19 @@ returns-in_err-rows-clause-between g c =
     (between_parts c.args.file.now c.in_ok-accepted.accepted (g.A.Join.content c.self.inside.archive) (g.A.Join.content c.take_accepted.new.archive) c.self.invariant.held c.in_ok-accepted.ensures.accepted c.in_ok-accepted.ensures.found c.in_err-rows.ensures.stopped))
 
 pub invariant_of-self-2 : goal.invariant_of-self-2
-invariant_of-self-2 g c =
-    whole_as (g.A.Join.content c.self.inside.archive) (g.A.Join.content c.take_accepted.new.archive) c.self.inside.saved.items c.self.invariant
-    (content_of_file c.args.file.now c.in_ok-accepted.accepted (g.A.Join.content c.self.inside.archive) (g.A.Join.content c.take_accepted.new.archive) c.self.invariant.held c.in_ok-accepted.ensures.accepted c.in_ok-accepted.ensures.found c.in_ok-rows.ensures.content)
+invariant_of-self-2 g c = record {
+  held = content_of_file c.args.file.now c.in_ok-accepted.accepted (g.A.Join.content c.self.inside.archive) (g.A.Join.content c.take_accepted.new.archive) c.self.invariant.held c.in_ok-accepted.ensures.accepted c.in_ok-accepted.ensures.found c.in_ok-rows.ensures.content;
+  saved = c.self.invariant.saved;
+}
 
 pub returns-clause-whole : goal.returns-clause-whole
-returns-clause-whole g c =
-    whole_as (g.A.Join.content c.self.inside.archive) (g.A.Join.content c.take_accepted.new.archive) c.self.inside.saved.items c.self.invariant
-    (content_of_file c.args.file.now c.in_ok-accepted.accepted (g.A.Join.content c.self.inside.archive) (g.A.Join.content c.take_accepted.new.archive) c.self.invariant.held c.in_ok-accepted.ensures.accepted c.in_ok-accepted.ensures.found c.in_ok-rows.ensures.content)
+returns-clause-whole g c = record {
+  held = content_of_file c.args.file.now c.in_ok-accepted.accepted (g.A.Join.content c.self.inside.archive) (g.A.Join.content c.take_accepted.new.archive) c.self.invariant.held c.in_ok-accepted.ensures.accepted c.in_ok-accepted.ensures.found c.in_ok-rows.ensures.content;
+  saved = c.self.invariant.saved;
+}
 
 pub invariant_of-self-in_err-rows : goal.invariant_of-self-in_err-rows
-invariant_of-self-in_err-rows g c =
-    whole_as (g.A.Join.content c.self.inside.archive) (g.A.Join.content c.take_accepted.new.archive) c.self.inside.saved.items c.self.invariant
-    (between_parts c.args.file.now c.in_ok-accepted.accepted (g.A.Join.content c.self.inside.archive) (g.A.Join.content c.take_accepted.new.archive) c.self.invariant.held c.in_ok-accepted.ensures.accepted c.in_ok-accepted.ensures.found c.in_err-rows.ensures.stopped).content
+invariant_of-self-in_err-rows g c = record {
+  held = (between_parts c.args.file.now c.in_ok-accepted.accepted (g.A.Join.content c.self.inside.archive) (g.A.Join.content c.take_accepted.new.archive) c.self.invariant.held c.in_ok-accepted.ensures.accepted c.in_ok-accepted.ensures.found c.in_err-rows.ensures.stopped).content;
+  saved = c.self.invariant.saved;
+}
