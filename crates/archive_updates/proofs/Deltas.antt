@@ -101,4 +101,10 @@ module _ {R S : Type 0} (archive : Reader R) (left : S → Option (List ℕ)) (f
       })
       (λ known o lines m.
       let same = one_given (λ s text. text ≡ summary_text s) left failures old new m.entries s (λ text h k. one_summary m.entries s m.are_entries are (sym h ∙ k)) known.1 m.summary_is holds in
-      record { before = m.before; is_content = m.is_content; archive_is = m.archive_is; content_is = m.content_is ∙ ap (delta m.before) same; lines_are = m.lines_are })
+      record {
+        before = m.before;
+        is_content = m.is_content;
+        archive_is = m.archive_is;
+        content_is = m.content_is ∙ ap (delta m.before) same;
+        lines_are = m.lines_are;
+      })

@@ -37,7 +37,11 @@ pub record AreMarked (f : List ℕ → Bool) (was : List AdmitRow) (records : Li
 
 module _ (f : List ℕ → Bool) (was : List AdmitRow) (records : List (List ℕ)) where
   pub marked_none : (places : List ℕ) (now : List AdmitRow) → now ≡ was → AreMarked f was records places 0 now
-  marked_none places now is = record { long = ap length is; first = λ i n lt. absurd (omega (arith, lt)); all = λ n lt. inl (ap (λ (rows : List AdmitRow). row_at rows n) is) }
+  marked_none places now is = record {
+    long = ap length is;
+    first = λ i n lt. absurd (omega (arith, lt));
+    all = λ n lt. inl (ap (λ (rows : List AdmitRow). row_at rows n) is);
+  }
 
   pub marked_more : (places : List ℕ) (k p : ℕ) (now more : List AdmitRow) (new : Bool) → AreMarked f was records places k now → slice_get places k ≡ Some p → p < length was → new ≡ f (get_or records p [])
       → more ≡ set now p (row_again new (row_at now p)) → AreMarked f was records places (k + 1) more

@@ -68,7 +68,8 @@ module _ {R S D T : Type 0} (left : R → Option (List ℕ)) (failures : R → �
     pub merged : (said : List ℕ) (result : Result Status CommandFault) → said ≡ archive_line sizes → Publishes (out_of out) report text said result → EndsSo result
     merged said result is p = by_result result p
       where
-        carries : (r : Result Status CommandFault) → Publishes (out_of out) report text said r → (Unfailed input × EachUnfailed (file ∷ [])) × Carries (MakesArchive (MakesMerged input (file ∷ []))) (out_of out) report r
+        carries : (r : Result Status CommandFault) → Publishes (out_of out) report text said r
+            → (Unfailed input × EachUnfailed (file ∷ [])) × Carries (MakesArchive (MakesMerged input (file ∷ []))) (out_of out) report r
         carries r q = (
           (m.left_is.unfailed, (m.right_is.unfailed, tt)),
           record {

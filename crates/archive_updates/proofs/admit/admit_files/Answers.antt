@@ -47,4 +47,7 @@ returns-in_err-admit_file g c =
 pub returns : goal.returns
 returns g c =
     let end : c.files.index ≡ length c.args.files.now = omega arith in
-    record { is = rw (end, all_read g.S.Source.left g.S.Source.failures c.args.files.now c.files.files c.files.auto.files) at c.files.invariant.taken; unfailed = c.files.invariant.unfailed }
+    record {
+      is = rw (end, all_read g.S.Source.left g.S.Source.failures c.args.files.now c.files.files c.files.auto.files) at c.files.invariant.taken;
+      unfailed = c.files.invariant.unfailed;
+    }

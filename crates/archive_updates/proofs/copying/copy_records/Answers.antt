@@ -46,7 +46,11 @@ copying-preserved-then-dropped g c =
           let m = c.copying.invariant.gathers a w0 start copied in
           let read = HasRead-grows _ a _ _ m.records c.copying.reader c.advance.new.self m.read step.0 in
           let drops = rw (← c.dropped.ensures, c.if-dropped.true) at read.dropped_is in
-          record { records = m.records ++ c.advance.new.self.last ∷ []; read = read; makes = rw (taken_pass m.records c.advance.new.self.last _ read.ordered read.apart drops) m.makes };
+          record {
+            records = m.records ++ c.advance.new.self.last ∷ [];
+            read = read;
+            makes = rw (taken_pass m.records c.advance.new.self.last _ read.ordered read.apart drops) m.makes;
+          };
       file = step.0.file_is ∙ c.copying.invariant.file;
       unfailed = step.1 ∙ c.copying.invariant.unfailed;
       writer_unfailed = c.copying.invariant.writer_unfailed;

@@ -14,5 +14,7 @@ returns-in-Err g c =
 pub returns-in-Ok : goal.returns-in-Ok
 returns-in-Ok g c =
     let m = c.in-Ok.ensures.merges in
-    merged _ _ _ _ _ _ _ _ (outs g.T.Draft.Sink.held g.T.Draft.Sink.failures g.T.Target.placed g.T.Target.failures c.args.out.now c.publish_draft.new.out) _ c.merge_streams.new.w c.in-Ok.sizes m _ c.publish_draft.result (ap (λ lines. lines ++ archive_line c.in-Ok.sizes) c.new.ensures.bytes)
+    merged _ _ _ _ _ _ _ _
+    (outs g.T.Draft.Sink.held g.T.Draft.Sink.failures g.T.Target.placed g.T.Target.failures c.args.out.now c.publish_draft.new.out) _
+    c.merge_streams.new.w c.in-Ok.sizes m _ c.publish_draft.result (ap (λ lines. lines ++ archive_line c.in-Ok.sizes) c.new.ensures.bytes)
     (c.publish_draft.ensures c.args.out.now.draft _ (m.written_is.written, m.written_is.unfailed) m.written_is.bytes_are)
