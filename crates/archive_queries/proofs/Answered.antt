@@ -1,9 +1,8 @@
 -- What is told of addresses, one after another.
-use Rattle.std.proofs.Common.{◌≡◌, ℕ, ◌+◌, ◌<◌, Bool, true, false, ◌&&◌, if◌then◌else◌, List, [], ◌∷◌, ◌++◌, length, take, slice_index_or, Option, refl, sym, ap, ◌∙◌, add-one}
+use Rattle.std.proofs.Common.{arith, ◌≡◌, ℕ, ◌+◌, if◌then◌else◌, List, [], ◌∷◌, ◌++◌, Option, refl, sym, ap, ◌∙◌}
 use Rattle.std.proofs.lemmas.List.{map-append, flat_map_more}
+use Rattle.std.proofs.lemmas.List.Elements.{All-from_recursion, All-weaker, recursion_from_All}
 use Rattle.std.proofs.lemmas.List.Folds.{list_all-append}
-use Rattle.std.proofs.Math.Seq.{take-suc}
-use Rattle.std.specs.List.{AllByRecursion, list_all}
 use Rattle.archive_core.specs.Content.{Operations}
 use Rattle.archive_core.specs.Lookup.{IsAnswer, answer_view}
 use Rattle.archive_core.specs.Key.{key_bytes}
@@ -11,25 +10,14 @@ use Rattle.archive_core.specs.Part.{AreAlikeUnder}
 use Rattle.archive_core.proofs.Picked.{answer_alike}
 use Rattle.archive_core.specs.declared.keys.SliceKey.{SliceKey}
 use Rattle.archive_core.specs.declared.lookup.Answer.{Answer}
+use Rattle.command_ends.proofs.Readers.{all_more}
 use Rattle.report_text.specs.Answers.{answer_lines}
 use Rattle.command_ends.specs.declared.faults.Status.{Status}
 use Rattle.command_ends.specs.declared.faults.Status.TheVariants.{Done, Partial}
 use Rattle.archive_queries.specs.Symbolicate.{asked_of, is_symbol, Answered, IsAnswered, answers_status, TellsAddresses}
 
-all_more : {X : Type 0} (P : X → Type 0) (xs : List X) (x : X) → AllByRecursion P xs → P x → AllByRecursion P (xs ++ x ∷ [])
-all_more P [] x all one = (one, tt)
-all_more P (y ∷ ys) x all one = (all.0, all_more P ys x all.1 one)
-
-status_of_more : (all one : Bool) → (if one then (if all then Done else Partial) else Partial) ≡ (if (all && (one && true)) then Done else Partial)
-status_of_more true true = refl
-status_of_more true false = refl
-status_of_more false true = refl
-status_of_more false false = refl
-
 pub status_more : (rows : List Answered) (row : Answered) → (if is_symbol row.answer then answers_status rows else Partial) ≡ answers_status (rows ++ row ∷ [])
-status_more rows row =
-    status_of_more (list_all (λ row. is_symbol row.answer) rows) (is_symbol row.answer)
-    ∙ ap (λ (all : Bool). if all then Done else Partial) (sym (list_all-append (λ row. is_symbol row.answer) rows (row ∷ [])))
+status_more rows row = grind (arith, list_all-append (λ row. is_symbol row.answer) rows (row ∷ []))
 
 pub none_told : (content : Operations) (key : SliceKey) (load : Option ℕ) → TellsAddresses content key load [] Done []
 none_told content key load = record { rows = []; addresses_are = refl; answered = tt; status_is = refl; text_is = refl }
@@ -51,20 +39,12 @@ more_told content key load before addresses status next text lines address answe
       text_is = lines_are ∙ ap (λ t. t ++ answer_lines address answer) told.text_is ∙ flat_map_more (λ (row : Answered). answer_lines row.address row.answer) [] told.rows row;
     }
 
-pub take_more : (xs : List ℕ) (i : ℕ) → i < length xs → take (i + 1) xs ≡ take i xs ++ slice_index_or xs i 0 ∷ []
-take_more xs i lt = ap (λ (n : ℕ). take n xs) (add-one i) ∙ take-suc xs i 0 lt
-
 -- contents that are alike under the key tell the same
-answered_alike : (o p : Operations) (key : SliceKey) (load : Option ℕ) (rows : List Answered) → AreAlikeUnder (key_bytes key) o p → AllByRecursion (IsAnswered o key load) rows → AllByRecursion (IsAnswered p key load) rows
-answered_alike o p key load [] same all = tt
-answered_alike o p key load (row ∷ rows) same all =
-    (answer_alike o p key (asked_of load row.address) (answer_view row.answer) same all.0, answered_alike o p key load rows same all.1)
-
 pub told_alike : (o p : Operations) (key : SliceKey) (load : Option ℕ) (addresses : List ℕ) (status : Status) (text : List ℕ) → AreAlikeUnder (key_bytes key) o p → TellsAddresses o key load addresses status text → TellsAddresses p key load addresses status text
 told_alike o p key load addresses status text same told = record {
   rows = told.rows;
   addresses_are = told.addresses_are;
-  answered = answered_alike o p key load told.rows same told.answered;
+  answered = recursion_from_All _ _ (All-weaker _ _ (λ row. answer_alike o p key (asked_of load row.address) (answer_view row.answer) same) told.rows (All-from_recursion _ _ told.answered));
   status_is = told.status_is;
   text_is = told.text_is;
 }

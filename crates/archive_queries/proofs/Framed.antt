@@ -1,21 +1,21 @@
 -- What is told of frames that are asked in the order of their keys.
-use Rattle.std.proofs.Common.{◌≡◌, ℕ, suc, false, ◌+◌, ◌-◌, ◌<◌, ◌≤◌, Bool, ◌&&◌, if◌then◌else◌, List, [], ◌∷◌, ◌++◌, length, map, take, drop, set, get_or, Some, Result, Ok, Err, is_ok, true, refl, sym, ap, ◌∙◌, subst, arith, inl, inr, ◌⊎◌, length-append}
+use Rattle.std.proofs.Common.{◌≡◌, ℕ, suc, false, ◌+◌, ◌-◌, ◌<◌, ◌≤◌, Bool, ◌&&◌, if◌then◌else◌, List, [], ◌∷◌, ◌++◌, length, map, take, drop, set, get_or, Some, Result, Ok, Err, is_ok, true, refl, sym, ap, ◌∙◌, arith, inl, inr, ◌⊎◌, length-append}
 use Rattle.std.specs.Prelude.{slice_get, slice_range}
 use Rattle.std.specs.List.{AllByRecursion, AllZip, Contains, HoldsAt, flat_map, list_all, list_any}
 use Rattle.std.specs.Str.{bytes_eq}
 use Rattle.std.specs.List.Sorted.{IsBinarySearchResult, IsPartitionPoint, IsPermutation, IsSearchInRange, IsSortedBy, IsSortedByKey}
-use Rattle.std.specs.Ordering.{nat_cmp, is_lt, ordering_reverse, ordering_then}
+use Rattle.std.specs.Ordering.{nat_cmp, is_lt, ordering_then}
 use Rattle.std.specs.declared.cmp.Ordering.{Ordering}
 use Rattle.std.specs.declared.cmp.Ordering.TheVariants.{Less, Equal, Greater}
 use Rattle.std.specs.Cmp.{IsTotalOrder, tied_itself}
 use Rattle.std.specs.Cmp.Lexicographic.{slice_cmp, nat_list_cmp_total}
 use Rattle.std.proofs.lemmas.Cmp.{nat_cmp_total, on_total, then_total}
-use Rattle.std.proofs.lemmas.Bool.{cases_lt, false≢true}
+use Rattle.std.proofs.lemmas.Bool.{cases_eq, cases_lt, false_from_ne_true}
 use Rattle.std.proofs.lemmas.List.Folds.{Any-from_list_any, list_any-from_Any, list_any_at}
 use Rattle.std.proofs.lemmas.Slice.Eq.{bytes_eq-Decides}
-use Rattle.std.proofs.lemmas.List.{get_or-map, get_or-set_same, get_or-set_other, length-map, length-set, take_all, drop_at, take-append-le, drop-append-le, length-drop}
+use Rattle.std.proofs.lemmas.List.{get_or-map, get_or-set_same, get_or-set_other, length-map, length-set, nil_from_length, take_all, drop_at, take-append-le, drop-append-le, length-drop}
 use Rattle.std.proofs.lemmas.List.Sorted.{Contains-permutation, IsPermutation-sym, searchable_from_sorted}
-use Rattle.std.proofs.lemmas.Option.{get_or_from_slice_get, slice_get-get_or, slice_get_within}
+use Rattle.std.proofs.lemmas.Option.{get_or_from_slice_get, same_Some, slice_get-get_or, slice_get_within}
 use Rattle.archive_core.specs.Content.{Operations}
 use Rattle.archive_core.specs.Key.{key_bytes}
 use Rattle.archive_core.specs.Lookup.{IsAnswer, answer_view}
@@ -30,22 +30,16 @@ use Rattle.report_text.specs.Answers.{answer_lines}
 use Rattle.archive_queries.specs.declared.asked_frames.AskedFrame.{AskedFrame}
 use Rattle.archive_queries.specs.declared.asked_frames.ToldFrame.{ToldFrame}
 use Rattle.command_ends.specs.declared.faults.CommandFault.{CommandFault}
-use Rattle.command_ends.specs.declared.faults.CommandFault.TheVariants.{Input, Output, Report, OutOfMemory}
 use Rattle.command_ends.specs.declared.faults.Status.{Status}
 use Rattle.command_ends.specs.declared.faults.Status.TheVariants.{Done, Partial}
 use Rattle.command_ends.specs.Ends.{EndsReport}
 use Rattle.archive_queries.specs.Frames.{IsFrameAnswered, TellsFrames, RefusesFrames}
 use Rattle.archive_queries.specs.InnerFrames.{AreLines, AreNumbered, AreTold, IsFrameTold, asked_cmp, is_asked}
+use Rattle.archive_queries.proofs.Parts.{refusal_of, together_refused}
 use Rattle.command_ends.specs.Archives.{AreRefused, AreUnfailed}
 use Rattle.command_ends.specs.Inputs.{EachUnfailed, EachUntouched, IsFrames, Reader, IsRefusal, IsRefusedFrames, IsUntouched, Unfailed, failures_of}
 use Rattle.command_ends.specs.Outputs.{Writer, Takes}
 use Rattle.archive_queries.specs.Symbolicate.{Answered, asked_of, is_symbol, answers_text}
-
-cases_eq : (a b : ℕ) → (a ≡ b) ⊎ (a ≡ b → ⊥)
-cases_eq a b = elim (cases_lt a b) [
-  | inl below ↦ inr (λ e. omega (arith, below, e))
-  | inr rest ↦ elim (cases_lt b a) [ inl above ↦ inr (λ e. omega (arith, above, e)) | inr le ↦ inl (omega (arith, rest, le)) ]
-]
 
 -- ---- frames with their numbers
 
@@ -78,9 +72,7 @@ asked_total = then_total (on_total (λ (a : AskedFrame). key_bytes a.frame.key) 
 
 -- the first part of an order
 no_less_first : (a b : Ordering) → is_lt (ordering_then a b) ≡ false → is_lt a ≡ false
-no_less_first Less b h = h
-no_less_first Equal b h = refl
-no_less_first Greater b h = refl
+no_less_first a b h = grind arith
 
 -- they stand in the order of their keys
 pub keys_in_order : (asked : List AskedFrame) → IsSortedBy (λ (a b : AskedFrame). is_lt (asked_cmp a b)) asked → AreInOrder (map key_of_asked asked)
@@ -107,27 +99,17 @@ module _ (front : List ℕ) where
   tied : (one : AskedFrame) → has one ≡ true → place_of one ≡ Equal
   tied one is = ap (λ (bytes : List ℕ). slice_cmp nat_cmp bytes front) ((bytes_eq-Decides (key_bytes one.frame.key) front).0 is) ∙ tied_itself nat_list_cmp_total front
 
-  not_less : (one : AskedFrame) → has one ≡ true → place_of one ≡ Less → ⊥
-  not_less one is less = false≢true (ap is_lt (sym (tied one is)) ∙ ap is_lt less)
-
-  not_greater : (one : AskedFrame) → has one ≡ true → place_of one ≡ Greater → ⊥
-  not_greater one is greater = false≢true (ap is_lt (ap ordering_reverse (sym (tied one is))) ∙ ap is_lt (ap ordering_reverse greater))
-
   found_at : (asked : List AskedFrame) (i : ℕ) → i < length asked → HoldsAt (λ (one : AskedFrame). place_of one ≡ Equal) asked i → list_any has asked ≡ true
   found_at [] i lt at = absurd (omega (arith, lt))
   found_at (one ∷ asked) i lt at = list_any_at has (one ∷ asked) i one lt ((bytes_eq-Decides _ front).1 (bytes_same _ front (at one)))
 
   found_nowhere : (asked : List AskedFrame) (i : ℕ) → IsPartitionPoint (λ (one : AskedFrame). place_of one ≡ Less) (λ (one : AskedFrame). place_of one ≡ Greater) asked i → list_any has asked ≡ false
-  found_nowhere asked i parts = by (list_any has asked) refl
-    where
-      by : (b : Bool) → list_any has asked ≡ b → b ≡ false
-      by false is = refl
-      by true is =
-          let any = Any-from_list_any has asked is in
-          absurd (elim (cases_lt any.0 i) [
-            | inl below ↦ not_less any.1 any.4 (subst (λ (one : AskedFrame). place_of one ≡ Less) any.3 (parts.0 any.0 any.1 (omega arith) below))
-            | inr above ↦ not_greater any.1 any.4 (subst (λ (one : AskedFrame). place_of one ≡ Greater) any.3 (parts.1 any.0 any.1 above any.2))
-          ])
+  found_nowhere asked i parts = false_from_ne_true (list_any has asked) (λ is.
+      let any = Any-from_list_any has asked is in
+      elim (cases_lt any.0 i) [
+        | inl below ↦ cc (tied any.1 any.4, any.3, parts.0 any.0 any.1 (omega arith) below)
+        | inr above ↦ cc (tied any.1 any.4, any.3, parts.1 any.0 any.1 above any.2)
+      ])
 
   -- what a binary search by the keys finds
   pub found_asked : (asked : List AskedFrame) (r : Result ℕ ℕ) → IsSortedByKey (λ (one : AskedFrame). key_bytes one.frame.key) (slice_cmp nat_cmp) asked → IsSearchInRange r (length asked)
@@ -156,15 +138,12 @@ pub none_told : (content : Operations) (frames : List Frame) (asked : List Asked
 none_told content frames asked told text lines long many = record {
   long = refl;
   within = λ one there. omega (arith, many, long, slice_get_within frames one.line one.frame ((lines one).0 there));
-  once = λ one other there also same. one_line one other ((lines one).0 there) ((lines other).0 also) same;
+  once = λ one other there also same.
+      let frame : one.frame ≡ other.frame = cc ((lines one).0 there, (lines other).0 also) in
+      λ i. numbered (same i) (frame i);
   of_asked = λ one there. there;
   each = λ one there. inl there;
 }
-  where
-    one_line : (one other : AskedFrame) → slice_get frames one.line ≡ Some one.frame → slice_get frames other.line ≡ Some other.frame → one.line ≡ other.line → one ≡ other
-    one_line one other at also same =
-        let frame : one.frame ≡ other.frame = sym (get_or_from_slice_get frames one.line one.frame one.frame at) ∙ ap (λ (n : ℕ). get_or frames n one.frame) same ∙ get_or_from_slice_get frames other.line other.frame one.frame also in
-        (λ i. numbered (same i) (frame i))
 
 -- what was told stays where it stands while the text grows
 told_still : (content : Operations) (text more : List ℕ) (frame : Frame) (told : ToldFrame) → IsFrameTold content text frame told → IsFrameTold content (text ++ more) frame told
@@ -215,12 +194,12 @@ module _ (content : Operations) (asked : List AskedFrame) (one : AskedFrame) (le
   IsLeftOrTold it = Contains left it ⊎ ((t : ToldFrame) × (slice_get (set told one.line now) it.line ≡ Some t) × IsFrameTold content grown it.frame t)
 
   this_one : (it : AskedFrame) → it ≡ one → IsLeftOrTold it
-  this_one it same = subst IsLeftOrTold (sym same) (inr (now, at_once, is))
+  this_one it same = rw same (inr (now, at_once, is))
 
   told_before : (it : AskedFrame) → Contains asked it → (t : ToldFrame) → slice_get told it.line ≡ Some t → IsFrameTold content text it.frame t → IsLeftOrTold it
   told_before it there t at was = elim (cases_eq it.line one.line) [
     | inl same ↦ this_one it (are.once it one there is_there same)
-    | inr other ↦ inr (t, elsewhere it.line t other at, subst (λ (b : List ℕ). IsFrameTold content b it.frame t) (sym grows) (told_still content text more it.frame t was))
+    | inr other ↦ inr (t, elsewhere it.line t other at, rw grows (told_still content text more it.frame t was))
   ]
 
   each : (it : AskedFrame) → Contains asked it → IsLeftOrTold it
@@ -259,13 +238,8 @@ along content text [] [] long each = tt
 along content text [] (it ∷ told) long each = absurd (omega (arith, long))
 along content text (frame ∷ frames) [] long each = absurd (omega (arith, long))
 along content text (frame ∷ frames) (it ∷ told) long each =
-    let first = each 0 frame refl in (
-      subst (IsFrameTold content text frame) (inside first.0 first.1) first.2,
-      along content text frames told (omega (arith, long)) (λ i. each (suc i)),
-    )
-  where
-    inside : (t : ToldFrame) → Some it ≡ Some t → t ≡ it
-    inside t e = cc
+    let first = each 0 frame refl in
+    (rw (same_Some it first.0 first.1) first.2, along content text frames told (omega (arith, long)) (λ i. each (suc i)))
 
 pub all_told : (content : Operations) (frames : List Frame) (asked : List AskedFrame) (count : ℕ) (told : List ToldFrame) (text : List ℕ) → AreLines frames asked → count ≡ length frames → AreTold content asked [] count told text
     → AllZip (IsFrameTold content text) frames told
@@ -274,11 +248,9 @@ all_told content frames asked count told text lines many are = along content tex
 -- where no frame is left
 pub told_to_the_end : (content : Operations) (frames : List Frame) (asked left : List AskedFrame) (count : ℕ) (told : List ToldFrame) (text : List ℕ) → AreLines frames asked → count ≡ length frames → map key_of_asked left ≡ []
     → AreTold content asked left count told text → AllZip (IsFrameTold content text) frames told
-told_to_the_end content frames asked left count told text lines many none are = all_told content frames asked count told text lines many (subst (λ (l : List AskedFrame). AreTold content asked l count told text) (nothing left none) are)
-  where
-    nothing : (l : List AskedFrame) → map key_of_asked l ≡ [] → l ≡ []
-    nothing [] e = refl
-    nothing (one ∷ l) e = cc
+told_to_the_end content frames asked left count told text lines many none are =
+    let nothing = nil_from_length left (omega (arith, length-map left key_of_asked, ap length none)) in
+    all_told content frames asked count told text lines many (rw nothing at are)
 
 -- so each piece of the text is there
 pub pieces : (content : Operations) (text : List ℕ) (frames : List Frame) (told : List ToldFrame) → AllZip (IsFrameTold content text) frames told → AllByRecursion (λ (it : ToldFrame). (it.from ≤ it.to) × (it.to ≤ length text)) told
@@ -326,13 +298,8 @@ module _ {R S T : Type 0} (Makes : Status → List ℕ → Type 0) (frames : Rea
   EndsInOrder result = EndsReport (record { Makes = Makes; Refuses = RefusesFrames frames archive others; Unfailed = Unfailed frames × AreUnfailed archive others }) report result
 
   pub frames_refused : (fault : CommandFault) → IsRefusal (IsRefusedFrames frames) (Unfailed frames) fault → IsUntouched archive → EachUntouched others → EachUnfailed others → Takes report [] → EndsInOrder (Err fault)
-  frames_refused (Input place why) r untouched each unfailed t = (inl (r, untouched, each), t)
-  frames_refused (Output _) r untouched each unfailed t = absurd r
-  frames_refused (Report _) r untouched each unfailed t = absurd r
-  frames_refused OutOfMemory r untouched each unfailed t = ((r, (ap (failures_of archive.failures) untouched, unfailed)), t)
+  frames_refused fault r untouched each unfailed =
+      together_refused Makes _ _ report fault (refusal_of _ _ _ _ fault (λ at why refused. inl (refused, untouched, each)) (λ u. (u, (ap (failures_of archive.failures) untouched, unfailed))) r)
 
   pub archives_refused : (fault : CommandFault) → IsFrames frames → Unfailed frames → IsRefusal (AreRefused archive others) (AreUnfailed archive others) fault → Takes report [] → EndsInOrder (Err fault)
-  archives_refused (Input place why) said unfailed r t = (inr (said, unfailed, r), t)
-  archives_refused (Output _) said unfailed r t = absurd r
-  archives_refused (Report _) said unfailed r t = absurd r
-  archives_refused OutOfMemory said unfailed r t = ((unfailed, r), t)
+  archives_refused fault said unfailed r = together_refused Makes _ _ report fault (refusal_of _ _ _ _ fault (λ at why refused. inr (said, unfailed, refused)) (λ u. (unfailed, u)) r)

@@ -1,13 +1,13 @@
 -- What is told of a name in the join of several contents.
-use Rattle.std.proofs.Common.{◌≡◌, ◌↔◌, ◌⊎◌, ℕ, Bool, true, false, not, ◌&&◌, ◌||◌, List, [], ◌∷◌, ◌++◌, map, Contains, fold, length, refl, sym, ap, ◌∙◌, subst, inl, inr, arith}
+use Rattle.std.proofs.Common.{◌≡◌, ◌↔◌, ◌⊎◌, ℕ, true, false, not, List, [], ◌∷◌, ◌++◌, map, Contains, fold, get_or, length, refl, sym, ap, ◌∙◌, subst, inl, inr, arith}
 use Rattle.std.specs.Prelude.{slice_index}
 use Rattle.std.specs.List.{AllByRecursion, AllZip}
 use Rattle.std.specs.List.Sorted.{IsStrictlySortedBy}
 use Rattle.std.specs.Cmp.Lexicographic.{nat_list_cmp_total}
 use Rattle.std.specs.FinSet.{contains, union, contains-union}
-use Rattle.std.proofs.lemmas.Bool.{false≢true}
-use Rattle.std.proofs.lemmas.List.Elements.{Contains-append_cases, Contains-append_left, Contains-append_right}
-use Rattle.archive_core.specs.Content.{Operations, IsContent, content_of, covering, is_admission, is_covered, joined}
+use Rattle.std.proofs.lemmas.Bool.{or_cases, or_left, or_right}
+use Rattle.std.proofs.lemmas.List.Elements.{All-contains, All-from_recursion, Contains-append_left, Contains-get_or, Contains-push, Contains-push_cases, recursion_from_All}
+use Rattle.archive_core.specs.Content.{Operations, IsContent, content_of, is_admission, is_covered, joined}
 use Rattle.archive_core.specs.Names.{IsNameRow, IsNames, NameRecord, name_cmp, owned_name_view}
 use Rattle.archive_core.specs.Record.{admission_record, retirement_record}
 use Rattle.archive_core.proofs.Made.{contains_made, from_made, joined_made}
@@ -27,8 +27,21 @@ use Rattle.archive_queries.specs.InnerNames.{HasNameRow, HasRetirement, HaveAdde
 
 -- ---- the archives, one more at a time
 
-no_content : (o : Operations) → Contains [] o → ⊥
-no_content o there = omega (arith, there.1)
+none_in : {X : Type 0} {x : X} → Contains [] x → ⊥
+none_in there = omega (arith, there.1)
+
+-- what is new is in what was there, or in one more
+more : {New Mid Old Early Late Last : Type 0} → (New ↔ (Mid ⊎ Last)) → (Mid ↔ (Old ⊎ Early)) → (Early → Late) → (Last → Late) → (Late → Early ⊎ Last) → New ↔ (Old ⊎ Late)
+more adds before early last split = (
+  λ new. elim (adds.0 new) [
+    | inl mid ↦ elim (before.0 mid) [ inl old ↦ inl old | inr one ↦ inr (early one) ]
+    | inr one ↦ inr (last one)
+  ],
+  λ told. elim told [
+    | inl old ↦ adds.1 (inl (before.1 (inl old)))
+    | inr late ↦ elim (split late) [ inl one ↦ adds.1 (inl (before.1 (inr one))) | inr one ↦ adds.1 (inr one) ]
+  ],
+)
 
 module _ {R : Type 0} (name : List ℕ) where
   pub added_none : (old : NamesFound) → HaveAdded {R = R} [] name old old
@@ -36,8 +49,8 @@ module _ {R : Type 0} (name : List ℕ) where
     contents = [];
     are_contents = tt;
     archives_are = tt;
-    rows = λ row. (λ there. inl there, λ told. elim told [ inl there ↦ there | inr one ↦ absurd (no_content one.0 one.1) ]);
-    retired = λ r. (λ there. inl there, λ told. elim told [ inl there ↦ there | inr one ↦ absurd (no_content one.0 one.1) ]);
+    rows = λ row. (λ there. inl there, λ told. elim told [ inl there ↦ there | inr one ↦ absurd (none_in one.1) ]);
+    retired = λ r. (λ there. inl there, λ told. elim told [ inl there ↦ there | inr one ↦ absurd (none_in one.1) ]);
   }
 
   module _ (archives seen : List (Reader R)) (archive : Reader R) (old mid new : NamesFound) (o : Operations) (seen_is : seen ≡ archives ++ archive ∷ []) (before : HaveAdded archives name old mid)
@@ -45,56 +58,22 @@ module _ {R : Type 0} (name : List ℕ) where
     abbrev all : List Operations
     all = before.contents ++ o ∷ []
 
-    earlier : (p : Operations) → Contains before.contents p → Contains all p
-    earlier p there = Contains-append_left before.contents (o ∷ []) p there
+    row_to : (row : NameRecord) → HasNameRow before.contents name row → HasNameRow all name row
+    row_to row one = (one.0, Contains-append_left before.contents (o ∷ []) one.0 one.1, one.2)
 
-    last : Contains all o
-    last = Contains-append_right before.contents (o ∷ []) o (in_front o [])
-
-    -- one of them is the last, or one before it
-    module _ (Has : Operations → Type 0) where
-      found : (p : Operations) → Contains all p → Has p → ((q : Operations) × Contains before.contents q × Has q) ⊎ Has o
-      found p there has = elim (Contains-append_cases before.contents (o ∷ []) p there) [
-        | inl early ↦ inl (p, early, has)
-        | inr late ↦ elim (in_cons o [] p late) [
-          | inl same ↦ inr (subst Has (sym same) has)
-          | inr none ↦ absurd (no_content p none)
-        ]
-      ]
-
-    rows_to : (row : NameRecord) → Contains (map owned_name_view new.rows.items) row → Contains (map owned_name_view old.rows.items) row ⊎ HasNameRow all name row
-    rows_to row there = elim ((adds.rows row).0 there) [
-      | inl middle ↦ elim ((before.rows row).0 middle) [
-        | inl first ↦ inl first
-        | inr one ↦ inr (one.0, earlier one.0 one.1, one.2)
-      ]
-      | inr told ↦ inr (o, last, told)
+    row_from : (row : NameRecord) → HasNameRow all name row → HasNameRow before.contents name row ⊎ IsNameRow o name row
+    row_from row one = elim (Contains-push_cases before.contents o one.0 one.1) [
+      | inl early ↦ inl (one.0, early, one.2)
+      | inr same ↦ inr (rw same one.2)
     ]
 
-    rows_back : (row : NameRecord) → Contains (map owned_name_view old.rows.items) row ⊎ HasNameRow all name row → Contains (map owned_name_view new.rows.items) row
-    rows_back row (inl first) = (adds.rows row).1 (inl ((before.rows row).1 (inl first)))
-    rows_back row (inr one) = elim (found (λ p. IsNameRow p name row) one.0 one.1 one.2) [
-      | inl early ↦ (adds.rows row).1 (inl ((before.rows row).1 (inr early)))
-      | inr told ↦ (adds.rows row).1 (inr told)
-    ]
+    retired_to : (r : List ℕ) → HasRetirement before.contents r → HasRetirement all r
+    retired_to r one = (one.0, Contains-append_left before.contents (o ∷ []) one.0 one.1, one.2, one.3)
 
-    abbrev IsRetired : List ℕ → Operations → Type 0
-    IsRetired r p = (contains p r ≡ true) × (is_admission r ≡ false)
-
-    retired_to : (r : List ℕ) → Contains (map entry_bytes new.retired.items) r → Contains (map entry_bytes old.retired.items) r ⊎ HasRetirement all r
-    retired_to r there = elim ((adds.retired r).0 there) [
-      | inl middle ↦ elim ((before.retired r).0 middle) [
-        | inl first ↦ inl first
-        | inr one ↦ inr (one.0, earlier one.0 one.1, one.2, one.3)
-      ]
-      | inr told ↦ inr (o, last, told.0, told.1)
-    ]
-
-    retired_back : (r : List ℕ) → Contains (map entry_bytes old.retired.items) r ⊎ HasRetirement all r → Contains (map entry_bytes new.retired.items) r
-    retired_back r (inl first) = (adds.retired r).1 (inl ((before.retired r).1 (inl first)))
-    retired_back r (inr one) = elim (found (IsRetired r) one.0 one.1 (one.2, one.3)) [
-      | inl early ↦ (adds.retired r).1 (inl ((before.retired r).1 (inr (early.0, early.1, early.2.0, early.2.1))))
-      | inr told ↦ (adds.retired r).1 (inr told)
+    retired_from : (r : List ℕ) → HasRetirement all r → HasRetirement before.contents r ⊎ ((contains o r ≡ true) × (is_admission r ≡ false))
+    retired_from r one = elim (Contains-push_cases before.contents o one.0 one.1) [
+      | inl early ↦ inl (one.0, early, one.2, one.3)
+      | inr same ↦ inr (rw same one.2, one.3)
     ]
 
     pub added_more : HaveAdded seen name old new
@@ -102,8 +81,8 @@ module _ {R : Type 0} (name : List ℕ) where
       contents = all;
       are_contents = all_more IsContent before.contents o before.are_contents content;
       archives_are = subst (λ (rs : List (Reader R)). AllZip HoldsArchive rs all) (sym seen_is) (hold_more archives before.contents archive o before.archives_are holds);
-      rows = λ row. (rows_to row, rows_back row);
-      retired = λ r. (retired_to r, retired_back r);
+      rows = λ row. more (adds.rows row) (before.rows row) (row_to row) (λ told. (o, Contains-push before.contents o, told)) (row_from row);
+      retired = λ r. more (adds.retired r) (before.retired r) (retired_to r) (λ told. (o, Contains-push before.contents o, told.0, told.1)) (retired_from r);
     }
 
   -- what was added is of archives
@@ -124,30 +103,22 @@ merged_all : (o : Operations) (contents : List Operations) → IsContent o → A
 merged_all o contents content are = ap (λ (q : Operations). merged q contents) (sym content.itself) ∙ merged_made o contents are
 
 in_either : (o p : Operations) (r : List ℕ) → contains (union o p) r ≡ true → (contains o r ≡ true) ⊎ (contains p r ≡ true)
-in_either o p r there = by (contains o r) refl
-  where
-    by : (b : Bool) → contains o r ≡ b → (contains o r ≡ true) ⊎ (contains p r ≡ true)
-    by true is = inl is
-    by false is = inr (ap (λ (b : Bool). b || contains p r) (sym is) ∙ sym (contains-union nat_list_cmp_total o p r) ∙ there)
+in_either o p r there = or_cases (contains o r) (contains p r) (sym (contains-union nat_list_cmp_total o p r) ∙ there)
 
 to_left : (o p : Operations) (r : List ℕ) → contains o r ≡ true → contains (union o p) r ≡ true
-to_left o p r there = contains-union nat_list_cmp_total o p r ∙ ap (λ (b : Bool). b || contains p r) there
+to_left o p r there = contains-union nat_list_cmp_total o p r ∙ or_left (contains o r) (contains p r) there
 
 to_right : (o p : Operations) (r : List ℕ) → contains p r ≡ true → contains (union o p) r ≡ true
-to_right o p r there = contains-union nat_list_cmp_total o p r ∙ ap (λ (b : Bool). contains o r || b) there ∙ or_true (contains o r)
-  where
-    or_true : (b : Bool) → (b || true) ≡ true
-    or_true true = refl
-    or_true false = refl
+to_right o p r there = contains-union nat_list_cmp_total o p r ∙ or_right (contains o r) (contains p r) there
 
 grows : (o : Operations) (contents : List Operations) (r : List ℕ) → contains o r ≡ true → contains (all_of o contents) r ≡ true
 grows o [] r there = there
 grows o (p ∷ contents) r there = grows (union o p) contents r (to_left o p r there)
 
 member : (o : Operations) (contents : List Operations) (p : Operations) (r : List ℕ) → Contains contents p → contains p r ≡ true → contains (all_of o contents) r ≡ true
-member o [] p r is there = absurd (no_content p is)
+member o [] p r is there = absurd (none_in is)
 member o (q ∷ contents) p r is there = elim (in_cons q contents p is) [
-  | inl same ↦ grows (union o q) contents r (to_right o q r (ap (λ (s : Operations). contains s r) same ∙ there))
+  | inl same ↦ grows (union o q) contents r (to_right o q r (rw same there))
   | inr later ↦ member (union o q) contents p r later there
 ]
 
@@ -166,13 +137,6 @@ in_all o (q ∷ contents) r there =
       | inr later ↦ (one.0, inr (in_rest q contents one.0 later), one.2)
     ]
 
-all_at : (contents : List Operations) (p : Operations) → AllByRecursion IsContent contents → Contains contents p → IsContent p
-all_at [] p are there = absurd (no_content p there)
-all_at (q ∷ contents) p are there = elim (in_cons q contents p there) [
-  | inl same ↦ subst IsContent same are.0
-  | inr later ↦ all_at contents p are.1 later
-]
-
 -- ---- rows of the join
 
 module _ (o : Operations) (contents : List Operations) (content : IsContent o) (are : AllByRecursion IsContent contents) (name : List ℕ) (none first found : NamesFound)
@@ -187,7 +151,7 @@ module _ (o : Operations) (contents : List Operations) (content : IsContent o) (
 
   is_content : (p : Operations) → IsAmong o contents p → IsContent p
   is_content p (inl same) = subst IsContent same content
-  is_content p (inr later) = all_at contents p are later
+  is_content p (inr later) = All-contains IsContent contents p (All-from_recursion IsContent contents are) later
 
   within : (p : Operations) (r : List ℕ) → IsAmong o contents p → contains p r ≡ true → contains whole r ≡ true
   within p r (inl same) there = grows o contents r (ap (λ (s : Operations). contains s r) same ∙ there)
@@ -196,14 +160,11 @@ module _ (o : Operations) (contents : List Operations) (content : IsContent o) (
   row_of : (row : NameRecord) → Contains (map owned_name_view found.rows.items) row → (p : Operations) × IsAmong o contents p × IsNameRow p name row
   row_of row there = elim ((rows_are row).0 there) [
     | inl early ↦ elim ((adds.rows row).0 early) [
-      | inl nothing ↦ absurd (empty (subst (λ (l : List _). Contains (map owned_name_view l) row) no_rows nothing))
+      | inl nothing ↦ absurd (none_in (rw no_rows at nothing))
       | inr told ↦ (o, inl refl, told)
     ]
     | inr one ↦ (one.0, inr one.1, one.2)
   ]
-    where
-      empty : Contains [] row → ⊥
-      empty c = omega (arith, c.1)
 
   row_back : (row : NameRecord) (p : Operations) → IsAmong o contents p → IsNameRow p name row → Contains (map owned_name_view found.rows.items) row
   row_back row p (inl same) told = (rows_are row).1 (inl ((adds.rows row).1 (inr (subst (λ (q : Operations). IsNameRow q name row) (sym same) told))))
@@ -212,14 +173,11 @@ module _ (o : Operations) (contents : List Operations) (content : IsContent o) (
   retirement_of : (r : List ℕ) → Contains retired r → (p : Operations) × IsAmong o contents p × (contains p r ≡ true) × (is_admission r ≡ false)
   retirement_of r there = elim ((retired_are r).0 there) [
     | inl early ↦ elim ((adds.retired r).0 early) [
-      | inl nothing ↦ absurd (empty (subst (λ (l : List _). Contains (map entry_bytes l) r) no_retired nothing))
+      | inl nothing ↦ absurd (none_in (rw no_retired at nothing))
       | inr told ↦ (o, inl refl, told.0, told.1)
     ]
     | inr one ↦ (one.0, inr one.1, one.2, one.3)
   ]
-    where
-      empty : Contains [] r → ⊥
-      empty c = omega (arith, c.1)
 
   retirement_back : (r : List ℕ) → is_admission r ≡ false → contains whole r ≡ true → Contains retired r
   retirement_back r plain there =
@@ -234,23 +192,15 @@ module _ (o : Operations) (contents : List Operations) (content : IsContent o) (
   entry_of r there =
       let one = retirement_of r there in
       elim ((is_content one.0 one.1).records r one.2) [
-        | inl a ↦ absurd (false≢true (sym one.3 ∙ ap is_admission a.is))
+        | inl a ↦ cc (one.3, ap is_admission a.is)
         | inr t ↦ record { tag = inl (ap (λ (b : List ℕ). slice_index b 0) t.is); long = ap length t.is ∙ length-retirement_record t.key t.digest t.is_key t.long }
       ]
 
   pub are_entries : AllByRecursion IsEntry retired
-  are_entries = along retired entry_of
-    where
-      along : (xs : List (List ℕ)) → ((r : List ℕ) → Contains xs r → IsEntry r) → AllByRecursion IsEntry xs
-      along [] each = tt
-      along (x ∷ xs) each = (each x (in_front x xs), along xs (λ r there. each r (in_rest x xs r there)))
+  are_entries = recursion_from_All IsEntry retired (λ k d lt. entry_of (get_or retired k d) (Contains-get_or retired k d lt))
 
   retired_stays : (r : List ℕ) → is_admission r ≡ false → contains (content_of whole) r ≡ contains whole r
-  retired_stays r plain = contains_made whole r ∙ ap (λ (b : Bool). contains whole r && not (b && contains whole (covering r))) plain ∙ and_true (contains whole r)
-    where
-      and_true : (b : Bool) → (b && true) ≡ b
-      and_true true = refl
-      and_true false = refl
+  retired_stays r plain = grind (arith, contains_made whole r, plain)
 
   module _ (rows : List NameRecord) (live : (row : NameRecord) → Contains rows row ↔ (Contains (map owned_name_view found.rows.items) row × (contains (set_of retired) (retirement_record row.key row.digest) ≡ false))) where
     to : (row : NameRecord) → Contains rows row → IsNameRow (content_of whole) name row
@@ -260,7 +210,7 @@ module _ (o : Operations) (contents : List Operations) (content : IsContent o) (
         let told = one.2 in
         let same = ap (λ (r : NameRecord). retirement_record r.key r.digest) told.row_is in
         let free : contains whole (retirement_record row.key row.digest) ≡ false =
-        is_false (contains whole (retirement_record row.key row.digest)) (λ is. false≢true (sym held.1 ∙ in_set retired (retirement_record row.key row.digest) (retirement_back (retirement_record row.key row.digest) refl is))) in
+        is_false (contains whole (retirement_record row.key row.digest)) (λ is. cc (held.1, in_set retired (retirement_record row.key row.digest) (retirement_back (retirement_record row.key row.digest) refl is))) in
         let uncovered = covered_slice whole told.slice told.valid ∙ sym (ap (contains whole) same) ∙ free in
         record {
           slice = told.slice;
@@ -291,7 +241,7 @@ module _ (o : Operations) (contents : List Operations) (content : IsContent o) (
         let free : contains (set_of retired) (retirement_record row.key row.digest) ≡ false =
         is_false (contains (set_of retired) (retirement_record row.key row.digest)) (λ is.
         let held = retirement_of (retirement_record row.key row.digest) (from_set retired (retirement_record row.key row.digest) is) in
-        false≢true (sym told.live.kept ∙ sym (ap (contains (content_of whole)) same) ∙ retired_stays (retirement_record row.key row.digest) refl ∙ within held.0 (retirement_record row.key row.digest) held.1 held.2)) in
+        cc (told.live.kept, same, retired_stays (retirement_record row.key row.digest) refl, within held.0 (retirement_record row.key row.digest) held.1 held.2)) in
         (live row).1 (there, free)
 
     pub names_of_join : IsStrictlySortedBy name_cmp rows → IsNames (merged o contents) name rows

@@ -1,13 +1,15 @@
 -- What the join of parts has.
-use Rattle.std.proofs.Common.{◌≡◌, ℕ, ◌≤◌, Bool, true, false, not, ◌&&◌, ◌||◌, nat_eq, List, [], ◌∷◌, ◌++◌, length, map, take, drop, refl, sym, ap, ◌∙◌, subst, arith, inl, inr, Ok, Err, Result, Option, Some, None, Contains}
+use Rattle.std.proofs.Common.{◌≡◌, ℕ, ◌≤◌, Bool, true, ◌||◌, nat_eq, List, [], ◌∷◌, ◌++◌, length, map, take, drop, refl, sym, ap, ◌∙◌, subst, arith, inl, inr, Ok, Err, Result, IsErrAnd, Option, Some, Contains}
 use Rattle.std.specs.Str.{bytes_eq}
 use Rattle.std.specs.List.{AllByRecursion, AllZip}
 use Rattle.std.specs.Cmp.Lexicographic.{nat_list_cmp_total}
 use Rattle.std.specs.FinSet.{contains, union, contains-union}
-use Rattle.std.proofs.lemmas.Bool.{eqb-true}
-use Rattle.std.proofs.lemmas.List.{length-take, length-drop, take-append-le, take-take, map-append}
+use Rattle.std.proofs.lemmas.Bool.{cases_Bool, eqb-true, or_cases}
+use Rattle.std.proofs.lemmas.List.{length-take, length-drop, nil_from_length, take-append-le, take-take, map-append}
+use Rattle.std.proofs.lemmas.Option.{same_Some}
 use Rattle.std.proofs.lemmas.List.Sums.{fold-append}
-use Rattle.archive_core.specs.Content.{IsContent, Operations, covering, is_admission, is_covered, joined, key_and_digest}
+use Rattle.std.proofs.lemmas.Result.{err_from_is_err_and}
+use Rattle.archive_core.specs.Content.{IsContent, Operations, covering, joined, key_and_digest}
 use Rattle.archive_core.specs.Part.{AreAlikeUnder, is_under, part}
 use Rattle.archive_core.specs.Record.{IsRecord}
 use Rattle.archive_core.proofs.Made.{contains_made, joined_content}
@@ -22,7 +24,9 @@ use Rattle.command_ends.proofs.Readers.{all_more, none_failed, none_touched}
 use Rattle.command_ends.specs.Archives.{AreRefused, AreUnfailed, HoldTogether, ReadsTogether, file_place, merged}
 use Rattle.command_ends.specs.declared.faults.CommandFault.{CommandFault}
 use Rattle.command_ends.specs.declared.faults.CommandFault.TheVariants.{Input, Output, Report, OutOfMemory}
+use Rattle.command_ends.specs.declared.faults.Place.{Place}
 use Rattle.command_ends.specs.declared.faults.Status.{Status}
+use Rattle.command_ends.specs.declared.faults.Why.{Why}
 use Rattle.command_ends.specs.Ends.{EndsReport}
 use Rattle.command_ends.specs.Outputs.{Takes, Writer}
 use Rattle.command_ends.specs.Inputs.{EachUnfailed, EachUntouched, HoldsArchive, HoldsContent, HoldsPart, IsArchive, IsArchiveRefused, IsFirstRefused, IsRefusal, IsRefusedArchive, Reader, Reads, Unfailed, readers}
@@ -58,23 +62,17 @@ module _ (front : List ℕ) (short : length front ≤ 24) (o p few some : Operat
       ∙ sym (contains-union nat_list_cmp_total o p r)
 
   long_of : (r : List ℕ) → contains whole r ≡ true → 33 ≤ length r
-  long_of r there = by (contains o r) refl
-    where
-      by : (b : Bool) → contains o r ≡ b → 33 ≤ length r
-      by true is = record_long r (content.records r is)
-      by false is = record_long r (other.records r (ap (λ (b : Bool). b || contains p r) (sym is) ∙ sym (contains-union nat_list_cmp_total o p r) ∙ there))
+  long_of r there = elim (or_cases (contains o r) (contains p r) (sym (contains-union nat_list_cmp_total o p r) ∙ there)) [
+    | inl first ↦ record_long r (content.records r first)
+    | inr second ↦ record_long r (other.records r second)
+  ]
 
   -- so what is covered there is, too
   pub joined_alike : AreAlikeUnder front (joined few some) (joined o p)
-  joined_alike r under =
-      contains_made parts r
-      ∙ ap (λ (b : Bool). b && not (is_covered parts r)) (alike r under)
-      ∙ by (contains whole r) refl
-      ∙ sym (contains_made whole r)
-    where
-      by : (b : Bool) → contains whole r ≡ b → (contains whole r && not (is_covered parts r)) ≡ (contains whole r && not (is_covered whole r))
-      by true is = ap (λ (b : Bool). contains whole r && not (is_admission r && b)) (alike (covering r) (covering_under front r short (long_of r is) ∙ under))
-      by false is = ap (λ (b : Bool). b && not (is_covered parts r)) is ∙ ap (λ (b : Bool). b && not (is_covered whole r)) (sym is)
+  joined_alike r under = elim (cases_Bool (contains whole r)) [
+    | inl there ↦ grind (arith, contains_made parts r, contains_made whole r, alike r under, alike (covering r) (covering_under front r short (long_of r there) ∙ under))
+    | inr none ↦ grind (arith, contains_made parts r, contains_made whole r, alike r under)
+  ]
 
 pub joins_of_parts : (o p : Operations) (picks : List ℕ → Bool) (front : List ℕ) → IsContent o → IsContent p → length front ≤ 24 → ((r : List ℕ) → is_under front r ≡ true → picks r ≡ true)
     → AreAlikeUnder front (joined (part o picks) (part p picks)) (joined o p)
@@ -123,35 +121,39 @@ module _ {R : Type 0} where
     archive_is = kept.text;
     others_are = joined.archives_are;
     is_true = λ front short picked.
-        subst (λ (o : Operations). AreAlikeUnder front o (merged kept.whole joined.contents)) (sym joined.content)
-        (merged_alike front picks short picked kept.whole first joined.contents kept.is_content joined.are_contents
-        (subst (λ (o : Operations). AreAlikeUnder front o kept.whole) (sym kept.kept) (part_alike kept.whole picks front picked)));
+        rw joined.content (merged_alike front picks short picked kept.whole first joined.contents kept.is_content joined.are_contents (rw kept.kept (part_alike kept.whole picks front picked)));
   }
 
 -- ---- one of them is refused, or memory is wanting
 
+-- what is one refusal is another, which holds where that one does
+pub refusal_of : (Refuses RefusesToo : Place → Why → Type 0) (NoneFailed NoneFailedToo : Type 0) (fault : CommandFault) → ((at : Place) (why : Why) → Refuses at why → RefusesToo at why) → (NoneFailed → NoneFailedToo)
+    → IsRefusal Refuses NoneFailed fault → IsRefusal RefusesToo NoneFailedToo fault
+refusal_of Refuses RefusesToo NoneFailed NoneFailedToo (Input at why) refuses unfailed r = refuses at why r
+refusal_of Refuses RefusesToo NoneFailed NoneFailedToo (Output _) refuses unfailed r = r
+refusal_of Refuses RefusesToo NoneFailed NoneFailedToo (Report _) refuses unfailed r = r
+refusal_of Refuses RefusesToo NoneFailed NoneFailedToo OutOfMemory refuses unfailed r = unfailed r
+
 pub first_refused : {R S : Type 0} (archive : Reader R) (others : List (Reader S)) (fault : CommandFault) → IsRefusal (IsRefusedArchive 0 archive) (Unfailed archive) fault → EachUntouched others → EachUnfailed others
     → IsRefusal (AreRefused archive others) (AreUnfailed archive others) fault
-first_refused archive others (Input at why) r untouched unfailed = inl (r, untouched)
-first_refused archive others (Output _) r untouched unfailed = r
-first_refused archive others (Report _) r untouched unfailed = r
-first_refused archive others OutOfMemory r untouched unfailed = (r, unfailed)
+first_refused archive others fault r untouched unfailed = refusal_of _ _ _ _ fault (λ at why refused. inl (refused, untouched)) (λ u. (u, unfailed)) r
 
 pub other_refused : {R S : Type 0} (archive : Reader R) (others : List (Reader S)) (fault : CommandFault) → IsArchive archive → Unfailed archive
     → IsRefusal (IsFirstRefused file_place IsArchive IsArchiveRefused others) (EachUnfailed others) fault → IsRefusal (AreRefused archive others) (AreUnfailed archive others) fault
-other_refused archive others (Input at why) is unfailed r = inr (is, unfailed, r)
-other_refused archive others (Output _) is unfailed r = r
-other_refused archive others (Report _) is unfailed r = r
-other_refused archive others OutOfMemory is unfailed r = (unfailed, r)
+other_refused archive others fault is unfailed r = refusal_of _ _ _ _ fault (λ at why refused. inr (is, unfailed, refused)) (λ u. (unfailed, u)) r
 
--- a command that asks them ends so
-pub together_refused : {R S : Type 0} (Makes : Status → List ℕ → Type 0) (archive : Reader R) (others : List (Reader S)) (report : Writer) (fault : CommandFault)
-    → IsRefusal (AreRefused archive others) (AreUnfailed archive others) fault → Takes report []
-    → EndsReport (record { Makes = Makes; Refuses = AreRefused archive others; Unfailed = AreUnfailed archive others }) report (Err fault)
-together_refused Makes archive others report (Input at why) r t = (r, t)
-together_refused Makes archive others report (Output _) r t = r
-together_refused Makes archive others report (Report _) r t = absurd r
-together_refused Makes archive others report OutOfMemory r t = (r, t)
+-- a command that reports ends so
+pub together_refused : (Makes : Status → List ℕ → Type 0) (Refuses : Place → Why → Type 0) (NoneFailed : Type 0) (report : Writer) (fault : CommandFault) → IsRefusal Refuses NoneFailed fault → Takes report []
+    → EndsReport (record { Makes = Makes; Refuses = Refuses; Unfailed = NoneFailed }) report (Err fault)
+together_refused Makes Refuses NoneFailed report (Input at why) r t = (r, t)
+together_refused Makes Refuses NoneFailed report (Output _) r t = r
+together_refused Makes Refuses NoneFailed report (Report _) r t = absurd r
+together_refused Makes Refuses NoneFailed report OutOfMemory r t = (r, t)
+
+-- memory was wanted before an archive was read
+pub wanting_first : {R S T : Type 0} (archive : Reader R) (left : S → Option (List ℕ)) (failures : S → ℕ) (others : List (Result S CannotOpen)) (IsTrue : T → Operations → Type 0) (result : Result T CommandFault) → IsErrAnd result (λ fault. fault ≡ OutOfMemory) → Unfailed archive
+    → ReadsTogether archive (readers left failures others others) result IsTrue
+wanting_first archive left failures others IsTrue result is unfailed = let p = err_from_is_err_and result is in rw (p.1, p.2) (unfailed, none_failed left failures others)
 
 -- what is true of each content that is alike is true of the join
 pub together_tells : {R S : Type 0} (archive : Reader R) (others : List (Reader S)) (IsAlike IsTrue : Operations → Type 0) → ((o : Operations) → IsAlike o → IsTrue o) → HoldTogether archive others IsAlike → HoldTogether archive others IsTrue
@@ -168,7 +170,7 @@ together_tells archive others IsAlike IsTrue tells held = record {
 -- with one archive what is true of its content is true of the join
 alone : {R : Type 0} (left : R → Option (List ℕ)) (failures : R → ℕ) (archive : Reader R) (others : List (Result R CannotOpen)) (IsTrue : Operations → Type 0) → others ≡ [] → HoldsContent archive IsTrue
     → HoldTogether archive (readers left failures others others) IsTrue
-alone left failures archive others IsTrue none held = subst (λ (files : List (Result _ CannotOpen)). HoldTogether archive (readers left failures files files) IsTrue) (sym none) (record {
+alone left failures archive others IsTrue none held = rw none (record {
   content = held.content;
   contents = [];
   is_content = held.is_content;
@@ -179,8 +181,7 @@ alone left failures archive others IsTrue none held = subst (λ (files : List (R
 })
 
 pub no_others : {X : Type 0} (xs : List X) (empty : Bool) → empty ≡ nat_eq (length xs) 0 → empty ≡ true → xs ≡ []
-no_others [] empty is holds = refl
-no_others (x ∷ xs) empty is holds = let none : length (x ∷ xs) ≡ 0 = eqb-true (length (x ∷ xs)) 0 (sym is ∙ holds) in absurd (omega (arith, none))
+no_others xs empty is holds = nil_from_length xs (eqb-true (length xs) 0 (sym is ∙ holds))
 
 pub alone_told : {R T : Type 0} (left : R → Option (List ℕ)) (failures : R → ℕ) (archive : Reader R) (others : List (Result R CannotOpen)) (IsTrue : T → Operations → Type 0) (result : Result T CommandFault) → others ≡ []
     → Reads archive result (λ input told. HoldsContent input (IsTrue told)) (IsRefusedArchive 0) → ReadsTogether archive (readers left failures others others) result IsTrue
@@ -190,14 +191,8 @@ alone_told left failures archive others IsTrue (Err fault) none refused = first_
 -- ---- questions
 
 pub first_there : (keys : List SliceKey) (key : SliceKey) → first_key keys ≡ Some key → Contains keys key
-first_there [] key is = absurd (nothing is)
-  where
-    nothing : None ≡ Some key → ⊥
-    nothing e = cc
-first_there (first ∷ keys) key is = (0, omega arith, inside is)
-  where
-    inside : Some first ≡ Some key → first ≡ key
-    inside e = cc
+first_there [] key is = cc
+first_there (first ∷ keys) key is = (0, omega arith, same_Some first key is)
 
 pub behind_there : (keys : List SliceKey) (key : SliceKey) → Contains (drop 1 keys) key → Contains keys key
 behind_there [] key there = there

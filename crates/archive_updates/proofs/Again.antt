@@ -1,21 +1,17 @@
 -- The rows of files over the join of two contents: those over the one, told again by the other.
-use Rattle.std.proofs.Common.{◌≡◌, ℕ, suc, ◌+◌, Bool, true, false, not, ◌&&◌, ◌||◌, if◌then◌else◌, List, [], ◌∷◌, ◌++◌, length, map, Some, None, refl, sym, ap, ◌∙◌, arith}
+use Rattle.std.proofs.Common.{◌≡◌, ℕ, suc, ◌+◌, Bool, ◌&&◌, List, [], ◌∷◌, ◌++◌, length, map, refl, sym, ap, ◌∙◌, arith}
 use Rattle.std.specs.Prelude.{filter}
-use Rattle.std.specs.Ordering.{nat_cmp, eq_by_cmp}
-use Rattle.std.specs.Cmp.Lexicographic.{slice_cmp, nat_list_cmp_total}
+use Rattle.std.specs.Cmp.Lexicographic.{nat_list_cmp_total}
 use Rattle.std.specs.FinSet as set
-use Rattle.std.specs.FinSet.{contains, contains-insert, contains-union, same_set}
+use Rattle.std.specs.FinSet.{contains-insert, contains-union, same_set}
 use Rattle.std.proofs.lemmas.List.{length-map}
-use Rattle.sha2.specs.Sha256.{sha256}
-use Rattle.archive_core.specs.Content.{Operations, IsMade, changes, content_of, covering, is_admission, is_covered, joined, with_record, with_records}
+use Rattle.archive_core.specs.Content.{Operations, IsMade, changes, content_of, covering, joined, with_record, with_records}
 use Rattle.archive_core.specs.Record.{admission_record}
-use Rattle.archive_core.specs.Valid.{key_of}
 use Rattle.archive_core.proofs.Made.{alike_insert, bytes_same, contains_made, joined_made_right, made_alike, made_is_alike}
 use Rattle.admission.specs.File.{is_admissible, parts}
 use Rattle.archive_updates.specs.Slicing.{slice_in}
 use Rattle.admission.specs.Take.{admitted, taken_of, taken_rows}
 use Rattle.admission.specs.declared.taken.Taken.{Taken}
-use Rattle.admission.specs.declared.taken.Taken.TheVariants.{Added, Known, Skipped}
 use Rattle.report_text.specs.declared.rows.AdmitRow.{AdmitRow}
 use Rattle.archive_updates.specs.Admit.{admit_rows, file_rows}
 use Rattle.archive_updates.specs.InnerArriving.{images_in, record_in, records_in, records_of, row_again, rows_again, slice_rows, taken_again}
@@ -23,55 +19,13 @@ use Rattle.archive_updates.proofs.Migrated.{join_with_nothing}
 
 -- ---- what changes a join
 
--- by what holds of a record and of the retirement that covers it, on either side
-by_cases : (a b x k l : Bool) → not (((a || b) && not (x && (k || l))) || (x && (k || l))) ≡ (not (a || (x && k)) && not (b || (x && l)))
-by_cases a b false k l = plain a b
-  where
-    plain : (a b : Bool) → not (((a || b) && true) || false) ≡ (not (a || false) && not (b || false))
-    plain true b = refl
-    plain false true = refl
-    plain false false = refl
-by_cases a b true true l = covered a b l
-  where
-    covered : (a b l : Bool) → not (((a || b) && false) || true) ≡ (not (a || true) && not (b || l))
-    covered true true l = refl
-    covered true false l = refl
-    covered false true l = refl
-    covered false false l = refl
-by_cases a b true false true = other a b
-  where
-    other : (a b : Bool) → not (((a || b) && false) || true) ≡ (not (a || false) && not (b || true))
-    other true true = refl
-    other true false = refl
-    other false true = refl
-    other false false = refl
-by_cases a b true false false = none a b
-  where
-    none : (a b : Bool) → not (((a || b) && true) || false) ≡ (not (a || false) && not (b || false))
-    none true b = refl
-    none false true = refl
-    none false false = refl
-
-and_true : (a : Bool) → (a && true) ≡ a
-and_true true = refl
-and_true false = refl
-
-and_false : (a : Bool) → (a && false) ≡ false
-and_false true = refl
-and_false false = refl
-
 -- an operation changes a join where it changes either side
 changes_joined : (o p : Operations) (r : List ℕ) → changes (joined o p) r ≡ (changes o r && changes p r)
 unfolding changes
 changes_joined o p r =
-    let u : Operations = set.union o p in
-    let there : contains u r ≡ (contains o r || contains p r) = contains-union nat_list_cmp_total o p r in
-    let covers : contains u (covering r) ≡ (contains o (covering r) || contains p (covering r)) = contains-union nat_list_cmp_total o p (covering r) in
-    let same : contains (joined o p) (covering r) ≡ contains u (covering r) = contains_made u (covering r) ∙ and_true (contains u (covering r)) in
-    let made : contains (joined o p) r ≡ (contains u r && not (is_covered u r)) = contains_made u r in
-    (λ i. not (made i || (is_admission r && same i)))
-    ∙ (λ i. not ((there i && not (is_admission r && covers i)) || (is_admission r && covers i)))
-    ∙ by_cases (contains o r) (contains p r) (is_admission r) (contains o (covering r)) (contains p (covering r))
+    let union = contains-union nat_list_cmp_total o p in
+    let made = contains_made (set.union o p) in
+    grind (arith, made r, made (covering r), union r, union (covering r))
 
 -- a join with one more is the join with the side that has it
 joined_more : (o p : Operations) (r : List ℕ) → with_record (joined o p) r ≡ joined o (with_record p r)
@@ -79,16 +33,8 @@ joined_more o p r =
     let u : Operations = set.union o p in
     made_alike (set.insert (content_of u) r) (set.insert u r) (alike_insert (content_of u) u r (made_is_alike u))
     ∙ ap content_of (same_set nat_list_cmp_total bytes_same (set.insert u r) (set.union o (set.insert p r)) (λ q.
-    contains-insert nat_list_cmp_total u r q
-    ∙ ap (λ (b : Bool). eq_by_cmp (slice_cmp nat_cmp) q r || b) (contains-union nat_list_cmp_total o p q)
-    ∙ swap (eq_by_cmp (slice_cmp nat_cmp) q r) (contains o q) (contains p q)
-    ∙ sym (contains-union nat_list_cmp_total o (set.insert p r) q ∙ ap (λ (b : Bool). contains o q || b) (contains-insert nat_list_cmp_total p r q))))
+    grind (arith, contains-insert nat_list_cmp_total u r q, contains-union nat_list_cmp_total o p q, contains-union nat_list_cmp_total o (set.insert p r) q, contains-insert nat_list_cmp_total p r q)))
     ∙ sym (joined_made_right o (set.insert p r))
-  where
-    swap : (a b c : Bool) → (a || (b || c)) ≡ (b || (a || c))
-    swap true true c = refl
-    swap true false c = refl
-    swap false b c = refl
 
 joined_taken : (o p : Operations) (rs : List (List ℕ)) → with_records (joined o p) rs ≡ joined o (with_records p rs)
 joined_taken o p [] = refl
@@ -105,21 +51,12 @@ admitted_joined o images is =
 
 pub images_sliced : (xs : List (List ℕ)) → images_in (map slice_in xs) ≡ filter is_admissible xs
 images_sliced [] = refl
-images_sliced (x ∷ xs) = by (is_admissible x) (images_sliced xs)
-  where
-    by : (b : Bool) → images_in (map slice_in xs) ≡ filter is_admissible xs → images_in ((if b then Some x else None) ∷ map slice_in xs) ≡ (if b then x ∷ filter is_admissible xs else filter is_admissible xs)
-    by true rest = ap (λ (images : List (List ℕ)). x ∷ images) rest
-    by false rest = rest
+images_sliced (x ∷ xs) = grind (arith, images_sliced xs)
 
 pub rows_sliced : (o : Operations) (xs : List (List ℕ)) → slice_rows o (map slice_in xs) ≡ taken_rows o xs
 unfolding slice_rows taken_rows
 rows_sliced o [] = refl
-rows_sliced o (x ∷ xs) = by (is_admissible x) (rows_sliced (admitted o (x ∷ [])) xs) (rows_sliced o xs)
-  where
-    by : (b : Bool) → slice_rows (admitted o (x ∷ [])) (map slice_in xs) ≡ taken_rows (admitted o (x ∷ [])) xs → slice_rows o (map slice_in xs) ≡ taken_rows o xs
-        → slice_rows o ((if b then Some x else None) ∷ map slice_in xs) ≡ (if b then taken_of o x ∷ taken_rows (admitted o (x ∷ [])) xs else Skipped ∷ taken_rows o xs)
-    by true taken skipped = ap (λ (rows : List Taken). taken_of o x ∷ rows) taken
-    by false taken skipped = ap (λ (rows : List Taken). Skipped ∷ rows) skipped
+rows_sliced o (x ∷ xs) = grind (arith, rows_sliced (admitted o (x ∷ [])) xs, rows_sliced o xs)
 
 -- ---- rows, told again
 
@@ -149,36 +86,17 @@ file_long index slice (t ∷ ts) = ap suc (file_long index (slice + 1) ts)
 taken_long : (o : Operations) (xs : List (List ℕ)) → length (taken_rows o xs) ≡ length xs
 unfolding taken_rows
 taken_long o [] = refl
-taken_long o (x ∷ xs) = by (is_admissible x) (taken_long (admitted o (x ∷ [])) xs) (taken_long o xs)
-  where
-    by : (b : Bool) → length (taken_rows (admitted o (x ∷ [])) xs) ≡ length xs → length (taken_rows o xs) ≡ length xs → length (if b then taken_of o x ∷ taken_rows (admitted o (x ∷ [])) xs else Skipped ∷ taken_rows o xs) ≡ suc (length xs)
-    by true taken skipped = ap suc taken
-    by false taken skipped = ap suc skipped
+taken_long o (x ∷ xs) = grind (arith, taken_long (admitted o (x ∷ [])) xs, taken_long o xs)
 
 -- a slice that came first among those that come is new where it is new to the other content, too
 one_joined : (o p : Operations) (image : List ℕ) → taken_again (changes o (admission_record image)) (taken_of p image) ≡ taken_of (joined o p) image
 unfolding taken_of
-one_joined o p image = by (changes p (admission_record image)) refl
-  where
-    by : (b : Bool) → changes p (admission_record image) ≡ b
-        → taken_again (changes o (admission_record image)) (if b then Added (key_of image) (record { 0 = sha256 image }) else Known (key_of image) (record { 0 = sha256 image }))
-        ≡ (if changes (joined o p) (admission_record image) then Added (key_of image) (record { 0 = sha256 image }) else Known (key_of image) (record { 0 = sha256 image }))
-    by true is = ap (λ (c : Bool). if c then Added (key_of image) (record { 0 = sha256 image }) else Known (key_of image) (record { 0 = sha256 image })) (sym (changes_joined o p (admission_record image) ∙ ap (λ (c : Bool). changes o (admission_record image) && c) is ∙ and_true (changes o (admission_record image))))
-    by false is = ap (λ (c : Bool). if c then Added (key_of image) (record { 0 = sha256 image }) else Known (key_of image) (record { 0 = sha256 image })) (sym (changes_joined o p (admission_record image) ∙ ap (λ (c : Bool). changes o (admission_record image) && c) is ∙ and_false (changes o (admission_record image))))
+one_joined o p image = grind (arith, changes_joined o p (admission_record image))
 
 takens_joined : (o p : Operations) (xs : List (List ℕ)) → takens_again (changes o) (taken_rows p xs) (map record_in (map slice_in xs)) ≡ taken_rows (joined o p) xs
 unfolding takens_again taken_rows
 takens_joined o p [] = refl
-takens_joined o p (x ∷ xs) = by (is_admissible x) (takens_joined o (admitted p (x ∷ [])) xs) (takens_joined o p xs)
-  where
-    by : (b : Bool) → takens_again (changes o) (taken_rows (admitted p (x ∷ [])) xs) (map record_in (map slice_in xs)) ≡ taken_rows (joined o (admitted p (x ∷ []))) xs → takens_again (changes o) (taken_rows p xs) (map record_in (map slice_in xs)) ≡ taken_rows (joined o p) xs
-        → takens_again (changes o) (if b then taken_of p x ∷ taken_rows (admitted p (x ∷ [])) xs else Skipped ∷ taken_rows p xs) (record_in (if b then Some x else None) ∷ map record_in (map slice_in xs))
-        ≡ (if b then taken_of (joined o p) x ∷ taken_rows (admitted (joined o p) (x ∷ [])) xs else Skipped ∷ taken_rows (joined o p) xs)
-    by true taken skipped =
-        let one = one_joined o p x in
-        let rest = taken ∙ ap (λ (q : Operations). taken_rows q xs) (sym (joined_more o p (admission_record x))) in
-        λ i. one i ∷ rest i
-    by false taken skipped = ap (λ (rows : List Taken). Skipped ∷ rows) skipped
+takens_joined o p (x ∷ xs) = grind (arith, one_joined o p x, takens_joined o (admitted p (x ∷ [])) xs, joined_more o p (admission_record x), takens_joined o p xs)
 
 rows_joined : (o p : Operations) (index : ℕ) (texts : List (List ℕ)) → rows_again (changes o) (admit_rows p index texts) (records_of texts) ≡ admit_rows (joined o p) index texts
 unfolding admit_rows rows_again

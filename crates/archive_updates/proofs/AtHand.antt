@@ -1,53 +1,66 @@
 -- IN's archive, merged with one that is at hand: what came of it.
-use Rattle.std.proofs.Common.{◌≡◌, ℕ, List, length, MatchResult, Option, Result, min, ◌+◌, Ok, Err, refl, ap, sym, ◌∙◌, subst, arith, ◌⊎◌, inl, inr}
+use Rattle.std.proofs.Common.{◌≡◌, ℕ, List, [], ◌++◌, length, MatchResult, Option, Result, Ok, Err, refl, ap, sym, subst, arith, ◌⊎◌, inl, inr}
 use Rattle.std.specs.FinSet as set
 use Rattle.archive_core.specs.Content.{Operations, IsContent, joined}
 use Rattle.archive_records.specs.declared.fault.MergeCause.{MergeCause}
 use Rattle.archive_records.specs.declared.fault.MergeCause.TheVariants.{Left, Right, Write}
 use Rattle.archive_records.specs.declared.fault.MergeFault.{MergeFault}
 use Rattle.archive_records.specs.declared.fault.RecordFault.{RecordFault}
-use Rattle.archive_records.specs.declared.fault.RecordFaultKind.{RecordFaultKind}
 use Rattle.archive_records.specs.declared.fault.RecordFaultKind.TheVariants.{Device, OutOfMemory as RecordOutOfMemory}
 use Rattle.archive_records.specs.declared.writing.Sizes.{Sizes}
 use Rattle.archive_records.specs.Text.{written, IsArchiveOf}
 use Rattle.archive_records.specs.Writing.{IsWrittenWhole}
 use Rattle.byte_device.specs.declared.disks.CannotOpen.{CannotOpen}
-use Rattle.byte_device.specs.Devices.{FailedIn, Stream, most_failures, stream}
+use Rattle.byte_device.specs.Devices.{FailedIn, Stream, stream}
 use Rattle.byte_device.specs.Writes.{WritesFirst}
+use Rattle.report_text.specs.Report.{archive_line}
 use Rattle.record_merge.specs.Merging.{GainsCount, IsMerged, IsRefusedAlone, Merges, StopsBy}
 use Rattle.command_ends.specs.declared.faults.CommandFault.{CommandFault}
 use Rattle.command_ends.specs.declared.faults.CommandFault.TheVariants.{Input, Output, Report, OutOfMemory}
-use Rattle.command_ends.specs.Ends.{HasFirst, HasTaken, StopsAmidst}
-use Rattle.command_ends.specs.Inputs.{IsKnown, Reader, reader}
-use Rattle.command_ends.specs.Outputs.{Writer, sizes_of, writer}
-use Rattle.command_ends.proofs.Amidst.{gives_known}
-use Rattle.archive_updates.specs.Joining.{IsAtHand, IsJoined, joining}
+use Rattle.command_ends.specs.declared.faults.Place.{Place}
+use Rattle.command_ends.specs.declared.faults.Status.{Status}
+use Rattle.command_ends.specs.declared.faults.Why.{Why}
+use Rattle.command_ends.specs.Ends.{EndsAsItComes, HasFirst, HasTaken, MakesArchive, StopsAmidst}
+use Rattle.command_ends.specs.Inputs.{IsKnown, IsRefusedArchive, Reader, Unfailed, reader}
+use Rattle.command_ends.specs.Outputs.{Out, PlacesNothing, Publishes, Takes, Writer, sizes_of, writer}
+use Rattle.command_ends.proofs.Amidst.{gives_known, published_amidst, stopped_amidst, stops_alike}
+use Rattle.archive_updates.specs.Joining.{IsAtHand, IsJoined, MakesJoin, joining}
 use Rattle.archive_updates.specs.MergeStreams.{IsMergeFaultTold}
 use Rattle.archive_updates.proofs.Beginnings.{first_of_join}
 
 pub sizes_are : (sizes : Sizes) (o : Operations) → sizes.records ≡ (sizes_of o).records → sizes.bytes ≡ (sizes_of o).bytes → sizes ≡ sizes_of o
 sizes_are sizes o r b = λ i. record { records = r i; bytes = b i }
 
+-- ---- a command whose archive was written
+
+-- it is published
+pub archive_published : (Makes : Operations → List ℕ → Type 0) (Refuses : Place → Why → Type 0) (NoneFailed Known : Type 0) {W : Type 0} (draft : Stream W) (sizes : Sizes) (o : Operations) (lines : List ℕ) (out : Out) (report : Writer) (result : Result Status CommandFault)
+    → NoneFailed → Makes o lines → IsWrittenWhole draft.bytes draft.failures draft.old draft.new (set.len o) (written o) sizes → Publishes out report (written o) (lines ++ archive_line sizes) result
+    → EndsAsItComes (record { Makes = MakesArchive Makes; Refuses = Refuses; Unfailed = NoneFailed }) Known out report result
+archive_published Makes Refuses NoneFailed Known draft sizes o lines out report result unfailed makes whole =
+    published_amidst (MakesArchive Makes) Refuses NoneFailed Known out report result (written o) (lines ++ archive_line sizes) unfailed
+    (record { content = o; lines = lines; makes = makes; text_is = refl; told_is = ap (λ (s : Sizes). lines ++ archive_line s) (sizes_are sizes o whole.records_are whole.bytes_are) })
+
+module _ {R : Type 0} (input : Reader R) (p : Operations) (Makes : List ℕ → List ℕ → Type 0) (makes : (text told : List ℕ) → Makes text told → MakesJoin input p text told) where
+  -- what stops a join stops what makes no more
+  pub join_stops : (draft : Writer) (fault : CommandFault) → StopsAmidst (joining input p) (IsKnown input) draft fault
+      → StopsAmidst (record { Makes = Makes; Refuses = IsRefusedArchive 0 input; Unfailed = Unfailed input }) (IsKnown input) draft fault
+  join_stops draft =
+      stops_alike (MakesJoin input p) Makes (IsRefusedArchive 0 input) (IsRefusedArchive 0 input) (Unfailed input) (Unfailed input) (IsKnown input) (IsKnown input) draft
+      makes (λ at why r. r) (λ u. u) (λ k. k)
+
+  pub join_stopped : (out : Out) (report : Writer) (fault : CommandFault) → StopsAmidst (joining input p) (IsKnown input) out.draft fault → HasTaken out.draft fault → PlacesNothing out → Takes report []
+      → EndsAsItComes (record { Makes = Makes; Refuses = IsRefusedArchive 0 input; Unfailed = Unfailed input }) (IsKnown input) out report (Err fault)
+  join_stopped out report fault s = stopped_amidst Makes (IsRefusedArchive 0 input) (Unfailed input) (IsKnown input) out report fault (join_stops out.draft fault s)
+
 -- what an input lends is what was opened
 pub lent_from : {S : Type 0} (old : Result S CannotOpen) (lent : S) → MatchResult old (λ source. lent ≡ source) (λ _. ⊥) → old ≡ Ok lent
-lent_from {S = S} (Ok source) lent is = ap (λ (s : S). Ok s) (sym is)
+lent_from (Ok source) lent is = cc
 lent_from (Err e) lent is = absurd is
-
-pub left_not_write : (why : RecordFault) → Left why ≡ Write → ⊥
-left_not_write why h = cc
-
-right_not_write : (why : RecordFault) → Right why ≡ Write → ⊥
-right_not_write why h = cc
-
-pub memory_not_device : (kind : RecordFaultKind) → kind ≡ RecordOutOfMemory → kind ≡ Device → ⊥
-memory_not_device kind m d = cc
 
 -- a device that has never failed did not fail
 never_failed : (old new : ℕ) → old ≡ 0 → new ≡ 0 → FailedIn old new → ⊥
-never_failed old new o n failed = absurd (no_one (subst (λ (m : ℕ). m ≡ 1) n (subst (λ (m : ℕ). new ≡ min (m + 1) most_failures) o failed)))
-  where
-    no_one : ◌≡◌ {A = ℕ} 0 1 → ⊥
-    no_one h = omega (arith, h)
+never_failed old new o n failed = omega arith
 
 module _ {S : Type 0} (left2 : S → Option (List ℕ)) (failures2 : S → ℕ) (r r' : S) (p : Operations) (at : IsAtHand (stream left2 failures2 r r') p) where
   abbrev other : Stream S
@@ -98,17 +111,15 @@ module _ {S : Type 0} (left2 : S → Option (List ℕ)) (failures2 : S → ℕ) 
     -- what stopped it stops the command
     stops : (cause : MergeCause) (n : ℕ) (fault : CommandFault) → StopsBy (stream left failures l l') other (stream held draft_failures w w') cause n → HasFirst (joining input p) (IsKnown input) draft n
         → IsMergeFaultTold (record { cause = cause; written = n }) fault → StopsAmidst (joining input p) (IsKnown input) draft fault
+    stops cause n (Report k) s f t = absurd t
     stops (Left why) n (Input place says) s f t = ((t.0, (l', refl, why, t.1, t.2, s.refused)), s.out_unfailed, (n, f))
-    stops (Left why) n (Output k) s f t = absurd (left_not_write why (ap (λ (e : MergeFault). e.cause) t))
-    stops (Left why) n (Report k) s f t = absurd t
-    stops (Left why) n OutOfMemory s f t = (s.refused.0.blames.1 (memory_not_device why.kind t), s.out_unfailed, (n, f))
+    stops (Left why) n (Output k) s f t = absurd (cc (ap (λ (e : MergeFault). e.cause) t))
+    stops (Left why) n OutOfMemory s f t = (s.refused.0.blames.1 (λ device. cc), s.out_unfailed, (n, f))
     stops (Right why) n (Input place says) s f t = absurd (t.2 (right_memory why s.refused))
-    stops (Right why) n (Output k) s f t = absurd (right_not_write why (ap (λ (e : MergeFault). e.cause) t))
-    stops (Right why) n (Report k) s f t = absurd t
+    stops (Right why) n (Output k) s f t = absurd (cc (ap (λ (e : MergeFault). e.cause) t))
     stops (Right why) n OutOfMemory s f t = (s.left_unfailed, s.out_unfailed, (n, f))
     stops Write n (Input place says) s f t = absurd t
     stops Write n (Output k) s f t = (s.left_unfailed, s.failed, subst (HasFirst (joining input p) (IsKnown input) draft) (ap (λ (e : MergeFault). e.written) t) f)
-    stops Write n (Report k) s f t = absurd t
     stops Write n OutOfMemory s f t = absurd t
 
     pub stopped_opened : (e : MergeFault) (fault : CommandFault) → MergesSo (Err e) → IsMergeFaultTold e fault → StopsAmidst (joining input p) (IsKnown input) draft fault
@@ -117,13 +128,7 @@ module _ {S : Type 0} (left2 : S → Option (List ℕ)) (failures2 : S → ℕ) 
 -- what is told of OUT is how much was written when the merge was stopped
 pub counted : (e : MergeFault) (fault : CommandFault) (k n : ℕ) → k ≡ e.written → IsMergeFaultTold e fault → fault ≡ Output n → n ≡ k
 counted e (Input at why) k n is told h = cc
-counted e (Output m) k n is told h = sym (is ∙ ap (λ (f : MergeFault). f.written) told ∙ ap count_of h)
-  where
-    count_of : CommandFault → ℕ
-    count_of (Output x) = x
-    count_of (Input at why) = 0
-    count_of (Report x) = 0
-    count_of OutOfMemory = 0
+counted e (Output m) k n is told h = cc (ap (λ (f : MergeFault). f.written) told)
 counted e (Report m) k n is told h = absurd told
 counted e OutOfMemory k n is told h = cc
 

@@ -10,7 +10,7 @@ use Rattle.archive_records.specs.declared.kind.TextKind.TheVariants.{Archive as 
 use Rattle.archive_records.specs.Kind.{kind_of}
 use Rattle.archive_records.specs.Text.{written, ending, text_of, taken_of, InOrder, AreApart, IsArchiveOf, last_of}
 use Rattle.archive_records.specs.Fault.{is_end}
-use Rattle.archive_records.specs.Front.{IsGoodFront, IsLongestFront}
+use Rattle.archive_records.specs.Front.{IsGoodFront}
 use Rattle.record_merge.specs.Merging.{AreGoodRecords, of_both}
 use Rattle.archive_records.proofs.Ends.{end-is_end}
 use Rattle.archive_records.proofs.Longest.{is_longest, end-stops}
@@ -24,7 +24,7 @@ good_formed f k t xs a p e =
     let end : List ℕ = ending f (length xs) in
     let is : is_end end ≡ true = ap is_end (ending_of f k (length xs)) ∙ end-is_end (length xs) in
     let front : IsGoodFront f t xs = record { ordered = a; apart = p; rest = end; whole = e } in
-    inl (subst (λ (g : Format). IsLongestFront g t xs) (sym (format_magic f k t (concat xs ++ end) e)) (is_longest f t xs front (λ g. end-stops f (last_of [] xs) end is g.next)))
+    inl (rw (format_magic f k t (concat xs ++ end) e) (is_longest f t xs front (λ g. end-stops f (last_of [] xs) end is g.next)))
 
 abbrev ForBoth : Option (List ℕ) → Option (List ℕ) → (List (List ℕ) → List (List ℕ) → Type 0) → Type 0
 ForBoth a b P = IfSome a (λ t. IfSome b (λ u. (xs ys : List (List ℕ)) → AreGoodRecords t xs → AreGoodRecords u ys → P xs ys))
@@ -32,8 +32,7 @@ ForBoth a b P = IfSome a (λ t. IfSome b (λ u. (xs ys : List (List ℕ)) → Ar
 -- a first part of what the good records of two archives make is one of the text of their join
 pub first_of_join : (a b w0 w1 : Option (List ℕ)) (n : ℕ) (o p : Operations) (t u : List ℕ) → IsContent o → IsContent p → IsArchiveOf o t → IsArchiveOf p u → a ≡ Some t → b ≡ Some u → ForBoth a b (λ xs ys. WritesFirst w0 w1 (written (of_both xs ys)) n) → WritesFirst w0 w1 (written (joined o p)) n
 first_of_join a b w0 w1 n o p t u c d i j e f h =
-    let left = subst (λ (x : Option (List ℕ)). ForBoth x b (λ xs ys. WritesFirst w0 w1 (written (of_both xs ys)) n)) e h in
-    let both = subst (λ (x : Option (List ℕ)). ForBoth (Some t) x (λ xs ys. WritesFirst w0 w1 (written (of_both xs ys)) n)) f left in
+    let both = rw (e, f) at h in
     let l = formed o t c i in
     let r = formed p u d j in
     let join : of_both l.records r.records ≡ joined o p =

@@ -1,15 +1,21 @@
 -- How a command ends that reads what is behind its first input before that one, where that is refused or memory is wanting.
-use Rattle.std.proofs.Common.{◌≡◌, ◌⊎◌, List, [], ℕ, Result, Err, ap, inl, inr, sym, subst}
+use Rattle.std.proofs.Common.{◌≡◌, ◌⊎◌, List, [], ◌∷◌, ℕ, Option, Result, Ok, Err, ap, refl, inl, inr}
+use Rattle.std.specs.List.{AllByRecursion, AllZip}
 use Rattle.archive_core.specs.Content.{Operations}
+use Rattle.byte_device.specs.declared.disks.CannotOpen.{CannotOpen}
 use Rattle.command_ends.specs.declared.faults.CommandFault.{CommandFault}
 use Rattle.command_ends.specs.declared.faults.CommandFault.TheVariants.{Input, Output, Report, OutOfMemory}
 use Rattle.command_ends.specs.declared.faults.Place.{Place}
 use Rattle.command_ends.specs.declared.faults.Status.{Status}
 use Rattle.command_ends.specs.declared.faults.Why.{Why}
-use Rattle.command_ends.specs.Ends.{EndsStreamed, MakesArchive, writes_in_turn}
-use Rattle.command_ends.specs.Inputs.{IsRefusal, IsRefusedInTurn, IsWantedInTurn, Reader, TellsInTurn, Unfailed, failures_of}
+use Rattle.command_ends.specs.Ends.{EndsAsItComes, EndsStreamed, MakesArchive, writes_in_turn}
+use Rattle.command_ends.specs.Inputs.{EachKnown, Gives, IsKnown, IsRefusal, IsRefusedArchive, IsRefusedInTurn, IsWantedInTurn, Reader, TellsInTurn, Unfailed, failures_of, reader}
 use Rattle.command_ends.specs.Outputs.{IsKept, Out, Takes, Writer}
-use Rattle.command_ends.proofs.Amidst.{refused_in_turn}
+use Rattle.command_ends.proofs.Amidst.{ends_in_turn, refused_in_turn}
+
+-- what makes no more of content and lines makes no more of their texts
+makes_alike : (P Q : Operations → List ℕ → Type 0) → ((o : Operations) (lines : List ℕ) → P o lines → Q o lines) → (text told : List ℕ) → MakesArchive P text told → MakesArchive Q text told
+makes_alike P Q makes text told m = record { content = m.content; lines = m.lines; makes = makes m.content m.lines m.makes; text_is = m.text_is; told_is = m.told_is }
 
 module _ {R : Type 0} (Makes : Operations → List ℕ → Type 0) (input : Reader R) (IsRefusedBehind : Place → Why → Type 0) (OthersUnfailed Known : Type 0) (out : Out) (report : Writer) where
   abbrev EndsSo : Result Status CommandFault → Type 0
@@ -22,7 +28,7 @@ module _ {R : Type 0} (Makes : Operations → List ℕ → Type 0) (input : Read
   refused : (at : Place) (why : Why) → IsRefusedBehind at why → (fault : CommandFault) → IsRefusal (IsRefusedInTurn input (λ place reason. (place ≡ at) × (reason ≡ why))) (Unfailed input) fault → IsKept out → Takes report [] → EndsSo (Err fault)
   refused at why is (Input place reason) r = ends (Input place reason) (elim r [
     | inl first ↦ inl first
-    | inr behind ↦ inr (behind.0, behind.1, subst (λ (p : Place). IsRefusedBehind p reason) (sym behind.2.0) (subst (λ (y : Why). IsRefusedBehind at y) (sym behind.2.1) is))
+    | inr behind ↦ inr (behind.0, behind.1, rw (behind.2.0, behind.2.1) is)
   ])
   refused at why is (Output n) r = absurd r
   refused at why is (Report n) r = absurd r
@@ -38,3 +44,29 @@ module _ {R : Type 0} (Makes : Operations → List ℕ → Type 0) (input : Read
   told_behind (Output n) told r t = absurd r
   told_behind (Report n) told r t = absurd r
   told_behind OutOfMemory told r t = rw t.0 (wanting (ap (failures_of input.failures) t.1) r)
+
+  -- what is behind it was read: as the command ends that reads the first input alone and makes the same of it
+  pub read_behind : (Others : Operations → List ℕ → Type 0) → OthersUnfailed → (Known → IsKnown input) → ((o : Operations) (lines : List ℕ) → Others o lines → Makes o lines) → (Known → (o : Operations) (lines : List ℕ) → Makes o lines → Others o lines)
+      → (result : Result Status CommandFault) → EndsAsItComes (record { Makes = MakesArchive Others; Refuses = IsRefusedArchive 0 input; Unfailed = Unfailed input }) (IsKnown input) out report result → EndsSo result
+  read_behind Others unfailed known forth back =
+      ends_in_turn Makes (IsRefusedInTurn input IsRefusedBehind) (Unfailed input × OthersUnfailed) (IsWantedInTurn input IsRefusedBehind) Known out report Others (IsRefusedArchive 0 input) (Unfailed input) (IsKnown input)
+      (makes_alike Others Makes forth) (λ k. makes_alike Makes Others (back k)) (λ at why r. inl r) (λ u. (u, unfailed)) known
+
+-- ---- inputs whose bytes are known
+
+-- bytes that are a text of one thing alone give one
+pub one_given : {S T : Type 0} (IsOf : T → List ℕ → Type 0) (left : S → Option (List ℕ)) (failures : S → ℕ) (old new : Result S CannotOpen) (x y : T) → ((text : List ℕ) → IsOf x text → IsOf y text → x ≡ y)
+    → IsKnown (reader left failures old new) → Gives (reader left failures old new) (IsOf x) → Gives (reader left failures old new) (IsOf y) → x ≡ y
+one_given IsOf left failures (Ok source) new x y one known h k = one known.0 (rw known.1 at h) (rw known.1 at k)
+one_given IsOf left failures (Err e) new x y one known h k = absurd h
+
+pub all_given : {S T : Type 0} (IsOf : T → List ℕ → Type 0) (Is : T → Type 0) → ((text : List ℕ) (x y : T) → Is x → Is y → IsOf x text → IsOf y text → x ≡ y) → (inputs : List (Reader S)) (xs ys : List T) → AllByRecursion Is xs → AllByRecursion Is ys → EachKnown inputs
+    → AllZip (λ (input : Reader S) (x : T). Gives input (IsOf x)) inputs xs → AllZip (λ (input : Reader S) (x : T). Gives input (IsOf x)) inputs ys → xs ≡ ys
+all_given IsOf Is one [] [] [] are also known h k = refl
+all_given IsOf Is one [] [] (_ ∷ _) are also known h k = absurd k
+all_given IsOf Is one [] (_ ∷ _) ys are also known h k = absurd h
+all_given IsOf Is one (_ ∷ _) [] ys are also known h k = absurd h
+all_given IsOf Is one (_ ∷ _) (_ ∷ _) [] are also known h k = absurd k
+all_given IsOf Is one (i ∷ inputs) (x ∷ xs) (y ∷ ys) are also known h k =
+    let first = one_given IsOf i.left i.failures i.old i.new x y (λ text. one text x y are.0 also.0) known.0 h.0 k.0 in
+    cc (first, all_given IsOf Is one inputs xs ys are.1 also.1 known.1 h.1 k.1)

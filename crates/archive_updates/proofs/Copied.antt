@@ -1,8 +1,9 @@
 -- A copy of those records of an archive that a summary does not name, as it goes.
-use Rattle.std.proofs.Common.{◌≡◌, ℕ, ◌+◌, List, [], ◌∷◌, ◌++◌, length, take, Option, Some, Result, Ok, Err, refl, sym, ap, ◌∙◌, subst, arith, inl, inr, append_assoc, length-append}
+use Rattle.std.proofs.Common.{◌≡◌, ℕ, ◌+◌, List, [], ◌∷◌, ◌++◌, length, Option, Some, Result, Ok, Err, refl, sym, ap, ◌∙◌, subst, arith, inl, inr, length-append}
 use Rattle.std.specs.Prelude.{IfOk, IfErr, OnOk}
 use Rattle.std.proofs.lemmas.List.{append-nil, take_all}
 use Rattle.std.proofs.lemmas.List.Elements.{filter-append}
+use Rattle.std.proofs.lemmas.Result.{IfErr-weaker}
 use Rattle.std.proofs.lemmas.List.Folds.{concat-append}
 use Rattle.std.specs.Prelude.{not}
 use Rattle.std.specs.List.{concat}
@@ -16,7 +17,7 @@ use Rattle.archive_records.specs.declared.format.Format.{Format}
 use Rattle.archive_records.specs.declared.kind.TextKind.TheVariants.{Archive as Archive_text}
 use Rattle.archive_records.specs.declared.fault.RecordFault.{RecordFault}
 use Rattle.archive_records.specs.declared.writing.Sizes.{Sizes}
-use Rattle.archive_records.specs.Kind.{end_length, kind_of, magic, magic_of}
+use Rattle.archive_records.specs.Kind.{end_length, kind_of, magic}
 use Rattle.archive_records.specs.Reader.{GathersAll, HasRead, HasReadAll, IsGathered, Position, Stopped}
 use Rattle.archive_records.specs.Text.{end_record, missing, taken_of, text_of}
 use Rattle.archive_records.proofs.Blamed.{blames_behind}
@@ -31,10 +32,7 @@ use Rattle.archive_updates.specs.Copying.{BlamesDevices, BlamesOne, HasDraft, Is
 
 -- what is written of records and of one more
 pub copy_more : (s : Entries) (records : List (List ℕ)) (x : List (List ℕ)) → copy_of s (records ++ x) ≡ copy_of s records ++ concat (missing s x)
-copy_more s records x =
-    ap (λ (rs : List (List ℕ)). magic ++ concat rs) (filter-append (λ r. not (set.contains s (entry r))) records x)
-    ∙ ap (λ (t : List ℕ). magic ++ t) (concat-append (missing s records) (missing s x))
-    ∙ sym (append_assoc magic (concat (missing s records)) (concat (missing s x)))
+copy_more s records x = rw (filter-append (λ r. not (set.contains s (entry r))) records x, concat-append (missing s records) (missing s x)) refl
 
 module _ (s : Entries) (w0 w1 w2 : Option (List ℕ)) (records : List (List ℕ)) (x : List ℕ) (old : Sizes) (c : IsCopied s w0 w1 records old) where
   abbrev one : List ℕ
@@ -65,31 +63,28 @@ copied_to file s a b w0 w1 records fault sizes stop c = record {
   ordered = stop.ordered;
   apart = stop.apart;
   within = omega (arith, c.bytes_are);
-  gained = subst (Appends w0 w1) (sym (ap (λ (n : ℕ). take n (copy_of s (taken_of file records))) c.bytes_are ∙ take_all (length (copy_of s (taken_of file records))) (copy_of s (taken_of file records)) (omega arith))) c.gained;
+  gained = let all = copy_of s (taken_of file records) in rw (c.bytes_are, take_all (length all) all (omega arith)) c.gained;
 }
 
 -- the writer failed within the last of the records that were read
 pub copied_within : (file : Format) (s : Entries) (a b w0 w1 : Option (List ℕ)) (records : List (List ℕ)) (position : Position) (n : ℕ) → HasRead file a b records position → WritesFirst w0 w1 (copy_of s (taken_of file records)) n → IsCopiedUpTo file s a b w0 w1 n
-copied_within file s a b w0 w1 records position n read p =
-    let lt = p.within in
-    record {
-      records = records;
-      rest = [];
-      taken = subst (λ (t : List ℕ). Consumes a b (magic_of file ++ t)) (sym (append-nil (concat records))) read.taken;
-      ordered = read.ordered;
-      apart = read.apart;
-      within = omega (arith, lt);
-      gained = p.gained;
-    }
+copied_within file s a b w0 w1 records position n read p = record {
+  records = records;
+  rest = [];
+  taken = rw append-nil read.taken;
+  ordered = read.ordered;
+  apart = read.apart;
+  within = let lt = p.within in omega (arith, lt);
+  gained = p.gained;
+}
 
 -- ---- its beginning
 
 -- the writer failed within the magic
 pub begun_within : (s : Entries) (a b w0 w1 : Option (List ℕ)) (position : Position) (n k : ℕ) (x : List ℕ) → HasRead position.file a b [] position → x ≡ magic → n ≡ 0 + k → WritesFirst w0 w1 x k → IsCopiedUpTo position.file s a b w0 w1 n
 begun_within s a b w0 w1 position n k x read is e p =
-    let same : k ≡ n = omega (arith, e) in
-    let q : WritesFirst w0 w1 magic n = subst (WritesFirst w0 w1 magic) same (subst (λ (t : List ℕ). WritesFirst w0 w1 t k) is p) in
-    copied_within position.file s a b w0 w1 [] position n read (rw (taken_none position.file) q)
+    let same : n ≡ k = omega arith in
+    copied_within position.file s a b w0 w1 [] position n read (rw (taken_none position.file, same) (rw is at p))
 
 pub begun_copied : (s : Entries) (w0 w1 : Option (List ℕ)) (n : ℕ) → n ≡ 8 → Appends w0 w1 magic → IsCopied s w0 w1 [] (record { records = 0; bytes = n })
 begun_copied s w0 w1 n is p = record { gained = p; bytes_are = is; records_are = refl }
@@ -128,37 +123,33 @@ module _ (s : Entries) (a b c w0 w1 w2 : Option (List ℕ)) (file : Format) (kin
   stopped_at : (fault : RecordFault) → ((f : Format) (d : Option (List ℕ)) (records : List (List ℕ)) → end_length f ≡ Some 9 → HasReadAll f d b records position → Stopped f d c records fault) → Stopped file a c all.records fault
   stopped_at fault stops = stops file a all.records (counts_of file kind) all.read
 
-  ended_by : (cause : MergeCause) (n : ℕ) → StopsEnd position b c w1 w2 sizes cause n → IsCause a c cause
-  ended_by (Left fault) n st = inr (file, kind, all.records, stopped_at fault st.0)
+  ended_by : (cause : MergeCause) (n : ℕ) → StopsEnd position b c w1 w2 sizes cause n → IsCause a c cause × HasDraft s a c w0 w2 n
+  ended_by (Left fault) n st =
+      let stop = stopped_at fault st.0 in
+      let m = rw (← st.2) at all.makes in
+      (inr (file, kind, all.records, stop), inr (file, kind, inl (rw st.1 (copied_to file s a c w0 w2 all.records fault sizes stop m))))
   ended_by (Right fault) n st = absurd st
-  ended_by Write n st = tt
-
-  drafted_by : (cause : MergeCause) (n : ℕ) → StopsEnd position b c w1 w2 sizes cause n → HasDraft s a c w0 w2 n
-  drafted_by (Left fault) n st =
-      let m = subst (λ (w : Option (List ℕ)). IsCopied s w0 w kept sizes) (sym st.2) all.makes in
-      inr (file, kind, inl (subst (IsCopiedUpTo file s a c w0 w2) (sym st.1) (copied_to file s a c w0 w2 all.records fault sizes (stopped_at fault st.0) m)))
-  drafted_by (Right fault) n st = absurd st
-  drafted_by Write n st =
+  ended_by Write n st =
       let m = all.makes in
       let end = end_record (length (missing s kept)) in
-      let p : WritesFirst w1 w2 end st.2.0 = subst (λ (k : ℕ). WritesFirst w1 w2 (end_record k) st.2.0) m.records_are st.2.2 in
-      let whole : copy_of s kept ++ end ≡ copy_of s kept ++ (end ++ []) = ap (λ (t : List ℕ). copy_of s kept ++ t) (sym (append-nil end)) in
-      inr (
-        file,
-        kind,
-        inr (record {
-          records = all.records;
-          taken = subst (Consumes a c) (append-nil (text_of file all.records)) (Consumes-then a b c (text_of file all.records) [] all.read.taken st.1);
-          at_end = st.0;
-          ordered = all.read.ordered;
-          apart = all.read.apart;
-          first = subst (WritesFirst w0 w2 (copy_of s kept ++ end)) (sym st.2.1) (stopped w0 w1 w2 (copy_of s kept) end [] (copy_of s kept ++ end) sizes.bytes st.2.0 m.bytes_are whole m.gained p);
-        }),
+      let p : WritesFirst w1 w2 end st.2.0 = rw (← m.records_are) st.2.2 in (
+        tt,
+        inr (
+          file,
+          kind,
+          inr (record {
+            records = all.records;
+            taken = rw append-nil at (Consumes-then a b c (text_of file all.records) [] all.read.taken st.1);
+            at_end = st.0;
+            ordered = all.read.ordered;
+            apart = all.read.apart;
+            first = rw st.2.1 (stopped w0 w1 w2 (copy_of s kept) end [] (copy_of s kept ++ end) sizes.bytes st.2.0 m.bytes_are (rw append-nil refl) m.gained p);
+          }),
+        ),
       )
 
   pub ended_early : (r : Result Sizes MergeFault) → IfErr r (λ e. StopsEnd position b c w1 w2 sizes e.cause e.written) → IfErr r (λ e. IsCause a c e.cause × HasDraft s a c w0 w2 e.written)
-  ended_early (Ok e) st = tt
-  ended_early (Err e) st = (ended_by e.cause e.written st, drafted_by e.cause e.written st)
+  ended_early r = IfErr-weaker r _ _ (λ e. ended_by e.cause e.written)
 
 -- ---- devices that did not fail in the first steps are blamed for the next
 

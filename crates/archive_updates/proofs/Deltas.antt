@@ -1,5 +1,5 @@
 -- What `delta` makes, by a copy of what a summary does not name.
-use Rattle.std.proofs.Common.{◌≡◌, ◌∙◌, ◌++◌, ℕ, List, [], Option, Result, Ok, Err, refl, ap, sym, subst, inl}
+use Rattle.std.proofs.Common.{◌≡◌, ◌∙◌, ◌++◌, ℕ, List, [], Option, Result, Ok, Err, refl, ap, sym, subst}
 use Rattle.archive_core.specs.Summary.{Entries, delta}
 use Rattle.archive_records.specs.Entry.{AreEntries}
 use Rattle.archive_records.specs.declared.fault.MergeCause.{MergeCause}
@@ -16,13 +16,14 @@ use Rattle.command_ends.specs.declared.faults.CommandFault.{CommandFault}
 use Rattle.command_ends.specs.declared.faults.CommandFault.TheVariants.{Input, Output, Report, OutOfMemory}
 use Rattle.command_ends.specs.declared.faults.Status.{Status}
 use Rattle.command_ends.specs.Ends.{EndsAsItComes, EndsStreamed, HasFirst, HasTaken, MakesArchive, StopsAmidst}
-use Rattle.command_ends.specs.Inputs.{Holds, IsKnown, IsRefusedArchive, IsRefusedInTurn, IsRefusedSummary, IsWantedInTurn, Reader, Unfailed, reader}
+use Rattle.command_ends.specs.Inputs.{Holds, IsKnown, IsRefusedArchive, IsRefusedSummary, Reader, Unfailed, reader}
 use Rattle.command_ends.specs.Outputs.{IsKept, Out, PlacesNothing, Publishes, Takes, Writer, writer}
-use Rattle.command_ends.proofs.Amidst.{ends_in_turn, gives_known, nothing_first, published_amidst, stopped_amidst}
+use Rattle.command_ends.proofs.Amidst.{gives_known, nothing_first, stopped_amidst}
 use Rattle.archive_updates.specs.Copying.{CopiesUnnamed, IsUnnamed, MakesUnnamed, StopsCopy, StopsCopyBy, copying}
 use Rattle.archive_updates.specs.Delta.{MakesDelta, delta_as_it_comes}
 use Rattle.archive_updates.specs.MergeStreams.{IsMergeFaultTold}
-use Rattle.archive_updates.proofs.AtHand.{left_not_write, memory_not_device, sizes_are}
+use Rattle.archive_updates.proofs.AtHand.{archive_published}
+use Rattle.archive_updates.proofs.Behind.{one_given, read_behind}
 
 -- ---- an archive that was opened
 
@@ -45,14 +46,13 @@ module _ {R W : Type 0} (left : R → Option (List ℕ)) (failures : R → ℕ) 
 
   stops : (cause : MergeCause) (n : ℕ) (fault : CommandFault) → StopsCopyBy (stream left failures l l') (stream held draft_failures w w') cause → HasFirst (copying archive s) (IsKnown archive) draft n
       → IsMergeFaultTold (record { cause = cause; written = n }) fault → StopsAmidst (copying archive s) (IsKnown archive) draft fault
+  stops cause n (Report k) st f t = absurd t
   stops (Left why) n (Input place says) st f t = ((t.0, (l', refl, why, t.1, t.2, st.0)), st.1, (n, f))
-  stops (Left why) n (Output k) st f t = absurd (left_not_write why (ap (λ (e : MergeFault). e.cause) t))
-  stops (Left why) n (Report k) st f t = absurd t
-  stops (Left why) n OutOfMemory st f t = (st.0.0.blames.1 (memory_not_device why.kind t), st.1, (n, f))
+  stops (Left why) n (Output k) st f t = absurd (cc (ap (λ (e : MergeFault). e.cause) t))
+  stops (Left why) n OutOfMemory st f t = (st.0.0.blames.1 (λ device. cc), st.1, (n, f))
   stops (Right why) n fault st f t = absurd st
   stops Write n (Input place says) st f t = absurd t
   stops Write n (Output k) st f t = (st.0, st.1, subst (HasFirst (copying archive s) (IsKnown archive) draft) (ap (λ (e : MergeFault). e.written) t) f)
-  stops Write n (Report k) st f t = absurd t
   stops Write n OutOfMemory st f t = absurd t
 
   pub stopped_copy : (e : MergeFault) (fault : CommandFault) → StopsCopy (stream left failures l l') (stream held draft_failures w w') s e → IsMergeFaultTold e fault → StopsAmidst (copying archive s) (IsKnown archive) draft fault
@@ -61,44 +61,22 @@ module _ {R W : Type 0} (left : R → Option (List ℕ)) (failures : R → ℕ) 
 -- ---- OUT, and the report
 
 module _ {R : Type 0} (archive : Reader R) (s : Entries) where
-  makes_unnamed : {W : Type 0} (draft : Stream W) (sizes : Sizes) (u : IsUnnamed archive s draft sizes) (lines : List ℕ) → lines ≡ archive_line sizes
-      → MakesArchive (MakesUnnamed archive s) (written (delta u.before s)) lines
-  makes_unnamed w sizes u lines is = record {
-    content = delta u.before s;
-    lines = [];
-    makes = record { before = u.before; is_content = u.is_content; archive_is = u.archive_is; content_is = refl; lines_are = refl };
-    text_is = refl;
-    told_is = is ∙ ap archive_line (sizes_are sizes (delta u.before s) u.written_is.records_are u.written_is.bytes_are);
-  }
-
   pub unnamed_stopped : (out : Out) (report : Writer) (fault : CommandFault) → StopsAmidst (copying archive s) (IsKnown archive) out.draft fault → HasTaken out.draft fault → PlacesNothing out → Takes report []
       → EndsAsItComes (copying archive s) (IsKnown archive) out report (Err fault)
-  unnamed_stopped out report fault = stopped_amidst (MakesArchive (MakesUnnamed archive s)) (IsRefusedArchive 0 archive) (Unfailed archive) (IsKnown archive) out report fault
-
-  no_count : (n : ℕ) → OutOfMemory ≡ Output n → n ≡ 0
-  no_count n h = cc
+  unnamed_stopped = stopped_amidst (MakesArchive (MakesUnnamed archive s)) (IsRefusedArchive 0 archive) (Unfailed archive) (IsKnown archive)
 
   -- memory was wanted before anything was written
   pub unnamed_wanting : (out : Out) (report : Writer) → Unfailed archive → IsKept out → Takes report [] → EndsAsItComes (copying archive s) (IsKnown archive) out report (Err OutOfMemory)
   unnamed_wanting out report unfailed kept unreported =
-      unnamed_stopped out report OutOfMemory (unfailed, kept.0.1, (0, λ known text told m. nothing_first (MakesUnnamed archive s) out.draft.old out.draft.new text told kept.0.0 m)) ([], kept.0.0, no_count) kept.1 unreported
+      unnamed_stopped out report OutOfMemory (unfailed, kept.0.1, (0, λ known text told m. nothing_first (MakesUnnamed archive s) out.draft.old out.draft.new text told kept.0.0 m)) ([], kept.0.0, λ n h. cc) kept.1 unreported
 
   pub unnamed_published : {W : Type 0} (draft : Stream W) (sizes : Sizes) (u : IsUnnamed archive s draft sizes) (lines : List ℕ) → lines ≡ [] → (out : Out) (report : Writer) (result : Result Status CommandFault)
       → Publishes out report (written (delta u.before s)) (lines ++ archive_line sizes) result → EndsAsItComes (copying archive s) (IsKnown archive) out report result
-  unnamed_published w sizes u lines none out report result =
-      published_amidst (MakesArchive (MakesUnnamed archive s)) (IsRefusedArchive 0 archive) (Unfailed archive) (IsKnown archive) out report result (written (delta u.before s)) (lines ++ archive_line sizes) u.unfailed
-      (makes_unnamed w sizes u (lines ++ archive_line sizes) (ap (λ (t : List ℕ). t ++ archive_line sizes) none))
+  unnamed_published draft sizes u lines none out report result =
+      archive_published (MakesUnnamed archive s) (IsRefusedArchive 0 archive) (Unfailed archive) (IsKnown archive) draft sizes (delta u.before s) lines out report result u.unfailed
+      (record { before = u.before; is_content = u.is_content; archive_is = u.archive_is; content_is = refl; lines_are = none }) u.written_is
 
 -- ---- SUMMARY, and then ARCHIVE
-
--- a summary whose bytes are known is one
-one_named : {S : Type 0} (left : S → Option (List ℕ)) (failures : S → ℕ) (old new : Result S CannotOpen) (s t : Entries) → AreEntries s → AreEntries t → IsKnown (reader left failures old new)
-    → Holds (reader left failures old new) (summary_text s) → Holds (reader left failures old new) (summary_text t) → s ≡ t
-one_named left failures (Ok source) new s t p q known h k =
-    let a : known.0 ≡ summary_text s = rw known.1 at h in
-    let b : known.0 ≡ summary_text t = rw known.1 at k in
-    one_summary s t p q (sym a ∙ b)
-one_named left failures (Err e) new s t p q known h k = absurd h
 
 module _ {R S : Type 0} (archive : Reader R) (left : S → Option (List ℕ)) (failures : S → ℕ) (old new : Result S CannotOpen) (out : Out) (report : Writer) where
   abbrev summary : Reader S
@@ -109,36 +87,24 @@ module _ {R S : Type 0} (archive : Reader R) (left : S → Option (List ℕ)) (f
 
   -- SUMMARY was read
   pub named : (s : Entries) → AreEntries s → Holds summary (summary_text s) → Unfailed summary → (result : Result Status CommandFault) → EndsAsItComes (copying archive s) (IsKnown archive) out report result → EndsSo result
-  named s are holds unfailed result =
-      ends_in_turn (MakesDelta archive summary) (IsRefusedInTurn archive (IsRefusedSummary summary)) (Unfailed archive × Unfailed summary) (IsWantedInTurn archive (IsRefusedSummary summary)) (IsKnown archive × IsKnown summary) out report
-      (MakesUnnamed archive s) (IsRefusedArchive 0 archive) (Unfailed archive) (IsKnown archive)
-      (λ text told m. record {
-        content = m.content;
-        lines = m.lines;
-        makes = record {
-          before = m.makes.before;
-          entries = s;
-          is_content = m.makes.is_content;
-          are_entries = are;
-          archive_is = m.makes.archive_is;
-          summary_is = holds;
-          content_is = m.makes.content_is;
-          lines_are = m.makes.lines_are;
-        };
-        text_is = m.text_is;
-        told_is = m.told_is;
+  named s are holds unfailed =
+      read_behind (MakesDelta archive summary) archive (IsRefusedSummary summary) (Unfailed summary) (IsKnown archive × IsKnown summary) out report (MakesUnnamed archive s) unfailed (λ known. known.0)
+      (λ o lines m. record {
+        before = m.before;
+        entries = s;
+        is_content = m.is_content;
+        are_entries = are;
+        archive_is = m.archive_is;
+        summary_is = holds;
+        content_is = m.content_is;
+        lines_are = m.lines_are;
       })
-      (λ known text told m. record {
-        content = m.content;
-        lines = m.lines;
-        makes = record {
-          before = m.makes.before;
-          is_content = m.makes.is_content;
-          archive_is = m.makes.archive_is;
-          content_is = m.makes.content_is ∙ ap (delta m.makes.before) (one_named left failures old new m.makes.entries s m.makes.are_entries are known.1 m.makes.summary_is holds);
-          lines_are = m.makes.lines_are;
-        };
-        text_is = m.text_is;
-        told_is = m.told_is;
+      (λ known o lines m.
+      let same = one_given (λ s text. text ≡ summary_text s) left failures old new m.entries s (λ text h k. one_summary m.entries s m.are_entries are (sym h ∙ k)) known.1 m.summary_is holds in
+      record {
+        before = m.before;
+        is_content = m.is_content;
+        archive_is = m.archive_is;
+        content_is = m.content_is ∙ ap (delta m.before) same;
+        lines_are = m.lines_are;
       })
-      (λ at why r. inl r) (λ u. (u, unfailed)) (λ known. known.0) result

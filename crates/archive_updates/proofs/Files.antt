@@ -1,5 +1,5 @@
 -- The files of `admit`, one more at a time.
-use Rattle.std.proofs.Common.{◌≡◌, ℕ, ◌+◌, List, [], ◌∷◌, ◌++◌, length, append_assoc, refl, sym, ap, ◌∙◌, subst, arith}
+use Rattle.std.proofs.Common.{◌≡◌, ℕ, ◌+◌, List, [], ◌∷◌, ◌++◌, length, append_assoc, refl, sym, ap, ◌∙◌, arith}
 use Rattle.std.proofs.lemmas.List.{append-nil}
 use Rattle.std.proofs.lemmas.Grind.{flat_map-append}
 use Rattle.std.specs.List.{AllByRecursion, AllZip}
@@ -17,11 +17,8 @@ pub admit_rows-append : (o : Operations) (place : ℕ) (xs ys : List (List ℕ))
 unfolding admit_rows
 admit_rows-append o place [] ys = ap (λ (n : ℕ). admit_rows o n ys) (omega arith)
 admit_rows-append o place (x ∷ xs) ys =
-    ap (λ (rows : List AdmitRow). file_rows place 0 (taken_rows o (parts x)) ++ rows)
-    (admit_rows-append (admitted o (admissible x)) (place + 1) xs ys
-    ∙ ap (λ (n : ℕ). admit_rows (admitted o (admissible x)) (place + 1) xs ++ admit_rows (admitted (admitted o (admissible x)) (images_of xs)) n ys) (omega arith)
-    ∙ ap (λ (p : Operations). admit_rows (admitted o (admissible x)) (place + 1) xs ++ admit_rows p (place + length (x ∷ xs)) ys) (sym (admitted-append o (admissible x) (images_of xs))))
-    ∙ sym (append_assoc (file_rows place 0 (taken_rows o (parts x))) (admit_rows (admitted o (admissible x)) (place + 1) xs) (admit_rows (admitted o (images_of (x ∷ xs))) (place + length (x ∷ xs)) ys))
+    let further : place + 1 + length xs ≡ place + length (x ∷ xs) = omega arith in
+    rw (admit_rows-append (admitted o (admissible x)) (place + 1) xs ys, further, admitted-append o (admissible x) (images_of xs), append_assoc) refl
 
 -- the rows of one file, which stand alone
 pub one_row : (o : Operations) (place : ℕ) (text : List ℕ) → admit_rows o place (text ∷ []) ≡ file_rows place 0 (taken_rows o (parts text))
@@ -38,20 +35,13 @@ module _ {S : Type 0} where
       → IsAcceptedFile text → Holds file text → new ≡ admitted mid (admissible text) → more ≡ rows ++ file_rows place 0 (taken_rows mid (parts text))
       → HasTaken seen o new more
   taken_more files seen place file o mid new rows more text place_is seen_is taken accepted holds new_is more_is =
-      let long : length taken.texts ≡ place = pairs_long Holds files taken.texts taken.files_are ∙ place_is in
-      let images : images_of (taken.texts ++ text ∷ []) ≡ images_of taken.texts ++ admissible text =
-      flat_map-append admissible taken.texts (text ∷ []) ∙ ap (λ (is : List (List ℕ)). images_of taken.texts ++ is) (append-nil (admissible text)) in
+      let long : 0 + length taken.texts ≡ place = omega (arith, pairs_long Holds files taken.texts taken.files_are, place_is) in
       record {
         texts = taken.texts ++ text ∷ [];
-        files_are = subst (λ (fs : List (Reader S)). AllZip Holds fs (taken.texts ++ text ∷ [])) (sym seen_is) (pairs_more Holds files taken.texts file text taken.files_are holds);
+        files_are = rw seen_is (pairs_more Holds files taken.texts file text taken.files_are holds);
         accepted = all_more IsAcceptedFile taken.texts text taken.accepted accepted;
-        content = new_is ∙ ap (λ (p : Operations). admitted p (admissible text)) taken.content ∙ sym (admitted-append o (images_of taken.texts) (admissible text))
-            ∙ ap (λ (is : List (List ℕ)). admitted o is) (sym images);
-        rows_are = more_is ∙ ap (λ (p : Operations). rows ++ file_rows place 0 (taken_rows p (parts text))) taken.content
-            ∙ ap (λ (rs : List AdmitRow). rows ++ rs) (sym (one_row (admitted o (images_of taken.texts)) place text))
-            ∙ ap (λ (n : ℕ). rows ++ admit_rows (admitted o (images_of taken.texts)) n (text ∷ [])) (sym long)
-            ∙ ap (λ (rs : List AdmitRow). rs ++ admit_rows (admitted o (images_of taken.texts)) (length taken.texts) (text ∷ [])) taken.rows_are
-            ∙ sym (admit_rows-append o 0 taken.texts (text ∷ []) ∙ ap (λ (n : ℕ). admit_rows o 0 taken.texts ++ admit_rows (admitted o (images_of taken.texts)) n (text ∷ [])) (omega arith));
+        content = new_is ∙ rw (taken.content, flat_map-append admissible taken.texts (text ∷ []), append-nil (admissible text)) (sym (admitted-append o (images_of taken.texts) (admissible text)));
+        rows_are = more_is ∙ rw (taken.content, taken.rows_are, admit_rows-append o 0 taken.texts (text ∷ []), long, one_row) refl;
       }
 
   each_accepted : (files : List (Reader S)) (texts : List (List ℕ)) → AllZip Holds files texts → AllByRecursion IsAcceptedFile texts → AllByRecursion IsAccepted files

@@ -1,6 +1,6 @@
 -- The archives of `merge`, one more at a time.
-use Rattle.std.proofs.Common.{◌≡◌, List, [], ◌∷◌, ◌++◌, refl, sym, ap, ◌∙◌, subst}
-use Rattle.std.specs.List.{AllByRecursion, AllZip}
+use Rattle.std.proofs.Common.{◌≡◌, List, [], ◌∷◌, ◌++◌, refl, sym, ◌∙◌}
+use Rattle.std.specs.List.{AllByRecursion}
 use Rattle.std.proofs.lemmas.List.Sums.{fold-append}
 use Rattle.archive_core.specs.Content.{Operations, IsContent, joined}
 use Rattle.command_ends.specs.Inputs.{Reader, IsArchive, HoldsArchive}
@@ -18,8 +18,8 @@ module _ {S : Type 0} where
       record {
         contents = before.contents ++ other ∷ [];
         are_contents = all_more IsContent before.contents other before.are_contents content;
-        files_are = subst (λ (fs : List (Reader S)). AllZip HoldsArchive fs (before.contents ++ other ∷ [])) (sym seen_is) (hold_more files before.contents file other before.files_are holds);
-        content = new_is ∙ ap (λ (p : Operations). joined p other) before.content ∙ sym (fold-append joined o before.contents (other ∷ []));
+        files_are = rw seen_is (hold_more files before.contents file other before.files_are holds);
+        content = new_is ∙ rw before.content (sym (fold-append joined o before.contents (other ∷ [])));
       }
 
   -- what was joined is an archive

@@ -1,14 +1,13 @@
 -- Rows that are told again, one after another, by the numbers of those of which the records are.
-use Rattle.std.proofs.Common.{◌≡◌, ◌≢◌, ◌⊎◌, ◌<◌, ℕ, zero, suc, ◌+◌, Bool, true, false, List, [], ◌∷◌, length, get_or, set, Some, slice_get, refl, sym, ap, ◌∙◌, subst, inl, inr, arith}
+use Rattle.std.proofs.Common.{◌≡◌, ◌≢◌, ◌⊎◌, ◌<◌, ℕ, zero, suc, ◌+◌, Bool, true, false, List, [], ◌∷◌, length, get_or, set, Some, slice_get, refl, sym, ap, ◌∙◌, inl, inr, arith}
 use Rattle.std.specs.List.{AllZip}
 use Rattle.std.proofs.lemmas.Bool.{cases_eq, cases_lt}
 use Rattle.std.proofs.lemmas.List.{ext_get_or, get_or-set_other, get_or-set_same, length-set}
-use Rattle.std.proofs.lemmas.Option.{get_or_from_slice_get, slice_get-get_or, slice_get_within}
-use Rattle.admission.specs.declared.taken.Taken.{Taken}
-use Rattle.admission.specs.declared.taken.Taken.TheVariants.{Added, Known, Skipped}
+use Rattle.std.proofs.lemmas.Option.{get_or_from_slice_get, same_Some, slice_get-get_or, slice_get_within}
+use Rattle.admission.specs.declared.taken.Taken.TheVariants.{Skipped}
 use Rattle.report_text.specs.declared.rows.AdmitRow.{AdmitRow}
 use Rattle.command_ends.proofs.Readers.{pairs_long}
-use Rattle.archive_updates.specs.InnerArriving.{ArePlaced, row_again, rows_again, taken_again, was_added}
+use Rattle.archive_updates.specs.InnerArriving.{ArePlaced, row_again, rows_again, was_added}
 
 abbrev pub no_row : AdmitRow
 no_row = record { file = 0; slice = 0; taken = Skipped }
@@ -18,22 +17,11 @@ row_at rows n = get_or rows n no_row
 
 -- ---- one row
 
-taken_twice : (new : Bool) (t : Taken) → taken_again new (taken_again new t) ≡ taken_again new t
-taken_twice true (Added key digest) = refl
-taken_twice false (Added key digest) = refl
-taken_twice new (Known key digest) = refl
-taken_twice new Skipped = refl
-
 row_twice : (new : Bool) (row : AdmitRow) → row_again new (row_again new row) ≡ row_again new row
-row_twice new row = ap (λ (t : Taken). record { file = row.file; slice = row.slice; taken = t }) (taken_twice new row.taken)
-
-taken_kept : (new : Bool) (t : Taken) → was_added t ≡ false → taken_again new t ≡ t
-taken_kept new (Added key digest) is = cc
-taken_kept new (Known key digest) is = refl
-taken_kept new Skipped is = refl
+row_twice new row = grind arith
 
 row_kept : (new : Bool) (row : AdmitRow) → was_added row.taken ≡ false → row_again new row ≡ row
-row_kept new row is = ap (λ (t : Taken). record { file = row.file; slice = row.slice; taken = t }) (taken_kept new row.taken is)
+row_kept new row is = grind arith
 
 -- ---- the rows of the first of the records
 
@@ -60,15 +48,14 @@ module _ (f : List ℕ → Bool) (was : List AdmitRow) (records : List (List ℕ
   marked_more places k p now more new before at within new_is more_is = record {
     long = ap length more_is ∙ length-set now p (row_again new (row_at now p)) ∙ before.long;
     first = λ i n lt is inside. elim (cases_lt i k) [
-      | inl low ↦ by_same n (before.first i n low is inside) inside
+      | inl low ↦ by_same n (before.first i n low is inside)
       | inr high ↦
           let e : i ≡ k = omega (arith, lt, high) in
-          let there : Some n ≡ Some p = sym is ∙ ap (slice_get places) e ∙ at in
-          let same : p ≡ n = cc in
-          subst (λ (m : ℕ). row_at more m ≡ goal_at f was records m) same here
+          let same : n ≡ p = cc (ap (slice_get places) e) in
+          rw same here
     ];
     all = λ n inside. elim (cases_eq n p) [
-      | inl same ↦ inr (subst (λ (m : ℕ). row_at more m ≡ goal_at f was records m) (sym same) here)
+      | inl same ↦ inr (rw same here)
       | inr apart ↦ elim (before.all n inside) [
         | inl old ↦ inl (other n apart ∙ old)
         | inr told ↦ inr (other n apart ∙ told)
@@ -76,24 +63,20 @@ module _ (f : List ℕ → Bool) (was : List AdmitRow) (records : List (List ℕ
     ];
   }
     where
-      inside_now : p < length now
-      inside_now = omega (arith, within, before.long)
-
-      written : row_at more p ≡ row_again (f (get_or records p [])) (row_at now p)
-      written = ap (λ (rows : List AdmitRow). row_at rows p) more_is ∙ get_or-set_same now p (row_again new (row_at now p)) no_row inside_now ∙ ap (λ (b : Bool). row_again b (row_at now p)) new_is
-
       here : row_at more p ≡ goal_at f was records p
-      here = elim (before.all p within) [
-        | inl same ↦ written ∙ ap (row_again (f (get_or records p []))) same
-        | inr told ↦ written ∙ ap (row_again (f (get_or records p []))) told ∙ row_twice (f (get_or records p [])) (row_at was p)
-      ]
+      here =
+          let written : row_at more p ≡ row_again new (row_at now p) = rw more_is (get_or-set_same now p _ no_row (omega (arith, within, before.long))) in
+          elim (before.all p within) [
+            | inl same ↦ cc
+            | inr told ↦ cc (row_twice (f (get_or records p [])) (row_at was p))
+          ]
 
       other : (n : ℕ) → n ≢ p → row_at more n ≡ row_at now n
-      other n apart = ap (λ (rows : List AdmitRow). row_at rows n) more_is ∙ get_or-set_other now p n (row_again new (row_at now p)) no_row apart
+      other n apart = rw more_is (get_or-set_other now p n _ no_row apart)
 
-      by_same : (n : ℕ) → row_at now n ≡ goal_at f was records n → n < length was → row_at more n ≡ goal_at f was records n
-      by_same n is inside = elim (cases_eq n p) [
-        | inl same ↦ subst (λ (m : ℕ). row_at more m ≡ goal_at f was records m) (sym same) here
+      by_same : (n : ℕ) → row_at now n ≡ goal_at f was records n → row_at more n ≡ goal_at f was records n
+      by_same n is = elim (cases_eq n p) [
+        | inl same ↦ rw same here
         | inr apart ↦ other n apart ∙ is
       ]
 
@@ -110,23 +93,18 @@ unfolding rows_again
 again_at f [] records n long inside = absurd (omega (arith, inside))
 again_at f (row ∷ rows) [] n long inside = absurd (omega (arith, long))
 again_at f (row ∷ rows) (r ∷ records) zero long inside = refl
-again_at f (row ∷ rows) (r ∷ records) (suc n) long inside =
-    let rest : length records ≡ length rows = omega (arith, long) in
-    let less : n < length rows = omega (arith, inside) in
-    again_at f rows records n rest less
+again_at f (row ∷ rows) (r ∷ records) (suc n) long inside = again_at f rows records n (omega (arith, long)) (omega (arith, inside))
 
 pair_at : (records : List (List ℕ)) (places : List ℕ) (came : List (List ℕ)) (k p : ℕ) → AllZip (λ (place : ℕ) (r : List ℕ). slice_get records place ≡ Some r) places came → slice_get places k ≡ Some p → slice_get records p ≡ Some (get_or came k [])
 pair_at records [] came k p all at = cc
 pair_at records (x ∷ xs) [] k p all at = absurd all
-pair_at records (x ∷ xs) (y ∷ ys) zero p all at = let same : x ≡ p = cc in ap (slice_get records) (sym same) ∙ all.0
+pair_at records (x ∷ xs) (y ∷ ys) zero p all at = rw (← same_Some x p at) all.0
 pair_at records (x ∷ xs) (y ∷ ys) (suc k) p all at = pair_at records xs ys k p all.1 at
 
 module _ (came : List (List ℕ)) (places : List ℕ) (rows : List AdmitRow) (records : List (List ℕ)) (placed : ArePlaced came places rows records) where
   -- a number that stands beside a record is that of a row
   pub row_inside : (k p : ℕ) → slice_get places k ≡ Some p → p < length rows
-  row_inside k p at =
-      let within : p < length records = slice_get_within records p (get_or came k []) (pair_at records places came k p placed.beside at) in
-      omega (arith, within, placed.long)
+  row_inside k p at = let within = slice_get_within records p (get_or came k []) (pair_at records places came k p placed.beside at) in omega (arith, within, placed.long)
 
   -- and the record is that of the row
   pub record_at : (k p : ℕ) → slice_get places k ≡ Some p → get_or came k [] ≡ get_or records p []

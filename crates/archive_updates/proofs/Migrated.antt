@@ -1,5 +1,5 @@
 -- What `migrate` makes, by a merge with an archive that holds nothing.
-use Rattle.std.proofs.Common.{◌≡◌, ℕ, Bool, true, false, ◌||◌, List, [], ◌∷◌, ◌++◌, length, Result, Err, refl, sym, ap, ◌∙◌, arith}
+use Rattle.std.proofs.Common.{◌≡◌, ℕ, false, List, [], ◌∷◌, ◌++◌, length, Result, Err, refl, sym, ap, ◌∙◌, arith}
 use Rattle.std.proofs.lemmas.Bool.{false≢true}
 use Rattle.std.specs.Ordering.{nat_cmp}
 use Rattle.std.specs.Cmp.Lexicographic.{slice_cmp, nat_list_cmp_total}
@@ -19,10 +19,9 @@ use Rattle.command_ends.specs.declared.faults.Status.{Status}
 use Rattle.command_ends.specs.Ends.{EndsAsItComes, HasTaken, MakesArchive, StopsAmidst}
 use Rattle.command_ends.specs.Inputs.{IsKnown, IsRefusedArchive, Reader, Unfailed}
 use Rattle.command_ends.specs.Outputs.{Out, PlacesNothing, Publishes, Takes, Writer}
-use Rattle.command_ends.proofs.Amidst.{published_amidst, stopped_amidst, stops_alike}
-use Rattle.archive_updates.specs.Joining.{IsJoined, MakesJoin, joining}
+use Rattle.archive_updates.specs.Joining.{IsJoined, joining}
 use Rattle.archive_updates.specs.Migrate.{MakesMigrated, migrate}
-use Rattle.archive_updates.proofs.AtHand.{sizes_are}
+use Rattle.archive_updates.proofs.AtHand.{archive_published, join_stopped}
 
 pub empty_content : IsContent set.empty
 empty_content = record { itself = made_empty; records = λ r h. absurd (false≢true (sym (contains-empty (slice_cmp nat_cmp) r) ∙ h)) }
@@ -41,46 +40,23 @@ empty_written =
 -- the join with nothing
 pub join_with_nothing : (o : Operations) → IsMade o → joined o set.empty ≡ o
 join_with_nothing o is =
-    let same : set.union o set.empty ≡ o = same_set nat_list_cmp_total bytes_same (set.union o set.empty) o (λ r. contains-union nat_list_cmp_total o set.empty r ∙ ap (λ (b : Bool). set.contains o r || b) (contains-empty (slice_cmp nat_cmp) r) ∙ or_false (set.contains o r)) in
-    ap content_of same ∙ is
-  where
-    or_false : (a : Bool) → (a || false) ≡ a
-    or_false true = refl
-    or_false false = refl
+    ap content_of (same_set nat_list_cmp_total bytes_same (set.union o set.empty) o (λ r. grind (arith, contains-union nat_list_cmp_total o set.empty r, contains-empty (slice_cmp nat_cmp) r))) ∙ is
 
 module _ {R : Type 0} (input : Reader R) where
-  -- what it makes is the join with nothing
-  pub joins_nothing : (text told : List ℕ) → MakesArchive (MakesMigrated input) text told → MakesJoin input set.empty text told
-  joins_nothing text told m = record {
-    content = m.content;
-    is_content = m.makes.is_content;
-    archive = m.makes.archive;
-    text_is = m.text_is ∙ ap written (sym (join_with_nothing m.content m.makes.is_content.itself));
-  }
-
-  pub makes_migrated : {W : Type 0} (draft : Stream W) (sizes : Sizes) (j : IsJoined input set.empty draft sizes) (lines : List ℕ) → lines ≡ archive_line sizes
-      → MakesArchive (MakesMigrated input) (written (joined j.content set.empty)) lines
-  makes_migrated draft sizes j lines is =
-      let same = join_with_nothing j.content j.is_content.itself in
-      record {
-        content = j.content;
-        lines = [];
-        makes = record { is_content = j.is_content; archive = j.archive; lines_are = refl };
-        text_is = ap written same;
-        told_is = is ∙ ap archive_line (sizes_are sizes j.content (j.written_is.records_are ∙ ap set.len same) (j.written_is.bytes_are ∙ ap (λ (o : Operations). length (written o)) same));
-      }
-
-  -- what stops the join stops it
+  -- what stops the join with nothing stops it
   pub migrate_stopped : (out : Out) (report : Writer) (fault : CommandFault) → StopsAmidst (joining input set.empty) (IsKnown input) out.draft fault → HasTaken out.draft fault → PlacesNothing out → Takes report []
       → EndsAsItComes (migrate input) (IsKnown input) out report (Err fault)
-  migrate_stopped out report fault s =
-      stopped_amidst (MakesArchive (MakesMigrated input)) (IsRefusedArchive 0 input) (Unfailed input) (IsKnown input) out report fault
-      (stops_alike (MakesJoin input set.empty) (MakesArchive (MakesMigrated input)) (IsRefusedArchive 0 input) (IsRefusedArchive 0 input) (Unfailed input) (Unfailed input) (IsKnown input) (IsKnown input) out.draft
-      joins_nothing (λ at why r. r) (λ u. u) (λ k. k) fault s)
+  migrate_stopped =
+      join_stopped input set.empty (MakesArchive (MakesMigrated input)) (λ text told m. record {
+        content = m.content;
+        is_content = m.makes.is_content;
+        archive = m.makes.archive;
+        text_is = m.text_is ∙ ap written (sym (join_with_nothing m.content m.makes.is_content.itself));
+      })
 
   -- and what the join makes is published
   pub migrate_published : {W : Type 0} (draft : Stream W) (sizes : Sizes) (j : IsJoined input set.empty draft sizes) (lines : List ℕ) → lines ≡ [] → (out : Out) (report : Writer) (result : Result Status CommandFault)
       → Publishes out report (written (joined j.content set.empty)) (lines ++ archive_line sizes) result → EndsAsItComes (migrate input) (IsKnown input) out report result
   migrate_published draft sizes j lines none out report result =
-      published_amidst (MakesArchive (MakesMigrated input)) (IsRefusedArchive 0 input) (Unfailed input) (IsKnown input) out report result (written (joined j.content set.empty)) (lines ++ archive_line sizes) j.unfailed
-      (makes_migrated draft sizes j (lines ++ archive_line sizes) (ap (λ (t : List ℕ). t ++ archive_line sizes) none))
+      archive_published (MakesMigrated input) (IsRefusedArchive 0 input) (Unfailed input) (IsKnown input) draft sizes (joined j.content set.empty) lines out report result j.unfailed
+      (rw (join_with_nothing j.content j.is_content.itself) (record { is_content = j.is_content; archive = j.archive; lines_are = none })) j.written_is

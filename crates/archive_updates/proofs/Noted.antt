@@ -1,5 +1,5 @@
 -- Notes as they are added.
-use Rattle.std.proofs.Common.{◌≡◌, ◌<◌, ◌+◌, ◌++◌, ◌∷◌, [], ℕ, Bool, true, false, cond, if◌then◌else◌, List, get_or, length, map, take, refl, sym, ap, ◌∙◌}
+use Rattle.std.proofs.Common.{arith, ◌≡◌, ◌<◌, ◌+◌, ◌++◌, ◌∷◌, [], ℕ, Bool, if◌then◌else◌, List, get_or, length, map, take, refl, sym, ap, ◌∙◌}
 use Rattle.std.proofs.lemmas.List.{flat_map_more, take_more}
 use Rattle.std.specs.FinSet as set
 use Rattle.std.specs.List.{AllByRecursion, filter, flat_map}
@@ -13,7 +13,7 @@ use Rattle.archive_core.specs.declared.keys.SliceKey.{SliceKey}
 use Rattle.archive_core.specs.declared.operations.Operation.{Operation}
 use Rattle.archive_core.specs.declared.operations.Operation.TheVariants.{Admit, Retire}
 use Rattle.archive_core.proofs.Entries.{slice_of}
-use Rattle.record_merge.specs.Turns.{turn_by, turn_of}
+use Rattle.record_merge.specs.Turns.{turn_of}
 use Rattle.report_text.specs.declared.rows.AdmitRow.{AdmitRow}
 use Rattle.command_ends.specs.Inputs.{Reader}
 use Rattle.archive_updates.specs.Admit.{HasTaken}
@@ -29,25 +29,14 @@ abbrev pub note_by : Operations → Operation → List Note
 note_by o operation = note_of (turn_of o (record_bytes operation)) operation
 
 one_note : (slice : List ℕ) → IsValid slice → Retired (key_of slice) (record { 0 = sha256 slice }) ≡ retired_note (admission_record slice)
-one_note slice valid = ap (λ (s : List ℕ). Retired (key_of s) (record { 0 = sha256 s })) (sym (slice_of slice valid))
+one_note slice valid = rw (slice_of slice valid) refl
 
 -- each has its own
 noted : (o : Operations) (operations : List Operation) → AllByRecursion IsOperation operations → flat_map (note_by o) operations ≡ map retired_note (filter (is_covered o) (map record_bytes operations))
 unfolding turn_of
 noted o [] all = refl
-noted o (Admit slice ∷ rest) all = by_cases (is_covered o (admission_record slice)) (set.contains o (admission_record slice)) (noted o rest all.1)
-  where
-    by_cases : (covered has : Bool) → flat_map (note_by o) rest ≡ map retired_note (filter (is_covered o) (map record_bytes rest))
-        → (note_of (turn_by covered has) (Admit slice) ++ flat_map (note_by o) rest) ≡ map retired_note (cond covered (admission_record slice ∷ filter (is_covered o) (map record_bytes rest)) (filter (is_covered o) (map record_bytes rest)))
-    by_cases true has is = let first = one_note slice all.0 in λ i. first i ∷ is i
-    by_cases false true is = is
-    by_cases false false is = is
-noted o (Retire key digest ∷ rest) all = by_cases (set.contains o (record_bytes (Retire key digest))) (noted o rest all.1)
-  where
-    by_cases : (has : Bool) → flat_map (note_by o) rest ≡ map retired_note (filter (is_covered o) (map record_bytes rest))
-        → (note_of (turn_by false has) (Retire key digest) ++ flat_map (note_by o) rest) ≡ map retired_note (filter (is_covered o) (map record_bytes rest))
-    by_cases true is = is
-    by_cases false is = is
+noted o (Admit slice ∷ rest) all = grind (arith, one_note slice all.0, noted o rest all.1)
+noted o (Retire key digest ∷ rest) all = grind (arith, noted o rest all.1)
 
 pub all_noted : (o : Operations) (operations : List Operation) → AllByRecursion IsOperation operations → (came : Operations) → map record_bytes operations ≡ listing came → flat_map (note_by o) operations ≡ retired_notes o came
 all_noted o operations all came listed = noted o operations all ∙ ap (λ (rs : List (List ℕ)). map retired_note (filter (is_covered o) rs)) listed

@@ -27,11 +27,11 @@ use Rattle.command_ends.specs.declared.faults.Status.{Status}
 use Rattle.command_ends.specs.Ends.{EndsAsItComes, HasTaken, MakesArchive, StopsAmidst}
 use Rattle.command_ends.specs.Inputs.{IsKnown, IsRefusedArchive, Reader, Unfailed}
 use Rattle.command_ends.specs.Outputs.{Out, PlacesNothing, Publishes, Takes, Writer}
-use Rattle.command_ends.proofs.Amidst.{published_amidst, stopped_amidst, stops_alike}
+use Rattle.command_ends.proofs.Amidst.{stopped_amidst}
 use Rattle.archive_updates.specs.InnerTelling.{IsJoinedTelling, IsRetired}
-use Rattle.archive_updates.specs.Joining.{MakesJoin, joining}
+use Rattle.archive_updates.specs.Joining.{joining}
 use Rattle.archive_updates.specs.Retire.{MakesRetired, retire}
-use Rattle.archive_updates.proofs.AtHand.{sizes_are}
+use Rattle.archive_updates.proofs.AtHand.{archive_published, join_stops}
 
 module _ (key : SliceKey) (digest : Digest) where
   abbrev pub record_of : List ℕ
@@ -52,15 +52,6 @@ module _ (key : SliceKey) (digest : Digest) where
   with_alone o made = taken_are_joined o (record_of ∷ []) made
 
   module _ {R : Type 0} (input : Reader R) where
-    -- what it makes is the join with what the retirement makes
-    pub joins_alone : (text told : List ℕ) → MakesArchive (MakesRetired input key digest) text told → MakesJoin input (content_of alone) text told
-    joins_alone text told m = record {
-      content = m.makes.before;
-      is_content = m.makes.is_content;
-      archive = m.makes.archive;
-      text_is = m.text_is ∙ ap written (m.makes.content_is ∙ with_alone m.makes.before m.makes.is_content.itself);
-    }
-
     pub retired : {W : Type 0} (draft : Stream W) (sizes : Sizes) (turns : List Turn) (had changed : Bool) → IsOperation (Retire key digest) → (j : IsJoinedTelling input alone draft sizes turns had) → ((x : Turn) → turns ≡ x ∷ [] → changed ≡ is_new x) → IsRetired input key digest draft sizes changed had
     retired draft sizes turns had changed is j first =
         let o : Operations = j.joined.content in
@@ -75,27 +66,23 @@ module _ (key : SliceKey) (digest : Digest) where
           had_is = j.withdraws_is;
         }
 
-    -- what stops the join stops it
+    -- what stops the join with what the retirement makes stops it
     pub retire_stops : (draft : Writer) (fault : CommandFault) → StopsAmidst (joining input (content_of alone)) (IsKnown input) draft fault → StopsAmidst (retire input key digest) (IsKnown input) draft fault
-    retire_stops draft fault s =
-        stops_alike (MakesJoin input (content_of alone)) (MakesArchive (MakesRetired input key digest)) (IsRefusedArchive 0 input) (IsRefusedArchive 0 input) (Unfailed input) (Unfailed input) (IsKnown input) (IsKnown input) draft
-        joins_alone (λ at why r. r) (λ u. u) (λ k. k) fault s
+    retire_stops =
+        join_stops input (content_of alone) (MakesArchive (MakesRetired input key digest)) (λ text told m. record {
+          content = m.makes.before;
+          is_content = m.makes.is_content;
+          archive = m.makes.archive;
+          text_is = m.text_is ∙ ap written (m.makes.content_is ∙ with_alone m.makes.before m.makes.is_content.itself);
+        })
 
     pub retire_stopped : (out : Out) (report : Writer) (fault : CommandFault) → StopsAmidst (retire input key digest) (IsKnown input) out.draft fault → HasTaken out.draft fault → PlacesNothing out → Takes report []
         → EndsAsItComes (retire input key digest) (IsKnown input) out report (Err fault)
-    retire_stopped out report fault s = stopped_amidst (MakesArchive (MakesRetired input key digest)) (IsRefusedArchive 0 input) (Unfailed input) (IsKnown input) out report fault s
+    retire_stopped = stopped_amidst (MakesArchive (MakesRetired input key digest)) (IsRefusedArchive 0 input) (Unfailed input) (IsKnown input)
 
     -- and what it makes is published
     pub retire_published : {W : Type 0} (draft : Stream W) (sizes : Sizes) (changed had : Bool) (i : IsRetired input key digest draft sizes changed had) (out : Out) (report : Writer) (result : Result Status CommandFault)
         → Publishes out report (written (with_record i.before record_of)) (retire_line changed key digest ++ archive_line sizes) result → EndsAsItComes (retire input key digest) (IsKnown input) out report result
     retire_published draft sizes changed had i out report result =
-        let o : Operations = with_record i.before record_of in
-        let lines : List ℕ = retire_line changed key digest in
-        published_amidst (MakesArchive (MakesRetired input key digest)) (IsRefusedArchive 0 input) (Unfailed input) (IsKnown input) out report result (written o) (lines ++ archive_line sizes) i.unfailed
-        (record {
-          content = o;
-          lines = lines;
-          makes = record { before = i.before; is_content = i.is_content; archive = i.archive; content_is = refl; lines_are = ap (λ (b : Bool). retire_line b key digest) i.changed_is };
-          text_is = refl;
-          told_is = ap (λ (s : Sizes). lines ++ archive_line s) (sizes_are sizes o i.written_is.records_are i.written_is.bytes_are);
-        })
+        archive_published (MakesRetired input key digest) (IsRefusedArchive 0 input) (Unfailed input) (IsKnown input) draft sizes (with_record i.before record_of) (retire_line changed key digest) out report result i.unfailed
+        (record { before = i.before; is_content = i.is_content; archive = i.archive; content_is = refl; lines_are = ap (λ (b : Bool). retire_line b key digest) i.changed_is }) i.written_is

@@ -1,12 +1,11 @@
 -- How `merge` ends, with one FILE and with others, from what its parts did.
-use Rattle.std.proofs.Common.{◌≡◌, ℕ, List, [], ◌∷◌, length, Option, Some, Result, Ok, Err, refl, ap, sym, ◌∙◌, subst, inl, inr}
+use Rattle.std.proofs.Common.{◌≡◌, ℕ, List, [], ◌∷◌, length, Option, Some, Result, Ok, Err, refl, ap, sym, ◌∙◌, inl, inr}
 use Rattle.archive_core.specs.Content.{Operations, IsContent, joined}
 use Rattle.archive_records.specs.declared.fault.MergeCause.{MergeCause}
 use Rattle.archive_records.specs.declared.fault.MergeCause.TheVariants.{Left, Right, Write}
 use Rattle.archive_records.specs.declared.fault.MergeFault.{MergeFault}
 use Rattle.archive_records.specs.declared.writing.Sizes.{Sizes}
 use Rattle.archive_records.specs.Text.{written, IsArchiveOf}
-use Rattle.archive_records.specs.Reading.{IsOfMachine}
 use Rattle.byte_device.specs.Devices.{Stream, stream}
 use Rattle.record_merge.specs.Merging.{GainsCount, IsMerged, Merges, StopsBy}
 use Rattle.report_text.specs.Report.{archive_line}
@@ -21,7 +20,7 @@ use Rattle.command_ends.specs.Inputs.{Reader, reader, Unfailed, EachUnfailed, Is
 use Rattle.archive_updates.proofs.AtHand.{counted, sizes_are}
 use Rattle.archive_updates.specs.Merge.{MakesMerged, merge_in_turn}
 use Rattle.archive_updates.specs.MergeStreams.{IsMergeFaultTold, IsSide, StopsMerge, StopsMergeOfOne, merge_as_it_comes, merge_of_one}
-use Rattle.command_ends.specs.Outputs.{Out, Outs, Writer, FailsAt, PlacesNothing, Publishes, Takes, draft_of, out_of, report_of}
+use Rattle.command_ends.specs.Outputs.{Out, Outs, Writer, FailsAt, PlacesNothing, Publishes, Takes, draft_of, out_of}
 use Rattle.command_ends.proofs.Readers.{by_device}
 
 -- ---- one FILE, which was opened, as IN was
@@ -65,46 +64,43 @@ module _ {R S D T : Type 0} (left : R → Option (List ℕ)) (failures : R → �
     abbrev text : List ℕ
     text = written (joined m.o m.p)
 
-    abbrev told : List ℕ
-    told = report_of (joined m.o m.p) []
-
-    unfailed : Unfailed input × EachUnfailed (file ∷ [])
-    unfailed = (m.left_is.unfailed, (m.right_is.unfailed, tt))
-
-    makes : MakesArchive (MakesMerged input (file ∷ [])) text told
-    makes = record {
-      content = joined m.o m.p;
-      lines = [];
-      makes = record {
-        before = m.o;
-        contents = m.p ∷ [];
-        is_content = m.left_is.is;
-        are_contents = (m.right_is.is, tt);
-        archive = m.left_is.text;
-        files_are = (m.right_is.text, tt);
-        content_is = refl;
-        lines_are = refl;
-      };
-      text_is = refl;
-      told_is = refl;
-    }
-
-    told_is : archive_line sizes ≡ told
-    told_is = ap archive_line (sizes_are sizes (joined m.o m.p) m.written_is.records_are m.written_is.bytes_are)
-
     -- and is published
     pub merged : (said : List ℕ) (result : Result Status CommandFault) → said ≡ archive_line sizes → Publishes (out_of out) report text said result → EndsSo result
-    merged said result is p = by_result result (subst (λ (t : List ℕ). Publishes (out_of out) report text t result) (is ∙ told_is) p)
+    merged said result is p = by_result result p
       where
-        carries : (r : Result Status CommandFault) → Publishes (out_of out) report text told r → Carries (MakesArchive (MakesMerged input (file ∷ []))) (out_of out) report r
-        carries r q = record { text = text; told = told; makes = makes; published = q }
+        carries : (r : Result Status CommandFault) → Publishes (out_of out) report text said r
+            → (Unfailed input × EachUnfailed (file ∷ [])) × Carries (MakesArchive (MakesMerged input (file ∷ []))) (out_of out) report r
+        carries r q = (
+          (m.left_is.unfailed, (m.right_is.unfailed, tt)),
+          record {
+            text = text;
+            told = said;
+            makes = record {
+              content = joined m.o m.p;
+              lines = [];
+              makes = record {
+                before = m.o;
+                contents = m.p ∷ [];
+                is_content = m.left_is.is;
+                are_contents = (m.right_is.is, tt);
+                archive = m.left_is.text;
+                files_are = (m.right_is.text, tt);
+                content_is = refl;
+                lines_are = refl;
+              };
+              text_is = refl;
+              told_is = is ∙ ap archive_line (sizes_are sizes (joined m.o m.p) m.written_is.records_are m.written_is.bytes_are);
+            };
+            published = q;
+          },
+        )
 
-        by_result : (r : Result Status CommandFault) → Publishes (out_of out) report text told r → EndsSo r
-        by_result (Ok status) q = (unfailed, carries (Ok status) q)
+        by_result : (r : Result Status CommandFault) → Publishes (out_of out) report text said r → EndsSo r
+        by_result (Ok status) q = carries (Ok status) q
         by_result (Err (Input at why)) q = absurd q
-        by_result (Err (Output n)) q = inr (unfailed, carries (Err (Output n)) q)
-        by_result (Err (Report n)) q = (unfailed, carries (Err (Report n)) q)
-        by_result (Err OutOfMemory) q = inr (unfailed, carries (Err OutOfMemory) q)
+        by_result (Err (Output n)) q = inr (carries (Err (Output n)) q)
+        by_result (Err (Report n)) q = carries (Err (Report n)) q
+        by_result (Err OutOfMemory) q = inr (carries (Err OutOfMemory) q)
 
 -- ---- more than one FILE, or none
 
@@ -119,12 +115,8 @@ module _ {R S D T : Type 0} (input : Reader R) (out : Outs D T) (report : Writer
 
 device_side : {R S W : Type 0} (left : Stream R) (right : Stream S) (out : Stream W) (o p : Operations) (at : Place) (why : Why) (cause : MergeCause) (n : ℕ) (t u : List ℕ) → IsContent o → IsContent p → IsArchiveOf o t → IsArchiveOf p u → left.bytes left.old ≡ Some t → right.bytes right.old ≡ Some u
     → StopsBy left right out cause n → IsSide cause at why → IsDeviceFault why
-device_side left right out o p at why (Left fault) n t u co cp is_o is_p go gp s told =
-    let alone : (x : Operations) → IsContent x → IsArchiveOf x t → IsOfMachine fault.kind = rw go at s.refused.1 in
-    by_device fault why told.1 told.2 (alone o co is_o)
-device_side left right out o p at why (Right fault) n t u co cp is_o is_p go gp s told =
-    let alone : (x : Operations) → IsContent x → IsArchiveOf x u → IsOfMachine fault.kind = rw gp at s.refused.1 in
-    by_device fault why told.1 told.2 (alone p cp is_p)
+device_side left right out o p at why (Left fault) n t u co cp is_o is_p go gp s told = by_device fault why told.1 told.2 ((rw go at s.refused.1) o co is_o)
+device_side left right out o p at why (Right fault) n t u co cp is_o is_p go gp s told = by_device fault why told.1 told.2 ((rw gp at s.refused.1) p cp is_p)
 device_side left right out o p at why Write n t u co cp is_o is_p go gp s told = absurd told
 
 module _ {R S D : Type 0} (left : R → Option (List ℕ)) (failures : R → ℕ) (left2 : S → Option (List ℕ)) (failures2 : S → ℕ) (new : Result R CannotOpen) (new2 : Result S CannotOpen) (draft : Stream D) where

@@ -1,6 +1,7 @@
 -- What became of a slice that came, and of a part.
-use Rattle.std.proofs.Common.{◌≡◌, ◌++◌, ℕ, ◌+◌, true, false, List, [], ◌∷◌, length, Option, Some, None, refl, sym, ap, Result, Ok, Err, arith}
+use Rattle.std.proofs.Common.{◌≡◌, ◌++◌, ℕ, ◌+◌, true, false, List, [], ◌∷◌, Option, Some, None, refl, sym, ap, Result, Ok, Err}
 use Rattle.std.specs.Prelude.{OnOk}
+use Rattle.std.proofs.lemmas.Result.{on_ok_weaker}
 use Rattle.sha2.specs.Sha256.{sha256}
 use Rattle.archive_core.specs.declared.keys.SliceKey.{SliceKey}
 use Rattle.archive_core.specs.declared.keys.Digest.{Digest}
@@ -8,7 +9,6 @@ use Rattle.archive_core.specs.Content.{Operations, changes}
 use Rattle.archive_core.specs.Record.{admission_record}
 use Rattle.archive_core.specs.Valid.{key_of}
 use Rattle.admission.specs.Take.{admitted, taken_of}
-use Rattle.admission.specs.declared.taken.Taken.{Taken}
 use Rattle.admission.specs.declared.taken.Taken.TheVariants.{Added, Known, Skipped}
 use Rattle.admission.proofs.Rows.{row_of}
 use Rattle.report_text.specs.declared.rows.AdmitRow.{AdmitRow}
@@ -38,28 +38,11 @@ pub one_image : (o : Operations) (part : Option (List ℕ)) (slices : List (Opti
 one_image o None slices now is = ap (λ (q : Operations). admitted q (images_in slices)) is
 one_image o (Some slice) slices now is = ap (λ (q : Operations). admitted q (images_in slices)) is
 
-pub row_skipped : (o : Operations) (file number : ℕ) → file_rows file number (slice_rows o (None ∷ [])) ≡ record { file = file; slice = number; taken = Skipped } ∷ []
-unfolding file_rows slice_rows
-row_skipped o file number = refl
+-- ---- what results say
 
-pub row_taken : (o : Operations) (file number : ℕ) (slice : List ℕ) (taken : Taken) → taken ≡ taken_of o slice → file_rows file number (slice_rows o (Some slice ∷ [])) ≡ record { file = file; slice = number; taken = taken } ∷ []
-unfolding file_rows slice_rows
-row_taken o file number slice taken is = ap (λ (t : Taken). record { file = file; slice = number; taken = t } ∷ []) (sym is)
-
-pub no_rows : (o : Operations) (file number : ℕ) → file_rows file number (slice_rows o []) ≡ []
-unfolding file_rows slice_rows
-no_rows o file number = refl
-
--- ---- what results and lengths say
-
-pub then_ok : {X E P Q : Type 0} (r : Result X E) → (P → Q) → OnOk r P → OnOk r Q
-then_ok (Ok x) step p = step p
-then_ok (Err e) step p = p
+pub then_ok : {X E P Q : Type 0} (r : Result X E) → OnOk r P → (P → Q) → OnOk r Q
+then_ok r p step = on_ok_weaker r step p
 
 pub always : {X E P : Type 0} (r : Result X E) → P → OnOk r P
 always (Ok x) p = p
 always (Err e) p = tt
-
-pub nil_of : {X : Type 0} (xs : List X) → length xs ≡ 0 → xs ≡ []
-nil_of [] none = refl
-nil_of (x ∷ xs) none = absurd (omega (arith, none))

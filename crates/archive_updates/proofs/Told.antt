@@ -1,6 +1,5 @@
 -- What a command makes that merges IN with operations and tells which of them are new.
-use Rattle.std.proofs.Common.{◌≡◌, ◌++◌, ℕ, Bool, List, [], map, Result, Ok, Err, refl, ap, sym, ◌∙◌}
-use Rattle.std.specs.Prelude.{IfOk}
+use Rattle.std.proofs.Common.{◌≡◌, ◌++◌, ℕ, Bool, List, [], map, Result, Err, refl, ap, sym, ◌∙◌}
 use Rattle.std.specs.Cmp.Lexicographic.{slice_cmp, nat_list_cmp_total}
 use Rattle.std.specs.FinSet as set
 use Rattle.std.specs.List.Sorted.{IsStrictlySortedBy}
@@ -23,16 +22,9 @@ use Rattle.command_ends.specs.declared.faults.Status.{Status}
 use Rattle.command_ends.specs.Ends.{EndsAsItComes, HasTaken, MakesArchive, StopsAmidst}
 use Rattle.command_ends.specs.Inputs.{IsKnown, IsRefusedArchive, Reader, Unfailed}
 use Rattle.command_ends.specs.Outputs.{Out, PlacesNothing, Publishes, Takes, Writer}
-use Rattle.command_ends.proofs.Amidst.{published_amidst, stopped_amidst, stops_alike}
 use Rattle.archive_updates.specs.InnerTelling.{IsJoinedTelling, MakesTold, telling}
-use Rattle.archive_updates.specs.Joining.{MakesJoin, joining}
-use Rattle.archive_updates.proofs.AtHand.{sizes_are}
-
--- ---- what a result says
-
-pub ok_then : {X E : Type 0} (P Q : X → Type 0) (r : Result X E) → ((x : X) → P x → Q x) → IfOk r P → IfOk r Q
-ok_then P Q (Ok x) step p = step x p
-ok_then P Q (Err e) step p = tt
+use Rattle.archive_updates.specs.Joining.{joining}
+use Rattle.archive_updates.proofs.AtHand.{archive_published, join_stopped}
 
 -- ---- operations in order
 
@@ -49,33 +41,21 @@ text_in_order operations up = ap (text_of OldArchive) (sym (listed_in_order oper
 -- ---- IN, merged with them
 
 module _ {R : Type 0} (input : Reader R) (operations : Operations) (lines_of : (List ℕ → Bool) → List ℕ) where
-  -- what it makes is the join with what they make
-  joins_made : (text told : List ℕ) → MakesArchive (MakesTold input operations lines_of) text told → MakesJoin input (content_of operations) text told
-  joins_made text told m = record {
-    content = m.makes.before;
-    is_content = m.makes.is_content;
-    archive = m.makes.archive;
-    text_is = m.text_is ∙ ap written m.makes.content_is;
-  }
-
-  -- what stops the join stops it
+  -- what stops the join with what they make stops it
   pub told_stopped : (out : Out) (report : Writer) (fault : CommandFault) → StopsAmidst (joining input (content_of operations)) (IsKnown input) out.draft fault → HasTaken out.draft fault → PlacesNothing out → Takes report []
       → EndsAsItComes (telling input operations lines_of) (IsKnown input) out report (Err fault)
-  told_stopped out report fault s =
-      stopped_amidst (MakesArchive (MakesTold input operations lines_of)) (IsRefusedArchive 0 input) (Unfailed input) (IsKnown input) out report fault
-      (stops_alike (MakesJoin input (content_of operations)) (MakesArchive (MakesTold input operations lines_of)) (IsRefusedArchive 0 input) (IsRefusedArchive 0 input) (Unfailed input) (Unfailed input) (IsKnown input) (IsKnown input) out.draft
-      joins_made (λ at why r. r) (λ u. u) (λ k. k) fault s)
+  told_stopped =
+      join_stopped input (content_of operations) (MakesArchive (MakesTold input operations lines_of)) (λ text told m. record {
+        content = m.makes.before;
+        is_content = m.makes.is_content;
+        archive = m.makes.archive;
+        text_is = m.text_is ∙ ap written m.makes.content_is;
+      })
 
   -- and what it makes is published
   pub told_published : {W : Type 0} (draft : Stream W) (sizes : Sizes) (turns : List Turn) (withdraws : Bool) (j : IsJoinedTelling input operations draft sizes turns withdraws) (lines : List ℕ) → lines ≡ lines_of (changes j.joined.content) → (out : Out) (report : Writer) (result : Result Status CommandFault)
       → Publishes out report (written (joined j.joined.content (content_of operations))) (lines ++ archive_line sizes) result → EndsAsItComes (telling input operations lines_of) (IsKnown input) out report result
   told_published draft sizes turns withdraws j lines lines_are out report result =
-      let content : Operations = joined j.joined.content (content_of operations) in
-      published_amidst (MakesArchive (MakesTold input operations lines_of)) (IsRefusedArchive 0 input) (Unfailed input) (IsKnown input) out report result (written content) (lines ++ archive_line sizes) j.joined.unfailed
-      (record {
-        content = content;
-        lines = lines;
-        makes = record { before = j.joined.content; is_content = j.joined.is_content; archive = j.joined.archive; content_is = refl; lines_are = lines_are };
-        text_is = refl;
-        told_is = ap (λ (s : Sizes). lines ++ archive_line s) (sizes_are sizes content j.joined.written_is.records_are j.joined.written_is.bytes_are);
-      })
+      let i = j.joined in
+      archive_published (MakesTold input operations lines_of) (IsRefusedArchive 0 input) (Unfailed input) (IsKnown input) draft sizes (joined i.content (content_of operations)) lines out report result i.unfailed
+      (record { before = i.content; is_content = i.is_content; archive = i.archive; content_is = refl; lines_are = lines_are }) i.written_is

@@ -1,5 +1,5 @@
 -- A copy of those records of an archive that a summary does not name, by the texts.
-use Rattle.std.proofs.Common.{◌≡◌, ℕ, ◌≤◌, ◌<◌, List, [], ◌∷◌, ◌++◌, length, take, MatchResult, Option, Some, Result, Ok, Err, refl, sym, ap, ◌∙◌, subst, arith, inl, inr, append_assoc, length-append, length-take-le}
+use Rattle.std.proofs.Common.{◌≡◌, ℕ, ◌≤◌, ◌<◌, List, [], ◌∷◌, ◌++◌, length, take, MatchResult, Option, Some, Result, Ok, Err, refl, sym, ap, ◌∙◌, arith, inl, inr, append_assoc, length-append, length-take-le}
 use Rattle.std.proofs.lemmas.List.{take-append-le}
 use Rattle.std.specs.Prelude.{IfOk, IfErr}
 use Rattle.std.specs.List.{concat}
@@ -27,7 +27,7 @@ use Rattle.archive_records.proofs.Made.{read_to, taken_listing}
 use Rattle.archive_records.proofs.Puts.{delta_count, delta_parts}
 use Rattle.archive_records.proofs.Versions.{Formed, formed, formed_content, formed_text, one_content}
 use Rattle.record_merge.proofs.Fronts.{before, front_of, taken_rest, text_whole}
-use Rattle.archive_updates.specs.Copying.{BlamesDevices, CopiesUnnamed, HasDraft, IsCause, IsCopiedToEnd, IsCopiedUpTo, IsCopiedWhole, StopsCopy, StopsCopyBy, copy_of}
+use Rattle.archive_updates.specs.Copying.{BlamesDevices, BlamesOne, CopiesUnnamed, HasDraft, IsCause, IsCopiedToEnd, IsCopiedUpTo, IsCopiedWhole, StopsCopy, StopsCopyBy, copy_of}
 use Rattle.archive_updates.proofs.Beginnings.{good_formed}
 use Rattle.archive_updates.proofs.Copied.{copy_more}
 
@@ -70,7 +70,7 @@ taken_front Summary_file k done more a = absurd (no_summary_text k)
 first_in : (w0 w1 : Option (List ℕ)) (front tail whole : List ℕ) (n : ℕ) → whole ≡ front ++ tail → 0 < length tail → n ≤ length front → Appends w0 w1 (take n front) → WritesFirst w0 w1 whole n
 first_in w0 w1 front tail whole n is some within gained = record {
   within = omega (arith, ap length is, length-append front tail);
-  gained = subst (Appends w0 w1) (sym (ap (take n) is ∙ take-append-le n front tail within)) gained;
+  gained = rw (is, take-append-le n front tail within) gained;
 }
 
 -- ---- what was written of a text that is known
@@ -84,17 +84,14 @@ module _ (s : Entries) (text : List ℕ) (o : Operations) (content : IsContent o
       let f = formed o text content is in
       let k = taken_rest text (magic_of file ++ (concat u.records ++ u.rest)) b u.taken in
       let begun : text ≡ magic_of file ++ ((concat u.records ++ u.rest) ++ k.0) = k.1 ∙ append_assoc (magic_of file) (concat u.records ++ u.rest) k.0 in
-      let split : text ≡ (magic_of file ++ concat u.records) ++ (u.rest ++ k.0) =
-      begun ∙ ap (λ (t : List ℕ). magic_of file ++ t) (append_assoc (concat u.records) u.rest k.0) ∙ sym (append_assoc (magic_of file) (concat u.records) (u.rest ++ k.0)) in
+      let split : text ≡ (magic_of file ++ concat u.records) ++ (u.rest ++ k.0) = k.1 ∙ simp append_assoc in
       let longest = front_of file kind text f.records ((concat u.records ++ u.rest) ++ k.0, begun) (good_formed f.format f.archive text f.records f.ordered f.apart f.whole) in
       let more = before file text (Some (u.rest ++ k.0)) u.records f.records split u.ordered u.apart longest in
       let same : f.format ≡ file =
       sym (format_magic f.format f.archive text (concat f.records ++ ending f.format (length f.records)) f.whole) ∙ format_magic file kind text ((concat u.records ++ u.rest) ++ k.0) begun in
-      let ordered : InOrder file [] (u.records ++ more.0) = subst (InOrder file []) more.1 (subst (λ (g : Format). InOrder g [] f.records) same f.ordered) in
+      let ordered : InOrder file [] (u.records ++ more.0) = rw (← more.1, ← same) f.ordered in
       let ms = taken_front file kind u.records more.0 ordered in
-      let kept_all = taken_of file u.records ++ ms.0 in
-      let o_is : o ≡ set_of (taken_of file (u.records ++ more.0)) =
-      f.content ∙ ap (λ (g : Format). set_of (taken_of g f.records)) same ∙ ap (λ (rs : List (List ℕ)). set_of (taken_of file rs)) more.1 in
+      let o_is : o ≡ set_of (taken_of file (u.records ++ more.0)) = rw (← more.1, ← same) f.content in
       let end = end_record (length (missing s (taken_of file (u.records ++ more.0)))) in
       let whole : written (delta o s) ≡ copy_of s (taken_of file u.records) ++ (concat (missing s ms.0) ++ end) =
       ap (λ (p : Operations). written (delta p s)) o_is ∙ delta_text s file kind (u.records ++ more.0) ordered
@@ -109,21 +106,21 @@ module _ (s : Entries) (text : List ℕ) (o : Operations) (content : IsContent o
       let made = set_of (taken_of file u.records) in
       let form : Formed made text = record { format = file; archive = kind; records = u.records; ordered = u.ordered; apart = u.apart; whole = all; content = refl } in
       let same : o ≡ made = one_content text o made content (formed_content made text form) is (formed_text made text form) in
-      subst (λ (t : List ℕ). WritesFirst w0 w1 t n) (sym (ap (λ (p : Operations). written (delta p s)) same ∙ delta_text s file kind u.records u.ordered)) u.first
+      rw (same, delta_text s file kind u.records u.ordered) u.first
 
   first_none : n ≡ 0 → Appends w0 w1 [] → First
   first_none zero gained =
       let f = formed o text content is in
       let kept_of = taken_of f.format f.records in
       let end = end_record (length (missing s kept_of)) in
-      let whole : written (delta o s) ≡ [] ++ (copy_of s kept_of ++ end) = ap (λ (p : Operations). written (delta p s)) f.content ∙ delta_text s f.format f.archive f.records f.ordered in
+      let whole : written (delta o s) ≡ copy_of s kept_of ++ end = ap (λ (p : Operations). written (delta p s)) f.content ∙ delta_text s f.format f.archive f.records f.ordered in
       let some : 0 < length (copy_of s kept_of ++ end) = omega (arith, length-append (copy_of s kept_of) end, length-end_record (length (missing s kept_of))) in
-      subst (WritesFirst w0 w1 (written (delta o s))) (sym zero) (first_in w0 w1 [] (copy_of s kept_of ++ end) (written (delta o s)) 0 whole some (omega arith) gained)
+      rw zero (first_in w0 w1 [] (copy_of s kept_of ++ end) (written (delta o s)) 0 whole some (omega arith) gained)
 
   pub first_of : (a : Option (List ℕ)) → a ≡ Some text → HasDraft s a b w0 w1 n → First
   first_of a given (inl none) = first_none none.0 none.1
-  first_of a given (inr (file, kind, inl u)) = first_up_to file kind (subst (λ (x : Option (List ℕ)). IsCopiedUpTo file s x b w0 w1 n) given u)
-  first_of a given (inr (file, kind, inr u)) = first_to_end file kind (subst (λ (x : Option (List ℕ)). IsCopiedToEnd file s x b w0 w1 n) given u)
+  first_of a given (inr (file, kind, inl u)) = first_up_to file kind (rw given at u)
+  first_of a given (inr (file, kind, inr u)) = first_to_end file kind (rw given at u)
 
 -- ---- how much was written
 
@@ -139,11 +136,10 @@ drafted s a b w0 w1 n (inr (file, kind, inr u)) =
 -- ---- what came of it
 
 module _ {R W : Type 0} (left : R → Option (List ℕ)) (failures : R → ℕ) (old new : R) (held : W → Option (List ℕ)) (write_failures : W → ℕ) (w w' : W) (s : Entries) where
-  stops_by : (cause : MergeCause) → IsCause (left old) (left new) cause → (e : MergeFault) → e.cause ≡ cause → BlamesDevices {T = Sizes} left failures old new (write_failures w) (write_failures w') (Err (record { cause = cause; written = e.written }))
-      → StopsCopyBy (stream left failures old new) (stream held write_failures w w') cause
-  stops_by (Left fault) st e is blames = (refused Archive_text left failures old new fault st blames.0, blames.1)
-  stops_by (Right fault) st e is blames = absurd st
-  stops_by Write st e is blames = blames
+  stops_by : (cause : MergeCause) → IsCause (left old) (left new) cause → BlamesOne left failures old new (write_failures w) (write_failures w') cause → StopsCopyBy (stream left failures old new) (stream held write_failures w w') cause
+  stops_by (Left fault) st blames = (refused Archive_text left failures old new fault st blames.0, blames.1)
+  stops_by (Right fault) st blames = absurd st
+  stops_by Write st blames = blames
 
   pub unnamed : (r : Result Sizes MergeFault) → IfOk r (λ sizes. IsGathered Archive_text (IsCopiedWhole s (held w) (held w')) (left old) (left new) sizes × IsAtEnd (left new))
       → IfErr r (λ e. IsCause (left old) (left new) e.cause × HasDraft s (left old) (left new) (held w) (held w') e.written)
@@ -157,14 +153,14 @@ module _ {R W : Type 0} (left : R → Option (List ℕ)) (failures : R → ℕ) 
         content = o;
         read = read_whole Archive_text o left failures old new (read_to g) end blames.0;
         written_is = record {
-          written = subst (Appends (held w) (held w')) (sym text) c.written_is;
+          written = rw text c.written_is;
           records_are = c.records_are ∙ delta_number s g.format g.kind_is g.records g.ordered;
           bytes_are = c.bytes_are ∙ ap length (sym text);
           unfailed = blames.1;
         };
       }
   unnamed (Err e) ok (cause, draft) blames = record {
-    by = stops_by e.cause cause e refl blames;
+    by = stops_by e.cause cause blames;
     first = λ o text content is given. first_of s text o content is (left new) (held w) (held w') e.written (left old) given draft;
     count = drafted s (left old) (left new) (held w) (held w') e.written draft;
   }

@@ -1,8 +1,6 @@
-use Rattle.std.proofs.Common.{List, ℕ, refl, subst, sym}
+use Rattle.std.proofs.Common.{refl}
 use Rattle.std.proofs.lemmas.Result.{err_from_is_err_and}
 use Rattle.byte_device.proofs.Known.{Appends-none}
-use Rattle.crash_frames.specs.declared.frame.Frame.{Frame}
-use Rattle.archive_queries.specs.Frames.{TellsFrames}
 use Rattle.archive_queries.proofs.Framed.{archives_refused, frames_refused}
 use Rattle.archive_queries.proofs.Parts.{together_tells}
 use Rattle.command_ends.proofs.Endings.{reported}
@@ -33,8 +31,6 @@ returns g c =
     (record {
       said = c.in_ok-frames.frames.items;
       frames_are = said.is;
-      tells = together_tells _ _ _ _ (λ o tells.
-          subst (λ (text : List ℕ). TellsFrames o c.in_ok-frames.frames.items c.in_ok-status.status text) (sym c.deref-2.ensures.value)
-          (subst (λ (frames : List Frame). TellsFrames o frames c.in_ok-status.status c.in_ok-status.lines.items) c.deref.ensures.value tells)) c.in_ok-status.ensures.is;
+      tells = together_tells _ _ _ _ (λ o tells. rw c.deref-2.ensures.value (rw c.deref.ensures.value at tells)) c.in_ok-status.ensures.is;
     })
     c.publish_bytes.ensures

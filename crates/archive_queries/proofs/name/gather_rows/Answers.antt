@@ -2,23 +2,17 @@ use Rattle.std.proofs.Common.{refl}
 use Rattle.std.proofs.lemmas.Result.{err_from_is_err_and}
 use Rattle.command_ends.proofs.Readers.{none_failed, none_touched}
 use Rattle.archive_queries.proofs.NamesTogether.{entries_together, names_together}
-use Rattle.archive_queries.proofs.Parts.{first_refused, other_refused}
+use Rattle.archive_queries.proofs.Parts.{first_refused, other_refused, wanting_first}
 use Rattle.archive_queries.proofs.name.gather_rows.Goals as goal
 
 pub returns-in_err-clone : goal.returns-in_err-clone
-returns-in_err-clone g c =
-    let p = err_from_is_err_and c.from_residual.result c.from_residual.ensures.1 in
-    rw (p.1, p.2) (refl, none_failed g.R.Source.left g.R.Source.failures c.args.others.now)
+returns-in_err-clone g c = wanting_first _ _ _ _ _ _ c.from_residual.ensures.1 refl
 
 pub returns-in_err-clone-2 : goal.returns-in_err-clone-2
-returns-in_err-clone-2 g c =
-    let p = err_from_is_err_and c.from_residual-in_err-clone-2.result c.from_residual-in_err-clone-2.ensures.1 in
-    rw (p.1, p.2) (refl, none_failed g.R.Source.left g.R.Source.failures c.args.others.now)
+returns-in_err-clone-2 g c = wanting_first _ _ _ _ _ _ c.from_residual-in_err-clone-2.ensures.1 refl
 
 pub returns-in_err-clone-3 : goal.returns-in_err-clone-3
-returns-in_err-clone-3 g c =
-    let p = err_from_is_err_and c.from_residual-in_err-clone-3.result c.from_residual-in_err-clone-3.ensures.1 in
-    rw (p.1, p.2) (refl, none_failed g.R.Source.left g.R.Source.failures c.args.others.now)
+returns-in_err-clone-3 g c = wanting_first _ _ _ _ _ _ c.from_residual-in_err-clone-3.ensures.1 refl
 
 pub returns-in_err-first : goal.returns-in_err-first
 returns-in_err-first g c =

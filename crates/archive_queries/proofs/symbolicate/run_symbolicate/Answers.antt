@@ -1,9 +1,8 @@
-use Rattle.std.proofs.Common.{ap, refl, sym, ◌∙◌, subst, arith}
+use Rattle.std.proofs.Common.{ap, refl, ◌∙◌, arith}
 use Rattle.std.proofs.lemmas.Result.{err_from_is_err_and}
 use Rattle.byte_device.proofs.Known.{Appends-none}
 use Rattle.archive_core.specs.Key.{key_bytes}
 use Rattle.archive_core.specs.Part.{is_under}
-use Rattle.archive_queries.specs.Symbolicate.{TellsAddresses}
 use Rattle.archive_queries.proofs.Answered.{told_alike}
 use Rattle.command_ends.proofs.Endings.{reported}
 use Rattle.command_ends.proofs.Readers.{none_failed}
@@ -22,10 +21,8 @@ returns-in_err-kept g c =
 
 pub returns : goal.returns
 returns g c =
-    let key = c.args.key.now in
-    let told = subst (TellsAddresses (g.A.Join.content c.in_ok-kept.kept) key c.args.load c.args.addresses.now c.in_ok-status.status) (sym c.deref.ensures) c.in_ok-status.ensures in
     reported _ _ _ _ c.publish_report.result _ _ c.in_ok-kept.ensures.unfailed
     (together_tells _ _ _ _ (λ o alike.
-    told_alike (g.A.Join.content c.in_ok-kept.kept) o key c.args.load c.args.addresses.now c.in_ok-status.status c.deref.result.now
-    (alike (key_bytes key) (omega (arith, c.bytes_of-front.ensures.long)) (λ r h. ap (λ front. is_under front r) c.bytes_of-front.ensures.bytes ∙ h)) told) c.in_ok-kept.ensures.is)
+    told_alike (g.A.Join.content c.in_ok-kept.kept) o c.args.key.now _ _ _ _
+    (alike (key_bytes c.args.key.now) (omega (arith, c.bytes_of-front.ensures.long)) (λ r h. ap (λ front. is_under front r) c.bytes_of-front.ensures.bytes ∙ h)) (rw c.deref.ensures c.in_ok-status.ensures)) c.in_ok-kept.ensures.is)
     c.publish_report.ensures

@@ -1,5 +1,4 @@
-use Rattle.std.proofs.Common.{Contains, ◌∙◌, subst, sym, List}
-use Rattle.archive_core.specs.declared.keys.SliceKey.{SliceKey}
+use Rattle.std.proofs.Common.{◌∙◌, sym}
 use Rattle.archive_reading.proofs.Questioned.{answers_first}
 use Rattle.archive_queries.proofs.Parts.{behind_there, first_there}
 use Rattle.archive_queries.proofs.together.answer_all.Goals as goal
@@ -11,7 +10,7 @@ questions-preserved g c =
     let first = sym c.next_key.ensures.key ∙ c.in-Some.is in
     let more = c.in_ok-answer.ensures in
     record {
-      within = λ later there. c.questions.invariant.within later (behind_there left later (subst (λ (keys : List SliceKey). Contains keys later) more.left there));
+      within = λ later there. c.questions.invariant.within later (behind_there left later (rw more.left at there));
       answered = λ start o alike was.
           more.answered start o (answers_first left key (g.A.Join.content c.args.archive.now) o first (alike key (c.questions.invariant.within key (first_there left key first)) c.in-Some.ensures.long))
           (c.questions.invariant.answered start o alike was);

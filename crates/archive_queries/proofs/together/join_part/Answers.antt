@@ -1,5 +1,3 @@
-use Rattle.std.proofs.Common.{ap, ◌∙◌}
-use Rattle.archive_core.specs.Content.{Operations, joined}
 use Rattle.archive_queries.proofs.together.join_part.Goals as goal
 
 pub returns : goal.returns
@@ -10,7 +8,7 @@ returns g c =
         content = part.whole;
         is_content = part.is_content;
         text = part.text;
-        is_true = c.in_ok-take_all.ensures.joined ∙ ap (λ (o : Operations). joined (g.A.Join.content c.args.kept.now) o) part.kept;
+        is_true = rw (← part.kept) c.in_ok-take_all.ensures.joined;
       };
       unfailed = c.in_ok-other.ensures.unfailed;
     }

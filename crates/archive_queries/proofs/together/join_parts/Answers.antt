@@ -1,9 +1,8 @@
-use Rattle.std.proofs.Common.{◌≡◌, ◌<◌, length, take, arith, refl, subst, ap, ◌∙◌}
+use Rattle.std.proofs.Common.{◌≡◌, ◌<◌, length, arith, refl}
 use Rattle.std.proofs.lemmas.Result.{err_from_is_err_and}
 use Rattle.command_ends.specs.Archives.{file_place}
-use Rattle.command_ends.specs.Inputs.{IsArchive, IsArchiveRefused, reader, readers}
+use Rattle.command_ends.specs.Inputs.{IsArchive, IsArchiveRefused}
 use Rattle.command_ends.proofs.Readers.{all_read, none_failed, one_more, refused_at, rest_kept, same_at, unfailed_more}
-use Rattle.archive_queries.specs.InnerTogether.{HasJoinedParts}
 use Rattle.archive_queries.proofs.Parts.{parts_archives, parts_more, parts_none}
 use Rattle.archive_queries.proofs.together.join_parts.Goals as goal
 
@@ -12,43 +11,27 @@ others-init g c = record { joined = parts_none _ _; unfailed = none_failed g.R.S
 
 pub others-preserved : goal.others-preserved
 others-preserved g c =
-    let left = g.R.Source.left in
-    let failures = g.R.Source.failures in
-    let others = c.args.others.now in
-    let now = c.others.others in
-    let index = c.others.index in
-    let other = c.index-others-index.result in
-    let after = c.join_part.new.archive in
     let got = c.in_ok-join_part.ensures.is in
-    let lt : index < length others = omega arith in
-    let is = same_at now others index other c.others.invariant.rest c.index-others-index.is in
+    let lt : c.others.index < length c.args.others.now = omega arith in
+    let is = same_at c.others.others c.args.others.now c.others.index c.index-others-index.result c.others.invariant.rest c.index-others-index.is in
     record {
-      joined = parts_more (take index (readers left failures others now)) _ (g.S.Selects.picked c.args.select.now) (reader left failures other after) (g.A.Join.content c.args.kept.now) (g.A.Join.content c.others.kept) (g.A.Join.content c.join_part.new.kept) got.content
-          (one_more left failures others now index other after lt c.others.auto.others is) c.others.invariant.joined got.is_content (rw (← c.index-others-index.is) at got.text) got.is_true;
-      unfailed = unfailed_more left failures others now index other after lt c.others.auto.others is c.others.invariant.unfailed (rw (← c.index-others-index.is) at c.in_ok-join_part.ensures.unfailed);
-      rest = rest_kept now others index after c.others.invariant.rest;
+      joined = parts_more _ _ _ _ _ _ _ got.content (one_more _ _ _ _ _ _ _ lt c.others.auto.others is) c.others.invariant.joined got.is_content (rw (← c.index-others-index.is) at got.text) got.is_true;
+      unfailed = unfailed_more _ _ _ _ _ _ _ lt c.others.auto.others is c.others.invariant.unfailed (rw (← c.index-others-index.is) at c.in_ok-join_part.ensures.unfailed);
+      rest = rest_kept c.others.others c.args.others.now c.others.index c.join_part.new.archive c.others.invariant.rest;
     }
 
 pub returns-in_err-join_part : goal.returns-in_err-join_part
 returns-in_err-join_part g c =
-    let others = c.args.others.now in
-    let now = c.others.others in
-    let index = c.others.index in
     let p = err_from_is_err_and c.from_residual-in_err-join_part.result c.from_residual-in_err-join_part.ensures.1 in
-    let lt : index < length others = omega arith in
-    rw (p.1, p.2)
-    (refused_at g.R.Source.left g.R.Source.failures file_place IsArchive IsArchiveRefused others now index c.index-others-index.result _ _ lt c.others.auto.others
-    (same_at now others index _ c.others.invariant.rest c.index-others-index.is) (parts_archives _ _ _ _ c.others.invariant.joined) c.others.invariant.rest c.others.invariant.unfailed
+    let lt : c.others.index < length c.args.others.now = omega arith in
+    let is = same_at c.others.others c.args.others.now c.others.index c.index-others-index.result c.others.invariant.rest c.index-others-index.is in
+    rw (p.1, p.2) (refused_at _ _ file_place IsArchive IsArchiveRefused _ _ _ _ _ _ lt c.others.auto.others is (parts_archives _ _ _ _ c.others.invariant.joined) c.others.invariant.rest c.others.invariant.unfailed
     (rw (← c.index-others-index.is) at c.in_err-join_part.ensures))
 
 pub returns : goal.returns
 returns g c =
-    let others = c.args.others.now in
-    let now = c.others.others in
-    let end : c.others.index ≡ length others = omega arith in
+    let end : c.others.index ≡ length c.args.others.now = omega arith in
     record {
-      is = subst (λ seen. HasJoinedParts seen (g.S.Selects.picked c.args.select.now) (g.A.Join.content c.args.kept.now) (g.A.Join.content c.others.kept))
-          (ap (λ n. take n (readers g.R.Source.left g.R.Source.failures others now)) end ∙ all_read g.R.Source.left g.R.Source.failures others now c.others.auto.others)
-          c.others.invariant.joined;
+      is = rw (end, all_read g.R.Source.left g.R.Source.failures c.args.others.now c.others.others c.others.auto.others) at c.others.invariant.joined;
       unfailed = c.others.invariant.unfailed;
     }

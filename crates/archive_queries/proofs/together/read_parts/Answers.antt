@@ -1,13 +1,11 @@
 use Rattle.std.proofs.Common.{refl}
 use Rattle.std.proofs.lemmas.Result.{err_from_is_err_and}
 use Rattle.command_ends.proofs.Readers.{none_failed, none_touched}
-use Rattle.archive_queries.proofs.Parts.{first_refused, held_together, other_refused}
+use Rattle.archive_queries.proofs.Parts.{first_refused, held_together, other_refused, wanting_first}
 use Rattle.archive_queries.proofs.together.read_parts.Goals as goal
 
 pub returns-in_err-clone : goal.returns-in_err-clone
-returns-in_err-clone g c =
-    let p = err_from_is_err_and c.from_residual.result c.from_residual.ensures.1 in
-    rw (p.1, p.2) (refl, none_failed g.R.Source.left g.R.Source.failures c.args.others.now)
+returns-in_err-clone g c = wanting_first _ _ _ _ _ _ c.from_residual.ensures.1 refl
 
 pub returns-in_err-kept : goal.returns-in_err-kept
 returns-in_err-kept g c =

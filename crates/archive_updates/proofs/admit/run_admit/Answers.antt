@@ -1,14 +1,12 @@
 use Rattle.std.proofs.Common.{refl}
+use Rattle.std.proofs.lemmas.Result.{on_ok_weaker}
 use Rattle.byte_device.proofs.Known.{Appends-none}
-use Rattle.command_ends.specs.declared.faults.Place.TheVariants.{File}
-use Rattle.command_ends.specs.Inputs.{EachKnown, EachUnfailed, IsAccepted, IsFileRefused, IsFirstRefused, IsKnown, reader, readers}
+use Rattle.command_ends.specs.Inputs.{reader}
 use Rattle.command_ends.specs.Outputs.{out_of, outs, writer}
-use Rattle.archive_updates.specs.Admit.{MakesAdmitted}
 use Rattle.archive_updates.specs.InnerArriving.{records_of}
 use Rattle.archive_updates.proofs.Behind.{told_behind}
 use Rattle.archive_updates.proofs.Come.{admitted_in_turn}
 use Rattle.archive_updates.proofs.Noted.{retired_noted}
-use Rattle.archive_updates.proofs.Taking.{then_ok}
 use Rattle.archive_updates.proofs.admit.run_admit.Goals as goal
 
 pub write_admitted-requires : goal.write_admitted-requires
@@ -17,23 +15,13 @@ write_admitted-requires g c = let h = c.in-Ok.ensures.is in (records_of h.taken.
 pub returns-in-Ok-clause-ends : goal.returns-in-Ok-clause-ends
 returns-in-Ok-clause-ends g c =
     let h = c.in-Ok.ensures.is in
-    let input = reader g.R.Source.left g.R.Source.failures c.args.input.now c.write_admitted.new.input in
-    let files = readers g.S.Source.left g.S.Source.failures c.args.files.now c.admit_files.new.files in
-    admitted_in_turn input files
+    admitted_in_turn (reader g.R.Source.left g.R.Source.failures c.args.input.now c.write_admitted.new.input) _
     (out_of (outs g.T.Draft.Sink.held g.T.Draft.Sink.failures g.T.Target.placed g.T.Target.failures c.args.out.now c.write_admitted.new.out))
-    (writer g.P.Sink.held g.P.Sink.failures c.args.report.now c.write_admitted.new.report)
-    c.in-Ok.arrivals.came c.in-Ok.arrivals.places.items c.in-Ok.arrivals.rows.items h c.in-Ok.ensures.unfailed c.write_admitted.result (c.write_admitted.ensures.ends (records_of h.taken.texts) h.placed)
+    (writer g.P.Sink.held g.P.Sink.failures c.args.report.now c.write_admitted.new.report) _ _ _ h c.in-Ok.ensures.unfailed c.write_admitted.result (c.write_admitted.ensures.ends (records_of h.taken.texts) h.placed)
 
 pub returns-in-Err-clause-ends : goal.returns-in-Err-clause-ends
 returns-in-Err-clause-ends g c =
-    let input = reader g.R.Source.left g.R.Source.failures c.args.input.now c.refused_behind.new.input in
-    let files = readers g.S.Source.left g.S.Source.failures c.args.files.now c.admit_files.new.files in
-    told_behind (MakesAdmitted input files) input (IsFirstRefused (λ n. File n) IsAccepted IsFileRefused files) (EachUnfailed files) (IsKnown input × EachKnown files)
-    (out_of (outs g.T.Draft.Sink.held g.T.Draft.Sink.failures g.T.Target.placed g.T.Target.failures c.args.out.now c.args.out.now))
-    (writer g.P.Sink.held g.P.Sink.failures c.args.report.now c.args.report.now) c.in-Err.fault c.refused_behind.result c.in-Err.ensures c.refused_behind.ensures ((Appends-none _, refl), (refl, refl)) (Appends-none _, refl)
+    told_behind _ _ _ _ _ _ _ c.in-Err.fault c.refused_behind.result c.in-Err.ensures c.refused_behind.ensures ((Appends-none _, refl), (refl, refl)) (Appends-none _, refl)
 
 pub returns-in-Ok-clause-noted : goal.returns-in-Ok-clause-noted
-returns-in-Ok-clause-noted g c =
-    let input = reader g.R.Source.left g.R.Source.failures c.args.input.now c.write_admitted.new.input in
-    let files = readers g.S.Source.left g.S.Source.failures c.args.files.now c.admit_files.new.files in
-    then_ok c.write_admitted.result (retired_noted input files c.in-Ok.arrivals.came c.in-Ok.arrivals.rows.items c.in-Ok.ensures.is.taken c.args.notes.now.items c.write_admitted.new.notes.items) c.write_admitted.ensures.noted
+returns-in-Ok-clause-noted g c = on_ok_weaker c.write_admitted.result (retired_noted _ _ _ _ c.in-Ok.ensures.is.taken _ _) c.write_admitted.ensures.noted

@@ -1,13 +1,13 @@
-use Rattle.std.proofs.Common.{◌++◌, ℕ, List, ap, length, map, subst, sym, ◌∙◌}
+use Rattle.std.proofs.Common.{◌++◌, ap, length, map, sym, ◌∙◌}
 use Rattle.std.proofs.lemmas.List.{length-map}
+use Rattle.std.proofs.lemmas.Result.{IfOk-weaker}
 use Rattle.join_core.specs.Listing.{listing}
 use Rattle.archive_core.specs.Record.{record_bytes}
 use Rattle.record_merge.specs.Turns.{turn_of}
 use Rattle.record_merge.proofs.Lost.{new_changes}
 use Rattle.report_text.specs.Report.{admit_lines}
-use Rattle.archive_updates.specs.InnerArriving.{ArePlaced, rows_again}
+use Rattle.archive_updates.specs.InnerArriving.{rows_again}
 use Rattle.archive_updates.proofs.Noted.{all_noted}
-use Rattle.archive_updates.proofs.Told.{ok_then}
 use Rattle.archive_updates.proofs.Taking.{always}
 use Rattle.archive_updates.proofs.admit.tell_arrivals.Goals as goal
 
@@ -17,17 +17,12 @@ note_retired-requires c =
     c.requires.told ∙ sym (ap length c.operations.ensures.listed) ∙ long
 
 pub told_again-again-requires : goal.told_again-again-requires
-told_again-again-requires c =
-    let came = c.args.arrivals.came in
-    let p = c.requires.placed in
-    (listing came, p.0, subst (λ (places : List ℕ). ArePlaced (listing came) places c.args.arrivals.rows.items p.0) (sym c.deref.ensures.value) p.1, c.requires.told)
+told_again-again-requires c = let p = c.requires.placed in (listing c.args.arrivals.came, p.0, rw c.deref.ensures.value p.1, c.requires.told)
 
 pub returns-clause-lines : goal.returns-clause-lines
 returns-clause-lines c =
-    let came = c.args.arrivals.came in
-    ok_then _ _ c.admit_lines.result (λ lines is o records placed turns.
-    is ∙ ap admit_lines (c.deref-2.ensures.value
-    ∙ c.told_again-again.ensures (turn_of o) (listing came) records (subst (λ (places : List ℕ). ArePlaced (listing came) places c.args.arrivals.rows.items records) (sym c.deref.ensures.value) placed) turns
+    IfOk-weaker c.admit_lines.result _ _ (λ lines is o records placed turns.
+    is ∙ ap admit_lines (c.deref-2.ensures.value ∙ c.told_again-again.ensures (turn_of o) (listing c.args.arrivals.came) records (rw c.deref.ensures.value placed) turns
     ∙ (λ i. rows_again (λ r. new_changes o r i) c.args.arrivals.rows.items records))) c.admit_lines.ensures
 
 pub returns-clause-noted : goal.returns-clause-noted

@@ -1,9 +1,8 @@
 use Rattle.std.proofs.Common.{refl}
 use Rattle.std.proofs.lemmas.Result.{err_from_is_err_and}
 use Rattle.byte_device.proofs.Known.{Appends-none}
-use Rattle.command_ends.specs.Inputs.{IsKnown, IsRefusedOps, Unfailed, reader}
+use Rattle.command_ends.specs.Inputs.{reader}
 use Rattle.command_ends.specs.Outputs.{out_of, outs, writer}
-use Rattle.archive_updates.specs.Apply.{MakesApplied}
 use Rattle.archive_updates.proofs.Behind.{told_behind, wanting}
 use Rattle.archive_updates.proofs.Counts.{applied, few_new}
 use Rattle.archive_updates.proofs.apply.run_apply.Goals as goal
@@ -11,11 +10,7 @@ use Rattle.archive_updates.proofs.apply.run_apply.Goals as goal
 pub returns-in_err-kept : goal.returns-in_err-kept
 returns-in_err-kept g c =
     let p = err_from_is_err_and c.from_residual.result c.from_residual.ensures.1 in
-    let input = reader g.R.Source.left g.R.Source.failures c.args.input.now c.args.input.now in
-    let ops = reader g.S.Source.left g.S.Source.failures c.args.ops.now c.args.ops.now in
-    rw (p.1, p.2) (wanting (MakesApplied input ops) input (IsRefusedOps ops) (Unfailed ops) (IsKnown input × IsKnown ops)
-    (out_of (outs g.T.Draft.Sink.held g.T.Draft.Sink.failures g.T.Target.placed g.T.Target.failures c.args.out.now c.args.out.now))
-    (writer g.P.Sink.held g.P.Sink.failures c.args.report.now c.args.report.now) refl refl ((Appends-none _, refl), (refl, refl)) (Appends-none _, refl))
+    rw (p.1, p.2) (wanting _ _ _ _ _ _ _ refl refl ((Appends-none _, refl), (refl, refl)) (Appends-none _, refl))
 
 pub write_applied-requires-clause-ascending : goal.write_applied-requires-clause-ascending
 write_applied-requires-clause-ascending g c = rw c.deref.ensures.value c.in-Ok.ensures.is.sorted_is.ascending
@@ -32,13 +27,8 @@ pub returns-in-Ok : goal.returns-in-Ok
 returns-in-Ok g c =
     applied (reader g.R.Source.left g.R.Source.failures c.args.input.now c.write_applied.new.input) g.S.Source.left g.S.Source.failures c.args.ops.now c.read_new.new.ops
     (out_of (outs g.T.Draft.Sink.held g.T.Draft.Sink.failures g.T.Target.placed g.T.Target.failures c.args.out.now c.write_applied.new.out))
-    (writer g.P.Sink.held g.P.Sink.failures c.args.report.now c.write_applied.new.report) c.in-Ok.sorted.items c.in-Ok.number c.in-Ok.ensures.is c.in-Ok.ensures.unfailed c.write_applied.result
-    (rw c.deref.ensures.value at c.write_applied.ensures)
+    (writer g.P.Sink.held g.P.Sink.failures c.args.report.now c.write_applied.new.report) c.in-Ok.sorted.items c.in-Ok.number c.in-Ok.ensures.is c.in-Ok.ensures.unfailed c.write_applied.result (rw c.deref.ensures.value at c.write_applied.ensures)
 
 pub returns-in-Err : goal.returns-in-Err
 returns-in-Err g c =
-    let input = reader g.R.Source.left g.R.Source.failures c.args.input.now c.refused_behind.new.input in
-    let ops = reader g.S.Source.left g.S.Source.failures c.args.ops.now c.read_new.new.ops in
-    told_behind (MakesApplied input ops) input (IsRefusedOps ops) (Unfailed ops) (IsKnown input × IsKnown ops)
-    (out_of (outs g.T.Draft.Sink.held g.T.Draft.Sink.failures g.T.Target.placed g.T.Target.failures c.args.out.now c.args.out.now))
-    (writer g.P.Sink.held g.P.Sink.failures c.args.report.now c.args.report.now) c.in-Err.fault c.refused_behind.result c.in-Err.ensures c.refused_behind.ensures ((Appends-none _, refl), (refl, refl)) (Appends-none _, refl)
+    told_behind _ _ _ _ _ _ _ c.in-Err.fault c.refused_behind.result c.in-Err.ensures c.refused_behind.ensures ((Appends-none _, refl), (refl, refl)) (Appends-none _, refl)

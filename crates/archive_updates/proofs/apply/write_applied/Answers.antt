@@ -1,27 +1,19 @@
-use Rattle.std.proofs.Common.{◌-◌, ℕ, Err, ap, inr, arith, map, refl, ◌∙◌}
+use Rattle.std.proofs.Common.{Err, ◌-◌, ℕ, ap, inr, arith, map, refl, ◌∙◌}
 use Rattle.std.specs.List.{count_by}
 use Rattle.std.proofs.lemmas.Result.{err_from_is_err_and}
 use Rattle.archive_core.specs.Record.{record_bytes}
-use Rattle.byte_device.specs.Devices.{stream}
 use Rattle.byte_device.proofs.Known.{Appends-none}
-use Rattle.command_ends.specs.declared.faults.CommandFault.TheVariants.{OutOfMemory}
-use Rattle.command_ends.specs.Inputs.{reader}
-use Rattle.command_ends.specs.Outputs.{out_of, outs, writer}
 use Rattle.record_merge.specs.Turns.{is_new, turn_of}
 use Rattle.record_merge.proofs.Lost.{count_new}
 use Rattle.report_text.specs.Report.{apply_line}
-use Rattle.archive_updates.specs.InnerTelling.{counts_of}
-use Rattle.archive_updates.proofs.Told.{listed_in_order, set_of, told_published, told_stopped}
+use Rattle.command_ends.specs.declared.faults.CommandFault.TheVariants.{OutOfMemory}
+use Rattle.archive_updates.proofs.Told.{listed_in_order, told_published, told_stopped}
 use Rattle.archive_updates.proofs.apply.write_applied.Goals as goal
 
 pub returns-in_err-sizes : goal.returns-in_err-sizes
 returns-in_err-sizes g c =
     let p = err_from_is_err_and c.from_residual.result c.from_residual.ensures.1 in
-    let operations = c.args.operations.now in
-    rw (p.1, p.2) (told_stopped (reader g.R.Source.left g.R.Source.failures c.args.input.now c.tell_operations.new.input) (set_of operations) (counts_of (map record_bytes operations) c.args.number)
-    (out_of (outs g.T.Draft.Sink.held g.T.Draft.Sink.failures g.T.Target.placed g.T.Target.failures c.args.out.now (record { draft = c.tell_operations.new.draft; target = c.args.out.now.target })))
-    (writer g.P.Sink.held g.P.Sink.failures c.args.report.now c.args.report.now) c.in_err-sizes.field-0.0
-    c.in_err-sizes.ensures.1 c.in_err-sizes.ensures.0 (refl, refl) (Appends-none _, refl))
+    rw (p.1, p.2) (told_stopped _ _ _ _ _ _ c.in_err-sizes.ensures.1 c.in_err-sizes.ensures.0 (refl, refl) (Appends-none _, refl))
 
 pub overflow_sub-number : goal.overflow_sub-number
 overflow_sub-number g c =
@@ -35,22 +27,16 @@ overflow_sub-number g c =
 pub returns-in_err-lines : goal.returns-in_err-lines
 returns-in_err-lines g c =
     let p = err_from_is_err_and c.from_residual-in_err-lines.result c.from_residual-in_err-lines.ensures.1 in
-    let operations = c.args.operations.now in
     let j = c.in_ok-sizes.ensures in
-    rw (p.1, p.2) (told_published (reader g.R.Source.left g.R.Source.failures c.args.input.now c.tell_operations.new.input) (set_of operations) (counts_of (map record_bytes operations) c.args.number)
-    (stream g.T.Draft.Sink.held g.T.Draft.Sink.failures c.args.out.now.draft c.tell_operations.new.draft) c.in_ok-sizes.sizes c.in_ok-sizes.told.turns.items c.in_ok-sizes.told.withdraws j _ refl
-    (out_of (outs g.T.Draft.Sink.held g.T.Draft.Sink.failures g.T.Target.placed g.T.Target.failures c.args.out.now (record { draft = c.tell_operations.new.draft; target = c.args.out.now.target })))
-    (writer g.P.Sink.held g.P.Sink.failures c.args.report.now c.args.report.now) (Err OutOfMemory)
-    (inr (j.joined.written_is.written, j.joined.written_is.unfailed), (refl, refl), (Appends-none _, refl)))
+    let whole = j.joined.written_is in
+    rw (p.1, p.2) (told_published _ _ _ _ _ _ _ j _ refl _ _ (Err OutOfMemory) (inr (whole.written, whole.unfailed), (refl, refl), (Appends-none _, refl)))
 
 pub returns : goal.returns
 returns g c =
     let operations = c.args.operations.now in
     let j = c.in_ok-sizes.ensures in
     let o = j.joined.content in
+    let whole = j.joined.written_is in
     let counted = c.count_new-new.ensures.counted ∙ ap (count_by is_new) (c.deref.ensures.value ∙ j.turns_are ∙ ap (map (turn_of o)) (listed_in_order operations c.requires.ascending)) ∙ count_new o (map record_bytes operations) in
-    told_published (reader g.R.Source.left g.R.Source.failures c.args.input.now c.tell_operations.new.input) (set_of operations) (counts_of (map record_bytes operations) c.args.number)
-    (stream g.T.Draft.Sink.held g.T.Draft.Sink.failures c.args.out.now.draft c.tell_operations.new.draft) c.in_ok-sizes.sizes c.in_ok-sizes.told.turns.items c.in_ok-sizes.told.withdraws j _ (c.in_ok-lines.ensures ∙ ap (λ (n : ℕ). apply_line n (c.args.number - n)) counted)
-    (out_of (outs g.T.Draft.Sink.held g.T.Draft.Sink.failures g.T.Target.placed g.T.Target.failures c.args.out.now c.publish_draft.new.out))
-    (writer g.P.Sink.held g.P.Sink.failures c.args.report.now c.publish_draft.new.report) c.publish_draft.result
-    (c.publish_draft.ensures c.args.out.now.draft _ (j.joined.written_is.written, j.joined.written_is.unfailed) j.joined.written_is.bytes_are)
+    told_published _ _ _ _ _ _ _ j _ (c.in_ok-lines.ensures ∙ ap (λ (n : ℕ). apply_line n (c.args.number - n)) counted) _ _ c.publish_draft.result
+    (c.publish_draft.ensures c.args.out.now.draft _ (whole.written, whole.unfailed) whole.bytes_are)

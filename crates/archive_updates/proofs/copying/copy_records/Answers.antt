@@ -1,7 +1,5 @@
-use Rattle.std.proofs.Common.{◌∙◌, sym, ap, subst, arith, refl, [], ◌∷◌, ◌++◌}
+use Rattle.std.proofs.Common.{◌∙◌, ap, subst, arith, refl, [], ◌∷◌, ◌++◌}
 use Rattle.archive_records.specs.Kind.{IsItemOf, kind_of}
-use Rattle.archive_records.specs.Reader.{DropsLast}
-use Rattle.archive_records.specs.Text.{taken_of}
 use Rattle.archive_records.proofs.Puts.{few_missing}
 use Rattle.archive_records.proofs.Taken.{taken_none, taken_push, taken_pass}
 use Rattle.archive_records.proofs.Steps.{HasRead-grows, HasReadAll-grows, Stopped-fails}
@@ -27,14 +25,13 @@ pub returns-in-Ok-End-clause-copied : goal.returns-in-Ok-End-clause-copied
 returns-in-Ok-End-clause-copied g c = λ a w0 start copied.
     let step = rw c.in-Ok-End.field-0-is at c.in-Ok-End.ensures in
     let m = c.copying.invariant.gathers a w0 start copied in
-    record { records = m.records; read = HasReadAll-grows c.args.reader.now.file a _ _ m.records c.copying.reader c.advance.new.self m.read step.0; makes = m.makes }
+    record { records = m.records; read = HasReadAll-grows _ a _ _ m.records c.copying.reader c.advance.new.self m.read step.0; makes = m.makes }
 
 pub returns-in-Err-clause-stopped : goal.returns-in-Err-clause-stopped
 returns-in-Err-clause-stopped g c = λ a w0 start copied.
     let m = c.copying.invariant.gathers a w0 start copied in
-    let file = c.args.reader.now.file in
-    let stop = Stopped-fails file a _ _ m.records c.copying.reader _ m.read c.in-Err.ensures.0 in
-    ((m.records, stop), copied_to file c.args.summary.now a _ w0 _ m.records _ c.copying.written stop m.makes)
+    let stop = Stopped-fails _ a _ _ m.records c.copying.reader _ m.read c.in-Err.ensures.0 in
+    ((m.records, stop), copied_to _ _ a _ w0 _ m.records _ c.copying.written stop m.makes)
 
 pub copying-smaller : goal.copying-smaller
 copying-smaller g c =
@@ -44,16 +41,15 @@ copying-smaller g c =
 pub copying-preserved-then-dropped : goal.copying-preserved-then-dropped
 copying-preserved-then-dropped g c =
     let step = rw c.in-Ok-Item.field-0-is at c.in-Ok-Item.ensures in
-    let file = c.args.reader.now.file in
     record {
       gathers = λ a w0 start copied.
           let m = c.copying.invariant.gathers a w0 start copied in
-          let read = HasRead-grows file a _ _ m.records c.copying.reader c.advance.new.self m.read step.0 in
-          let drops = subst (λ b. DropsLast file b (m.records ++ c.advance.new.self.last ∷ [])) (sym c.dropped.ensures ∙ c.if-dropped.true) read.dropped_is in
+          let read = HasRead-grows _ a _ _ m.records c.copying.reader c.advance.new.self m.read step.0 in
+          let drops = rw (← c.dropped.ensures, c.if-dropped.true) at read.dropped_is in
           record {
             records = m.records ++ c.advance.new.self.last ∷ [];
             read = read;
-            makes = rw (taken_pass m.records c.advance.new.self.last file read.ordered read.apart drops) m.makes;
+            makes = rw (taken_pass m.records c.advance.new.self.last _ read.ordered read.apart drops) m.makes;
           };
       file = step.0.file_is ∙ c.copying.invariant.file;
       unfailed = step.1 ∙ c.copying.invariant.unfailed;
@@ -65,24 +61,20 @@ copying-preserved-then-dropped g c =
 pub copying-preserved : goal.copying-preserved
 copying-preserved g c =
     let step = rw c.in-Ok-Item.field-0-is at c.in-Ok-Item.ensures in
-    let file = c.args.reader.now.file in
-    let s = c.args.summary.now in
-    let x = c.advance.new.self.last in
     let puts = c.in-Ok.ensures.puts in
     let put = rw c.record.ensures.bytes at puts in
     let records = c.in-Ok.ensures.records in
     let count = rw c.record.ensures.bytes at records in
-    let one = few_missing s x in
+    let one = few_missing c.args.summary.now c.advance.new.self.last in
     record {
       gathers = λ a w0 start copied.
           let m = c.copying.invariant.gathers a w0 start copied in
-          let read = HasRead-grows file a _ _ m.records c.copying.reader c.advance.new.self m.read step.0 in
-          let drops = subst (λ b. DropsLast file b (m.records ++ x ∷ [])) (sym c.dropped.ensures ∙ c.if-dropped.false) read.dropped_is in
-          let grown = taken_push m.records x file read.ordered drops in
+          let read = HasRead-grows _ a _ _ m.records c.copying.reader c.advance.new.self m.read step.0 in
+          let drops = rw (← c.dropped.ensures, c.if-dropped.false) at read.dropped_is in
           record {
-            records = m.records ++ x ∷ [];
+            records = m.records ++ c.advance.new.self.last ∷ [];
             read = read;
-            makes = rw grown (copied_more s w0 _ _ (taken_of file m.records) x c.copying.written m.makes c.in-Ok.more put.size_is count put.gained);
+            makes = rw (taken_push m.records c.advance.new.self.last c.args.reader.now.file read.ordered drops) (copied_more _ w0 _ _ _ _ c.copying.written m.makes c.in-Ok.more put.size_is count put.gained);
           };
       file = step.0.file_is ∙ c.copying.invariant.file;
       unfailed = step.1 ∙ c.copying.invariant.unfailed;
@@ -94,14 +86,10 @@ copying-preserved g c =
 pub returns-in-Err-put_missing_record-clause-stopped : goal.returns-in-Err-put_missing_record-clause-stopped
 returns-in-Err-put_missing_record-clause-stopped g c = λ a w0 start copied.
     let step = rw c.in-Ok-Item.field-0-is at c.in-Ok-Item.ensures in
-    let file = c.args.reader.now.file in
-    let s = c.args.summary.now in
-    let x = c.advance.new.self.last in
     let m = c.copying.invariant.gathers a w0 start copied in
-    let read = HasRead-grows file a _ _ m.records c.copying.reader c.advance.new.self m.read step.0 in
-    let drops = subst (λ b. DropsLast file b (m.records ++ x ∷ [])) (sym c.dropped.ensures ∙ c.if-dropped.false) read.dropped_is in
-    let grown = taken_push m.records x file read.ordered drops in
+    let read = HasRead-grows _ a _ _ m.records c.copying.reader c.advance.new.self m.read step.0 in
+    let drops = rw (← c.dropped.ensures, c.if-dropped.false) at read.dropped_is in
+    let grown = taken_push m.records c.advance.new.self.last c.args.reader.now.file read.ordered drops in
     let stops = c.in-Err-put_missing_record.ensures.puts in
     let e = rw c.record.ensures.bytes at stops in
-    let in_x = copied_in s w0 _ _ (taken_of file m.records) x c.copying.written m.makes _ e.some e.written_is e.first in
-    (tt, copied_within file s a _ w0 _ (m.records ++ x ∷ []) c.advance.new.self _ read (rw grown in_x))
+    (tt, copied_within _ _ a _ w0 _ _ c.advance.new.self _ read (rw grown (copied_in _ w0 _ _ _ _ c.copying.written m.makes _ e.some e.written_is e.first)))

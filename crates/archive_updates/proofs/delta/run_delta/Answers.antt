@@ -1,9 +1,8 @@
 use Rattle.std.proofs.Common.{refl}
 use Rattle.std.proofs.lemmas.Result.{err_from_is_err_and}
 use Rattle.byte_device.proofs.Known.{Appends-none}
-use Rattle.command_ends.specs.Inputs.{IsKnown, IsRefusedSummary, Unfailed, reader}
+use Rattle.command_ends.specs.Inputs.{reader}
 use Rattle.command_ends.specs.Outputs.{out_of, outs, writer}
-use Rattle.archive_updates.specs.Delta.{MakesDelta}
 use Rattle.archive_updates.proofs.Behind.{told_behind, wanting}
 use Rattle.archive_updates.proofs.Deltas.{named}
 use Rattle.archive_updates.proofs.delta.run_delta.Goals as goal
@@ -11,11 +10,7 @@ use Rattle.archive_updates.proofs.delta.run_delta.Goals as goal
 pub returns-in_err-kept : goal.returns-in_err-kept
 returns-in_err-kept g c =
     let p = err_from_is_err_and c.from_residual.result c.from_residual.ensures.1 in
-    let archive = reader g.R.Source.left g.R.Source.failures c.args.archive.now c.args.archive.now in
-    let summary = reader g.S.Source.left g.S.Source.failures c.args.summary.now c.args.summary.now in
-    rw (p.1, p.2) (wanting (MakesDelta archive summary) archive (IsRefusedSummary summary) (Unfailed summary) (IsKnown archive × IsKnown summary)
-    (out_of (outs g.T.Draft.Sink.held g.T.Draft.Sink.failures g.T.Target.placed g.T.Target.failures c.args.out.now c.args.out.now))
-    (writer g.P.Sink.held g.P.Sink.failures c.args.report.now c.args.report.now) refl refl ((Appends-none _, refl), (refl, refl)) (Appends-none _, refl))
+    rw (p.1, p.2) (wanting _ _ _ _ _ _ _ refl refl ((Appends-none _, refl), (refl, refl)) (Appends-none _, refl))
 
 pub returns-in-Ok : goal.returns-in-Ok
 returns-in-Ok g c =
@@ -25,8 +20,4 @@ returns-in-Ok g c =
 
 pub returns-in-Err : goal.returns-in-Err
 returns-in-Err g c =
-    let archive = reader g.R.Source.left g.R.Source.failures c.args.archive.now c.refused_behind.new.input in
-    let summary = reader g.S.Source.left g.S.Source.failures c.args.summary.now c.read_summary_input.new.summary in
-    told_behind (MakesDelta archive summary) archive (IsRefusedSummary summary) (Unfailed summary) (IsKnown archive × IsKnown summary)
-    (out_of (outs g.T.Draft.Sink.held g.T.Draft.Sink.failures g.T.Target.placed g.T.Target.failures c.args.out.now c.args.out.now))
-    (writer g.P.Sink.held g.P.Sink.failures c.args.report.now c.args.report.now) c.in-Err.fault c.refused_behind.result c.in-Err.ensures c.refused_behind.ensures ((Appends-none _, refl), (refl, refl)) (Appends-none _, refl)
+    told_behind _ _ _ _ _ _ _ c.in-Err.fault c.refused_behind.result c.in-Err.ensures c.refused_behind.ensures ((Appends-none _, refl), (refl, refl)) (Appends-none _, refl)

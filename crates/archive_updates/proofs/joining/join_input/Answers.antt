@@ -4,17 +4,13 @@ use Rattle.archive_updates.proofs.joining.join_input.Goals as goal
 pub returns-in-Ok : goal.returns-in-Ok
 returns-in-Ok g c =
     rw (lent_from c.args.input.now _ c.in_ok-left.ensures.source)
-    (λ p at.
-    joined_opened g.S.Source.left g.S.Source.failures c.args.other.now c.merge_streams.new.right p at
-    g.R.Source.left g.R.Source.failures _ c.merge_streams.new.left
-    g.W.Sink.held g.W.Sink.failures c.args.draft.now c.merge_streams.new.w c.in-Ok.sizes c.in-Ok.ensures.merges)
+    (λ p at. joined_opened _ _ c.args.other.now c.merge_streams.new.right p at _ _ _ c.merge_streams.new.left _ _ _ c.merge_streams.new.w c.in-Ok.sizes c.in-Ok.ensures.merges)
 
 pub returns-in-Err : goal.returns-in-Err
 returns-in-Err g c =
     rw (lent_from c.args.input.now _ c.in_ok-left.ensures.source) (
       taken_of g.W.Sink.held g.W.Sink.failures c.args.draft.now c.merge_streams.new.w c.in-Err.fault c.command_fault_of.result c.in-Err.ensures.written c.command_fault_of.ensures,
       λ p at.
-          stopped_opened g.S.Source.left g.S.Source.failures c.args.other.now c.merge_streams.new.right p at
-          g.R.Source.left g.R.Source.failures _ c.merge_streams.new.left
-          g.W.Sink.held g.W.Sink.failures c.args.draft.now c.merge_streams.new.w c.in-Err.fault c.command_fault_of.result c.in-Err.ensures.merges c.command_fault_of.ensures,
+          stopped_opened _ _ c.args.other.now c.merge_streams.new.right p at _ _ _ c.merge_streams.new.left
+          _ _ _ c.merge_streams.new.w c.in-Err.fault c.command_fault_of.result c.in-Err.ensures.merges c.command_fault_of.ensures,
     )

@@ -1,10 +1,7 @@
 use Rattle.std.proofs.Common.{Some, ap, inl, refl, ◌∙◌}
 use Rattle.std.proofs.lemmas.Result.{err_from_is_err_and}
 use Rattle.archive_records.specs.Text.{written}
-use Rattle.byte_device.specs.Devices.{stream}
 use Rattle.byte_device.proofs.Known.{Appends-none}
-use Rattle.command_ends.specs.Inputs.{reader}
-use Rattle.command_ends.specs.Outputs.{out_of, outs, writer}
 use Rattle.archive_updates.proofs.Merged.{joins_published, joins_stopped}
 use Rattle.archive_updates.proofs.merge.merge_text.Goals as goal
 
@@ -12,9 +9,7 @@ pub returns-in_err-sizes : goal.returns-in_err-sizes
 returns-in_err-sizes g c = λ p content is.
     let f = err_from_is_err_and c.from_residual.result c.from_residual.ensures.1 in
     let given = c.new-other.ensures.left ∙ ap Some is in
-    rw (f.1, f.2) (joins_stopped (reader g.R.Source.left g.R.Source.failures c.args.input.now c.join_input.new.input) p
-    (out_of (outs g.T.Draft.Sink.held g.T.Draft.Sink.failures g.T.Target.placed g.T.Target.failures c.args.out.now (record { draft = c.join_input.new.draft; target = c.args.out.now.target })))
-    (writer g.P.Sink.held g.P.Sink.failures c.args.report.now c.args.report.now) c.in_err-sizes.field-0.0
+    rw (f.1, f.2) (joins_stopped _ p _ _ _
     (c.in_err-sizes.ensures.1 p (record { is_content = content; text = written p; is_text = inl refl; bytes = given; unfailed_before = c.new-other.ensures.failures; unfailed = refl }))
     c.in_err-sizes.ensures.0 (refl, refl) (Appends-none _, refl))
 
@@ -22,8 +17,4 @@ pub returns : goal.returns
 returns g c = λ p content is.
     let given = c.new-other.ensures.left ∙ ap Some is in
     let j = c.in_ok-sizes.ensures p (record { is_content = content; text = written p; is_text = inl refl; bytes = given; unfailed_before = c.new-other.ensures.failures; unfailed = refl }) in
-    joins_published (reader g.R.Source.left g.R.Source.failures c.args.input.now c.join_input.new.input) p
-    (stream g.T.Draft.Sink.held g.T.Draft.Sink.failures c.args.out.now.draft c.join_input.new.draft) c.in_ok-sizes.sizes j _ c.new.ensures.bytes
-    (out_of (outs g.T.Draft.Sink.held g.T.Draft.Sink.failures g.T.Target.placed g.T.Target.failures c.args.out.now c.publish_draft.new.out))
-    (writer g.P.Sink.held g.P.Sink.failures c.args.report.now c.publish_draft.new.report) c.publish_draft.result
-    (c.publish_draft.ensures c.args.out.now.draft _ (j.written_is.written, j.written_is.unfailed) j.written_is.bytes_are)
+    joins_published _ _ _ _ j _ c.new.ensures.bytes _ _ c.publish_draft.result (c.publish_draft.ensures c.args.out.now.draft _ (j.written_is.written, j.written_is.unfailed) j.written_is.bytes_are)

@@ -1,10 +1,7 @@
-use Rattle.std.proofs.Common.{refl, ◌∙◌, Err, inr}
+use Rattle.std.proofs.Common.{Err, refl, ◌∙◌, inr}
 use Rattle.std.proofs.lemmas.Result.{err_from_is_err_and}
-use Rattle.byte_device.specs.Devices.{stream}
 use Rattle.byte_device.proofs.Known.{Appends-none}
 use Rattle.command_ends.specs.declared.faults.CommandFault.TheVariants.{OutOfMemory}
-use Rattle.command_ends.specs.Inputs.{reader}
-use Rattle.command_ends.specs.Outputs.{out_of, outs, writer}
 use Rattle.archive_updates.proofs.Noted.{missing_noted}
 use Rattle.archive_updates.proofs.Retired.{retire_published, retire_stopped}
 use Rattle.archive_updates.proofs.Taking.{always}
@@ -13,39 +10,24 @@ use Rattle.archive_updates.proofs.retire.run_retire.Goals as goal
 pub returns-in_err-written-clause-ends : goal.returns-in_err-written-clause-ends
 returns-in_err-written-clause-ends g c =
     let p = err_from_is_err_and c.from_residual.result c.from_residual.ensures.1 in
-    rw (p.1, p.2) (retire_stopped c.args.key c.args.digest (reader g.R.Source.left g.R.Source.failures c.args.input.now c.retire_input.new.input)
-    (out_of (outs g.T.Draft.Sink.held g.T.Draft.Sink.failures g.T.Target.placed g.T.Target.failures c.args.out.now (record { draft = c.retire_input.new.draft; target = c.args.out.now.target })))
-    (writer g.P.Sink.held g.P.Sink.failures c.args.report.now c.args.report.now) c.in_err-written.field-0.0
-    c.in_err-written.ensures.1 c.in_err-written.ensures.0 (refl, refl) (Appends-none _, refl))
+    rw (p.1, p.2) (retire_stopped _ _ _ _ _ _ c.in_err-written.ensures.1 c.in_err-written.ensures.0 (refl, refl) (Appends-none _, refl))
 
 pub returns-in_err-note_missing-clause-ends : goal.returns-in_err-note_missing-clause-ends
 returns-in_err-note_missing-clause-ends g c =
     let p = err_from_is_err_and c.from_residual-in_err-note_missing.result c.from_residual-in_err-note_missing.ensures.1 in
     let i = c.in_ok-written.ensures in
-    rw (p.1, p.2) (retire_published c.args.key c.args.digest (reader g.R.Source.left g.R.Source.failures c.args.input.now c.retire_input.new.input)
-    (stream g.T.Draft.Sink.held g.T.Draft.Sink.failures c.args.out.now.draft c.retire_input.new.draft) c.in_ok-written.written.sizes c.in_ok-written.written.changed c.in_ok-written.written.had i
-    (out_of (outs g.T.Draft.Sink.held g.T.Draft.Sink.failures g.T.Target.placed g.T.Target.failures c.args.out.now (record { draft = c.retire_input.new.draft; target = c.args.out.now.target })))
-    (writer g.P.Sink.held g.P.Sink.failures c.args.report.now c.args.report.now) (Err OutOfMemory)
-    (inr (i.written_is.written, i.written_is.unfailed), (refl, refl), (Appends-none _, refl)))
+    rw (p.1, p.2) (retire_published _ _ _ _ _ _ _ i _ _ (Err OutOfMemory) (inr (i.written_is.written, i.written_is.unfailed), (refl, refl), (Appends-none _, refl)))
 
 pub returns-in_err-lines-clause-ends : goal.returns-in_err-lines-clause-ends
 returns-in_err-lines-clause-ends g c =
     let p = err_from_is_err_and c.from_residual-in_err-lines.result c.from_residual-in_err-lines.ensures.1 in
     let i = c.in_ok-written.ensures in
-    rw (p.1, p.2) (retire_published c.args.key c.args.digest (reader g.R.Source.left g.R.Source.failures c.args.input.now c.retire_input.new.input)
-    (stream g.T.Draft.Sink.held g.T.Draft.Sink.failures c.args.out.now.draft c.retire_input.new.draft) c.in_ok-written.written.sizes c.in_ok-written.written.changed c.in_ok-written.written.had i
-    (out_of (outs g.T.Draft.Sink.held g.T.Draft.Sink.failures g.T.Target.placed g.T.Target.failures c.args.out.now (record { draft = c.retire_input.new.draft; target = c.args.out.now.target })))
-    (writer g.P.Sink.held g.P.Sink.failures c.args.report.now c.args.report.now) (Err OutOfMemory)
-    (inr (i.written_is.written, i.written_is.unfailed), (refl, refl), (Appends-none _, refl)))
+    rw (p.1, p.2) (retire_published _ _ _ _ _ _ _ i _ _ (Err OutOfMemory) (inr (i.written_is.written, i.written_is.unfailed), (refl, refl), (Appends-none _, refl)))
 
 pub returns-clause-ends : goal.returns-clause-ends
 returns-clause-ends g c =
     let i = c.in_ok-written.ensures in
-    retire_published c.args.key c.args.digest (reader g.R.Source.left g.R.Source.failures c.args.input.now c.retire_input.new.input)
-    (stream g.T.Draft.Sink.held g.T.Draft.Sink.failures c.args.out.now.draft c.retire_input.new.draft) c.in_ok-written.written.sizes c.in_ok-written.written.changed c.in_ok-written.written.had i
-    (out_of (outs g.T.Draft.Sink.held g.T.Draft.Sink.failures g.T.Target.placed g.T.Target.failures c.args.out.now c.publish_draft.new.out))
-    (writer g.P.Sink.held g.P.Sink.failures c.args.report.now c.publish_draft.new.report) c.publish_draft.result
-    (rw c.in_ok-lines.ensures at c.publish_draft.ensures c.args.out.now.draft _ (i.written_is.written, i.written_is.unfailed) i.written_is.bytes_are)
+    retire_published _ _ _ _ _ _ _ i _ _ c.publish_draft.result (rw c.in_ok-lines.ensures at c.publish_draft.ensures c.args.out.now.draft _ (i.written_is.written, i.written_is.unfailed) i.written_is.bytes_are)
 
 pub returns-clause-noted : goal.returns-clause-noted
 returns-clause-noted g c =
