@@ -1,7 +1,7 @@
 -- The good records of two inputs, and which of the two stops their merge.
 use Rattle.std.proofs.Common.{◌≡◌, ℕ, true, List, [], ◌++◌, length, Option, Some, refl, sym, ap, ◌∙◌, subst, inl, inr, ◌⊎◌}
 use Rattle.std.specs.Prelude.{IfSome}
-use Rattle.std.proofs.lemmas.Bool.{cases_Bool, false≢true}
+use Rattle.std.proofs.lemmas.Bool.{cases_Bool}
 use Rattle.std.specs.List.{concat}
 use Rattle.std.specs.FinSet as set
 use Rattle.join_core.specs.Listing.{listing}
@@ -71,7 +71,7 @@ text_or_not t xs l = elim (same_or_not t (text_of (archive_format t) xs)) [
 below_or_not : (xs ys : List (List ℕ)) → EndsBelow xs ys ⊎ (EndsBelow xs ys → ⊥)
 below_or_not xs ys = elim (cases_Bool (may_follow Archive (last_of [] xs) (last_of [] ys))) [
   | inl below ↦ inl below
-  | inr above ↦ inr (λ below. false≢true (sym above ∙ below))
+  | inr above ↦ inr (λ below. cc)
 ]
 
 module _ (t u : List ℕ) (xs ys : List (List ℕ)) where

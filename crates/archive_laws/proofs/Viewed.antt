@@ -1,12 +1,11 @@
 -- What is told of addresses depends on the content alone: an answer's lines, and whether it is one symbol, do not depend on
 -- where its names lie.
-use Rattle.std.proofs.Common.{◌≡◌, ℕ, Bool, true, false, ◌&&◌, if◌then◌else◌, List, [], ◌∷◌, ◌++◌, map, length, codes, Option, Some, None, Result, Ok, Err, refl, sym, ap, ◌∙◌, subst}
-use Rattle.std.specs.Prelude.{IfSome}
+use Rattle.std.proofs.Common.{◌≡◌, ℕ, Bool, true, false, ◌&&◌, if◌then◌else◌, List, [], ◌∷◌, ◌++◌, map, length, codes, Option, Some, None, refl, sym, ap, ◌∙◌, subst}
 use Rattle.std.proofs.lemmas.List.{length-map}
 use Rattle.std.specs.List.{AllByRecursion, flat_map, list_all}
 use Rattle.std.specs.Fmt.{decimal}
 use Rattle.macho_symbols.specs.Found.{FoundRecord}
-use Rattle.archive_core.specs.Content.{Operations, IsContent}
+use Rattle.archive_core.specs.Content.{Operations}
 use Rattle.archive_core.specs.Lookup.{OwnRow, AnswerRecord, Unanswered, Alone, Disputed, IsAnswer, own_view, own_row, answer_view}
 use Rattle.archive_core.specs.declared.keys.Digest.{Digest}
 use Rattle.archive_core.specs.declared.keys.SliceKey.{SliceKey}
@@ -15,14 +14,11 @@ use Rattle.archive_core.specs.declared.lookup.Own.TheVariants.{NoSymbol as Own_N
 use Rattle.archive_core.specs.declared.lookup.Answer.{Answer}
 use Rattle.archive_core.specs.declared.lookup.Answer.TheVariants.{Unknown, NoSymbol, Symbol, Conflict}
 use Rattle.archive_core.specs.declared.lookup.Where.{Where}
-use Rattle.archive_records.specs.Text.{IsArchiveOf}
 use Rattle.archive_words.specs.Words.{address_text, digest_text}
 use Rattle.report_text.specs.Answers.{escaped, found_text, own_text, own_line, answer_lines}
 use Rattle.report_text.specs.Report.{line}
-use Rattle.byte_device.specs.declared.disks.CannotOpen.{CannotOpen}
 use Rattle.command_ends.specs.declared.faults.Status.{Status}
 use Rattle.command_ends.specs.declared.faults.Status.TheVariants.{Done, Partial}
-use Rattle.command_ends.specs.Inputs.{reader, HoldsArchive, IsGivenArchive}
 use Rattle.archive_queries.specs.Symbolicate.{asked_of, is_symbol, Answered, IsAnswered, answers_status, answers_text, TellsAddresses}
 
 abbrev seen_found : FoundRecord → List ℕ
@@ -98,16 +94,13 @@ alike_told rows others same =
     let lines = text_seen rows ∙ ap (flat_map (λ (s : ModelEvent). seen_lines s.address s.answer)) same ∙ sym (text_seen others) in
     (ap (λ (all : Bool). if all then Done else Partial) symbols, lines)
 
-no_more : (x : ℕ) (xs : List ℕ) → [] ≡ x ∷ xs → ⊥
-no_more x xs e = cc
-
 module _ (one : (o : Operations) (key : SliceKey) (place : Where) (answer other : AnswerRecord) → IsAnswer o key place answer → IsAnswer o key place other → answer ≡ other) where
   all_seen : (content : Operations) (key : SliceKey) (load : Option ℕ) (rows others : List Answered)
       → map (λ row. row.address) rows ≡ map (λ row. row.address) others
       → AllByRecursion (IsAnswered content key load) rows → AllByRecursion (IsAnswered content key load) others → map seen rows ≡ map seen others
   all_seen content key load [] [] e a b = refl
-  all_seen content key load [] (y ∷ ys) e a b = absurd (no_more y.address (map (λ row. row.address) ys) e)
-  all_seen content key load (x ∷ xs) [] e a b = absurd (no_more x.address (map (λ row. row.address) xs) (sym e))
+  all_seen content key load [] (y ∷ ys) e a b = cc
+  all_seen content key load (x ∷ xs) [] e a b = cc
   all_seen content key load (x ∷ xs) (y ∷ ys) e a b =
       let both : x.address ∷ map (λ row. row.address) xs ≡ y.address ∷ map (λ row. row.address) ys = e in
       let address : x.address ≡ y.address = cc in
@@ -123,15 +116,3 @@ module _ (one : (o : Operations) (key : SliceKey) (place : Where) (answer other 
       let same = all_seen content key load a.rows b.rows (a.addresses_are ∙ sym b.addresses_are) a.answered b.answered in
       let told = alike_told a.rows b.rows same in
       (a.status_is ∙ told.0 ∙ sym b.status_is, a.text_is ∙ told.1 ∙ sym b.text_is)
-
-pub known : (left : Option (List ℕ)) (bytes : List ℕ) (P : List ℕ → Type 0) → left ≡ Some bytes → IfSome left P → P bytes
-known left bytes P is p = let q : IfSome (Some bytes) P = subst (λ (l : Option (List ℕ)). IfSome l P) is p in q
-
--- a text gives one content only
-abbrev pub OneContent : Type 0
-OneContent = (text : List ℕ) (o p : Operations) → IsContent o → IsContent p → IsArchiveOf o text → IsArchiveOf p text → o ≡ p
-
-pub given_content : OneContent → {R : Type 0} (left : R → Option (List ℕ)) (failures : R → ℕ) (old new : Result R CannotOpen) (o p : Operations) → IsContent o → IsContent p
-    → IsGivenArchive (reader left failures old new) o → HoldsArchive (reader left failures old new) p → o ≡ p
-given_content one left failures (Ok source) new o p c d given holds = one given.0 o p c d given.1 (known (left source) given.0 (IsArchiveOf p) given.2 holds)
-given_content one left failures (Err _) new o p c d given holds = absurd given.2

@@ -25,8 +25,5 @@ place left right o low a b (inr x) (inr y) = x.2 ∙ sym y.2
 place left right o low a b (inl x) (inr y) = absurd (none left right x.0 y.0 y.1)
 place left right o low a b (inr x) (inl y) = absurd (none left right y.0 x.0 x.1)
 
-pub returns-clause-side : goal.returns-clause-side
-returns-clause-side c = side
-
-pub returns-clause-place : goal.returns-clause-place
-returns-clause-place c = place
+pub returns : goal.returns
+returns c = record { side = side; place = place }
