@@ -18,7 +18,7 @@ use Rattle.join_core.proofs.Listing.{listed}
 use Rattle.archive_core.specs.Key.{key_bytes}
 use Rattle.archive_core.specs.Valid.{key_of}
 use Rattle.archive_core.specs.Record.{admission, admission_record, retirement_record}
-use Rattle.archive_core.specs.Content.{Operations, IsLive, IsAnswering}
+use Rattle.archive_core.specs.Content.{Operations, IsLive}
 use Rattle.archive_core.specs.Find.{is_key, AreAnswering}
 use Rattle.archive_core.specs.Order.{not_true}
 use Rattle.archive_core.specs.declared.keys.SliceKey.{SliceKey}

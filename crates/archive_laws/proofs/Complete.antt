@@ -1,6 +1,6 @@
 -- Each text is that of a content, or has a fault.
 use Rattle.std.proofs.Common.{◌≡◌, ◌≢◌, ℕ, zero, suc, ◌+◌, ◌<◌, ◌≤◌, true, false, List, [], ◌∷◌, ◌++◌, length, get_or, take, drop, ◌==◌, Some, Ok, Err, refl, sym, ap, ◌∙◌, subst, arith, inl, inr, ◌⊎◌, append_assoc, length-append, length-take, take-append-drop, lit≤}
-use Rattle.std.proofs.lemmas.Bool.{cases_Bool, cases_lt, eqb-true, false≢true}
+use Rattle.std.proofs.lemmas.Bool.{cases_Bool, cases_lt, eqb-true}
 use Rattle.std.proofs.lemmas.List.{take_all, drop_at, get_or-take}
 use Rattle.std.specs.List.{concat}
 use Rattle.std.specs.Ordering.{eq_by_cmp, is_eq}
@@ -17,7 +17,7 @@ use Rattle.archive_records.specs.Entry.{AreEntries}
 use Rattle.archive_records.specs.declared.fault.RecordFaultKind.{RecordFaultKind}
 use Rattle.archive_records.specs.declared.fault.RecordFaultKind.TheVariants.{BadMagic, Truncated, BadSlice, KeyMismatch, Trailing, Covered}
 use Rattle.archive_records.specs.declared.fault.RecordFault.{RecordFault}
-use Rattle.archive_records.specs.Layout.{head_length, body_length, slice_length, framed}
+use Rattle.archive_records.specs.Layout.{head_length, body_length, framed}
 use Rattle.archive_records.specs.Kind.{magic_of, kind_of, archive_format, IsItem}
 use Rattle.archive_records.specs.Text.{ending, text_of, IsArchiveOf, taken_of, InOrder, AreApart, last_of, IsOperationsText, IsSummaryText}
 use Rattle.archive_records.specs.Fault.{is_end, next, FailsNext, FailsBehind, Fails, RefusesSlice, Refuses, IsTrailing, IsUnended, IsFault, IsOperationsFault, IsSummaryFault, IsFaultOf}
@@ -155,7 +155,7 @@ module _ (file : Format) where
       inl (records, front.ordered, front.apart, front.whole ∙ ap (λ (x : List ℕ). magic_of file ++ (concat records ++ x)) end)
 
   -- one record more in front of the rest
-  goes_on : (t : List ℕ) (records : List (List ℕ)) (front : IsGoodFront file t records) (k : Takes file (last_of [] records) front.rest) → AreApart file (records ++ k.item ∷ []) → IsGoodFront file t (records ++ k.item ∷ [])
+  abbrev goes_on : (t : List ℕ) (records : List (List ℕ)) (front : IsGoodFront file t records) (k : Takes file (last_of [] records) front.rest) → AreApart file (records ++ k.item ∷ []) → IsGoodFront file t (records ++ k.item ∷ [])
   goes_on t records front k free = record {
     ordered = InOrder-push file [] records k.item front.ordered k.is k.above;
     apart = free;

@@ -9,7 +9,7 @@ use Rattle.archive_core.proofs.Entries.{covering_admission}
 use Rattle.archive_records.specs.declared.format.Format.{Format}
 use Rattle.archive_records.specs.declared.format.Format.TheVariants.{Archive, OldArchive, Operations, Summary}
 use Rattle.archive_records.specs.declared.fault.RecordFaultKind.{RecordFaultKind}
-use Rattle.archive_records.specs.declared.fault.RecordFaultKind.TheVariants.{Covered, Trailing}
+use Rattle.archive_records.specs.declared.fault.RecordFaultKind.TheVariants.{Covered}
 use Rattle.archive_records.specs.declared.fault.RecordFault.{RecordFault}
 use Rattle.archive_records.specs.Kind.{magic, old_magic, archive_format, may_follow}
 use Rattle.archive_records.specs.Text.{last_of}

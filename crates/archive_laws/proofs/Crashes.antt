@@ -5,8 +5,8 @@ use Rattle.std.specs.Str.{bytes_eq}
 use Rattle.std.proofs.lemmas.Bool.{false_from_ne_true, or_right}
 use Rattle.std.proofs.lemmas.List.{append-nil, take_all}
 use Rattle.std.proofs.lemmas.Slice.Eq.{bytes_eq-Decides}
-use Rattle.archive_files.specs.FileCalls.{FileCall, Creates, Writes, Syncs, Renames, SyncsFolder, Removes, drafting, placing}
-use Rattle.archive_files.specs.Placing.{IsBeside, IsDraftRemoved, IsDrafted, IsReplaced, folder_of}
+use Rattle.archive_files.specs.FileCalls.{FileCall, Creates, Writes, Syncs, Removes, drafting, placing}
+use Rattle.archive_files.specs.Placing.{IsDraftRemoved, IsDrafted, IsReplaced, folder_of}
 use Rattle.archive_laws.specs.Crashes.{DraftState, MayBeAt, Old, New, Torn, Touched, behind, no_draft, replay}
 
 -- Where it was renamed it has the whole text, and that is on the disk; the target itself was not touched.

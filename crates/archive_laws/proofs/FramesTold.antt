@@ -3,7 +3,7 @@ use Rattle.std.proofs.Common.{◌≡◌, ◌↔◌, ℕ, Bool, if◌then◌else�
 use Rattle.std.specs.List.{AllByRecursion, AllZip, flat_map, list_all}
 use Rattle.std.proofs.lemmas.List.{append-nil}
 use Rattle.archive_core.specs.Content.{Operations}
-use Rattle.archive_core.specs.Lookup.{AnswerRecord, IsAnswer, answer_view}
+use Rattle.archive_core.specs.Lookup.{AnswerRecord, IsAnswer}
 use Rattle.archive_core.specs.declared.keys.SliceKey.{SliceKey}
 use Rattle.archive_core.specs.declared.lookup.Where.{Where}
 use Rattle.archive_words.specs.Lines.{line_at}
@@ -19,12 +19,12 @@ use Rattle.command_ends.specs.declared.faults.Why.{Why}
 use Rattle.command_ends.specs.declared.faults.Why.TheVariants.{Device as CannotRead, BadFrame, CannotOpen as NotOpened}
 use Rattle.archive_queries.specs.Frames.{IsFrameAnswered, TellsFrames, MakesFramed, RefusesFrames, Told, IsToldAlone, SymbolicatesEach, is_done}
 use Rattle.command_ends.specs.Inputs.{Reader, reader, Gives, HoldsContent, IsDeviceFault, IsFramesRefused, IsGiven}
-use Rattle.archive_queries.specs.Symbolicate.{Answered, IsAnswered, TellsAddresses, asked_of, is_symbol, answers_status, answers_text}
+use Rattle.archive_queries.specs.Symbolicate.{Answered, IsAnswered, TellsAddresses, is_symbol, answers_status, answers_text}
 use Rattle.archive_updates.specs.Merge.{merge}
 use Rattle.archive_laws.specs.Joins.{IsGivenJoin}
 use Rattle.archive_laws.proofs.Joins.{alone_held, as_merged, holds_join, join_refused, told_of_join}
 use Rattle.archive_laws.proofs.Given.{gives, is_given}
-use Rattle.archive_laws.proofs.Viewed.{alike_told, seen}
+use Rattle.archive_laws.proofs.Viewed.{alike_told, one_seen, seen}
 
 -- ---- an answer alone
 
@@ -137,11 +137,9 @@ module _ (one : (o : Operations) (key : SliceKey) (place : Where) (answer other 
   all_seen o [] [] (y ∷ ys) a b = absurd b
   all_seen o (frame ∷ frames) (x ∷ xs) [] a b = absurd b
   all_seen o (frame ∷ frames) (x ∷ xs) (y ∷ ys) a b =
-      let address : x.address ≡ y.address = a.0.0 ∙ sym b.0.0 in
-      let moved = subst (λ n. IsAnswer o frame.key (asked_of frame.load n) (answer_view x.answer)) address a.0.1 in
-      let answer = one o frame.key (asked_of frame.load y.address) (answer_view x.answer) (answer_view y.answer) moved b.0.1 in
+      let head = one_seen one o frame.key frame.load x y (a.0.0 ∙ sym b.0.0) a.0.1 b.0.1 in
       let tail = all_seen o frames xs ys a.1 b.1 in
-      λ i. record { address = address i; answer = answer i } ∷ tail i
+      λ i. head i ∷ tail i
   all_seen o _ _ ys a b = absurd a
 
   one_told : (o : Operations) (frames : List Frame) (status other_status : Status) (text other_text : List ℕ) → TellsFrames o frames status text → TellsFrames o frames other_status other_text

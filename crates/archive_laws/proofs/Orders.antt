@@ -43,8 +43,9 @@ rows_from o place file rest = refl
 content_to : (o : Operations) (files : List (List ℕ)) (place : ℕ) (file : List ℕ) → slice_get files place ≡ Some file
     → admitted (admitted o (images_of (take place files))) (admissible file) ≡ admitted o (images_of (take (place + 1) files))
 content_to o files place file is =
-    sym (admitted-append o (images_of (take place files)) (admissible file))
-    ∙ ap (admitted o) (sym (rw (front_with files place file is, flat_map-append admissible (take place files) (file ∷ []), append-nil (admissible file)) refl))
+    let both : images_of (take (place + 1) files) ≡ images_of (take place files) ++ admissible file =
+        rw (front_with files place file is, flat_map-append admissible (take place files) (file ∷ []), append-nil (admissible file)) refl in
+    rw both (sym (admitted-append o (images_of (take place files)) (admissible file)))
 
 pub rows_of : (o : Operations) (files : List (List ℕ)) (place : ℕ) (file : List ℕ) → slice_get files place ≡ Some file
     → admit_rows o 0 files ≡ admit_rows o 0 (take place files) ++ (file_rows place 0 (taken_rows (admitted o (images_of (take place files))) (parts file)) ++ admit_rows (admitted o (images_of (take (place + 1) files))) (place + 1) (drop (place + 1) files))

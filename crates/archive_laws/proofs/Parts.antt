@@ -1,5 +1,5 @@
 -- A list of all, cut by UUID.
-use Rattle.std.proofs.Common.{◌≡◌, ◌≢◌, ◌∙◌, ℕ, Bool, true, false, cond, List, [], ◌∷◌, ◌++◌, map, refl, sym, ap, subst}
+use Rattle.std.proofs.Common.{◌≡◌, ◌≢◌, ◌∙◌, ℕ, false, cond, List, [], ◌∷◌, ◌++◌, map, refl, sym, ap, subst, arith}
 use Rattle.std.specs.declared.cmp.Ordering.{Ordering}
 use Rattle.std.specs.declared.cmp.Ordering.TheVariants.{Less, Equal, Greater}
 use Rattle.std.specs.Ordering.{nat_cmp, ordering_then, ordering_reverse, is_eq}
@@ -43,7 +43,7 @@ all_put P u (v ∷ vs) p all = cond_both (bytes_eq u v) _ _ (AllByRecursion P) (
 
 off_put : (P : List ℕ → Type 0) (u : List ℕ) (vs : List (List ℕ)) → AllByRecursion P (put u vs) → P u × AllByRecursion P vs
 off_put P u [] all = all
-off_put P u (v ∷ vs) = cond_both (bytes_eq u v) _ _ (λ ws. AllByRecursion P ws → P u × AllByRecursion P (v ∷ vs)) (λ e h. (subst P (sym ((bytes_eq-Decides u v).0 e)) h.0, h)) (λ e h. h)
+off_put P u (v ∷ vs) all = cond_both (bytes_eq u v) (v ∷ vs) (u ∷ v ∷ vs) (λ ws. AllByRecursion P ws → P u × AllByRecursion P (v ∷ vs)) (λ e h. (subst P (sym ((bytes_eq-Decides u v).0 e)) h.0, h)) (λ e h. h) all
 
 from_rows : (P : List ℕ → Type 0) (rows : List FindRow) → AllByRecursion (λ row. P row.key.uuid) rows → AllByRecursion P (uuids_of rows)
 from_rows P [] all = tt

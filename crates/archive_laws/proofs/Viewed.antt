@@ -12,7 +12,7 @@ use Rattle.archive_core.specs.declared.keys.SliceKey.{SliceKey}
 use Rattle.archive_core.specs.declared.lookup.Own.{Own}
 use Rattle.archive_core.specs.declared.lookup.Own.TheVariants.{NoSymbol as Own_NoSymbol, Symbol as Own_Symbol}
 use Rattle.archive_core.specs.declared.lookup.Answer.{Answer}
-use Rattle.archive_core.specs.declared.lookup.Answer.TheVariants.{Unknown, NoSymbol, Symbol, Conflict}
+use Rattle.archive_core.specs.declared.lookup.Answer.TheVariants.{Unknown, Conflict}
 use Rattle.archive_core.specs.declared.lookup.Where.{Where}
 use Rattle.archive_words.specs.Words.{address_text, digest_text}
 use Rattle.report_text.specs.Answers.{escaped, found_text, own_text, own_line, answer_lines}
@@ -40,10 +40,8 @@ seen_lines address (Alone (Some found)) = line (address_text address ++ codes " 
 seen_lines address (Disputed rows) = line (address_text address ++ codes " !" ++ decimal (length rows)) ++ flat_map seen_row rows
 
 abbrev seen_symbol : AnswerRecord → Bool
-seen_symbol Unanswered = false
-seen_symbol (Alone None) = false
 seen_symbol (Alone (Some found)) = true
-seen_symbol (Disputed rows) = false
+seen_symbol _ = false
 
 own_seen : (own : Own) → own_text own ≡ seen_own (own_view own)
 unfolding own_text found_text
@@ -60,17 +58,13 @@ rows_seen (row ∷ rows) = λ i. row_seen row i ++ rows_seen rows i
 
 lines_seen : (address : ℕ) (answer : Answer) → answer_lines address answer ≡ seen_lines address (answer_view answer)
 unfolding answer_lines found_text
-lines_seen address Unknown = refl
-lines_seen address NoSymbol = refl
-lines_seen address (Symbol found) = refl
 lines_seen address (Conflict rows) =
     λ i. line (address_text address ++ codes " !" ++ decimal (sym (length-map rows.items own_row) i)) ++ rows_seen rows.items i
+lines_seen address answer = refl
 
 symbol_seen : (answer : Answer) → is_symbol answer ≡ seen_symbol (answer_view answer)
 symbol_seen Unknown = refl
-symbol_seen NoSymbol = refl
-symbol_seen (Symbol found) = refl
-symbol_seen (Conflict rows) = refl
+symbol_seen answer = refl
 
 pub record ModelEvent : Type 0 where
   pub address : ℕ
@@ -95,6 +89,12 @@ alike_told rows others same =
     (ap (λ (all : Bool). if all then Done else Partial) symbols, lines)
 
 module _ (one : (o : Operations) (key : SliceKey) (place : Where) (answer other : AnswerRecord) → IsAnswer o key place answer → IsAnswer o key place other → answer ≡ other) where
+  pub one_seen : (content : Operations) (key : SliceKey) (load : Option ℕ) (row other : Answered) → row.address ≡ other.address → IsAnswered content key load row → IsAnswered content key load other → seen row ≡ seen other
+  one_seen content key load row other address a b =
+      let moved = subst (λ n. IsAnswer content key (asked_of load n) (answer_view row.answer)) address a in
+      let answer = one content key (asked_of load other.address) (answer_view row.answer) (answer_view other.answer) moved b in
+      λ i. record { address = address i; answer = answer i }
+
   all_seen : (content : Operations) (key : SliceKey) (load : Option ℕ) (rows others : List Answered)
       → map (λ row. row.address) rows ≡ map (λ row. row.address) others
       → AllByRecursion (IsAnswered content key load) rows → AllByRecursion (IsAnswered content key load) others → map seen rows ≡ map seen others
@@ -102,13 +102,11 @@ module _ (one : (o : Operations) (key : SliceKey) (place : Where) (answer other 
   all_seen content key load [] (y ∷ ys) e a b = cc
   all_seen content key load (x ∷ xs) [] e a b = cc
   all_seen content key load (x ∷ xs) (y ∷ ys) e a b =
-      let both : x.address ∷ map (λ row. row.address) xs ≡ y.address ∷ map (λ row. row.address) ys = e in
       let address : x.address ≡ y.address = cc in
       let rest : map (λ (row : Answered). row.address) xs ≡ map (λ (row : Answered). row.address) ys = cc in
-      let moved = subst (λ n. IsAnswer content key (asked_of load n) (answer_view x.answer)) address a.0 in
-      let answer = one content key (asked_of load y.address) (answer_view x.answer) (answer_view y.answer) moved b.0 in
+      let head = one_seen content key load x y address a.0 b.0 in
       let tail = all_seen content key load xs ys rest a.1 b.1 in
-      λ i. record { address = address i; answer = answer i } ∷ tail i
+      λ i. head i ∷ tail i
 
   pub one_told : (content : Operations) (key : SliceKey) (load : Option ℕ) (addresses : List ℕ) (status other_status : Status) (text other_text : List ℕ)
       → TellsAddresses content key load addresses status text → TellsAddresses content key load addresses other_status other_text → (status ≡ other_status) × (text ≡ other_text)

@@ -1,5 +1,5 @@
 -- What sites hold was issued, and what is saved stays below what is held.
-use Rattle.std.proofs.Common.{◌≡◌, ℕ, zero, suc, ◌<◌, ◌≤◌, true, false, List, refl, sym, ap, ◌∙◌, slice_get, arith, inl, inr}
+use Rattle.std.proofs.Common.{◌≡◌, ℕ, zero, suc, ◌<◌, ◌≤◌, true, false, List, refl, sym, ◌∙◌, slice_get, arith, inl, inr}
 use Rattle.std.specs.declared.result.Result.TheVariants.{Ok}
 use Rattle.std.specs.declared.option.Option.{Option}
 use Rattle.std.specs.declared.option.Option.TheVariants.{None, Some}
@@ -14,7 +14,7 @@ use Rattle.archive_core.proofs.Summaries.{contains_delta}
 pub use Rattle.archive_core.proofs.Made.{either}
 use Rattle.exchange_model.specs.World.{Event, Take, Retire, Full, Reply, Deliver, operations_of}
 use Rattle.exchange_model.specs.Reached.{is_of, stops, is_accepted, senders, carried, message_sent, asked, given}
-use Rattle.exchange_model.specs.Issued.{IsIssued, AreIssued, AreRecords, issues}
+use Rattle.exchange_model.specs.Issued.{IsIssued, AreIssued, AreRecords}
 use Rattle.exchange_model.proofs.Content.{made_empty, from_made, below_reflexive, below_transitive, below_left}
 use Rattle.exchange_model.proofs.Between.{and_left}
 use Rattle.exchange_model.proofs.Steps.{holding, saving, gift, saved_next}

@@ -1,12 +1,12 @@
 -- A script by its lines, and the first faulty line.
-use Rattle.std.proofs.Common.{◌≡◌, ◌∙◌, sym, ap, refl, arith, ℕ, ◌+◌, ◌<◌, ◌≤◌, ◌⊎◌, inl, inr, Bool, true, false}
+use Rattle.std.proofs.Common.{◌≡◌, ◌∙◌, sym, ap, refl, arith, ℕ, ◌+◌, ◌≤◌, ◌⊎◌, inl, inr, true, false}
 use Rattle.std.proofs.Common.{List, [], ◌∷◌, ◌++◌, append_assoc, length, map, nat_lt, Option, Some, None, Result, Ok, Err}
 use Rattle.std.specs.Prelude.{IsSome, is_some}
 use Rattle.std.proofs.lemmas.Bool.{cases_lt, le-ltb, lt-ltb}
 use Rattle.std.proofs.lemmas.List.{append-nil, length-append, map-append}
 use Rattle.rehearsal.specs.Events.{Act, line_act, line_sites}
 use Rattle.archive_words.specs.Lines.{Line, counting, line_count}
-use Rattle.rehearsal.specs.Script.{AreEvents, IsFirstFault, IsReached, IsScript, Wrong, event_then, events_of, most_events, onto, script_in, script_of, sites_then, wrong}
+use Rattle.rehearsal.specs.Script.{AreEvents, IsFirstFault, IsReached, IsScript, Wrong, events_of, most_events, onto, script_of}
 use Rattle.rehearsal.specs.declared.script.ScriptFault.{ScriptFault}
 use Rattle.rehearsal.specs.declared.script.ScriptFault.TheVariants.{NoSites, BadEvent, TooManyEvents}
 use Rattle.rehearsal.proofs.Sequels.{behind, behind-nil}

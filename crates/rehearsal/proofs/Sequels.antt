@@ -6,7 +6,7 @@ use Rattle.std.proofs.lemmas.List.{at_drop_more, get_or-map, length-map, map-app
 use Rattle.rehearsal.specs.declared.event.Event.{Event}
 use Rattle.rehearsal.specs.Events.{Act, act_of, line_act}
 use Rattle.archive_words.specs.Lines.{Line, seen}
-use Rattle.rehearsal.specs.Script.{Wrong, acts, event_then, events_of, most_events, onto, wrong}
+use Rattle.rehearsal.specs.Script.{Wrong, acts, event_then, events_of, most_events, onto}
 use Rattle.rehearsal.specs.declared.script.ScriptFault.TheVariants.{BadEvent, TooManyEvents}
 
 -- these events, and those that are read behind them

@@ -16,18 +16,26 @@ use Rattle.archive_laws.proofs.headline.headline.Goals as goal
 made_same : (o p : Operations) → ((r : List ℕ) → (set.contains o r ≡ true) ↔ (set.contains p r ≡ true)) → content_of o ≡ content_of p
 made_same o p same = ap content_of (same_set nat_list_cmp_total bytes_same o p (λ r. both_ways (set.contains o r) (set.contains p r) (same r).0 (same r).1))
 
-pub returns : goal.returns
-returns g c = record {
-  same_operations = λ sites others events later i j same. made_same (reached sites events i) (reached others later j) same;
-  same_content = c.same_reached.ensures;
-  same_bytes = λ sites others events later i j same records.
+pub returns-clause-same_operations : goal.returns-clause-same_operations
+returns-clause-same_operations g c = λ sites others events later i j same. made_same (reached sites events i) (reached others later j) same
+
+pub returns-clause-same_content : goal.returns-clause-same_content
+returns-clause-same_content g c = c.same_reached.ensures
+
+pub returns-clause-same_bytes : goal.returns-clause-same_bytes
+returns-clause-same_bytes g c = λ sites others events later i j same records.
     let held = c.same_reached.ensures sites others events later i j same in
     let content = c.records_make_contents.ensures.held sites events _ i records in
     let text = written ((state sites events (length events)).held i) in
-    (text, record { content = content; is = refl }, subst (λ (o : Operations). IsArchiveTextOf text o) held (record { content = content; is = refl }));
-  same_answers = λ sites others events later i j same key asked answer.
+    (text, record { content = content; is = refl }, subst (λ (o : Operations). IsArchiveTextOf text o) held (record { content = content; is = refl }))
+
+pub returns-clause-same_answers : goal.returns-clause-same_answers
+returns-clause-same_answers g c = λ sites others events later i j same key asked answer.
     let held = c.same_reached.ensures sites others events later i j same in
-    (subst (λ (o : Operations). IsAnswer o key asked answer) held, subst (λ (o : Operations). IsAnswer o key asked answer) (sym held));
-  some_answer = c.one_answer.ensures.some;
-  one_answer = c.one_answer.ensures.one;
-}
+    (subst (λ (o : Operations). IsAnswer o key asked answer) held, subst (λ (o : Operations). IsAnswer o key asked answer) (sym held))
+
+pub returns-clause-some_answer : goal.returns-clause-some_answer
+returns-clause-some_answer g c = c.one_answer.ensures.some
+
+pub returns-clause-one_answer : goal.returns-clause-one_answer
+returns-clause-one_answer g c = c.one_answer.ensures.one

@@ -1,6 +1,7 @@
 use Rattle.archive_core.specs.Content.{content_of}
 use Rattle.archive_records.proofs.Versions.{made_content}
-use Rattle.archive_laws.proofs.Migrated.{old_given, new_given, one_given}
+use Rattle.archive_laws.proofs.Migrated.{old_given, new_given}
+use Rattle.archive_laws.proofs.Given.{one_given}
 use Rattle.archive_laws.proofs.migrate_laws.migrated.Goals as goal
 
 pub returns : goal.returns
