@@ -95,8 +95,11 @@ module _ (o : Operations) (key : SliceKey) where
     record {
       ascending = live_ascending;
       exactly = λ slice. (
-        λ h. record { live = held_in slice h; companions_first = λ companion live t.
-            let nowhere = subst (λ l. Contains l companion) none (to_filter is_dsym_image slices_live companion (in_live companion live) t) in absurd (omega (arith, nowhere.1)) },
+        λ h. record {
+          live = held_in slice h;
+          companions_first = λ companion live t.
+              let nowhere = subst (λ l. Contains l companion) none (to_filter is_dsym_image slices_live companion (in_live companion live) t) in absurd (omega (arith, nowhere.1));
+        },
         λ h. in_live slice h.live,
       );
     },

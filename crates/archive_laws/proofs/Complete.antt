@@ -1,11 +1,10 @@
 -- Each text is that of a content, or has a fault.
 use Rattle.std.proofs.Common.{◌≡◌, ◌≢◌, ℕ, zero, suc, ◌+◌, ◌<◌, ◌≤◌, true, false, List, [], ◌∷◌, ◌++◌, length, get_or, take, drop, ◌==◌, Some, Ok, Err, refl, sym, ap, ◌∙◌, subst, arith, inl, inr, ◌⊎◌, append_assoc, length-append, length-take, take-append-drop, lit≤}
+use Rattle.std.specs.Str.{bytes_eq}
+use Rattle.std.proofs.lemmas.Slice.Eq.{bytes_eq-Decides}
 use Rattle.std.proofs.lemmas.Bool.{cases_Bool, cases_lt, eqb-true}
 use Rattle.std.proofs.lemmas.List.{take_all, drop_at, get_or-take}
 use Rattle.std.specs.List.{concat}
-use Rattle.std.specs.Ordering.{eq_by_cmp, is_eq}
-use Rattle.std.specs.Cmp.{tied_itself}
-use Rattle.std.specs.Cmp.Lexicographic.{nat_list_cmp_total}
 use Rattle.std.specs.FinSet as set
 use Rattle.archive_core.specs.Key.{key_bytes}
 use Rattle.archive_core.specs.Valid.{key_of}
@@ -38,16 +37,16 @@ use Rattle.archive_records.proofs.Steps.{InOrder-push}
 use Rattle.archive_records.proofs.Ends.{is_three, ending_is}
 use Rattle.archive_records.proofs.Formats.{length-magic}
 use Rattle.archive_records.proofs.Listed.{operations_in, IsOperationsText-text}
-use Rattle.archive_records.proofs.Contents.{order, same_bytes, AreEntries-entries, text_of_summary, summary_text-entries}
+use Rattle.archive_records.proofs.Contents.{AreEntries-entries, text_of_summary, summary_text-entries}
 use Rattle.archive_records.specs.declared.format.Format.{Format}
 use Rattle.archive_records.specs.declared.format.Format.TheVariants.{Archive, OldArchive, Operations as Operations_file, Summary as Summary_file}
 
 -- two byte strings are the same, or not
 pub same_or_not : (a b : List ℕ) → (a ≡ b) ⊎ (a ≢ b)
-same_or_not a b = elim (eq_by_cmp order a b) as (λ t. eq_by_cmp order a b ≡ t → (a ≡ b) ⊎ (a ≢ b)) [
-  | true ↦ λ e. inl (same_bytes a b e)
-  | false ↦ λ e. inr (λ same. absurd (cc (sym e ∙ ap (λ (x : List ℕ). eq_by_cmp order a x) (sym same) ∙ ap is_eq (tied_itself nat_list_cmp_total a))))
-] refl
+same_or_not a b = elim (cases_Bool (bytes_eq a b)) [
+  | inl e ↦ inl ((bytes_eq-Decides a b).0 e)
+  | inr e ↦ inr (λ same. cc (sym e ∙ (bytes_eq-Decides a b).1 same))
+]
 
 -- whole bytes that are no end record are a record, or refused for what they hold
 record_or_refused : (bytes : List ℕ) → framed Archive bytes ≡ Ok (length bytes) → is_end bytes ≡ false → IsBytes bytes → IsRecord bytes ⊎ ((kind : RecordFaultKind) × RefusesSlice bytes kind)

@@ -74,9 +74,7 @@ covered_behind text fault records front f e =
 covered_in : (file : Format) (text : List ℕ) (fault : RecordFault) → IsFaultOf file text fault → fault.kind ≡ Covered → IsCoveredThere text fault
 covered_in file text fault (inl m) e = absurd (no_magic_covers file text fault.kind e m.0)
 covered_in Archive text fault (inr f) e = covered_behind text fault f.0 f.1 f.3 e
-covered_in OldArchive text fault (inr f) e = absurd (behind_covered OldArchive f.0 f.1.rest fault e f.3).0
-covered_in Operations text fault (inr f) e = absurd (behind_covered Operations f.0 f.1.rest fault e f.3).0
-covered_in Summary text fault (inr f) e = absurd (behind_covered Summary f.0 f.1.rest fault e f.3).0
+covered_in file text fault (inr f) e = absurd (behind_covered file f.0 f.1.rest fault e f.3).0
 
 pub is_covered_there : (text : List ℕ) (fault : RecordFault) → IsFault text fault → fault.kind ≡ Covered → IsCoveredThere text fault
 is_covered_there text fault f e = covered_in (archive_format text) text fault f e

@@ -44,7 +44,7 @@ content_to : (o : Operations) (files : List (List ℕ)) (place : ℕ) (file : Li
     → admitted (admitted o (images_of (take place files))) (admissible file) ≡ admitted o (images_of (take (place + 1) files))
 content_to o files place file is =
     let both : images_of (take (place + 1) files) ≡ images_of (take place files) ++ admissible file =
-        rw (front_with files place file is, flat_map-append admissible (take place files) (file ∷ []), append-nil (admissible file)) refl in
+    rw (front_with files place file is, flat_map-append admissible (take place files) (file ∷ []), append-nil (admissible file)) refl in
     rw both (sym (admitted-append o (images_of (take place files)) (admissible file)))
 
 pub rows_of : (o : Operations) (files : List (List ℕ)) (place : ℕ) (file : List ℕ) → slice_get files place ≡ Some file

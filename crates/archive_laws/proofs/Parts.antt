@@ -103,17 +103,17 @@ one_more row rows [] is whole up low =
     ap (λ rs. rs ++ []) (own_under row rows ∙ ap (λ rs. row ∷ rs) none) ∙ ap (λ rs. row ∷ rs) whole
 one_more row rows (v ∷ vs) is whole up low = cond_both (bytes_eq row.key.uuid v) _ _ (λ ws. flat_map (λ w. rows_under w (row ∷ rows)) ws ≡ row ∷ rows)
     (λ e.
-        let same : row.key.uuid ≡ v = (bytes_eq-Decides row.key.uuid v).0 e in
-        let front : rows_under v (row ∷ rows) ≡ row ∷ rows_under v rows = subst (λ w. rows_under w (row ∷ rows) ≡ row ∷ rows_under w rows) same (own_under row rows) in
-        let rest = passed row rows vs (subst (λ w. Above w vs) (sym same) up.0) in
-        (λ i. front i ++ rest i) ∙ ap (λ rs. row ∷ rs) whole)
+    let same : row.key.uuid ≡ v = (bytes_eq-Decides row.key.uuid v).0 e in
+    let front : rows_under v (row ∷ rows) ≡ row ∷ rows_under v rows = subst (λ w. rows_under w (row ∷ rows) ≡ row ∷ rows_under w rows) same (own_under row rows) in
+    let rest = passed row rows vs (subst (λ w. Above w vs) (sym same) up.0) in
+    (λ i. front i ++ rest i) ∙ ap (λ rs. row ∷ rs) whole)
     (λ e.
-        let less = less_by row.key.uuid v (slice_cmp nat_cmp row.key.uuid v) refl low.0 e in
-        let above : Above row.key.uuid (v ∷ vs) = (less, all_above row.key.uuid v less vs up.0) in
-        let none : rows_under row.key.uuid rows ≡ [] = none_under row.key.uuid rows (to_rows (λ w. slice_cmp nat_cmp row.key.uuid w ≡ Less) rows (subst (Above row.key.uuid) (sym is) above)) in
-        let front : rows_under row.key.uuid (row ∷ rows) ≡ row ∷ [] = own_under row rows ∙ ap (λ rs. row ∷ rs) none in
-        let rest = passed row rows (v ∷ vs) above in
-        (λ i. front i ++ rest i) ∙ ap (λ rs. row ∷ rs) whole)
+    let less = less_by row.key.uuid v (slice_cmp nat_cmp row.key.uuid v) refl low.0 e in
+    let above : Above row.key.uuid (v ∷ vs) = (less, all_above row.key.uuid v less vs up.0) in
+    let none : rows_under row.key.uuid rows ≡ [] = none_under row.key.uuid rows (to_rows (λ w. slice_cmp nat_cmp row.key.uuid w ≡ Less) rows (subst (Above row.key.uuid) (sym is) above)) in
+    let front : rows_under row.key.uuid (row ∷ rows) ≡ row ∷ [] = own_under row rows ∙ ap (λ rs. row ∷ rs) none in
+    let rest = passed row rows (v ∷ vs) above in
+    (λ i. front i ++ rest i) ∙ ap (λ rs. row ∷ rs) whole)
 
 whole_by_uuid : (rows : List FindRow) → Ascend rows → flat_map (λ u. rows_under u rows) (uuids_of rows) ≡ rows
 whole_by_uuid [] up = refl

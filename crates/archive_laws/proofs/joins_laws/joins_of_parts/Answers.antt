@@ -7,5 +7,5 @@ pub returns : goal.returns
 returns c = record {
   two = λ o p picks front content other short picked. joins_of_parts o p picks front content other short picked;
   several = λ o contents picks front content are short picked.
-    merged_alike front picks short picked o (part o picks) contents content are (part_alike o picks front picked);
+      merged_alike front picks short picked o (part o picks) contents content are (part_alike o picks front picked);
 }
