@@ -35,19 +35,17 @@ pub contents_given : {S : Type 0} (files : List (Reader S)) (contents held : Lis
     → AllZip IsGivenArchive files contents → AllZip HoldsArchive files held → held ≡ contents
 contents_given [] [] [] are is given holds = refl
 contents_given [] [] (h ∷ held) are is given holds = absurd holds
-contents_given [] (o ∷ contents) held are is given holds = absurd given
-contents_given (f ∷ files) [] held are is given holds = absurd given
 contents_given (f ∷ files) (o ∷ contents) [] are is given holds = absurd holds
 contents_given (f ∷ files) (o ∷ contents) (h ∷ held) are is given holds =
     let one = one_given f o h are.0 is.0 given.0 holds.0 in
     let rest = contents_given files contents held are.1 is.1 given.1 holds.1 in cc
+contents_given _ _ held are is given holds = absurd given
 
 pub texts_given : {S : Type 0} (files : List (Reader S)) (texts held : List (List ℕ)) → AllZip IsGiven files texts → AllZip Holds files held → held ≡ texts
 texts_given [] [] [] given holds = refl
 texts_given [] [] (h ∷ held) given holds = absurd holds
-texts_given [] (t ∷ texts) held given holds = absurd given
-texts_given (f ∷ files) [] held given holds = absurd given
 texts_given (f ∷ files) (t ∷ texts) [] given holds = absurd holds
 texts_given (f ∷ files) (t ∷ texts) (h ∷ held) given holds =
     let one : t ≡ h = is_given f t (λ text. text ≡ h) given.0 holds.0 in
     let rest = texts_given files texts held given.1 holds.1 in cc
+texts_given _ _ held given holds = absurd given

@@ -64,34 +64,34 @@ IsEither bytes =
     ⊎ ((fault : ScriptFault) × (line : ℕ) × IsFirstFault bytes fault line)
 
 module _ (bytes : List ℕ) (first : ℕ × Line) (sites : ℕ) (asked : line_sites first.1 ≡ Some sites) where
-  abbrev reached : (between : List (ℕ × Line)) (events : List Act) → AreEvents between events → length events ≤ 10000
-      → (line : ℕ × Line) (after : List (ℕ × Line)) → counting bytes ≡ first ∷ (between ++ line ∷ after) → IsReached bytes (line.0 + 1)
-  reached between events good few line after e = record {
-    first = first;
-    between = between;
-    line = line;
-    after = after;
-    lines = e;
-    sites = sites;
-    asked = asked;
-    events = events;
-    meant = good;
-    few = few;
-    number_is = refl;
-  }
-
   -- behind lines that are events
   behind_events : (between : List (ℕ × Line)) (events : List Act) → AreEvents between events → length events ≤ 10000
       → (lines : List (ℕ × Line)) → counting bytes ≡ first ∷ (between ++ lines) → IsEither bytes
-  behind_events between events good few [] e = inl (sites, events, record { first = first; further = between; lines = e ∙ ap (λ ls. first ∷ ls) (append-nil between); asked = asked; meant = good; few = few })
+  behind_events between events good few [] e =
+      let lines : counting bytes ≡ first ∷ between = e ∙ ap (λ ls. first ∷ ls) (append-nil between) in
+      inl (sites, events, record { first = first; further = between; lines = lines; asked = asked; meant = good; few = few })
   behind_events between events good few (line ∷ after) e =
-      let at : IsReached bytes (line.0 + 1) = reached between events good few line after e in
+      let at : IsReached bytes (line.0 + 1) = record {
+        first = first;
+        between = between;
+        line = line;
+        after = after;
+        lines = e;
+        sites = sites;
+        asked = asked;
+        events = events;
+        meant = good;
+        few = few;
+        number_is = refl;
+      } in
       elim (line_act line.1) as (λ o. line_act line.1 ≡ o → IsEither bytes) [
         | None ↦ λ is. inr (BadEvent, line.0 + 1, (at, is))
         | Some act ↦ λ is. elim (cases_lt (length events) 10000) [
           | inl l ↦
-              let events_then : AreEvents (between ++ line ∷ []) (events ++ act ∷ []) = rw (map-append (λ l. line_act l.1) between (line ∷ []), map-append Some events (act ∷ []), good, is) refl in
-              behind_events (between ++ line ∷ []) (events ++ act ∷ []) events_then (omega (arith, length-append events (act ∷ []))) after (e ∙ ap (λ ls. first ∷ ls) (sym (append_assoc between (line ∷ []) after)))
+              let meant : AreEvents (between ++ line ∷ []) (events ++ act ∷ []) =
+              rw (map-append (λ l. line_act l.1) between (line ∷ []), map-append Some events (act ∷ []), good, is) refl in
+              behind_events (between ++ line ∷ []) (events ++ act ∷ []) meant (omega (arith, length-append events (act ∷ []))) after
+              (e ∙ ap (λ ls. first ∷ ls) (sym (append_assoc between (line ∷ []) after)))
           | inr full ↦ inr (TooManyEvents, line.0 + 1, (at, omega arith, ap is_some is))
         ]
       ] refl
@@ -125,7 +125,8 @@ one_error {A = A} {B = B} r a c b d p q =
 
 pub one_fault : (bytes : List ℕ) (fault other : ScriptFault) (line other_line : ℕ) → IsFirstFault bytes fault line → IsFirstFault bytes other other_line
     → (fault ≡ other) × (line ≡ other_line)
-one_fault bytes fault other line other_line a b = one_error (script_of bytes) fault other line other_line (fault_said bytes fault line a) (fault_said bytes other other_line b)
+one_fault bytes fault other line other_line a b =
+    one_error (script_of bytes) fault other line other_line (fault_said bytes fault line a) (fault_said bytes other other_line b)
 
 -- so what the functions say is so
 pub script_lines : (bytes : List ℕ) (sites : ℕ) (acts : List Act) → script_of bytes ≡ Ok (sites, acts) → IsScript bytes sites acts

@@ -2,4 +2,9 @@ use Rattle.std.proofs.Common.{refl}
 use Rattle.exchange_model.proofs.laws.refused_changes_nothing.Goals as goal
 
 pub returns : goal.returns
-returns g c = record { unchanged = λ sites w e f is. rw is refl; told = λ sites w e f is. rw is refl; accepted = λ sites w e is. rw is refl; answered = λ sites w e is. rw is refl }
+returns g c = record {
+  unchanged = λ sites w e f is. rw is refl;
+  told = λ sites w e f is. rw is refl;
+  accepted = λ sites w e is. rw is refl;
+  answered = λ sites w e is. rw is refl;
+}
