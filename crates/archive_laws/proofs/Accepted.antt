@@ -1,6 +1,6 @@
 -- Inputs that are accepted are refused for their devices alone.
 use Rattle.std.proofs.Common.{◌≡◌, ℕ, zero, suc, List, [], ◌∷◌, Option, Some, Result, Ok, Err, refl, sym, subst, inl, inr}
-use Rattle.std.specs.Prelude.{IfSome, slice_get}
+use Rattle.std.specs.Prelude.{slice_get}
 use Rattle.std.specs.List.{AllByRecursion, AllZip}
 use Rattle.archive_core.specs.Content.{Operations, IsContent}
 use Rattle.archive_core.specs.Summary.{Entries}
@@ -19,11 +19,10 @@ use Rattle.admission.specs.declared.fault.TakeFault.TheVariants.{OutOfMemory as 
 use Rattle.archive_updates.specs.Admit.{admit}
 use Rattle.archive_updates.specs.Apply.{apply}
 use Rattle.archive_updates.specs.Delta.{delta}
+use Rattle.archive_updates.specs.Merge.{merge}
 use Rattle.command_ends.specs.Inputs.{Reader, reader, IsDeviceFault, IsGiven, IsArchiveRefused, IsFileRefused, IsTextRefused, IsGivenArchive}
 use Rattle.command_ends.proofs.Readers.{by_device}
-
-known : (left : Option (List ℕ)) (bytes : List ℕ) (P : List ℕ → Type 0) → left ≡ Some bytes → IfSome left P → P bytes
-known left bytes P is p = let q : IfSome (Some bytes) P = subst (λ (l : Option (List ℕ)). IfSome l P) is p in q
+use Rattle.archive_laws.proofs.Given.{known}
 
 -- a text of some meaning
 text : {S : Type 0} (kind : TextKind) (left : S → Option (List ℕ)) (failures : S → ℕ) (old new : Result S CannotOpen) (m : Meaning kind) (bytes : List ℕ) (why : Why) → IsMeaning kind m → IsTextOf kind m bytes
@@ -61,11 +60,23 @@ module _ (memory_alone : (file : List ℕ) (fault : TakeFault) → IsAcceptedFil
       elim refused [
         | inl p ↦ archive input o why content given p.1
         | inr p ↦
-            let first = p.2 in
-            let found = at_place IsGiven IsAcceptedFile files texts first.number first.input files_given accepted first.input_is in
-            let one = first.input in
+            let first = p.2 in let one = first.input in
+            let found = at_place IsGiven IsAcceptedFile files texts first.number one files_given accepted first.input_is in
             file one.left one.failures one.old one.new found.0 why found.1 found.2 first.refused
       ]
+
+pub merge_refused : {R S : Type 0} (input : Reader R) (files : List (Reader S)) (o : Operations) (contents : List Operations) (place : Place) (why : Why)
+    → IsContent o → AllByRecursion IsContent contents
+    → IsGivenArchive input o → AllZip IsGivenArchive files contents
+    → (merge input files).Refuses place why → IsDeviceFault why
+merge_refused input files o contents place why content are given files_given refused =
+    elim refused [
+      | inl p ↦ archive input o why content given p.1
+      | inr p ↦
+          let first = p.2 in
+          let found = at_place IsGivenArchive IsContent files contents first.number first.input files_given are first.input_is in
+          archive first.input found.0 why found.1 found.2 first.refused
+    ]
 
 pub apply_refused : {R S : Type 0} (input : Reader R) (ops : Reader S) (o : Operations) (bytes : List ℕ) (operations : List Operation) (place : Place) (why : Why)
     → IsContent o → IsGivenArchive input o → IsGiven ops bytes → IsOperationsText bytes operations

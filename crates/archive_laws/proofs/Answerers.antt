@@ -1,5 +1,5 @@
 -- Each key has one list of the slices that answer under it, in any set of operations.
-use Rattle.std.proofs.Common.{◌≡◌, ℕ, Bool, true, false, ◌&&◌, not, cond, List, [], ◌∷◌, ◌++◌, length, drop, map, filter, refl, sym, ap, ◌∙◌, subst, arith}
+use Rattle.std.proofs.Common.{◌≡◌, ℕ, Bool, true, ◌&&◌, not, List, [], ◌∷◌, ◌++◌, length, drop, map, filter, refl, sym, ap, ◌∙◌, subst, arith}
 use Rattle.std.specs.Int.{w64, to_be_bytes}
 use Rattle.std.specs.Ordering.{nat_cmp, on}
 use Rattle.std.specs.Cmp.Lexicographic.{slice_cmp, nat_list_cmp_total, on_texts}
@@ -7,6 +7,7 @@ use Rattle.std.specs.List.{Contains}
 use Rattle.std.specs.List.Sorted.{IsStrictlySortedBy}
 use Rattle.std.specs.Str.{bytes_eq}
 use Rattle.std.specs.FinSet.{contains}
+use Rattle.std.proofs.lemmas.Bool.{cond_both}
 use Rattle.std.proofs.lemmas.List.{drop_at}
 use Rattle.std.proofs.lemmas.List.Kept.{IsStrictlySortedBy-filter}
 use Rattle.std.proofs.lemmas.Slice.Eq.{bytes_eq-Decides}
@@ -17,7 +18,7 @@ use Rattle.join_core.proofs.Listing.{listed}
 use Rattle.archive_core.specs.Key.{key_bytes}
 use Rattle.archive_core.specs.Valid.{key_of}
 use Rattle.archive_core.specs.Record.{admission, admission_record, retirement_record}
-use Rattle.archive_core.specs.Content.{Operations, IsLive, IsAnswering}
+use Rattle.archive_core.specs.Content.{Operations, IsLive}
 use Rattle.archive_core.specs.Find.{is_key, AreAnswering}
 use Rattle.archive_core.specs.Order.{not_true}
 use Rattle.archive_core.specs.declared.keys.SliceKey.{SliceKey}
@@ -80,12 +81,7 @@ module _ (o : Operations) (key : SliceKey) where
 
   same_records : (rs : List (List ℕ)) → map admission_record (map slice_in (filter picks rs)) ≡ filter picks rs
   same_records [] = refl
-  same_records (r ∷ rs) = by (picks r) refl (same_records rs)
-    where
-      by : (b : Bool) → picks r ≡ b → map admission_record (map slice_in (filter picks rs)) ≡ filter picks rs
-          → map admission_record (map slice_in (cond b (r ∷ filter picks rs) (filter picks rs))) ≡ cond b (r ∷ filter picks rs) (filter picks rs)
-      by true t e = λ i. admits r (slice_in r) t i ∷ e i
-      by false t e = e
+  same_records (r ∷ rs) = cond_both (picks r) _ _ (λ kept. map admission_record (map slice_in kept) ≡ kept) (λ t i. admits r (slice_in r) t i ∷ same_records rs i) (λ t. same_records rs)
 
   live_ascending : IsStrictlySortedBy (on admission_record (slice_cmp nat_cmp)) slices_live
   live_ascending =
@@ -99,14 +95,15 @@ module _ (o : Operations) (key : SliceKey) where
     record {
       ascending = live_ascending;
       exactly = λ slice. (
-        λ h. record { live = held_in slice h; companions_first = λ companion live t. absurd (nowhere companion (subst (λ l. Contains l companion) none (to_filter is_dsym_image slices_live companion (in_live companion live) t))) },
+        λ h. record {
+          live = held_in slice h;
+          companions_first = λ companion live t.
+              let nowhere = subst (λ l. Contains l companion) none (to_filter is_dsym_image slices_live companion (in_live companion live) t) in absurd (omega (arith, nowhere.1));
+        },
         λ h. in_live slice h.live,
       );
     },
   )
-    where
-      nowhere : (a : List ℕ) → Contains [] a → ⊥
-      nowhere a (k, lt, e) = omega arith
   answering_by (first ∷ rest) some = (
     filter is_dsym_image slices_live,
     record {

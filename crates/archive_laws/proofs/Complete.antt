@@ -1,11 +1,10 @@
 -- Each text is that of a content, or has a fault.
 use Rattle.std.proofs.Common.{◌≡◌, ◌≢◌, ℕ, zero, suc, ◌+◌, ◌<◌, ◌≤◌, true, false, List, [], ◌∷◌, ◌++◌, length, get_or, take, drop, ◌==◌, Some, Ok, Err, refl, sym, ap, ◌∙◌, subst, arith, inl, inr, ◌⊎◌, append_assoc, length-append, length-take, take-append-drop, lit≤}
-use Rattle.std.proofs.lemmas.Bool.{cases_Bool, cases_lt, eqb-true, false≢true}
+use Rattle.std.specs.Str.{bytes_eq}
+use Rattle.std.proofs.lemmas.Slice.Eq.{bytes_eq-Decides}
+use Rattle.std.proofs.lemmas.Bool.{cases_Bool, cases_lt, eqb-true}
 use Rattle.std.proofs.lemmas.List.{take_all, drop_at, get_or-take}
 use Rattle.std.specs.List.{concat}
-use Rattle.std.specs.Ordering.{eq_by_cmp, is_eq}
-use Rattle.std.specs.Cmp.{tied_itself}
-use Rattle.std.specs.Cmp.Lexicographic.{nat_list_cmp_total}
 use Rattle.std.specs.FinSet as set
 use Rattle.archive_core.specs.Key.{key_bytes}
 use Rattle.archive_core.specs.Valid.{key_of}
@@ -17,11 +16,11 @@ use Rattle.archive_records.specs.Entry.{AreEntries}
 use Rattle.archive_records.specs.declared.fault.RecordFaultKind.{RecordFaultKind}
 use Rattle.archive_records.specs.declared.fault.RecordFaultKind.TheVariants.{BadMagic, Truncated, BadSlice, KeyMismatch, Trailing, Covered}
 use Rattle.archive_records.specs.declared.fault.RecordFault.{RecordFault}
-use Rattle.archive_records.specs.Layout.{head_length, body_length, slice_length, framed}
+use Rattle.archive_records.specs.Layout.{head_length, body_length, framed}
 use Rattle.archive_records.specs.Kind.{magic_of, kind_of, archive_format, IsItem}
 use Rattle.archive_records.specs.Text.{ending, text_of, IsArchiveOf, taken_of, InOrder, AreApart, last_of, IsOperationsText, IsSummaryText}
 use Rattle.archive_records.specs.Fault.{is_end, next, FailsNext, FailsBehind, Fails, RefusesSlice, Refuses, IsTrailing, IsUnended, IsFault, IsOperationsFault, IsSummaryFault, IsFaultOf}
-use Rattle.archive_records.specs.Front.{front_length}
+use Rattle.archive_records.specs.Front.{IsGoodFront, front_length}
 use Rattle.archive_core.specs.Content.{is_covered}
 use Rattle.archive_records.proofs.Formats.{kind_archive}
 use Rattle.archive_records.proofs.Versions.{Formed, formed_content, formed_text}
@@ -38,42 +37,32 @@ use Rattle.archive_records.proofs.Steps.{InOrder-push}
 use Rattle.archive_records.proofs.Ends.{is_three, ending_is}
 use Rattle.archive_records.proofs.Formats.{length-magic}
 use Rattle.archive_records.proofs.Listed.{operations_in, IsOperationsText-text}
-use Rattle.archive_records.proofs.Contents.{order, same_bytes, AreEntries-entries, text_of_summary, summary_text-entries}
+use Rattle.archive_records.proofs.Contents.{AreEntries-entries, text_of_summary, summary_text-entries}
 use Rattle.archive_records.specs.declared.format.Format.{Format}
 use Rattle.archive_records.specs.declared.format.Format.TheVariants.{Archive, OldArchive, Operations as Operations_file, Summary as Summary_file}
 
 -- two byte strings are the same, or not
 pub same_or_not : (a b : List ℕ) → (a ≡ b) ⊎ (a ≢ b)
-same_or_not a b = elim (eq_by_cmp order a b) as (λ t. eq_by_cmp order a b ≡ t → (a ≡ b) ⊎ (a ≢ b)) [
-  | true ↦ λ e. inl (same_bytes a b e)
-  | false ↦ λ e. inr (λ same. apart (sym e ∙ ap (λ (x : List ℕ). eq_by_cmp order a x) (sym same) ∙ ap is_eq (tied_itself nat_list_cmp_total a)))
-] refl
-  where
-    apart : false ≡ true → ⊥
-    apart h = cc
+same_or_not a b = elim (cases_Bool (bytes_eq a b)) [
+  | inl e ↦ inl ((bytes_eq-Decides a b).0 e)
+  | inr e ↦ inr (λ same. cc (sym e ∙ (bytes_eq-Decides a b).1 same))
+]
 
 -- whole bytes that are no end record are a record, or refused for what they hold
 record_or_refused : (bytes : List ℕ) → framed Archive bytes ≡ Ok (length bytes) → is_end bytes ≡ false → IsBytes bytes → IsRecord bytes ⊎ ((kind : RecordFaultKind) × RefusesSlice bytes kind)
 record_or_refused bytes whole no_end fits =
     elim (cases_Bool (get_or bytes 0 0 == 1)) [
-      | inl one ↦
-          let tag = eqb-true _ _ one in
-          inl (inr (retires bytes whole tag fits))
-      | inr other ↦ by_slice (whole-admission Archive bytes whole no_end (λ tag. not_one tag other))
-    ]
-  where
-    not_one : {t : ℕ} → t ≡ 1 → (t == 1) ≡ false → ⊥
-    not_one tag other = false≢true (sym other ∙ ap (λ (x : ℕ). x == 1) tag)
-
-    by_slice : (get_or bytes 0 0 ≡ 2) × (slice_length bytes + 33 ≡ length bytes) → IsRecord bytes ⊎ ((kind : RecordFaultKind) × RefusesSlice bytes kind)
-    by_slice form =
-        elim (slice_or_fault (drop 33 bytes)) [
-          | inl valid ↦ elim (same_or_not (take 24 (drop 1 bytes)) (key_bytes (key_of (drop 33 bytes)))) [
-            | inl key ↦ inl (inl (admits bytes form valid key fits))
-            | inr other ↦ inr (KeyMismatch, (form.0, valid, other))
+      | inl one ↦ inl (inr (retires bytes whole (eqb-true _ _ one) fits))
+      | inr other ↦
+          let form = whole-admission Archive bytes whole no_end (λ tag. cc (sym other ∙ ap (λ (x : ℕ). x == 1) tag)) in
+          elim (slice_or_fault (drop 33 bytes)) [
+            | inl valid ↦ elim (same_or_not (take 24 (drop 1 bytes)) (key_bytes (key_of (drop 33 bytes)))) [
+              | inl key ↦ inl (inl (admits bytes form valid key fits))
+              | inr different ↦ inr (KeyMismatch, (form.0, valid, different))
+            ]
+            | inr fault ↦ inr (BadSlice fault.0, (form.0, fault.1))
           ]
-          | inr fault ↦ inr (BadSlice fault.0, (form.0, fault.1))
-        ]
+    ]
 
 -- and so of each kind of file
 item_or_refused : (file : Format) (bytes : List ℕ) → framed file bytes ≡ Ok (length bytes) → is_end bytes ≡ false → IsBytes bytes → IsItem file bytes ⊎ ((kind : RecordFaultKind) × Refuses file bytes kind)
@@ -83,11 +72,9 @@ item_or_refused Summary_file bytes whole no_end fits = inl (entry-of bytes whole
 item_or_refused Operations_file bytes whole no_end fits = record_or_refused bytes (archive_framed Operations_file (inr (inr refl)) bytes whole no_end) no_end fits
 
 ended_or_not : (file : Format) (rest : List ℕ) (count : ℕ) → IsUnended file rest ⊎ (rest ≡ ending file count)
-ended_or_not Archive rest count = inl tt
-ended_or_not OldArchive rest count = inl tt
-ended_or_not Summary_file rest count = inl tt
 ended_or_not Operations_file [] count = inr refl
 ended_or_not Operations_file (x ∷ rest) count = inl (λ e. cc)
+ended_or_not _ rest count = inl tt
 
 -- a record that may follow is covered by none of those before, or refused for one that covers it
 apart_or_not : (file : Format) (records : List (List ℕ)) (rest : List ℕ) → InOrder file [] records → AreApart file records → (k : Takes file (last_of [] records) rest) → AreApart file (records ++ k.item ∷ []) ⊎ FailsBehind file records rest Covered
@@ -95,9 +82,7 @@ apart_or_not Archive records rest a is k = elim (cases_Bool (is_covered (set.fro
   | inl covered ↦ inr (refl, record { item = k.item; more = k.more; whole = k.whole; is = k.is; above = k.above; covered = covered })
   | inr free ↦ inl (push_apart records k.item a k.above is free)
 ]
-apart_or_not OldArchive records rest a is k = inl tt
-apart_or_not Operations_file records rest a is k = inl tt
-apart_or_not Summary_file records rest a is k = inl tt
+apart_or_not _ records rest a is k = inl tt
 
 module _ (file : Format) where
   -- a whole record in front of bytes is whole alone
@@ -128,9 +113,6 @@ module _ (file : Format) where
     whole : framed file rest ≡ Ok n
     whole = next-framed file last count rest n e
 
-    item : List ℕ
-    item = take n rest
-
     found_end : is_end rest ≡ true → get_or rest 0 0 ≡ 3 → Found last count rest
     found_end end three =
         let h = holds file rest n whole in
@@ -141,16 +123,13 @@ module _ (file : Format) where
           | inr all ↦ inr (inr (inl (ending_is file rest n count whole three (ends file rest count (whole ∙ ap done (omega arith)) three (next-counts file last count rest n e end) fits))))
         ]
 
-    found_item : is_end rest ≡ false → IsItem file (take n rest) → Found last count rest
-    found_item no_end r = inr (inr (inr (record { item = take n rest; more = drop n rest; whole = sym (take-append-drop n rest); is = r; above = next-above file last count rest n e no_end })))
-
     found_whole : is_end rest ≡ false → Found last count rest
     found_whole no_end =
         let bytes : List ℕ = take n rest in
         let cut : framed file bytes ≡ Ok (length bytes) = framed-cut rest n whole in
         let same : is_end bytes ≡ false = sym (is_end-grows bytes (drop n rest) (holds file bytes (length bytes) cut).one) ∙ ap is_end (take-append-drop n rest) ∙ no_end in
         elim (item_or_refused file bytes cut same (IsBytes-take n rest fits)) [
-          | inl is ↦ found_item no_end is
+          | inl is ↦ inr (inr (inr (record { item = bytes; more = drop n rest; whole = sym (take-append-drop n rest); is = is; above = next-above file last count rest n e no_end })))
           | inr refused ↦ inl (refused.0, inr (n, e, refused.1))
         ]
 
@@ -158,59 +137,50 @@ module _ (file : Format) where
   found last count rest fits = elim (next file last count rest) as (λ r. next file last count rest ≡ r → Found last count rest) [
     | Err kind ↦ λ e. inl (kind, inl e)
     | Ok n ↦ λ e. elim (cases_Bool (is_end rest)) [
-      | inl end ↦ found_end last count rest n e fits end (three end)
+      | inl end ↦ found_end last count rest n e fits end (is_three rest end)
       | inr no_end ↦ found_whole last count rest n e fits no_end
     ]
   ] refl
-    where
-      three : is_end rest ≡ true → get_or rest 0 0 ≡ 3
-      three end = is_three rest end
 
   -- a text is that of records, or has a fault
   abbrev pub Known : List ℕ → Type 0
   Known t = ((records : List (List ℕ)) × InOrder file [] records × AreApart file records × (t ≡ text_of file records)) ⊎ ((fault : RecordFault) × IsFaultOf file t fault)
 
-  fault_known : (t : List ℕ) (records : List (List ℕ)) (rest : List ℕ) (kind : RecordFaultKind) → InOrder file [] records → AreApart file records → t ≡ magic_of file ++ (concat records ++ rest) → IsUnended file rest → Fails file records rest kind → Known t
-  fault_known t records rest kind ordered apart is u f =
-      inr (record { kind = kind; offset = front_length records }, inr (records, record { ordered = ordered; apart = apart; rest = rest; whole = is }, u, inl (f, refl)))
+  fault_known : (t : List ℕ) (records : List (List ℕ)) (front : IsGoodFront file t records) (kind : RecordFaultKind) → IsUnended file front.rest → Fails file records front.rest kind → Known t
+  fault_known t records front kind u f = inr (record { kind = kind; offset = front_length records }, inr (records, front, u, inl (f, refl)))
 
-  more_known : (t : List ℕ) (records : List (List ℕ)) (rest : List ℕ) → InOrder file [] records → AreApart file records → t ≡ magic_of file ++ (concat records ++ rest) → IsUnended file rest → IsTrailing file (last_of [] records) (length records) rest → Known t
-  more_known t records rest ordered apart is u f =
-      inr (record { kind = Trailing; offset = front_length records + 9 }, inr (records, record { ordered = ordered; apart = apart; rest = rest; whole = is }, u, inr (refl, f, refl)))
+  all_known : (t : List ℕ) (records : List (List ℕ)) (front : IsGoodFront file t records) → front.rest ≡ ending file (length records) → Known t
+  all_known t records front end =
+      inl (records, front.ordered, front.apart, front.whole ∙ ap (λ (x : List ℕ). magic_of file ++ (concat records ++ x)) end)
 
-  all_known : (t : List ℕ) (records : List (List ℕ)) (rest : List ℕ) → InOrder file [] records → AreApart file records → t ≡ magic_of file ++ (concat records ++ rest) → rest ≡ ending file (length records) → Known t
-  all_known t records rest ordered apart is end =
-      inl (records, ordered, apart, is ∙ ap (λ (x : List ℕ). magic_of file ++ (concat records ++ x)) end)
-
-  -- one record more in front of the rest, where what lies behind it is known
-  goes_on : (t : List ℕ) (fuel : ℕ) (records : List (List ℕ)) (rest : List ℕ) → length rest < suc fuel → IsBytes rest → InOrder file [] records → t ≡ magic_of file ++ (concat records ++ rest)
-      → ((more : List (List ℕ)) (left : List ℕ) → length left < fuel → IsBytes left → InOrder file [] more → AreApart file more → t ≡ magic_of file ++ (concat more ++ left) → Known t) → (k : Takes file (last_of [] records) rest) → AreApart file (records ++ k.item ∷ []) → Known t
-  goes_on t fuel records rest few fits ordered is walked k free =
-      let some = (holds file k.item (length k.item) (item-framed file k.item k.is)).one in
-      let shorter : length k.more < fuel = omega (arith, ap length k.whole, length-append k.item k.more) in
-      let tail : drop (length k.item) rest ≡ k.more = ap (drop (length k.item)) k.whole ∙ drop_at k.item k.more (length k.item) refl in
-      let more_fits : IsBytes k.more = subst IsBytes tail (IsBytes-drop (length k.item) rest fits) in
-      let whole : t ≡ magic_of file ++ (concat (records ++ k.item ∷ []) ++ k.more) =
-      is ∙ ap (λ (x : List ℕ). magic_of file ++ (concat records ++ x)) k.whole ∙ ap (λ (x : List ℕ). magic_of file ++ x) (sym (append_assoc (concat records) k.item k.more) ∙ ap (λ (x : List ℕ). x ++ k.more) (sym (concat-push records k.item))) in
-      walked (records ++ k.item ∷ []) k.more shorter more_fits (InOrder-push file [] records k.item ordered k.is k.above) free whole
-
-  by_front : (t : List ℕ) (fuel : ℕ) (records : List (List ℕ)) (rest : List ℕ) → length rest < suc fuel → IsBytes rest → InOrder file [] records → AreApart file records → t ≡ magic_of file ++ (concat records ++ rest)
-      → ((more : List (List ℕ)) (left : List ℕ) → length left < fuel → IsBytes left → InOrder file [] more → AreApart file more → t ≡ magic_of file ++ (concat more ++ left) → Known t) → IsUnended file rest → Found (last_of [] records) (length records) rest → Known t
-  by_front t fuel records rest few fits ordered apart is walked u (inl f) = fault_known t records rest f.0 ordered apart is u (inl f.1)
-  by_front t fuel records rest few fits ordered apart is walked u (inr (inl f)) = more_known t records rest ordered apart is u f
-  by_front t fuel records rest few fits ordered apart is walked u (inr (inr (inl f))) = all_known t records rest ordered apart is f
-  by_front t fuel records rest few fits ordered apart is walked u (inr (inr (inr f))) = elim (apart_or_not file records rest ordered apart f) [
-    | inl free ↦ goes_on t fuel records rest few fits ordered is walked f free
-    | inr fails ↦ fault_known t records rest Covered ordered apart is u (inr fails)
-  ]
+  -- one record more in front of the rest
+  abbrev goes_on : (t : List ℕ) (records : List (List ℕ)) (front : IsGoodFront file t records) (k : Takes file (last_of [] records) front.rest) → AreApart file (records ++ k.item ∷ []) → IsGoodFront file t (records ++ k.item ∷ [])
+  goes_on t records front k free = record {
+    ordered = InOrder-push file [] records k.item front.ordered k.is k.above;
+    apart = free;
+    rest = k.more;
+    whole = front.whole ∙ ap (λ (x : List ℕ). magic_of file ++ x) (rw (k.whole, concat-push records k.item) (sym (append_assoc (concat records) k.item k.more)));
+  }
 
   -- the records in front of the rest, one after another
-  walk : (t : List ℕ) (fuel : ℕ) (records : List (List ℕ)) (rest : List ℕ) → length rest < fuel → IsBytes rest → InOrder file [] records → AreApart file records → t ≡ magic_of file ++ (concat records ++ rest) → Known t
-  walk t zero records rest few fits ordered apart is = absurd (omega arith)
-  walk t (suc fuel) records rest few fits ordered apart is =
-      elim (ended_or_not file rest (length records)) [
-        | inl u ↦ by_front t fuel records rest few fits ordered apart is (λ more left lt f a p e. walk t fuel more left lt f a p e) u (found (last_of [] records) (length records) rest fits)
-        | inr end ↦ all_known t records rest ordered apart is end
+  walk : (t : List ℕ) (fuel : ℕ) (records : List (List ℕ)) (front : IsGoodFront file t records) → length front.rest < fuel → IsBytes front.rest → Known t
+  walk t zero records front few fits = absurd (omega arith)
+  walk t (suc fuel) records front few fits =
+      elim (ended_or_not file front.rest (length records)) [
+        | inl u ↦ elim (found (last_of [] records) (length records) front.rest fits) [
+          | inl f ↦ fault_known t records front f.0 u (inl f.1)
+          | inr (inl f) ↦ inr (record { kind = Trailing; offset = front_length records + 9 }, inr (records, front, u, inr (refl, f, refl)))
+          | inr (inr (inl end)) ↦ all_known t records front end
+          | inr (inr (inr k)) ↦ elim (apart_or_not file records front.rest front.ordered front.apart k) [
+            | inl free ↦
+                let some = (holds file k.item (length k.item) (item-framed file k.item k.is)).one in
+                let shorter : length k.more < fuel = omega (arith, ap length k.whole, length-append k.item k.more) in
+                let tail : drop (length k.item) front.rest ≡ k.more = ap (drop (length k.item)) k.whole ∙ drop_at k.item k.more (length k.item) refl in
+                walk t fuel (records ++ k.item ∷ []) (goes_on t records front k free) shorter (subst IsBytes tail (IsBytes-drop (length k.item) front.rest fits))
+            | inr fails ↦ fault_known t records front Covered u (inr fails)
+          ]
+        ]
+        | inr end ↦ all_known t records front end
       ]
 
   bad_magic : (t : List ℕ) (n : ℕ) → n ≤ 8 → n ≤ length t → take n t ≢ take n (magic_of file) → Known t
@@ -225,7 +195,7 @@ module _ (file : Format) where
     | inr long ↦ elim (same_or_not (take 8 t) (take 8 (magic_of file))) [
       | inl same ↦
           let whole : t ≡ magic_of file ++ drop 8 t = sym (take-append-drop 8 t) ∙ ap (λ (x : List ℕ). x ++ drop 8 t) (same ∙ take_all 8 (magic_of file) (omega (arith, length-magic file))) in
-          walk t (length (drop 8 t) + 1) [] (drop 8 t) (omega arith) (IsBytes-drop 8 t fits) tt (apart_none file) whole
+          walk t (length (drop 8 t) + 1) [] (record { ordered = tt; apart = apart_none file; rest = drop 8 t; whole = whole }) (omega arith) (IsBytes-drop 8 t fits)
       | inr other ↦ bad_magic t 8 (lit≤ tt) long other
     ]
   ]
@@ -239,16 +209,14 @@ content_known file is t (inr f) = inr f
 pub content_or_fault : (t : List ℕ) → IsBytes t → ((o : Operations) × IsContent o × IsArchiveOf o t) ⊎ ((fault : RecordFault) × IsFault t fault)
 content_or_fault t fits = content_known (archive_format t) (kind_archive t) t (text_or_fault (archive_format t) t fits)
 
-operations_known : (t : List ℕ) → Known Operations_file t → ((operations : List Operation) × IsOperationsText t operations) ⊎ ((fault : RecordFault) × IsOperationsFault t fault)
-operations_known t (inl k) = let listed = operations_in [] k.0 k.1 in inl (listed.0, IsOperationsText-text t listed.0 listed.1 (k.3 ∙ ap (text_of Operations_file) (sym listed.2)))
-operations_known t (inr f) = inr f
-
 pub operations_or_fault : (t : List ℕ) → IsBytes t → ((operations : List Operation) × IsOperationsText t operations) ⊎ ((fault : RecordFault) × IsOperationsFault t fault)
-operations_or_fault t fits = operations_known t (text_or_fault Operations_file t fits)
-
-summary_known : (t : List ℕ) → Known Summary_file t → ((s : Entries) × AreEntries s × IsSummaryText s t) ⊎ ((fault : RecordFault) × IsSummaryFault t fault)
-summary_known t (inl k) = inl (set.from_list k.0, AreEntries-entries k.0 k.1, text_of_summary (set.from_list k.0) t (k.3 ∙ sym (summary_text-entries k.0 k.1)))
-summary_known t (inr f) = inr f
+operations_or_fault t fits = elim (text_or_fault Operations_file t fits) [
+  | inl k ↦ let listed = operations_in [] k.0 k.1 in inl (listed.0, IsOperationsText-text t listed.0 listed.1 (k.3 ∙ ap (text_of Operations_file) (sym listed.2)))
+  | inr f ↦ inr f
+]
 
 pub summary_or_fault : (t : List ℕ) → IsBytes t → ((s : Entries) × AreEntries s × IsSummaryText s t) ⊎ ((fault : RecordFault) × IsSummaryFault t fault)
-summary_or_fault t fits = summary_known t (text_or_fault Summary_file t fits)
+summary_or_fault t fits = elim (text_or_fault Summary_file t fits) [
+  | inl k ↦ inl (set.from_list k.0, AreEntries-entries k.0 k.1, text_of_summary (set.from_list k.0) t (k.3 ∙ sym (summary_text-entries k.0 k.1)))
+  | inr f ↦ inr f
+]

@@ -9,7 +9,7 @@ use Rattle.archive_core.proofs.Entries.{covering_admission}
 use Rattle.archive_records.specs.declared.format.Format.{Format}
 use Rattle.archive_records.specs.declared.format.Format.TheVariants.{Archive, OldArchive, Operations, Summary}
 use Rattle.archive_records.specs.declared.fault.RecordFaultKind.{RecordFaultKind}
-use Rattle.archive_records.specs.declared.fault.RecordFaultKind.TheVariants.{Covered, Trailing}
+use Rattle.archive_records.specs.declared.fault.RecordFaultKind.TheVariants.{Covered}
 use Rattle.archive_records.specs.declared.fault.RecordFault.{RecordFault}
 use Rattle.archive_records.specs.Kind.{magic, old_magic, archive_format, may_follow}
 use Rattle.archive_records.specs.Text.{last_of}
@@ -24,12 +24,6 @@ use Rattle.archive_records.proofs.Formats.{format_magic}
 no_magic_covers : (file : Format) (text : List ℕ) (kind : RecordFaultKind) → kind ≡ Covered → IsMagicFault file text kind → ⊥
 no_magic_covers file text kind e m = subst (IsMagicFault file text) e m
 
-trailing_apart : (kind : RecordFaultKind) → kind ≡ Covered → kind ≡ Trailing → ⊥
-trailing_apart kind e t = apart (sym e ∙ t)
-  where
-    apart : Covered ≡ Trailing → ⊥
-    apart h = cc
-
 by_behind : (file : Format) (records : List (List ℕ)) (rest : List ℕ) (kind : RecordFaultKind) → kind ≡ Covered → Fails file records rest kind → FailsBehind file records rest kind
 by_behind file records rest kind e (inl f) = absurd (fails_not_covered file (last_of [] records) (length records) rest (subst (FailsNext file (last_of [] records) (length records) rest) e f))
 by_behind file records rest kind e (inr f) = f
@@ -37,7 +31,7 @@ by_behind file records rest kind e (inr f) = f
 -- only an archive's text has such a fault
 behind_covered : (file : Format) (records : List (List ℕ)) (rest : List ℕ) (fault : RecordFault) → fault.kind ≡ Covered → IsFaultBehind file records rest fault → FailsBehind file records rest fault.kind × (fault.offset ≡ front_length records)
 behind_covered file records rest fault e (inl f) = (by_behind file records rest fault.kind e f.0, f.1)
-behind_covered file records rest fault e (inr t) = absurd (trailing_apart fault.kind e t.0)
+behind_covered file records rest fault e (inr t) = cc (sym e ∙ t.0)
 
 pub operations_uncovered : (text : List ℕ) (fault : RecordFault) → IsFaultOf Operations text fault → fault.kind ≢ Covered
 operations_uncovered text fault (inl m) e = no_magic_covers Operations text fault.kind e m.0
@@ -80,9 +74,7 @@ covered_behind text fault records front f e =
 covered_in : (file : Format) (text : List ℕ) (fault : RecordFault) → IsFaultOf file text fault → fault.kind ≡ Covered → IsCoveredThere text fault
 covered_in file text fault (inl m) e = absurd (no_magic_covers file text fault.kind e m.0)
 covered_in Archive text fault (inr f) e = covered_behind text fault f.0 f.1 f.3 e
-covered_in OldArchive text fault (inr f) e = absurd (behind_covered OldArchive f.0 f.1.rest fault e f.3).0
-covered_in Operations text fault (inr f) e = absurd (behind_covered Operations f.0 f.1.rest fault e f.3).0
-covered_in Summary text fault (inr f) e = absurd (behind_covered Summary f.0 f.1.rest fault e f.3).0
+covered_in file text fault (inr f) e = absurd (behind_covered file f.0 f.1.rest fault e f.3).0
 
 pub is_covered_there : (text : List ℕ) (fault : RecordFault) → IsFault text fault → fault.kind ≡ Covered → IsCoveredThere text fault
 is_covered_there text fault f e = covered_in (archive_format text) text fault f e

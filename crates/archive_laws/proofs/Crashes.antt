@@ -1,11 +1,12 @@
 -- The draft behind each of the calls.
-use Rattle.std.proofs.Common.{◌≡◌, ◌≢◌, ◌⊎◌, ℕ, zero, suc, Bool, true, false, ◌||◌, List, [], ◌∷◌, ◌++◌, take, map, fold, length, Option, Some, refl, sym, ap, ◌∙◌, inl, inr, subst, append_assoc, true≢false, arith}
+use Rattle.std.proofs.Common.{◌≡◌, ◌≢◌, ◌⊎◌, ℕ, zero, suc, true, false, List, [], ◌∷◌, ◌++◌, take, map, fold, length, Option, Some, refl, sym, ap, ◌∙◌, inl, inr, subst, append_assoc, arith}
 use Rattle.std.specs.List.{concat}
 use Rattle.std.specs.Str.{bytes_eq}
+use Rattle.std.proofs.lemmas.Bool.{false_from_ne_true, or_right}
 use Rattle.std.proofs.lemmas.List.{append-nil, take_all}
 use Rattle.std.proofs.lemmas.Slice.Eq.{bytes_eq-Decides}
-use Rattle.archive_files.specs.FileCalls.{FileCall, Creates, Writes, Syncs, Renames, SyncsFolder, Removes, drafting, placing}
-use Rattle.archive_files.specs.Placing.{IsBeside, IsDraftRemoved, IsDrafted, IsReplaced, folder_of}
+use Rattle.archive_files.specs.FileCalls.{FileCall, Creates, Writes, Syncs, Removes, drafting, placing}
+use Rattle.archive_files.specs.Placing.{IsDraftRemoved, IsDrafted, IsReplaced, folder_of}
 use Rattle.archive_laws.specs.Crashes.{DraftState, MayBeAt, Old, New, Torn, Touched, behind, no_draft, replay}
 
 -- Where it was renamed it has the whole text, and that is on the disk; the target itself was not touched.
@@ -16,19 +17,7 @@ pub record IsWhole (text : List ℕ) (d : DraftState) : Type 0 where
 
 -- what was not renamed is so
 unrenamed : (text : List ℕ) (d : DraftState) → d.renamed ≡ false → d.touched ≡ false → IsWhole text d
-unrenamed text d still un = record {
-  synced = λ yes. absurd (true≢false (sym yes ∙ still));
-  bytes = λ yes. absurd (true≢false (sym yes ∙ still));
-  untouched = un;
-}
-
-false_of : (b : Bool) → (b ≡ true → ⊥) → b ≡ false
-false_of true still = absurd (still refl)
-false_of false still = refl
-
-true_of : (a b : Bool) → b ≡ true → (a || b) ≡ true
-true_of true b e = refl
-true_of false b e = e
+unrenamed text d still un = record { synced = λ yes. cc; bytes = λ yes. cc; untouched = un }
 
 -- It was not renamed, and the target not touched.
 abbrev IsStill : DraftState → Type 0
@@ -40,7 +29,7 @@ module _ (draft target folder : List ℕ) (other : draft ≢ target) where
 
   -- two paths
   apart : bytes_eq draft target ≡ false
-  apart = false_of (bytes_eq draft target) (λ e. other ((bytes_eq-Decides draft target).0 e))
+  apart = false_from_ne_true (bytes_eq draft target) (λ e. other ((bytes_eq-Decides draft target).0 e))
 
   abbrev begun : DraftState
   begun = behind target no_draft (Creates draft)
@@ -69,14 +58,14 @@ module _ (draft target folder : List ℕ) (other : draft ≢ target) where
 
   -- behind all of them the renaming is on the disk
   all : (pieces : List (List ℕ)) (d : DraftState) → (fold (behind target) d (map Writes pieces ++ last)).kept ≡ true
-  all [] d = true_of d.renamed (bytes_eq target target) ((bytes_eq-Decides target target).1 refl)
+  all [] d = or_right d.renamed (bytes_eq target target) ((bytes_eq-Decides target target).1 refl)
   all (piece ∷ pieces) d = all pieces (behind target d (Writes piece))
 
   at_end : (pieces : List (List ℕ)) → (replay target (drafting draft pieces ++ last)).kept ≡ true
   at_end pieces = all pieces begun
 
   removed_still : (d : DraftState) → IsStill d → IsStill (behind target d (Removes draft))
-  removed_still d still = (still.0, ap (λ b. b || bytes_eq draft target) still.1 ∙ apart)
+  removed_still d still = (still.0, rw still.1 apart)
 
   -- what is removed was never renamed
   ends_removed : (d : DraftState) (n : ℕ) → IsStill d → IsStill (fold (behind target) d (take n (Removes draft ∷ [])))
@@ -108,31 +97,28 @@ leaves : (text : List ℕ) (before left : Option (List ℕ)) (d : DraftState) �
     → (left ≡ before) ⊎ (left ≡ Some text)
 leaves text before _ d is (Old kept) = inl refl
 leaves text before _ d is (New renamed synced) = inr (ap (λ t. Some t) (is.bytes renamed))
-leaves text before _ d is (Torn renamed unsynced left) = absurd (true≢false (sym (is.synced renamed) ∙ unsynced))
-leaves text before _ d is (Touched touched left) = absurd (true≢false (sym touched ∙ is.untouched))
+leaves text before _ d is (Torn renamed unsynced left) = cc (is.synced renamed)
+leaves text before _ d is (Touched touched left) = cc (is.untouched)
 
 leaves_text : (text : List ℕ) (before left : Option (List ℕ)) (d : DraftState) → IsWhole text d → d.kept ≡ true
     → MayBeAt before d left → left ≡ Some text
-leaves_text text before _ d is kept (Old unkept) = absurd (true≢false (sym kept ∙ unkept))
+leaves_text text before _ d is kept (Old unkept) = cc
 leaves_text text before _ d is kept (New renamed synced) = ap (λ t. Some t) (is.bytes renamed)
-leaves_text text before _ d is kept (Torn renamed unsynced left) =
-    absurd (true≢false (sym (is.synced renamed) ∙ unsynced))
-leaves_text text before _ d is kept (Touched touched left) = absurd (true≢false (sym touched ∙ is.untouched))
+leaves_text text before _ d is kept (Torn renamed unsynced left) = cc (is.synced renamed)
+leaves_text text before _ d is kept (Touched touched left) = cc (is.untouched)
 
 leaves_it : (before left : Option (List ℕ)) (d : DraftState) → IsStill d → MayBeAt before d left → left ≡ before
 leaves_it before _ d still (Old kept) = refl
-leaves_it before _ d still (New renamed synced) = absurd (true≢false (sym renamed ∙ still.0))
-leaves_it before _ d still (Torn renamed unsynced left) = absurd (true≢false (sym renamed ∙ still.0))
-leaves_it before _ d still (Touched touched left) = absurd (true≢false (sym touched ∙ still.1))
+leaves_it before _ d still (New renamed synced) = cc still.0
+leaves_it before _ d still (Torn renamed unsynced left) = cc still.0
+leaves_it before _ d still (Touched touched left) = cc still.1
 
 -- ---- behind some of the calls, and behind all
 
 whole_at : (text : List ℕ) (calls : List FileCall) (done : ℕ) (is : IsReplaced text calls)
     → IsWhole text (replay is.target (take done calls))
 whole_at text calls done is =
-    subst (λ t. IsWhole t (replay is.target (take done calls))) is.whole
-    (subst (λ cs. IsWhole (concat is.pieces) (replay is.target (take done cs))) (sym is.calls_are)
-    (prefix is.draft is.target (folder_of is.target) is.beside.apart is.pieces done))
+    rw (← is.whole, is.calls_are) (prefix is.draft is.target (folder_of is.target) is.beside.apart is.pieces done)
 
 pub any_moment : (text : List ℕ) (calls : List FileCall) (before left : Option (List ℕ)) (done : ℕ)
     (is : IsReplaced text calls) → MayBeAt before (replay is.target (take done calls)) left
@@ -152,13 +138,9 @@ still_at : (calls : List FileCall) (done : ℕ) (is : IsDraftRemoved calls) → 
 still_at calls done is =
     let d : IsDrafted is.draft is.target is.drafted = is.is_drafted in
     elim is.calls_are [
-      | inl removed ↦ subst (λ cs. IsStill (replay is.target (take done cs)))
-          (sym (removed ∙ ap (λ cs. cs ++ Removes is.draft ∷ []) d.calls_are))
-          (unplaced is.draft is.target [] d.beside.apart (Removes is.draft ∷ [])
+      | inl removed ↦ rw (removed, d.calls_are) (unplaced is.draft is.target [] d.beside.apart (Removes is.draft ∷ [])
           (ends_removed is.draft is.target [] d.beside.apart) d.pieces done)
-      | inr synced ↦ subst (λ cs. IsStill (replay is.target (take done cs)))
-          (sym (synced ∙ ap (λ cs. cs ++ Syncs ∷ Removes is.draft ∷ []) d.calls_are))
-          (unplaced is.draft is.target [] d.beside.apart (Syncs ∷ Removes is.draft ∷ [])
+      | inr synced ↦ rw (synced, d.calls_are) (unplaced is.draft is.target [] d.beside.apart (Syncs ∷ Removes is.draft ∷ [])
           (ends_synced is.draft is.target [] d.beside.apart) d.pieces done)
     ]
 

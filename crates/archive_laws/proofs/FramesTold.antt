@@ -1,10 +1,9 @@
 -- What is told of frames is what `symbolicate` tells of each, depends on the content alone, and is refused for a device alone.
-use Rattle.std.proofs.Common.{◌≡◌, ◌↔◌, ℕ, Bool, true, false, ◌&&◌, if◌then◌else◌, List, [], ◌∷◌, ◌++◌, map, Option, Result, Ok, Err, refl, sym, ap, ◌∙◌, subst, inl, inr}
-use Rattle.std.specs.Prelude.{IfSome}
+use Rattle.std.proofs.Common.{◌≡◌, ◌↔◌, ℕ, Bool, if◌then◌else◌, List, [], ◌∷◌, map, Option, Result, Ok, Err, refl, sym, ap, ◌∙◌, subst, arith, inl, inr}
 use Rattle.std.specs.List.{AllByRecursion, AllZip, flat_map, list_all}
 use Rattle.std.proofs.lemmas.List.{append-nil}
 use Rattle.archive_core.specs.Content.{Operations}
-use Rattle.archive_core.specs.Lookup.{AnswerRecord, IsAnswer, answer_view}
+use Rattle.archive_core.specs.Lookup.{AnswerRecord, IsAnswer}
 use Rattle.archive_core.specs.declared.keys.SliceKey.{SliceKey}
 use Rattle.archive_core.specs.declared.lookup.Where.{Where}
 use Rattle.archive_words.specs.Lines.{line_at}
@@ -17,52 +16,32 @@ use Rattle.command_ends.specs.declared.faults.Place.{Place}
 use Rattle.command_ends.specs.declared.faults.Status.{Status}
 use Rattle.command_ends.specs.declared.faults.Status.TheVariants.{Done, Partial}
 use Rattle.command_ends.specs.declared.faults.Why.{Why}
-use Rattle.command_ends.specs.declared.faults.Why.TheVariants.{Device as CannotRead, Record, Take, Script as Faulty, BadFrame, CannotOpen as NotOpened, OldArchive, TooLong, Index as IndexFaulty, NoArchive, Stale}
+use Rattle.command_ends.specs.declared.faults.Why.TheVariants.{Device as CannotRead, BadFrame, CannotOpen as NotOpened}
 use Rattle.archive_queries.specs.Frames.{IsFrameAnswered, TellsFrames, MakesFramed, RefusesFrames, Told, IsToldAlone, SymbolicatesEach, is_done}
 use Rattle.command_ends.specs.Inputs.{Reader, reader, Gives, HoldsContent, IsDeviceFault, IsFramesRefused, IsGiven}
-use Rattle.archive_queries.specs.Symbolicate.{Answered, IsAnswered, TellsAddresses, asked_of, is_symbol, answers_status, answers_text}
+use Rattle.archive_queries.specs.Symbolicate.{Answered, IsAnswered, TellsAddresses, is_symbol, answers_status, answers_text}
 use Rattle.archive_updates.specs.Merge.{merge}
 use Rattle.archive_laws.specs.Joins.{IsGivenJoin}
 use Rattle.archive_laws.proofs.Joins.{alone_held, as_merged, holds_join, join_refused, told_of_join}
-use Rattle.archive_laws.proofs.Viewed.{alike_told, known, seen}
-
--- ---- what an input gives
-
-gives : {S : Type 0} (left : S → Option (List ℕ)) (failures : S → ℕ) (old new : Result S CannotOpen) (bytes : List ℕ) (P : List ℕ → Type 0)
-    → IsGiven (reader left failures old new) bytes → P bytes → Gives (reader left failures old new) P
-gives left failures (Ok source) new bytes P is p = subst (λ (l : Option (List ℕ)). IfSome l P) (sym is) p
-gives left failures (Err _) new bytes P is p = absurd is
-
-given : {S : Type 0} (left : S → Option (List ℕ)) (failures : S → ℕ) (old new : Result S CannotOpen) (bytes : List ℕ) (P : List ℕ → Type 0)
-    → IsGiven (reader left failures old new) bytes → Gives (reader left failures old new) P → P bytes
-given left failures (Ok source) new bytes P is p = known (left source) bytes P is p
-given left failures (Err _) new bytes P is p = absurd is
-
-same_frames : (read : Result (List Frame) ℕ) (said other : List Frame) → read ≡ Ok said → read ≡ Ok other → said ≡ other
-same_frames read said other a b = cc
+use Rattle.archive_laws.proofs.Given.{gives, is_given}
+use Rattle.archive_laws.proofs.Viewed.{alike_told, one_seen, seen}
 
 -- ---- an answer alone
 
 abbrev alone_told : Answered → Told
 alone_told row = record { status = answers_status (row ∷ []); text = answers_text (row ∷ []) }
 
-done_alone : (b : Bool) → is_done (if (b && true) then Done else Partial) ≡ b
-done_alone true = refl
-done_alone false = refl
-
 all_done : (rows : List Answered) → list_all (λ row. is_symbol row.answer) rows ≡ list_all (λ (one : Told). is_done one.status) (map alone_told rows)
 all_done [] = refl
-all_done (row ∷ rows) = λ i. sym (done_alone (is_symbol row.answer)) i && all_done rows i
+all_done (row ∷ rows) = let rest = all_done rows in grind arith
 
 one_text : (rows : List Answered) → answers_text rows ≡ flat_map (λ (one : Told). one.text) (map alone_told rows)
 one_text [] = refl
-one_text (row ∷ rows) = λ i. sym (append-nil (answer_lines row.address row.answer)) i ++ one_text rows i
+one_text (row ∷ rows) = rw (one_text rows, append-nil (answer_lines row.address row.answer)) refl
 
 each_alone : {S T : Type 0} (input : Reader S) (others : List (Reader T)) (o : Operations) (frames : List Frame) (rows : List Answered) → IsGivenJoin input others o
     → AllZip (IsFrameAnswered o) frames rows → AllZip (IsToldAlone input others) frames (map alone_told rows)
 each_alone input others o [] [] given all = tt
-each_alone input others o [] (row ∷ rows) given all = absurd all
-each_alone input others o (frame ∷ frames) [] given all = absurd all
 each_alone input others o (frame ∷ frames) (row ∷ rows) given all =
     let tells : TellsAddresses o frame.key frame.load (frame.address ∷ []) (answers_status (row ∷ [])) (answers_text (row ∷ [])) = record {
       rows = row ∷ [];
@@ -74,34 +53,35 @@ each_alone input others o (frame ∷ frames) (row ∷ rows) given all =
       holds_join input others o given (λ p. TellsAddresses p frame.key frame.load (frame.address ∷ []) (answers_status (row ∷ [])) (answers_text (row ∷ []))) tells,
       each_alone input others o frames rows given all.1,
     )
+each_alone input others o _ _ given all = absurd all
 
 -- the one row of an answer alone
 one_row : (o : Operations) (frame : Frame) (told : Told) (rows : List Answered) → map (λ (row : Answered). row.address) rows ≡ frame.address ∷ []
     → AllByRecursion (IsAnswered o frame.key frame.load) rows → told.status ≡ answers_status rows → told.text ≡ answers_text rows
     → (row : Answered) × IsFrameAnswered o frame row × (told ≡ alone_told row)
-one_row o frame told [] are all status text = absurd cc
+one_row o frame told [] are all status text = cc
 one_row o frame told (row ∷ []) are all status text =
     let address : row.address ≡ frame.address = cc in
     (row, (address, all.0), λ i. record { status = status i; text = text i })
-one_row o frame told (row ∷ next ∷ rows) are all status text = absurd cc
+one_row o frame told (row ∷ next ∷ rows) are all status text = cc
 
 each_row : {S T : Type 0} (input : Reader S) (others : List (Reader T)) (o : Operations) (frames : List Frame) (told : List Told) → IsGivenJoin input others o
     → AllZip (IsToldAlone input others) frames told → (rows : List Answered) × AllZip (IsFrameAnswered o) frames rows × (told ≡ map alone_told rows)
 each_row input others o [] [] given all = ([], tt, refl)
-each_row input others o [] (t ∷ told) given all = absurd all
-each_row input others o (frame ∷ frames) [] given all = absurd all
 each_row input others o (frame ∷ frames) (t ∷ told) given all =
     let tells = told_of_join input others o given (λ p. TellsAddresses p frame.key frame.load (frame.address ∷ []) t.status t.text) all.0 in
     let first = one_row o frame t tells.rows tells.addresses_are tells.answered tells.status_is tells.text_is in
     let rest = each_row input others o frames told given all.1 in
     (first.0 ∷ rest.0, (first.1, rest.1), λ i. first.2 i ∷ rest.2 i)
+each_row input others o _ _ given all = absurd all
 
 -- ---- frames of archives that have this content together
 
 pub command_fault_of : {R S T : Type 0} (input : Reader R) (first : Reader S) (others : List (Reader T)) (bytes : List ℕ) (said : List Frame) (o : Operations) (status : Status) (text : List ℕ)
     → IsGiven input bytes → frames_of bytes ≡ Ok said → IsGivenJoin first others o → MakesFramed input first others status text → TellsFrames o said status text
 command_fault_of input first others bytes said o status text is says given_join makes =
-    let frames = same_frames (frames_of bytes) makes.said said (given input.left input.failures input.old input.new bytes (λ b. frames_of b ≡ Ok makes.said) is makes.frames_are) says in
+    let also = is_given input bytes (λ b. frames_of b ≡ Ok makes.said) is makes.frames_are in
+    let frames : makes.said ≡ said = cc in
     subst (λ (fs : List Frame). TellsFrames o fs status text) frames (told_of_join first others o given_join (λ p. TellsFrames p makes.said status text) makes.tells)
 
 pub each_is : {R S T : Type 0} (input : Reader R) (first : Reader S) (others : List (Reader T)) (bytes : List ℕ) (said : List Frame) (o : Operations) (status : Status) (text : List ℕ)
@@ -125,7 +105,7 @@ each_is input first others bytes said o status text is says given_join = (to, ba
         let lines = ap (flat_map (λ (one : Told). one.text)) rows.2 ∙ sym (one_text rows.0) in
         record {
           said = said;
-          frames_are = gives input.left input.failures input.old input.new bytes (λ b. frames_of b ≡ Ok said) is says;
+          frames_are = gives input bytes (λ b. frames_of b ≡ Ok said) is says;
           tells = holds_join first others o given_join (λ p. TellsFrames p said status text) (record {
             rows = rows.0;
             answered = rows.1;
@@ -155,15 +135,12 @@ module _ (one : (o : Operations) (key : SliceKey) (place : Where) (answer other 
   all_seen : (o : Operations) (frames : List Frame) (rows others : List Answered) → AllZip (IsFrameAnswered o) frames rows → AllZip (IsFrameAnswered o) frames others → map seen rows ≡ map seen others
   all_seen o [] [] [] a b = refl
   all_seen o [] [] (y ∷ ys) a b = absurd b
-  all_seen o [] (x ∷ xs) ys a b = absurd a
-  all_seen o (frame ∷ frames) [] ys a b = absurd a
   all_seen o (frame ∷ frames) (x ∷ xs) [] a b = absurd b
   all_seen o (frame ∷ frames) (x ∷ xs) (y ∷ ys) a b =
-      let address : x.address ≡ y.address = a.0.0 ∙ sym b.0.0 in
-      let moved = subst (λ n. IsAnswer o frame.key (asked_of frame.load n) (answer_view x.answer)) address a.0.1 in
-      let answer = one o frame.key (asked_of frame.load y.address) (answer_view x.answer) (answer_view y.answer) moved b.0.1 in
+      let head = one_seen one o frame.key frame.load x y (a.0.0 ∙ sym b.0.0) a.0.1 b.0.1 in
       let tail = all_seen o frames xs ys a.1 b.1 in
-      λ i. record { address = address i; answer = answer i } ∷ tail i
+      λ i. head i ∷ tail i
+  all_seen o _ _ ys a b = absurd a
 
   one_told : (o : Operations) (frames : List Frame) (status other_status : Status) (text other_text : List ℕ) → TellsFrames o frames status text → TellsFrames o frames other_status other_text
       → (status ≡ other_status) × (text ≡ other_text)
@@ -175,32 +152,21 @@ module _ (one : (o : Operations) (key : SliceKey) (place : Where) (answer other 
       (status other_status : Status) (text other_text : List ℕ) → IsGiven input bytes → IsGiven also bytes → IsGivenJoin first others o → IsGivenJoin other more o
       → MakesFramed input first others status text → MakesFramed also other more other_status other_text → (status ≡ other_status) × (text ≡ other_text)
   one_made input first others also other more bytes o status other_status text other_text is also_is first_given other_given makes other_makes =
-      let says = given input.left input.failures input.old input.new bytes (λ b. frames_of b ≡ Ok makes.said) is makes.frames_are in
+      let says = is_given input bytes (λ b. frames_of b ≡ Ok makes.said) is makes.frames_are in
       one_told o makes.said status other_status text other_text
       (command_fault_of input first others bytes makes.said o status text is says first_given makes)
       (command_fault_of also other more bytes makes.said o other_status other_text also_is says other_given other_makes)
 
 -- ---- inputs that are accepted
 
-no_fault : (read : Result (List Frame) ℕ) (said : List Frame) (line : ℕ) → read ≡ Ok said → read ≡ Err line → ⊥
-no_fault read said line good bad = cc
-
 frames_alone : {S : Type 0} (left : S → Option (List ℕ)) (failures : S → ℕ) (old new : Result S CannotOpen) (bytes : List ℕ) (said : List Frame) (why : Why)
     → IsGiven (reader left failures old new) bytes → frames_of bytes ≡ Ok said → IsFramesRefused (reader left failures old new) why → IsDeviceFault why
 frames_alone left failures (Ok source) new bytes said NotOpened is says refused = refused
 frames_alone left failures (Err _) new bytes said NotOpened is says refused = absurd is
 frames_alone left failures old new bytes said CannotRead is says refused = tt
-frames_alone left failures old new bytes said (Record fault) is says refused = absurd refused
-frames_alone left failures old new bytes said (Take fault) is says refused = absurd refused
-frames_alone left failures old new bytes said (Faulty fault line flaw) is says refused = absurd refused
-frames_alone left failures old new bytes said OldArchive is says refused = absurd refused
-frames_alone left failures old new bytes said TooLong is says refused = absurd refused
-frames_alone left failures old new bytes said (IndexFaulty fault) is says refused = absurd refused
-frames_alone left failures old new bytes said (Stale entry) is says refused = absurd refused
-frames_alone left failures old new bytes said NoArchive is says refused = absurd refused
 frames_alone left failures old new bytes said (BadFrame line flaw) is says refused =
-    absurd (no_fault (frames_of bytes) said line says (given left failures old new bytes
-    (λ b. (frames_of b ≡ Err line) × (flaw ≡ frame_flaw (line_at b line))) is refused.1).0)
+    let bad = is_given (reader left failures old new) bytes (λ b. (frames_of b ≡ Err line) × (flaw ≡ frame_flaw (line_at b line))) is refused.1 in cc (sym bad.0 ∙ says)
+frames_alone left failures old new bytes said _ is says refused = absurd refused
 
 pub not_refused : {R S T : Type 0} (input : Reader R) (first : Reader S) (others : List (Reader T)) (bytes : List ℕ) (said : List Frame) (o : Operations) (place : Place) (why : Why)
     → IsGiven input bytes → frames_of bytes ≡ Ok said → IsGivenJoin first others o → RefusesFrames input first others place why → IsDeviceFault why

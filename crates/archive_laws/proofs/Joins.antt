@@ -1,32 +1,27 @@
 -- What archives hold together, where their bytes are known.
-use Rattle.std.proofs.Common.{◌≡◌, ◌↔◌, ℕ, List, [], ◌∷◌, Option, Some, Result, Ok, Err, refl, sym, ap, ◌∙◌, subst, inl, inr}
-use Rattle.std.specs.Prelude.{IfSome, slice_get}
+use Rattle.std.proofs.Common.{◌≡◌, ◌↔◌, ℕ, List, [], ◌∷◌, refl, sym, ap, ◌∙◌, subst, inl, inr}
 use Rattle.std.specs.List.{AllByRecursion, AllZip}
 use Rattle.archive_core.specs.Content.{Operations, IsContent, joined}
 use Rattle.archive_core.proofs.Made.{joined_content}
 use Rattle.archive_records.specs.Text.{IsArchiveOf, written}
-use Rattle.byte_device.specs.declared.disks.CannotOpen.{CannotOpen}
 use Rattle.command_ends.specs.declared.faults.Place.{Place}
 use Rattle.command_ends.specs.declared.faults.Why.{Why}
 use Rattle.command_ends.specs.Archives.{AreRefused, HoldTogether, merged}
-use Rattle.command_ends.specs.Inputs.{Reader, reader, HoldsArchive, HoldsContent, IsDeviceFault, IsGiven, IsGivenArchive, IsRefusedArchive}
+use Rattle.command_ends.specs.Inputs.{Reader, HoldsArchive, HoldsContent, IsDeviceFault, IsGiven, IsGivenArchive, IsRefusedArchive}
 use Rattle.archive_updates.specs.Merge.{merge}
 use Rattle.archive_laws.specs.Joins.{IsGivenJoin}
-use Rattle.archive_laws.proofs.Archives.{merge_refused}
-use Rattle.archive_laws.proofs.Migrated.{one_given}
-use Rattle.archive_laws.proofs.Outcomes.{contents_given}
+use Rattle.archive_laws.proofs.Accepted.{merge_refused}
+use Rattle.archive_laws.proofs.Given.{contents_given, gives, one_given}
 
 -- ---- what is given is held
 
-holds : {S : Type 0} (left : S → Option (List ℕ)) (failures : S → ℕ) (old new : Result S CannotOpen) (o : Operations) → IsGivenArchive (reader left failures old new) o → HoldsArchive (reader left failures old new) o
-holds left failures (Ok source) new o given = subst (λ (l : Option (List ℕ)). IfSome l (IsArchiveOf o)) (sym given.2) given.1
-holds left failures (Err _) new o given = absurd given.2
+holds : {S : Type 0} (input : Reader S) (o : Operations) → IsGivenArchive input o → HoldsArchive input o
+holds input o given = gives input given.0 (IsArchiveOf o) given.2 given.1
 
 each_holds : {S : Type 0} (files : List (Reader S)) (contents : List Operations) → AllZip IsGivenArchive files contents → AllZip HoldsArchive files contents
 each_holds [] [] given = tt
-each_holds [] (_ ∷ _) given = absurd given
-each_holds (_ ∷ _) [] given = absurd given
-each_holds (file ∷ files) (o ∷ contents) given = (holds file.left file.failures file.old file.new o given.0, each_holds files contents given.1)
+each_holds (file ∷ files) (o ∷ contents) given = (holds file o given.0, each_holds files contents given.1)
+each_holds _ _ given = absurd given
 
 merged_is : (o : Operations) (contents : List Operations) → IsContent o → AllByRecursion IsContent contents → IsContent (merged o contents)
 merged_is o [] content are = content
@@ -49,7 +44,7 @@ module _ {R S : Type 0} (archive : Reader R) (others : List (Reader S)) (o : Ope
     contents = given.contents;
     is_content = given.is_content;
     are_contents = given.are_contents;
-    archive_is = holds archive.left archive.failures archive.old archive.new given.content given.archive_is;
+    archive_is = holds archive given.content given.archive_is;
     others_are = each_holds others given.contents given.others_are;
     is_true = subst IsTrue given.join_is is;
   }
@@ -88,40 +83,27 @@ as_merged archive others file o made told IsTrue given makes is =
 -- ---- one archive
 
 pub alone_held : {R S : Type 0} (archive : Reader R) (IsTrue : Operations → Type 0) → HoldTogether {S = S} archive [] IsTrue ↔ HoldsContent archive IsTrue
-alone_held {S = S} archive IsTrue = (to, back)
-  where
-    first : (held : HoldTogether {S = S} archive [] IsTrue) → held.contents ≡ []
-    first held = by held.contents held.others_are
-      where
-        by : (contents : List Operations) → AllZip (λ (file : Reader S) (o : Operations). HoldsArchive file o) [] contents → contents ≡ []
-        by [] are = refl
-        by (_ ∷ _) are = absurd are
-
-    to : HoldTogether {S = S} archive [] IsTrue → HoldsContent archive IsTrue
-    to held = record {
-      content = held.content;
-      is_content = held.is_content;
-      text = held.archive_is;
-      is_true = subst IsTrue (ap (merged held.content) (first held)) held.is_true;
-    }
-
-    back : HoldsContent archive IsTrue → HoldTogether {S = S} archive [] IsTrue
-    back held = record {
-      content = held.content;
-      contents = [];
-      is_content = held.is_content;
-      are_contents = tt;
-      archive_is = held.text;
-      others_are = tt;
-      is_true = held.is_true;
-    }
+alone_held {S = S} archive IsTrue = (
+  λ held. record {
+    content = held.content;
+    is_content = held.is_content;
+    text = held.archive_is;
+    is_true = subst IsTrue (ap (merged held.content) (contents_given {S = S} [] [] held.contents tt held.are_contents tt held.others_are)) held.is_true;
+  },
+  λ held. record {
+    content = held.content;
+    contents = [];
+    is_content = held.is_content;
+    are_contents = tt;
+    archive_is = held.text;
+    others_are = tt;
+    is_true = held.is_true;
+  },
+)
 
 pub alone_refused : {R S : Type 0} (archive : Reader R) (place : Place) (why : Why) → AreRefused {S = S} archive [] place why ↔ IsRefusedArchive 0 archive place why
 alone_refused {S = S} archive place why = (to, λ refused. inl (refused, tt))
   where
-    nowhere : (number : ℕ) (file : Reader S) → slice_get [] number ≡ Some file → ⊥
-    nowhere number file at = cc
-
     to : AreRefused {S = S} archive [] place why → IsRefusedArchive 0 archive place why
     to (inl refused) = refused.0
-    to (inr refused) = absurd (nowhere refused.2.number refused.2.input refused.2.input_is)
+    to (inr refused) = let nowhere = refused.2.input_is in cc

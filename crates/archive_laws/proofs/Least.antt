@@ -1,5 +1,5 @@
 -- What is joined one after another is the least content above all, from the laws of the join.
-use Rattle.std.proofs.Common.{◌≡◌, ℕ, zero, suc, Bool, true, false, ◌||◌, List, [], ◌∷◌, ◌++◌, refl, sym, ap, ◌∙◌, subst, arith, fold}
+use Rattle.std.proofs.Common.{◌≡◌, ℕ, zero, suc, ◌||◌, List, [], ◌∷◌, ◌++◌, refl, sym, ap, ◌∙◌, subst, arith, fold}
 use Rattle.std.specs.Prelude.{◌↔◌, Contains}
 use Rattle.std.specs.List.{AllByRecursion, list_any}
 use Rattle.std.specs.FinSet as set
@@ -7,6 +7,7 @@ use Rattle.std.specs.FinSet.{contains-union, contains-empty, same_set}
 use Rattle.std.specs.Cmp.Lexicographic.{nat_list_cmp_total}
 use Rattle.std.specs.Cmp.Lexicographic.{slice_cmp}
 use Rattle.std.specs.Ordering.{nat_cmp}
+use Rattle.std.proofs.Math.Bool.{or-false, or_assoc}
 use Rattle.std.proofs.lemmas.List.Elements.{Contains-append_right}
 use Rattle.std.proofs.lemmas.List.Sums.{fold-append}
 use Rattle.join_core.specs.Bound.{IsLeastAbove}
@@ -101,24 +102,17 @@ module _
         ∙ joined_merged (merged o contents) p others (merged_content o contents a all) b all_others
         ∙ sym (fold-append joined o contents (p ∷ others))
 
-or_grouped : (a b c : Bool) → ((a || b) || c) ≡ (a || (b || c))
-or_grouped true b c = refl
-or_grouped false b c = refl
-
 -- a record is in the union of contents where it is in one of them
 in_union : (s : Operations) (contents : List Operations) (r : List ℕ) → set.contains (fold set.union s contents) r ≡ (set.contains s r || list_any (λ (p : Operations). set.contains p r) contents)
-in_union s [] r = elim (set.contains s r) as (λ b. b ≡ (b || false)) [ true ↦ refl | false ↦ refl ]
+in_union s [] r = sym (or-false (set.contains s r))
 in_union s (p ∷ contents) r =
     in_union (set.union s p) contents r
-    ∙ ap (λ b. b || list_any (λ (p : Operations). set.contains p r) contents) (contains-union nat_list_cmp_total s p r)
-    ∙ or_grouped (set.contains s r) (set.contains p r) (list_any (λ (p : Operations). set.contains p r) contents)
+    ∙ rw (contains-union nat_list_cmp_total s p r) (or_assoc (set.contains s r) (set.contains p r) _)
 
 all_in_union : (o : Operations) (contents : List Operations) → fold set.union o contents ≡ set.union o (operations_of contents)
 all_in_union o contents =
     same_set nat_list_cmp_total bytes_same (fold set.union o contents) (set.union o (operations_of contents))
-    (λ r. in_union o contents r
-    ∙ ap (λ b. set.contains o r || b) (sym (in_union set.empty contents r ∙ ap (λ b. b || list_any (λ (p : Operations). set.contains p r) contents) (contains-empty (slice_cmp nat_cmp) r)))
-    ∙ sym (contains-union nat_list_cmp_total o (operations_of contents) r))
+    (λ r. rw (in_union o contents r, contains-union nat_list_cmp_total o (operations_of contents) r, in_union set.empty contents r, contains-empty (slice_cmp nat_cmp) r) refl)
 
 -- contents joined one after another are what the operations of all make
 merged_made : (s : Operations) (contents : List Operations) → merged (content_of s) contents ≡ content_of (fold set.union s contents)

@@ -1,3 +1,4 @@
+pub mod Given
 pub mod Answerers
 pub mod Parts
 pub mod Coverings
@@ -6,15 +7,11 @@ pub mod Sides
 pub mod Orders
 pub mod Accepted
 pub mod Least
-pub mod Archives
 pub mod OperationLists
 pub mod Viewed
 pub mod Migrated
 pub mod Outcomes
 pub mod Joins
-pub mod NameTold
-pub mod ListTold
-pub mod FindTold
 pub mod FramesTold
 pub mod OneRehearsal
 pub mod Crashes

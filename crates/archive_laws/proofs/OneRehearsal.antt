@@ -1,6 +1,6 @@
 -- A script has one report, and is refused for its device alone.
 use Rattle.std.proofs.Common.{◌≡◌, ℕ, ◌+◌, List, [], ◌∷◌, ◌++◌, length, map, codes, refl, sym, ap, ap₂, ◌∙◌, subst}
-use Rattle.std.proofs.Common.{Option, Some, IfSome, Result, Ok, Err, true, false, if◌then◌else◌}
+use Rattle.std.proofs.Common.{Option, Result, Ok, Err, true, if◌then◌else◌}
 use Rattle.std.specs.Prelude.{slice_index_or}
 use Rattle.std.specs.Fmt.{decimal}
 use Rattle.std.specs.List.{AllZip}
@@ -15,7 +15,7 @@ use Rattle.rehearsal.specs.Flaws.{script_flaw}
 use Rattle.rehearsal.specs.declared.event.Event.{Event}
 use Rattle.rehearsal.specs.declared.event.Event.TheVariants as event
 use Rattle.archive_exchange.specs.declared.outcome.Outcome.{Outcome}
-use Rattle.archive_exchange.specs.declared.outcome.Outcome.TheVariants.{Took, Retired, Sent, Delivered, Saved, Stopped, Refused}
+use Rattle.archive_exchange.specs.declared.outcome.Outcome.TheVariants.{Took, Retired, Refused}
 use Rattle.rehearsal.specs.Events.{Act, Take, Retire, Full, Ask, Reply, Deliver, Save, Stop, act_of}
 use Rattle.rehearsal.specs.Script.{Wrong, acts, script_of}
 use Rattle.rehearse.specs.Rehearsal.{event_fault_text, event_lines, outcome_text, sent_text, took_text}
@@ -24,39 +24,21 @@ use Rattle.byte_device.specs.declared.disks.CannotOpen.{CannotOpen}
 use Rattle.command_ends.specs.declared.faults.Place.{Place}
 use Rattle.command_ends.specs.declared.faults.Status.{Status}
 use Rattle.command_ends.specs.declared.faults.Why.{Why}
-use Rattle.command_ends.specs.declared.faults.Why.TheVariants.{Device as CannotRead, Record, Take as TakeRefused, Script as Faulty, BadFrame, CannotOpen as NotOpened, OldArchive, TooLong, Index as IndexFaulty, NoArchive, Stale}
-use Rattle.command_ends.specs.Inputs.{Reader, reader, Gives, IsDeviceFault, IsGiven, IsRefusedScript, IsScriptRefused}
+use Rattle.command_ends.specs.declared.faults.Why.TheVariants.{Device as CannotRead, Script as Faulty, CannotOpen as NotOpened}
+use Rattle.command_ends.specs.Inputs.{Reader, reader, IsDeviceFault, IsGiven, IsRefusedScript, IsScriptRefused}
 use Rattle.rehearse.specs.Rehearse.{MakesRehearsed, TellsEvents, rehearsal_lines, site_lines}
+use Rattle.archive_laws.proofs.Given.{is_given}
 
 -- ---- a script that is refused
-
-known : (left : Option (List ℕ)) (bytes : List ℕ) (P : List ℕ → Type 0) → left ≡ Some bytes → IfSome left P → P bytes
-known left bytes P is p = let q : IfSome (Some bytes) P = subst (λ (l : Option (List ℕ)). IfSome l P) is p in q
-
-given : {S : Type 0} (left : S → Option (List ℕ)) (failures : S → ℕ) (old new : Result S CannotOpen) (bytes : List ℕ) (P : List ℕ → Type 0)
-    → IsGiven (reader left failures old new) bytes → Gives (reader left failures old new) P → P bytes
-given left failures (Ok source) new bytes P is gives = known (left source) bytes P is gives
-given left failures (Err _) new bytes P is gives = absurd is
-
-no_fault : {A : Type 0} (read : Result A Wrong) (said : A) (wrong : Wrong) → read ≡ Ok said → read ≡ Err wrong → ⊥
-no_fault read said wrong good bad = cc
 
 refused_so : {S : Type 0} (left : S → Option (List ℕ)) (failures : S → ℕ) (old new : Result S CannotOpen) (bytes : List ℕ) (said : ℕ × List Act) (why : Why)
     → IsGiven (reader left failures old new) bytes → script_of bytes ≡ Ok said → IsScriptRefused (reader left failures old new) why → IsDeviceFault why
 refused_so left failures (Ok source) new bytes said NotOpened is says refused = refused
 refused_so left failures (Err _) new bytes said NotOpened is says refused = absurd is
 refused_so left failures old new bytes said CannotRead is says refused = tt
-refused_so left failures old new bytes said (Record fault) is says refused = absurd refused
-refused_so left failures old new bytes said (TakeRefused fault) is says refused = absurd refused
-refused_so left failures old new bytes said (BadFrame line flaw) is says refused = absurd refused
-refused_so left failures old new bytes said OldArchive is says refused = absurd refused
-refused_so left failures old new bytes said TooLong is says refused = absurd refused
-refused_so left failures old new bytes said (IndexFaulty fault) is says refused = absurd refused
-refused_so left failures old new bytes said (Stale entry) is says refused = absurd refused
-refused_so left failures old new bytes said NoArchive is says refused = absurd refused
 refused_so left failures old new bytes said (Faulty fault line flaw) is says refused =
-    absurd (no_fault (script_of bytes) said (fault, line) says (given left failures old new bytes
-    (λ b. (script_of b ≡ Err (fault, line)) × (flaw ≡ script_flaw fault (line_at b line))) is refused.1).0)
+    let bad = is_given (reader left failures old new) bytes (λ b. (script_of b ≡ Err (fault, line)) × (flaw ≡ script_flaw fault (line_at b line))) is refused.1 in cc (sym bad.0 ∙ says)
+refused_so left failures old new bytes said _ is says refused = absurd refused
 
 pub script_not_refused : {S : Type 0} (script : Reader S) (bytes : List ℕ) (sites : ℕ) (events : List Act) (place : Place) (why : Why)
     → IsGiven script bytes → script_of bytes ≡ Ok (sites, events) → IsRefusedScript script place why → IsDeviceFault why
@@ -78,38 +60,21 @@ IsSeenAct (Stop site) seen = seen ≡ model.Stop site
 
 seen_by : (e : Event) (s : ModelEvent) → IsSeen e s → IsSeenAct (act_of e) s
 seen_by (event.Take site file) s is = is
-seen_by (event.Retire site key digest) s is = is
-seen_by (event.Full site) s is = is
-seen_by (event.Ask site) s is = is
-seen_by (event.Reply site message) s is = is
-seen_by (event.Deliver site message) s is = is
-seen_by (event.Save site) s is = is
-seen_by (event.Stop site) s is = is
+seen_by e s is = is
 
 by_seen : (e : Event) (s : ModelEvent) → IsSeenAct (act_of e) s → IsSeen e s
 by_seen (event.Take site file) s is = is
-by_seen (event.Retire site key digest) s is = is
-by_seen (event.Full site) s is = is
-by_seen (event.Ask site) s is = is
-by_seen (event.Reply site message) s is = is
-by_seen (event.Deliver site message) s is = is
-by_seen (event.Save site) s is = is
-by_seen (event.Stop site) s is = is
-
-all_by : (es : List Event) (ss : List ModelEvent) → AreSeen es ss → AllZip IsSeenAct (acts es) ss
-all_by [] [] are = tt
-all_by [] (s ∷ ss) are = absurd are
-all_by (e ∷ es) [] are = absurd are
-all_by (e ∷ es) (s ∷ ss) are = (seen_by e s are.0, all_by es ss are.1)
-
-by_all : (es : List Event) (ss : List ModelEvent) → AllZip IsSeenAct (acts es) ss → AreSeen es ss
-by_all [] [] are = tt
-by_all [] (s ∷ ss) are = absurd are
-by_all (e ∷ es) [] are = absurd are
-by_all (e ∷ es) (s ∷ ss) are = (by_seen e s are.0, by_all es ss are.1)
+by_seen e s is = is
 
 same_seen : (es fs : List Event) (ss : List ModelEvent) → acts es ≡ acts fs → AreSeen es ss → AreSeen fs ss
-same_seen es fs ss same are = by_all fs ss (subst (λ a. AllZip IsSeenAct a ss) same (all_by es ss are))
+same_seen [] [] ss same are = are
+same_seen [] (f ∷ fs) ss same are = cc
+same_seen (e ∷ es) [] ss same are = cc
+same_seen (e ∷ es) (f ∷ fs) [] same are = absurd are
+same_seen (e ∷ es) (f ∷ fs) (s ∷ ss) same are =
+    let first : act_of e ≡ act_of f = cc in
+    let rest : acts es ≡ acts fs = cc in
+    (by_seen f s (subst (λ a. IsSeenAct a s) first (seen_by e s are.0)), same_seen es fs ss rest are.1)
 
 -- the text of what is answered
 abbrev answer_text : List (List ℕ) → model.Outcome TakeFault → List ℕ
@@ -125,25 +90,19 @@ one_answer : (messages : List (List ℕ)) (o : Outcome) (a : model.Outcome TakeF
 unfolding outcome_text
 one_answer messages (Took rows) a tells = ap took_text tells.1 ∙ sym (ap (answer_text messages) tells.2)
 one_answer messages (Retired true) a tells = sym (ap (answer_text messages) tells)
-one_answer messages (Retired false) a tells = sym (ap (answer_text messages) tells)
-one_answer messages (Sent m) a tells = sym (ap (answer_text messages) tells)
-one_answer messages Delivered a tells = sym (ap (answer_text messages) tells)
-one_answer messages Saved a tells = sym (ap (answer_text messages) tells)
-one_answer messages Stopped a tells = sym (ap (answer_text messages) tells)
 one_answer messages (Refused fault) a tells = ap (λ f. codes "refused " ++ event_fault_text f) tells.1 ∙ sym (ap (answer_text messages) tells.2)
+one_answer messages o a tells = sym (ap (answer_text messages) tells)
 
 same_lines : (messages : List (List ℕ)) (n : ℕ) (told others : List Outcome) (answers : List (model.Outcome TakeFault))
     → AllZip OutcomeIs told answers → AllZip OutcomeIs others answers → event_lines messages n told ≡ event_lines messages n others
 unfolding event_lines
 same_lines messages n [] [] answers p q = refl
 same_lines messages n [] (o ∷ others) [] p q = absurd q
-same_lines messages n [] (o ∷ others) (a ∷ answers) p q = absurd p
-same_lines messages n (t ∷ told) [] [] p q = absurd p
 same_lines messages n (t ∷ told) [] (a ∷ answers) p q = absurd q
-same_lines messages n (t ∷ told) (o ∷ others) [] p q = absurd p
 same_lines messages n (t ∷ told) (o ∷ others) (a ∷ answers) p q =
     let one : outcome_text messages t ≡ outcome_text messages o = one_answer messages t a p.0 ∙ sym (one_answer messages o a q.0) in
     ap₂ (λ x rest. line (decimal n ++ codes " " ++ x) ++ rest) one (same_lines messages (n + 1) told others answers p.1 q.1)
+same_lines messages n _ _ _ p q = absurd p
 
 -- the same number of sites and events that are the same tell the same
 told_alike : (one : (events : List Event) (seen other : List ModelEvent) → AreSeen events seen → AreSeen events other → seen ≡ other)
@@ -157,20 +116,21 @@ told_alike one sites es fs text other same p q =
     ∙ ap (λ lines. lines ++ site_lines w.held sites) (same_lines _ 0 p.told q.told (outcomes sites q.seen (length q.seen)) tells q.outcomes_are)
     ∙ sym q.text_is
 
-same_said : (read : Result (ℕ × List Act) Wrong) (s t : ℕ) (xs ys : List Act) → read ≡ Ok (s, xs) → read ≡ Ok (t, ys) → (s ≡ t) × (xs ≡ ys)
-same_said read s t xs ys first second =
-    let one : ℕ × List Act = (s, xs) in
-    let other : ℕ × List Act = (t, ys) in
-    let both : one ≡ other = cc in
-    (ap (λ p. p.0) both, ap (λ p. p.1) both)
+abbrev said : ℕ → List Act → Result (ℕ × List Act) Wrong
+said sites events = Ok (sites, events)
+
+same_said : (s t : ℕ) (xs ys : List Act) → said s xs ≡ said t ys → (s ≡ t) × (xs ≡ ys)
+same_said s t xs ys e =
+    let one : ℕ × List Act = (s, xs) in let other : ℕ × List Act = (t, ys) in
+    let both : one ≡ other = cc in (ap (λ p. p.0) both, ap (λ p. p.1) both)
 
 pub one_text : (one : (events : List Event) (seen other : List ModelEvent) → AreSeen events seen → AreSeen events other → seen ≡ other)
     {R S : Type 0} (script : Reader R) (other : Reader S) (bytes : List ℕ) (status other_status : Status) (text other_text : List ℕ)
     → IsGiven script bytes → IsGiven other bytes → MakesRehearsed script status text → MakesRehearsed other other_status other_text
     → (status ≡ other_status) × (text ≡ other_text)
 one_text one script other bytes status other_status text other_text is also p q =
-    let first = given script.left script.failures script.old script.new bytes (λ b. script_of b ≡ Ok (p.sites, acts p.events)) is p.script_is in
-    let second = given other.left other.failures other.old other.new bytes (λ b. script_of b ≡ Ok (q.sites, acts q.events)) also q.script_is in
-    let same = same_said (script_of bytes) p.sites q.sites (acts p.events) (acts q.events) first second in
+    let first = is_given script bytes (λ b. script_of b ≡ Ok (p.sites, acts p.events)) is p.script_is in
+    let second = is_given other bytes (λ b. script_of b ≡ Ok (q.sites, acts q.events)) also q.script_is in
+    let same = same_said p.sites q.sites (acts p.events) (acts q.events) (sym first ∙ second) in
     let tells : TellsEvents q.sites p.events text = subst (λ (n : ℕ). TellsEvents n p.events text) same.0 p.tells in
     (p.status_is ∙ sym q.status_is, told_alike one q.sites p.events q.events text other_text same.1 tells q.tells)

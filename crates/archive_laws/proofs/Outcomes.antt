@@ -1,5 +1,5 @@
 -- What a command makes of accepted inputs is one.
-use Rattle.std.proofs.Common.{◌≡◌, ℕ, ◌-◌, List, [], ◌∷◌, length, map, Option, Result, Ok, Err, refl, sym, ap, ◌∙◌}
+use Rattle.std.proofs.Common.{◌≡◌, ℕ, ◌-◌, List, length, map, sym, ap, ◌∙◌}
 use Rattle.std.specs.List.{AllByRecursion, AllZip}
 use Rattle.archive_core.specs.Content.{Operations, IsContent, with_record, with_records, changes, new_among}
 use Rattle.archive_core.specs.Record.{record_bytes, retirement_record}
@@ -12,20 +12,18 @@ use Rattle.admission.specs.Take.{admitted}
 use Rattle.archive_records.specs.Entry.{AreEntries}
 use Rattle.archive_records.specs.Text.{IsOperationsText, summary_text, written}
 use Rattle.report_text.specs.Report.{admit_lines, apply_line, retire_line}
-use Rattle.byte_device.specs.declared.disks.CannotOpen.{CannotOpen}
 use Rattle.archive_updates.specs.Admit.{admit, admit_rows, images_of}
 use Rattle.archive_updates.specs.Apply.{apply}
 use Rattle.archive_updates.specs.Delta.{delta}
 use Rattle.command_ends.specs.Ends.{MakeOne, MakesArchive}
-use Rattle.command_ends.specs.Inputs.{Reader, reader, Gives, Holds, HoldsArchive, IsGiven, IsGivenArchive}
+use Rattle.command_ends.specs.Inputs.{Reader, HoldsArchive, IsGiven, IsGivenArchive}
 use Rattle.command_ends.specs.Archives.{merged}
 use Rattle.archive_updates.specs.Merge.{merge}
 use Rattle.archive_updates.specs.Migrate.{migrate}
 use Rattle.command_ends.specs.Outputs.{report_of, summary_report_of}
 use Rattle.archive_updates.specs.Retire.{retire}
 use Rattle.archive_updates.specs.Summary.{summary}
-use Rattle.archive_laws.proofs.Migrated.{one_given}
-use Rattle.archive_laws.proofs.Viewed.{known}
+use Rattle.archive_laws.proofs.Given.{contents_given, is_given, one_given, texts_given}
 
 -- one content and the same lines are one text and one report
 of_content : (Makes Others : Operations → List ℕ → Type 0)
@@ -36,38 +34,6 @@ of_content Makes Others one text told other other_told makes others =
       makes.text_is ∙ ap written same.0 ∙ sym others.text_is,
       makes.told_is ∙ (λ i. report_of (same.0 i) (same.1 i)) ∙ sym others.told_is,
     )
-
--- what is true of an input's bytes is true of those that are given
-given_is : {S : Type 0} (left : S → Option (List ℕ)) (failures : S → ℕ) (old new : Result S CannotOpen) (bytes : List ℕ) (P : List ℕ → Type 0)
-    → IsGiven (reader left failures old new) bytes → Gives (reader left failures old new) P → P bytes
-given_is left failures (Ok source) new bytes P given gives = known (left source) bytes P given gives
-given_is left failures (Err _) new bytes P given gives = absurd given
-
-is_given : {S : Type 0} (input : Reader S) (bytes : List ℕ) (P : List ℕ → Type 0) → IsGiven input bytes → Gives input P → P bytes
-is_given input bytes P given gives = given_is input.left input.failures input.old input.new bytes P given gives
-
-texts_given : {S : Type 0} (files : List (Reader S)) (texts held : List (List ℕ)) → AllZip IsGiven files texts → AllZip Holds files held → held ≡ texts
-texts_given [] [] [] given holds = refl
-texts_given [] [] (h ∷ held) given holds = absurd holds
-texts_given [] (t ∷ texts) held given holds = absurd given
-texts_given (f ∷ files) [] held given holds = absurd given
-texts_given (f ∷ files) (t ∷ texts) [] given holds = absurd holds
-texts_given (f ∷ files) (t ∷ texts) (h ∷ held) given holds =
-    let one : t ≡ h = is_given f t (λ text. text ≡ h) given.0 holds.0 in
-    let rest = texts_given files texts held given.1 holds.1 in
-    λ i. sym one i ∷ rest i
-
-pub contents_given : {S : Type 0} (files : List (Reader S)) (contents held : List Operations) → AllByRecursion IsContent contents → AllByRecursion IsContent held
-    → AllZip IsGivenArchive files contents → AllZip HoldsArchive files held → held ≡ contents
-contents_given [] [] [] are is given holds = refl
-contents_given [] [] (h ∷ held) are is given holds = absurd holds
-contents_given [] (o ∷ contents) held are is given holds = absurd given
-contents_given (f ∷ files) [] held are is given holds = absurd given
-contents_given (f ∷ files) (o ∷ contents) [] are is given holds = absurd holds
-contents_given (f ∷ files) (o ∷ contents) (h ∷ held) are is given holds =
-    let one = one_given f o h are.0 is.0 given.0 holds.0 in
-    let rest = contents_given files contents held are.1 is.1 given.1 holds.1 in
-    λ i. one i ∷ rest i
 
 module _ {Q R : Type 0} (input : Reader Q) (other : Reader R) (o : Operations) (content : IsContent o) (given : IsGivenArchive input o) (other_given : IsGivenArchive other o) where
   before : (p q : Operations) → IsContent p → IsContent q → HoldsArchive input p → HoldsArchive other q → p ≡ q

@@ -1,6 +1,5 @@
 -- A list of all, cut by UUID.
-use Rattle.std.proofs.Common.{◌≡◌, ◌≢◌, ◌∙◌, ℕ, Bool, true, false, cond, List, [], ◌∷◌, ◌++◌, map, refl, sym, ap, subst}
-use mathlib.Core.Bool.{true≢false}
+use Rattle.std.proofs.Common.{◌≡◌, ◌≢◌, ◌∙◌, ℕ, false, cond, List, [], ◌∷◌, ◌++◌, map, refl, sym, ap, subst, arith}
 use Rattle.std.specs.declared.cmp.Ordering.{Ordering}
 use Rattle.std.specs.declared.cmp.Ordering.TheVariants.{Less, Equal, Greater}
 use Rattle.std.specs.Ordering.{nat_cmp, ordering_then, ordering_reverse, is_eq}
@@ -8,6 +7,7 @@ use Rattle.std.specs.Cmp.Lexicographic.{slice_cmp, nat_list_cmp_total}
 use Rattle.std.specs.List.{AllByRecursion, flat_map}
 use Rattle.std.specs.List.Sorted.{IsStrictlySortedBy}
 use Rattle.std.specs.Str.{bytes_eq}
+use Rattle.std.proofs.lemmas.Bool.{cond_both}
 use Rattle.std.proofs.lemmas.Map.Text.{is_eq-slice_cmp}
 use Rattle.std.proofs.lemmas.Slice.Eq.{bytes_eq-Decides}
 use Rattle.archive_core.specs.Content.{Operations}
@@ -39,15 +39,11 @@ Ascend (row ∷ rows) = AllByRecursion (λ other. slice_cmp nat_cmp row.key.uuid
 -- what holds of the UUIDs of rows holds of their list, and the other way round
 all_put : (P : List ℕ → Type 0) (u : List ℕ) (vs : List (List ℕ)) → P u → AllByRecursion P vs → AllByRecursion P (put u vs)
 all_put P u [] p all = (p, tt)
-all_put P u (v ∷ vs) p all = elim (bytes_eq u v) as (λ b. AllByRecursion P (cond b (v ∷ vs) (u ∷ v ∷ vs))) [ true ↦ all | false ↦ (p, all) ]
+all_put P u (v ∷ vs) p all = cond_both (bytes_eq u v) _ _ (AllByRecursion P) (λ e. all) (λ e. (p, all))
 
 off_put : (P : List ℕ → Type 0) (u : List ℕ) (vs : List (List ℕ)) → AllByRecursion P (put u vs) → P u × AllByRecursion P vs
 off_put P u [] all = all
-off_put P u (v ∷ vs) all = by (bytes_eq u v) refl all
-  where
-    by : (b : Bool) → bytes_eq u v ≡ b → AllByRecursion P (cond b (v ∷ vs) (u ∷ v ∷ vs)) → P u × AllByRecursion P (v ∷ vs)
-    by true e h = (subst P (sym ((bytes_eq-Decides u v).0 e)) h.0, h)
-    by false e h = h
+off_put P u (v ∷ vs) all = cond_both (bytes_eq u v) (v ∷ vs) (u ∷ v ∷ vs) (λ ws. AllByRecursion P ws → P u × AllByRecursion P (v ∷ vs)) (λ e h. (subst P (sym ((bytes_eq-Decides u v).0 e)) h.0, h)) (λ e h. h) all
 
 from_rows : (P : List ℕ → Type 0) (rows : List FindRow) → AllByRecursion (λ row. P row.key.uuid) rows → AllByRecursion P (uuids_of rows)
 from_rows P [] all = tt
@@ -60,7 +56,7 @@ to_rows P (row ∷ rows) all = let parts = off_put P row.key.uuid (uuids_of rows
 -- they ascend
 less_by : (u v : List ℕ) (o : Ordering) → slice_cmp nat_cmp u v ≡ o → o ≢ Greater → bytes_eq u v ≡ false → slice_cmp nat_cmp u v ≡ Less
 less_by u v Less e low differ = e
-less_by u v Equal e low differ = absurd (true≢false (sym ((bytes_eq-Decides u v).1 (bytes_same u v e)) ∙ differ))
+less_by u v Equal e low differ = cc ((bytes_eq-Decides u v).1 (bytes_same u v e))
 less_by u v Greater e low differ = absurd (low refl)
 
 all_above : (u v : List ℕ) → slice_cmp nat_cmp u v ≡ Less → (ws : List (List ℕ)) → Above v ws → Above u ws
@@ -70,11 +66,8 @@ all_above u v less (w ∷ ws) above = (nat_list_cmp_total.trans u v w less above
 ascending_put : (u : List ℕ) (vs : List (List ℕ)) → AllByRecursion (λ v. slice_cmp nat_cmp u v ≢ Greater) vs → IsStrictlySortedBy (slice_cmp nat_cmp) vs → IsStrictlySortedBy (slice_cmp nat_cmp) (put u vs)
 unfolding IsStrictlySortedBy
 ascending_put u [] low up = (tt, tt)
-ascending_put u (v ∷ vs) low up = by (bytes_eq u v) refl
-  where
-    by : (b : Bool) → bytes_eq u v ≡ b → IsStrictlySortedBy (slice_cmp nat_cmp) (cond b (v ∷ vs) (u ∷ v ∷ vs))
-    by true e = up
-    by false e = let less = less_by u v (slice_cmp nat_cmp u v) refl low.0 e in ((less, all_above u v less vs up.0), up)
+ascending_put u (v ∷ vs) low up = cond_both (bytes_eq u v) _ _ (IsStrictlySortedBy (slice_cmp nat_cmp)) (λ e. up)
+    (λ e. let less = less_by u v (slice_cmp nat_cmp u v) refl low.0 e in ((less, all_above u v less vs up.0), up))
 
 ascending_uuids : (rows : List FindRow) → Ascend rows → IsStrictlySortedBy (slice_cmp nat_cmp) (uuids_of rows)
 unfolding IsStrictlySortedBy
@@ -108,21 +101,19 @@ unfolding IsStrictlySortedBy
 one_more row rows [] is whole up low =
     let none : rows_under row.key.uuid rows ≡ [] = sym (ap (rows_under row.key.uuid) whole) in
     ap (λ rs. rs ++ []) (own_under row rows ∙ ap (λ rs. row ∷ rs) none) ∙ ap (λ rs. row ∷ rs) whole
-one_more row rows (v ∷ vs) is whole up low = by (bytes_eq row.key.uuid v) refl
-  where
-    by : (b : Bool) → bytes_eq row.key.uuid v ≡ b → flat_map (λ w. rows_under w (row ∷ rows)) (cond b (v ∷ vs) (row.key.uuid ∷ v ∷ vs)) ≡ row ∷ rows
-    by true e =
-        let same : row.key.uuid ≡ v = (bytes_eq-Decides row.key.uuid v).0 e in
-        let front : rows_under v (row ∷ rows) ≡ row ∷ rows_under v rows = subst (λ w. rows_under w (row ∷ rows) ≡ row ∷ rows_under w rows) same (own_under row rows) in
-        let rest = passed row rows vs (subst (λ w. Above w vs) (sym same) up.0) in
-        (λ i. front i ++ rest i) ∙ ap (λ rs. row ∷ rs) whole
-    by false e =
-        let less = less_by row.key.uuid v (slice_cmp nat_cmp row.key.uuid v) refl low.0 e in
-        let above : Above row.key.uuid (v ∷ vs) = (less, all_above row.key.uuid v less vs up.0) in
-        let none : rows_under row.key.uuid rows ≡ [] = none_under row.key.uuid rows (to_rows (λ w. slice_cmp nat_cmp row.key.uuid w ≡ Less) rows (subst (Above row.key.uuid) (sym is) above)) in
-        let front : rows_under row.key.uuid (row ∷ rows) ≡ row ∷ [] = own_under row rows ∙ ap (λ rs. row ∷ rs) none in
-        let rest = passed row rows (v ∷ vs) above in
-        (λ i. front i ++ rest i) ∙ ap (λ rs. row ∷ rs) whole
+one_more row rows (v ∷ vs) is whole up low = cond_both (bytes_eq row.key.uuid v) _ _ (λ ws. flat_map (λ w. rows_under w (row ∷ rows)) ws ≡ row ∷ rows)
+    (λ e.
+    let same : row.key.uuid ≡ v = (bytes_eq-Decides row.key.uuid v).0 e in
+    let front : rows_under v (row ∷ rows) ≡ row ∷ rows_under v rows = subst (λ w. rows_under w (row ∷ rows) ≡ row ∷ rows_under w rows) same (own_under row rows) in
+    let rest = passed row rows vs (subst (λ w. Above w vs) (sym same) up.0) in
+    (λ i. front i ++ rest i) ∙ ap (λ rs. row ∷ rs) whole)
+    (λ e.
+    let less = less_by row.key.uuid v (slice_cmp nat_cmp row.key.uuid v) refl low.0 e in
+    let above : Above row.key.uuid (v ∷ vs) = (less, all_above row.key.uuid v less vs up.0) in
+    let none : rows_under row.key.uuid rows ≡ [] = none_under row.key.uuid rows (to_rows (λ w. slice_cmp nat_cmp row.key.uuid w ≡ Less) rows (subst (Above row.key.uuid) (sym is) above)) in
+    let front : rows_under row.key.uuid (row ∷ rows) ≡ row ∷ [] = own_under row rows ∙ ap (λ rs. row ∷ rs) none in
+    let rest = passed row rows (v ∷ vs) above in
+    (λ i. front i ++ rest i) ∙ ap (λ rs. row ∷ rs) whole)
 
 whole_by_uuid : (rows : List FindRow) → Ascend rows → flat_map (λ u. rows_under u rows) (uuids_of rows) ≡ rows
 whole_by_uuid [] up = refl
@@ -131,9 +122,7 @@ whole_by_uuid (row ∷ rows) up =
 
 -- the rows of a list ascend by UUID
 not_greater : (o p : Ordering) → ordering_then o p ≡ Less → o ≢ Greater
-not_greater Less p e g = cc
-not_greater Equal p e g = cc
-not_greater Greater p e g = cc
+not_greater o p e g = grind arith
 
 ascend_from : (operations : List Operation) → IsStrictlySortedBy list_cmp operations → Ascend (map row_of operations)
 unfolding IsStrictlySortedBy

@@ -1,33 +1,28 @@
 -- The good records of two inputs, and which of the two stops their merge.
-use Rattle.std.proofs.Common.{◌≡◌, ℕ, true, List, [], ◌++◌, length, Option, Some, refl, sym, ap, ◌∙◌, subst, inl, inr, ◌⊎◌}
-use Rattle.std.specs.Prelude.{IfSome}
-use Rattle.std.proofs.lemmas.Bool.{cases_Bool, false≢true}
+use Rattle.std.proofs.Common.{◌≡◌, ℕ, List, [], ◌++◌, length, refl, sym, ap, ◌∙◌, subst, inl, inr, ◌⊎◌}
+use Rattle.std.proofs.lemmas.Bool.{cases_Bool}
 use Rattle.std.specs.List.{concat}
 use Rattle.std.specs.FinSet as set
 use Rattle.join_core.specs.Listing.{listing}
-use Rattle.byte_device.specs.Writes.{WritesFirst}
 use Rattle.archive_core.specs.Content.{Operations, IsContent, joined, content_of}
 use Rattle.archive_core.proofs.Made.{joined_made}
 use Rattle.archive_records.specs.declared.fault.RecordFault.{RecordFault}
 use Rattle.archive_records.specs.declared.format.Format.{Format}
 use Rattle.archive_records.specs.declared.format.Format.TheVariants.{Archive, OldArchive}
-use Rattle.archive_records.specs.declared.kind.TextKind.TheVariants.{Archive as Archive_text}
-use Rattle.archive_records.specs.Kind.{kind_of, archive_format, may_follow}
-use Rattle.archive_records.specs.Text.{written, old_written, ending, text_of, taken_of, InOrder, AreApart, AreOperations, IsArchiveOf, last_of}
-use Rattle.archive_records.specs.Fault.{is_end, IsFault, IsMagicFault}
-use Rattle.archive_records.specs.Front.{IsGoodFront, IsLongestFront}
+use Rattle.archive_records.specs.Kind.{archive_format, may_follow}
+use Rattle.archive_records.specs.Text.{written, old_written, ending, text_of, AreOperations, IsArchiveOf, last_of}
+use Rattle.archive_records.specs.Fault.{IsFault, IsMagicFault}
+use Rattle.archive_records.specs.Front.{IsLongestFront}
 use Rattle.record_merge.specs.Merging.{HasMagic, IsArchiveText, AreGoodRecords, EndsBelow, LeftStops, RightStops, of_both}
 use Rattle.archive_records.proofs.Forms.{IsBytes}
-use Rattle.archive_records.proofs.Ends.{end-is_end}
 use Rattle.archive_records.proofs.Apart.{apart_listing}
-use Rattle.archive_records.proofs.Longest.{is_longest, end-stops}
 use Rattle.archive_records.proofs.Contents.{InOrder-listing, InOrder-set, written_text, content_is}
-use Rattle.archive_records.proofs.Formats.{old_in_order, ending_of, format_magic, kind_archive}
+use Rattle.archive_records.proofs.Formats.{old_in_order, format_magic, kind_archive}
 use Rattle.archive_records.proofs.Versions.{old_written_text, formed}
 use Rattle.archive_records.proofs.Exact.{no_magic_fault, fault_longest}
 use Rattle.archive_laws.proofs.Complete.{same_or_not, content_or_fault}
 use Rattle.archive_updates.proofs.Beginnings.{good_formed}
-use Rattle.record_merge.proofs.Fronts.{archive_text, formed_of, text_magic, both_taken, front_magic, whole_front}
+use Rattle.record_merge.proofs.Fronts.{archive_text, formed_of, text_magic, front_magic, whole_front}
 
 -- ---- good records
 
@@ -71,7 +66,7 @@ text_or_not t xs l = elim (same_or_not t (text_of (archive_format t) xs)) [
 below_or_not : (xs ys : List (List ℕ)) → EndsBelow xs ys ⊎ (EndsBelow xs ys → ⊥)
 below_or_not xs ys = elim (cases_Bool (may_follow Archive (last_of [] xs) (last_of [] ys))) [
   | inl below ↦ inl below
-  | inr above ↦ inr (λ below. false≢true (sym above ∙ below))
+  | inr above ↦ inr (λ below. cc)
 ]
 
 module _ (t u : List ℕ) (xs ys : List (List ℕ)) where

@@ -1,28 +1,24 @@
 -- What is told of addresses depends on the content alone: an answer's lines, and whether it is one symbol, do not depend on
 -- where its names lie.
-use Rattle.std.proofs.Common.{◌≡◌, ℕ, Bool, true, false, ◌&&◌, if◌then◌else◌, List, [], ◌∷◌, ◌++◌, map, length, codes, Option, Some, None, Result, Ok, Err, refl, sym, ap, ◌∙◌, subst}
-use Rattle.std.specs.Prelude.{IfSome}
+use Rattle.std.proofs.Common.{◌≡◌, ℕ, Bool, true, false, ◌&&◌, if◌then◌else◌, List, [], ◌∷◌, ◌++◌, map, length, codes, Option, Some, None, refl, sym, ap, ◌∙◌, subst}
 use Rattle.std.proofs.lemmas.List.{length-map}
 use Rattle.std.specs.List.{AllByRecursion, flat_map, list_all}
 use Rattle.std.specs.Fmt.{decimal}
 use Rattle.macho_symbols.specs.Found.{FoundRecord}
-use Rattle.archive_core.specs.Content.{Operations, IsContent}
+use Rattle.archive_core.specs.Content.{Operations}
 use Rattle.archive_core.specs.Lookup.{OwnRow, AnswerRecord, Unanswered, Alone, Disputed, IsAnswer, own_view, own_row, answer_view}
 use Rattle.archive_core.specs.declared.keys.Digest.{Digest}
 use Rattle.archive_core.specs.declared.keys.SliceKey.{SliceKey}
 use Rattle.archive_core.specs.declared.lookup.Own.{Own}
 use Rattle.archive_core.specs.declared.lookup.Own.TheVariants.{NoSymbol as Own_NoSymbol, Symbol as Own_Symbol}
 use Rattle.archive_core.specs.declared.lookup.Answer.{Answer}
-use Rattle.archive_core.specs.declared.lookup.Answer.TheVariants.{Unknown, NoSymbol, Symbol, Conflict}
+use Rattle.archive_core.specs.declared.lookup.Answer.TheVariants.{Unknown, Conflict}
 use Rattle.archive_core.specs.declared.lookup.Where.{Where}
-use Rattle.archive_records.specs.Text.{IsArchiveOf}
 use Rattle.archive_words.specs.Words.{address_text, digest_text}
 use Rattle.report_text.specs.Answers.{escaped, found_text, own_text, own_line, answer_lines}
 use Rattle.report_text.specs.Report.{line}
-use Rattle.byte_device.specs.declared.disks.CannotOpen.{CannotOpen}
 use Rattle.command_ends.specs.declared.faults.Status.{Status}
 use Rattle.command_ends.specs.declared.faults.Status.TheVariants.{Done, Partial}
-use Rattle.command_ends.specs.Inputs.{reader, HoldsArchive, IsGivenArchive}
 use Rattle.archive_queries.specs.Symbolicate.{asked_of, is_symbol, Answered, IsAnswered, answers_status, answers_text, TellsAddresses}
 
 abbrev seen_found : FoundRecord → List ℕ
@@ -44,10 +40,8 @@ seen_lines address (Alone (Some found)) = line (address_text address ++ codes " 
 seen_lines address (Disputed rows) = line (address_text address ++ codes " !" ++ decimal (length rows)) ++ flat_map seen_row rows
 
 abbrev seen_symbol : AnswerRecord → Bool
-seen_symbol Unanswered = false
-seen_symbol (Alone None) = false
 seen_symbol (Alone (Some found)) = true
-seen_symbol (Disputed rows) = false
+seen_symbol _ = false
 
 own_seen : (own : Own) → own_text own ≡ seen_own (own_view own)
 unfolding own_text found_text
@@ -64,17 +58,13 @@ rows_seen (row ∷ rows) = λ i. row_seen row i ++ rows_seen rows i
 
 lines_seen : (address : ℕ) (answer : Answer) → answer_lines address answer ≡ seen_lines address (answer_view answer)
 unfolding answer_lines found_text
-lines_seen address Unknown = refl
-lines_seen address NoSymbol = refl
-lines_seen address (Symbol found) = refl
 lines_seen address (Conflict rows) =
     λ i. line (address_text address ++ codes " !" ++ decimal (sym (length-map rows.items own_row) i)) ++ rows_seen rows.items i
+lines_seen address answer = refl
 
 symbol_seen : (answer : Answer) → is_symbol answer ≡ seen_symbol (answer_view answer)
 symbol_seen Unknown = refl
-symbol_seen NoSymbol = refl
-symbol_seen (Symbol found) = refl
-symbol_seen (Conflict rows) = refl
+symbol_seen answer = refl
 
 pub record ModelEvent : Type 0 where
   pub address : ℕ
@@ -98,24 +88,25 @@ alike_told rows others same =
     let lines = text_seen rows ∙ ap (flat_map (λ (s : ModelEvent). seen_lines s.address s.answer)) same ∙ sym (text_seen others) in
     (ap (λ (all : Bool). if all then Done else Partial) symbols, lines)
 
-no_more : (x : ℕ) (xs : List ℕ) → [] ≡ x ∷ xs → ⊥
-no_more x xs e = cc
-
 module _ (one : (o : Operations) (key : SliceKey) (place : Where) (answer other : AnswerRecord) → IsAnswer o key place answer → IsAnswer o key place other → answer ≡ other) where
+  pub one_seen : (content : Operations) (key : SliceKey) (load : Option ℕ) (row other : Answered) → row.address ≡ other.address → IsAnswered content key load row → IsAnswered content key load other → seen row ≡ seen other
+  one_seen content key load row other address a b =
+      let moved = subst (λ n. IsAnswer content key (asked_of load n) (answer_view row.answer)) address a in
+      let answer = one content key (asked_of load other.address) (answer_view row.answer) (answer_view other.answer) moved b in
+      λ i. record { address = address i; answer = answer i }
+
   all_seen : (content : Operations) (key : SliceKey) (load : Option ℕ) (rows others : List Answered)
       → map (λ row. row.address) rows ≡ map (λ row. row.address) others
       → AllByRecursion (IsAnswered content key load) rows → AllByRecursion (IsAnswered content key load) others → map seen rows ≡ map seen others
   all_seen content key load [] [] e a b = refl
-  all_seen content key load [] (y ∷ ys) e a b = absurd (no_more y.address (map (λ row. row.address) ys) e)
-  all_seen content key load (x ∷ xs) [] e a b = absurd (no_more x.address (map (λ row. row.address) xs) (sym e))
+  all_seen content key load [] (y ∷ ys) e a b = cc
+  all_seen content key load (x ∷ xs) [] e a b = cc
   all_seen content key load (x ∷ xs) (y ∷ ys) e a b =
-      let both : x.address ∷ map (λ row. row.address) xs ≡ y.address ∷ map (λ row. row.address) ys = e in
       let address : x.address ≡ y.address = cc in
       let rest : map (λ (row : Answered). row.address) xs ≡ map (λ (row : Answered). row.address) ys = cc in
-      let moved = subst (λ n. IsAnswer content key (asked_of load n) (answer_view x.answer)) address a.0 in
-      let answer = one content key (asked_of load y.address) (answer_view x.answer) (answer_view y.answer) moved b.0 in
+      let head = one_seen content key load x y address a.0 b.0 in
       let tail = all_seen content key load xs ys rest a.1 b.1 in
-      λ i. record { address = address i; answer = answer i } ∷ tail i
+      λ i. head i ∷ tail i
 
   pub one_told : (content : Operations) (key : SliceKey) (load : Option ℕ) (addresses : List ℕ) (status other_status : Status) (text other_text : List ℕ)
       → TellsAddresses content key load addresses status text → TellsAddresses content key load addresses other_status other_text → (status ≡ other_status) × (text ≡ other_text)
@@ -123,15 +114,3 @@ module _ (one : (o : Operations) (key : SliceKey) (place : Where) (answer other 
       let same = all_seen content key load a.rows b.rows (a.addresses_are ∙ sym b.addresses_are) a.answered b.answered in
       let told = alike_told a.rows b.rows same in
       (a.status_is ∙ told.0 ∙ sym b.status_is, a.text_is ∙ told.1 ∙ sym b.text_is)
-
-pub known : (left : Option (List ℕ)) (bytes : List ℕ) (P : List ℕ → Type 0) → left ≡ Some bytes → IfSome left P → P bytes
-known left bytes P is p = let q : IfSome (Some bytes) P = subst (λ (l : Option (List ℕ)). IfSome l P) is p in q
-
--- a text gives one content only
-abbrev pub OneContent : Type 0
-OneContent = (text : List ℕ) (o p : Operations) → IsContent o → IsContent p → IsArchiveOf o text → IsArchiveOf p text → o ≡ p
-
-pub given_content : OneContent → {R : Type 0} (left : R → Option (List ℕ)) (failures : R → ℕ) (old new : Result R CannotOpen) (o p : Operations) → IsContent o → IsContent p
-    → IsGivenArchive (reader left failures old new) o → HoldsArchive (reader left failures old new) p → o ≡ p
-given_content one left failures (Ok source) new o p c d given holds = one given.0 o p c d given.1 (known (left source) given.0 (IsArchiveOf p) given.2 holds)
-given_content one left failures (Err _) new o p c d given holds = absurd given.2

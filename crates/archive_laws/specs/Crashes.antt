@@ -1,6 +1,6 @@
 -- What a crash leaves at the path of an output, behind some of the calls that were made for it: a rename replaces what
 -- is there in one step, and what was synced stays.
-use Rattle.std.specs.Prelude.{◌≡◌, ℕ, Bool, true, false, ◌||◌, List, [], ◌∷◌, ◌++◌, fold, Option, Some}
+use Rattle.std.specs.Prelude.{◌≡◌, ℕ, Bool, true, false, ◌||◌, List, [], ◌++◌, fold, Option, Some}
 use Rattle.std.specs.Str.{bytes_eq}
 use Rattle.archive_files.specs.FileCalls.{FileCall, Creates, Opens, Writes, Syncs, Renames, SyncsFolder, Removes}
 

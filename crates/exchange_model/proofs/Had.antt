@@ -1,5 +1,5 @@
 -- What a site had, by the events alone, is what it holds.
-use Rattle.std.proofs.Common.{◌≡◌, ℕ, zero, suc, ◌<◌, ◌≤◌, Bool, true, false, ◌&&◌, if◌then◌else◌, List, [], ◌∷◌, ◌++◌, length, refl, sym, ap, ◌∙◌, slice_get, arith}
+use Rattle.std.proofs.Common.{◌≡◌, ℕ, zero, suc, ◌<◌, ◌≤◌, Bool, true, false, ◌&&◌, if◌then◌else◌, List, [], ◌∷◌, ◌++◌, length, refl, sym, ap, ◌∙◌, slice_get, arith, ◌⊎◌, inl, inr}
 use Rattle.std.specs.declared.result.Result.TheVariants.{Ok}
 use Rattle.std.specs.declared.option.Option.{Option}
 use Rattle.std.specs.declared.option.Option.TheVariants.{None, Some}
@@ -12,27 +12,22 @@ use Rattle.exchange_model.proofs.Between.{union_below_same}
 use Rattle.exchange_model.proofs.Steps.{holding}
 use Rattle.exchange_model.proofs.Reach.{both_by}
 
-abbrev AllBelow : ℕ → List ℕ → Type 0
-AllBelow n [] = Unit {0}
-AllBelow n (f ∷ fs) = (f < n) × AllBelow n fs
-
-pushed : (n : ℕ) (fs : List ℕ) (b : Bool) → AllBelow n fs → AllBelow (suc n) (fs ++ (if b then n ∷ [] else []))
-pushed n [] true h = (omega arith, tt)
-pushed n [] false h = tt
-pushed n (f ∷ fs) b h = (omega (arith, h.0), pushed n fs b h.1)
-
-read : (n : ℕ) (fs : List ℕ) (m f : ℕ) → AllBelow n fs → slice_get fs m ≡ Some f → f < n
-read n [] m f all h = cc
-read n (x ∷ fs) zero f all h = let e : x ≡ f = cc in omega (arith, all.0)
-read n (x ∷ fs) (suc m) f all h = read n fs m f all.1 h
+-- at a place is what stood there before, or what was added
+before_or_last : (fs : List ℕ) (b : Bool) (n m f : ℕ) → slice_get (fs ++ (if b then n ∷ [] else [])) m ≡ Some f → (slice_get fs m ≡ Some f) ⊎ (f ≡ n)
+before_or_last [] true n zero f h = inr cc
+before_or_last [] true n (suc m) f h = cc
+before_or_last [] false n m f h = cc
+before_or_last (x ∷ fs) b n zero f h = inl h
+before_or_last (x ∷ fs) b n (suc m) f h = before_or_last fs b n m f h
 
 module _ {F : Type 0} (sites : ℕ) (events : List (Event F)) where
-  senders_below : (n : ℕ) → AllBelow n (senders sites events n)
-  senders_below zero = tt
-  senders_below (suc n) = pushed n (senders sites events n) (is_accepted sites events (senders sites events n) (slice_get events n) && is_sending (slice_get events n)) (senders_below n)
-
   pub sender_below : (n m f : ℕ) → slice_get (senders sites events n) m ≡ Some f → f < n
-  sender_below n m f h = read n (senders sites events n) m f (senders_below n) h
+  sender_below zero m f h = cc
+  sender_below (suc n) m f h =
+      elim (before_or_last (senders sites events n) (is_accepted sites events (senders sites events n) (slice_get events n) && is_sending (slice_get events n)) n m f h) [
+        | inl e ↦ let l = sender_below n m f e in omega arith
+        | inr e ↦ omega arith
+      ]
 
   module _ (a b : ℕ → ℕ → Operations) (n : ℕ) (same : (f : ℕ) → f < n → (x : ℕ) → a f x ≡ b f x) where
     asked_same : (o : Option ℕ) → ((f : ℕ) → o ≡ Some f → f < n) → asked sites events a o ≡ asked sites events b o

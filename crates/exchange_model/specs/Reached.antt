@@ -63,14 +63,9 @@ module _ {F : Type 0} (sites : ℕ) (events : List (Event F)) where
   abbrev pub is_accepted : List ℕ → Option (Event F) → Bool
   is_accepted sent None = false
   is_accepted sent (Some (Take i (Err f))) = false
-  is_accepted sent (Some (Take i (Ok parts))) = nat_lt i sites
-  is_accepted sent (Some (Retire i r)) = nat_lt i sites
-  is_accepted sent (Some (Full i)) = nat_lt i sites
-  is_accepted sent (Some (Ask i)) = nat_lt i sites
   is_accepted sent (Some (Reply i m)) = nat_lt i sites && from_ask (slice_get sent m)
   is_accepted sent (Some (Deliver i m)) = nat_lt i sites && from_other (slice_get sent m)
-  is_accepted sent (Some (Save i)) = nat_lt i sites
-  is_accepted sent (Some (Stop i)) = nat_lt i sites
+  is_accepted sent (Some e) = nat_lt (site_of e) sites
 
   -- the numbers of the accepted Full, Ask and Reply events before n: message m is that of the event whose number stands
   -- at place m

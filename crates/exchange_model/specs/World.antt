@@ -109,14 +109,9 @@ deliver_fault (Some m) = if is_summary m then Some NotAContent else None
 
 abbrev pub fault_at_site : {F : Type 0} → List Message → Event F → Option (Fault F)
 fault_at_site messages (Take i (Err f)) = Some (FileRefused f)
-fault_at_site messages (Take i (Ok parts)) = None
-fault_at_site messages (Retire i r) = None
-fault_at_site messages (Full i) = None
-fault_at_site messages (Ask i) = None
 fault_at_site messages (Reply i m) = reply_fault (slice_get messages m)
 fault_at_site messages (Deliver i m) = deliver_fault (slice_get messages m)
-fault_at_site messages (Save i) = None
-fault_at_site messages (Stop i) = None
+fault_at_site messages _ = None
 
 abbrev pub fault_of : {F : Type 0} → ℕ → World → Event F → Option (Fault F)
 fault_of sites w e = if nat_lt (site_of e) sites then fault_at_site w.messages e else Some NoSite

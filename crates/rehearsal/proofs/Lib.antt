@@ -2,5 +2,4 @@ pub mod NumberLemmas
 pub mod Sequels
 pub mod Places
 pub mod Meant
-pub mod Faulty
 pub mod EventLemmas

@@ -1,83 +1,146 @@
--- A script by its lines.
-use Rattle.std.proofs.Common.{◌≡◌, ◌∙◌, sym, ap, ap₂, refl, arith, cond, ℕ, ◌+◌, ◌<◌, ◌≤◌, Bool, true, false, List, [], ◌∷◌, length, map, nat_lt}
-use Rattle.std.proofs.Common.{Option, Some, None, Result, Ok, Err}
-use Rattle.std.proofs.lemmas.Bool.{cond-true, lt-ltb, ltb-true}
+-- A script by its lines, and the first faulty line.
+use Rattle.std.proofs.Common.{◌≡◌, ◌∙◌, sym, ap, refl, arith, ℕ, ◌+◌, ◌≤◌, ◌⊎◌, inl, inr, true, false}
+use Rattle.std.proofs.Common.{List, [], ◌∷◌, ◌++◌, append_assoc, length, map, nat_lt, Option, Some, None, Result, Ok, Err}
+use Rattle.std.specs.Prelude.{IsSome, is_some}
+use Rattle.std.proofs.lemmas.Bool.{cases_lt, le-ltb, lt-ltb}
+use Rattle.std.proofs.lemmas.List.{append-nil, length-append, map-append}
 use Rattle.rehearsal.specs.Events.{Act, line_act, line_sites}
 use Rattle.archive_words.specs.Lines.{Line, counting, line_count}
-use Rattle.rehearsal.specs.Script.{IsScript, Wrong, event_then, events_of, most_events, onto, script_in, script_of, sites_then, wrong}
-use Rattle.rehearsal.specs.declared.script.ScriptFault.TheVariants.{TooManyEvents}
+use Rattle.rehearsal.specs.Script.{AreEvents, IsFirstFault, IsReached, IsScript, Wrong, events_of, most_events, onto, script_of}
+use Rattle.rehearsal.specs.declared.script.ScriptFault.{ScriptFault}
+use Rattle.rehearsal.specs.declared.script.ScriptFault.TheVariants.{NoSites, BadEvent, TooManyEvents}
+use Rattle.rehearsal.proofs.Sequels.{behind, behind-nil}
 
--- an event, and those behind it, make these
-record IsOnto (n : ℕ) (o : Option Act) (r : Result (List Act) Wrong) (acts : List Act) : Type 0 where
-  act : Act
-  rest : List Act
-  means : o ≡ Some act
-  read : r ≡ Ok rest
-  made : acts ≡ act ∷ rest
-  few : n < 10000
+-- ---- what the functions say
 
-onto_ok : (n : ℕ) (b : Bool) (act : Act) (r : Result (List Act) Wrong) (w : Wrong) (acts : List Act) → nat_lt n 10000 ≡ b → cond b (onto act r) (Err w) ≡ Ok acts
-    → IsOnto n (Some act) r acts
-onto_ok n true act (Ok rest) w acts e h = record { act = act; rest = rest; means = refl; read = refl; made = cc; few = ltb-true n 10000 e }
-onto_ok n true act (Err x) w acts e h = cc
-onto_ok n false act r w acts e h = cc
+onto_behind : (act : Act) (acts : List Act) (r : Result (List Act) Wrong) → onto act (behind acts r) ≡ behind (act ∷ acts) r
+onto_behind act acts (Ok rest) = refl
+onto_behind act acts (Err e) = refl
 
-then_ok : (before n : ℕ) (o : Option Act) (r : Result (List Act) Wrong) (acts : List Act) → event_then before n o r ≡ Ok acts → IsOnto n o r acts
-then_ok before n None r acts h = cc
-then_ok before n (Some act) r acts h = onto_ok n (nat_lt n 10000) act r (TooManyEvents, before + 1) acts refl h
-
--- lines that say these events
-meant : (n : ℕ) (lines : List (ℕ × Line)) (acts : List Act) → n ≤ 10000 → events_of n lines ≡ Ok acts
-    → (map (λ l. line_act l.1) lines ≡ map Some acts) × (n + length acts ≤ 10000)
-meant n [] [] few h = (refl, omega arith)
-meant n [] (act ∷ acts) few h = cc
-meant n (line ∷ lines) acts few h =
-    let o = then_ok line.0 n (line_act line.1) (events_of (n + 1) lines) acts h in
-    let k = meant (n + 1) lines o.rest (omega (arith, o.few)) o.read in
-    (ap₂ (λ a b. a ∷ b) o.means k.0 ∙ ap (map Some) (sym o.made), omega (arith, k.1, ap length o.made))
-
-said : (n : ℕ) (lines : List (ℕ × Line)) (acts : List Act) → map (λ l. line_act l.1) lines ≡ map Some acts → n + length acts ≤ 10000
-    → events_of n lines ≡ Ok acts
-said n [] [] h few = refl
-said n [] (act ∷ acts) h few = cc
-said n (line ∷ lines) [] h few = cc
-said n (line ∷ lines) (act ∷ acts) h few =
+-- what stands after lines that are events
+front_said : (n : ℕ) (front rest : List (ℕ × Line)) (acts : List Act) → AreEvents front acts → n + length acts ≤ 10000
+    → events_of n (front ++ rest) ≡ behind acts (events_of (n + length acts) rest)
+front_said n [] rest [] h few = let e : n ≡ n + 0 = omega arith in ap (λ m. events_of m rest) e ∙ sym (behind-nil _)
+front_said n [] rest (act ∷ acts) h few = cc
+front_said n (line ∷ front) rest [] h few = cc
+front_said n (line ∷ front) rest (act ∷ acts) h few =
     let first : line_act line.1 ≡ Some act = cc in
-    let further : map (λ l. line_act l.1) lines ≡ map Some acts = cc in
-    let r = said (n + 1) lines acts further (omega arith) in
-    ap₂ (λ o r. event_then line.0 n o r) first r
-    ∙ cond-true (nat_lt n most_events) (Ok (act ∷ acts)) (wrong TooManyEvents line.0) (lt-ltb n 10000 (omega arith))
-
--- a number of sites, and the events
-record IsWhole (o : Option ℕ) (r : Result (List Act) Wrong) (sites : ℕ) (acts : List Act) : Type 0 where
-  asked : o ≡ Some sites
-  read : r ≡ Ok acts
-
-abbrev sites_or : Result (ℕ × List Act) Wrong → ℕ
-sites_or (Ok script) = script.0
-sites_or (Err e) = 0
-
-abbrev acts_or : Result (ℕ × List Act) Wrong → List Act
-acts_or (Ok script) = script.1
-acts_or (Err e) = []
-
-whole : (before : ℕ) (o : Option ℕ) (r : Result (List Act) Wrong) (sites : ℕ) (acts : List Act) → sites_then before o r ≡ Ok (sites, acts) → IsWhole o r sites acts
-whole before None r sites acts h = cc
-whole before (Some n) (Ok rest) sites acts h = record { asked = ap Some (ap sites_or h); read = ap Ok (ap acts_or h) }
-whole before (Some n) (Err e) sites acts h = cc
-
-lines_in : (bytes : List ℕ) (lines : List (ℕ × Line)) (sites : ℕ) (acts : List Act) → counting bytes ≡ lines
-    → script_in (line_count bytes) lines ≡ Ok (sites, acts) → IsScript bytes sites acts
-lines_in bytes [] sites acts e h = cc
-lines_in bytes (first ∷ further) sites acts e h =
-    let w = whole first.0 (line_sites first.1) (events_of 0 further) sites acts h in
-    let m = meant 0 further acts (omega arith) w.read in
-    record { first = first; further = further; lines = e; asked = w.asked; meant = m.0; few = omega (arith, m.1) }
-
-pub script_lines : (bytes : List ℕ) (sites : ℕ) (acts : List Act) → script_of bytes ≡ Ok (sites, acts) → IsScript bytes sites acts
-script_lines bytes sites acts h = lines_in bytes (counting bytes) sites acts refl h
+    let further : map (λ l. line_act l.1) front ≡ map Some acts = cc in
+    let more = front_said (n + 1) front rest acts further (omega arith) in
+    let left : nat_lt n most_events ≡ true = lt-ltb n 10000 (omega arith) in
+    let count : n + 1 + length acts ≡ n + length (act ∷ acts) = omega arith in
+    rw (first, more, left) (onto_behind act acts _) ∙ ap (λ m. behind (act ∷ acts) (events_of m rest)) count
 
 pub script_said : (bytes : List ℕ) (sites : ℕ) (acts : List Act) → IsScript bytes sites acts → script_of bytes ≡ Ok (sites, acts)
 script_said bytes sites acts is =
-    ap (script_in (line_count bytes)) is.lines
-    ∙ ap₂ (λ o r. sites_then is.first.0 o r) is.asked (said 0 is.further acts is.meant (omega (arith, is.few)))
+    let all = front_said 0 is.further [] acts is.meant (omega (arith, is.few)) in
+    let none : is.further ++ [] ≡ is.further = append-nil is.further in
+    rw (is.lines, is.asked, ← none, all, append-nil acts) refl
+
+-- a line that is reached, and what is wrong with it
+module _ (bytes : List ℕ) (number : ℕ) (at : IsReached bytes number) where
+  told : (fault : ScriptFault) → events_of (0 + length at.events) (at.line ∷ at.after) ≡ Err (fault, at.line.0 + 1) → script_of bytes ≡ Err (fault, number)
+  told fault h =
+      let front = front_said 0 at.between (at.line ∷ at.after) at.events at.meant (omega (arith, at.few)) in
+      rw (at.lines, at.asked, front, h, at.number_is) refl
+
+  many_said : length at.events ≡ most_events → (o : Option Act) → line_act at.line.1 ≡ o → IsSome o → script_of bytes ≡ Err (TooManyEvents, number)
+  many_said many None is some = cc
+  many_said many (Some act) is some =
+      let full : nat_lt (0 + length at.events) most_events ≡ false = le-ltb (0 + length at.events) 10000 (omega (arith, many)) in
+      told TooManyEvents (rw (is, full) refl)
+
+pub fault_said : (bytes : List ℕ) (fault : ScriptFault) (line : ℕ) → IsFirstFault bytes fault line → script_of bytes ≡ Err (fault, line)
+fault_said bytes NoSites line (inl none) = rw (none.0, none.1) refl
+fault_said bytes NoSites line (inr other) = rw (other.2, other.3, other.4) refl
+fault_said bytes BadEvent line is = told bytes line is.0 BadEvent (rw is.1 refl)
+fault_said bytes TooManyEvents line is = many_said bytes line is.0 is.1 (line_act is.0.line.1) refl is.2
+
+-- ---- either, and one
+
+abbrev IsEither : List ℕ → Type 0
+IsEither bytes =
+    ((sites : ℕ) × (events : List Act) × IsScript bytes sites events)
+    ⊎ ((fault : ScriptFault) × (line : ℕ) × IsFirstFault bytes fault line)
+
+module _ (bytes : List ℕ) (first : ℕ × Line) (sites : ℕ) (asked : line_sites first.1 ≡ Some sites) where
+  -- behind lines that are events
+  behind_events : (between : List (ℕ × Line)) (events : List Act) → AreEvents between events → length events ≤ 10000
+      → (lines : List (ℕ × Line)) → counting bytes ≡ first ∷ (between ++ lines) → IsEither bytes
+  behind_events between events good few [] e =
+      let lines : counting bytes ≡ first ∷ between = e ∙ ap (λ ls. first ∷ ls) (append-nil between) in
+      inl (sites, events, record { first = first; further = between; lines = lines; asked = asked; meant = good; few = few })
+  behind_events between events good few (line ∷ after) e =
+      let at : IsReached bytes (line.0 + 1) = record {
+        first = first;
+        between = between;
+        line = line;
+        after = after;
+        lines = e;
+        sites = sites;
+        asked = asked;
+        events = events;
+        meant = good;
+        few = few;
+        number_is = refl;
+      } in
+      elim (line_act line.1) as (λ o. line_act line.1 ≡ o → IsEither bytes) [
+        | None ↦ λ is. inr (BadEvent, line.0 + 1, (at, is))
+        | Some act ↦ λ is. elim (cases_lt (length events) 10000) [
+          | inl l ↦
+              let meant : AreEvents (between ++ line ∷ []) (events ++ act ∷ []) =
+              rw (map-append (λ l. line_act l.1) between (line ∷ []), map-append Some events (act ∷ []), good, is) refl in
+              behind_events (between ++ line ∷ []) (events ++ act ∷ []) meant (omega (arith, length-append events (act ∷ []))) after
+              (e ∙ ap (λ ls. first ∷ ls) (sym (append_assoc between (line ∷ []) after)))
+          | inr full ↦ inr (TooManyEvents, line.0 + 1, (at, omega arith, ap is_some is))
+        ]
+      ] refl
+
+pub either : (bytes : List ℕ) → IsEither bytes
+either bytes = by (counting bytes) refl
+  where
+    by : (lines : List (ℕ × Line)) → counting bytes ≡ lines → IsEither bytes
+    by [] e = inr (NoSites, line_count bytes + 1, inl (e, refl))
+    by (first ∷ further) e = elim (line_sites first.1) as (λ o. line_sites first.1 ≡ o → IsEither bytes) [
+      | None ↦ λ is. inr (NoSites, first.0 + 1, inr (first, further, e, is, refl))
+      | Some sites ↦ λ asked. behind_events bytes first sites asked [] [] refl (omega arith) further e
+    ] refl
+
+pub not_both : (bytes : List ℕ) (sites : ℕ) (events : List Act) (fault : ScriptFault) (line : ℕ) → IsScript bytes sites events → IsFirstFault bytes fault line → ⊥
+not_both bytes sites events fault line script faulty =
+    let good = script_said bytes sites events script in
+    let bad = fault_said bytes fault line faulty in
+    cc
+
+-- one reading has one value, and one error
+one_value : {A B E : Type 0} (r : Result (A × B) E) (a c : A) (b d : B) → r ≡ Ok (a, b) → r ≡ Ok (c, d) → (a ≡ c) × (b ≡ d)
+one_value {A = A} {B = B} r a c b d p q =
+    let one : A × B = (a, b) in let other : A × B = (c, d) in
+    let same : one ≡ other = cc in (ap (λ x. x.0) same, ap (λ x. x.1) same)
+
+one_error : {A B T : Type 0} (r : Result T (A × B)) (a c : A) (b d : B) → r ≡ Err (a, b) → r ≡ Err (c, d) → (a ≡ c) × (b ≡ d)
+one_error {A = A} {B = B} r a c b d p q =
+    let one : A × B = (a, b) in let other : A × B = (c, d) in
+    let same : one ≡ other = cc in (ap (λ x. x.0) same, ap (λ x. x.1) same)
+
+pub one_fault : (bytes : List ℕ) (fault other : ScriptFault) (line other_line : ℕ) → IsFirstFault bytes fault line → IsFirstFault bytes other other_line
+    → (fault ≡ other) × (line ≡ other_line)
+one_fault bytes fault other line other_line a b =
+    one_error (script_of bytes) fault other line other_line (fault_said bytes fault line a) (fault_said bytes other other_line b)
+
+-- so what the functions say is so
+pub script_lines : (bytes : List ℕ) (sites : ℕ) (acts : List Act) → script_of bytes ≡ Ok (sites, acts) → IsScript bytes sites acts
+script_lines bytes sites acts h = elim (either bytes) [
+  | inl script ↦
+      let same = one_value (script_of bytes) sites script.0 acts script.1 h (script_said bytes script.0 script.1 script.2) in
+      rw (same.0, same.1) script.2
+  | inr faulty ↦ let said = fault_said bytes faulty.0 faulty.1 faulty.2 in cc (sym said ∙ h)
+]
+
+pub fault_lines : (bytes : List ℕ) (fault : ScriptFault) (line : ℕ) → script_of bytes ≡ Err (fault, line) → IsFirstFault bytes fault line
+fault_lines bytes fault line h = elim (either bytes) [
+  | inl script ↦ let said = script_said bytes script.0 script.1 script.2 in cc (sym said ∙ h)
+  | inr faulty ↦
+      let same = one_error (script_of bytes) fault faulty.0 line faulty.1 h (fault_said bytes faulty.0 faulty.1 faulty.2) in
+      rw (same.0, same.1) faulty.2
+]

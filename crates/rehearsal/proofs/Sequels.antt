@@ -1,12 +1,12 @@
 -- What the lines say behind those that were read.
 use Rattle.std.proofs.Common.{◌≡◌, ◌∙◌, sym, ap, refl, arith, ℕ, ◌+◌, ◌<◌, ◌≤◌, List, [], ◌∷◌, ◌++◌, append_assoc, length, get_or, drop, nat_lt}
-use Rattle.std.proofs.Common.{Some, None, Result, Ok, Err, Bor}
-use Rattle.std.proofs.lemmas.Bool.{cond-false, cond-true, lt-ltb, false_from_ne_true, ltb-true}
-use Rattle.std.proofs.lemmas.List.{at_drop_more, get_or-map, length-map}
+use Rattle.std.proofs.Common.{true, false, Some, None, Result, Ok, Err, Bor}
+use Rattle.std.proofs.lemmas.Bool.{le-ltb, lt-ltb}
+use Rattle.std.proofs.lemmas.List.{at_drop_more, get_or-map, length-map, map-append}
 use Rattle.rehearsal.specs.declared.event.Event.{Event}
 use Rattle.rehearsal.specs.Events.{Act, act_of, line_act}
 use Rattle.archive_words.specs.Lines.{Line, seen}
-use Rattle.rehearsal.specs.Script.{Wrong, acts, event_then, events_of, most_events, onto, wrong}
+use Rattle.rehearsal.specs.Script.{Wrong, acts, event_then, events_of, most_events, onto}
 use Rattle.rehearsal.specs.declared.script.ScriptFault.TheVariants.{BadEvent, TooManyEvents}
 
 -- these events, and those that are read behind them
@@ -34,32 +34,21 @@ at_line lines i n d l =
     ∙ ap (λ (y : ℕ × Line). event_then y.0 n (line_act y.1) (events_of (n + 1) (drop (i + 1) (seen lines))))
     (get_or-map view lines i d (view d) l)
 
-acts-push : (front : List Event) (event : Event) → acts (front ++ event ∷ []) ≡ acts front ++ act_of event ∷ []
-acts-push [] event = refl
-acts-push (e ∷ front) event = ap (λ l. act_of e ∷ l) (acts-push front event)
-
 -- a line that is an event
 pub one_more : (lines : List (ℕ × Bor (List ℕ))) (i : ℕ) (d : ℕ × Bor (List ℕ)) (event : Event) (front : List Event)
     → i < length lines → Some (act_of event) ≡ line_act (get_or lines i d).1.now → i < 10000
     → behind (acts (front ++ event ∷ [])) (events_of (i + 1) (drop (i + 1) (seen lines))) ≡ behind (acts front) (events_of i (drop i (seen lines)))
 one_more lines i d event front l means few =
-    let x = get_or lines i d in
-    let r = events_of (i + 1) (drop (i + 1) (seen lines)) in
-    let first : events_of i (drop i (seen lines)) ≡ onto (act_of event) r =
-    at_line lines i i d l
-    ∙ ap (λ o. event_then x.0 i o r) (sym means)
-    ∙ cond-true (nat_lt i most_events) (onto (act_of event) r) (wrong TooManyEvents x.0) (lt-ltb i 10000 few) in
-    ap (λ front. behind front r) (acts-push front event) ∙ sym (behind-onto (acts front) (act_of event) r) ∙ ap (behind (acts front)) (sym first)
+    let here = at_line lines i i d l in
+    let left : nat_lt i most_events ≡ true = lt-ltb i 10000 few in
+    rw (map-append act_of front (event ∷ []), here, ← means, left) (sym (behind-onto (acts front) (act_of event) _))
 
 -- a line that is none
 pub no_event : (lines : List (ℕ × Bor (List ℕ))) (i : ℕ) (d : ℕ × Bor (List ℕ)) (front : List Act) (all : Result (List Act) Wrong)
     → i < length lines → None ≡ line_act (get_or lines i d).1.now
     → behind front (events_of i (drop i (seen lines))) ≡ all
     → all ≡ Err (BadEvent, (get_or lines i d).0 + 1)
-no_event lines i d front all l none so_far =
-    let x = get_or lines i d in
-    let r = events_of (i + 1) (drop (i + 1) (seen lines)) in
-    sym so_far ∙ ap (behind front) (at_line lines i i d l ∙ ap (λ o. event_then x.0 i o r) (sym none))
+no_event lines i d front all l none so_far = let here = at_line lines i i d l in rw (← so_far, here, ← none) refl
 
 -- an event too many
 pub too_many : (lines : List (ℕ × Bor (List ℕ))) (i : ℕ) (d : ℕ × Bor (List ℕ)) (act : Act) (front : List Act) (all : Result (List Act) Wrong)
@@ -67,11 +56,6 @@ pub too_many : (lines : List (ℕ × Bor (List ℕ))) (i : ℕ) (d : ℕ × Bor 
     → behind front (events_of i (drop i (seen lines))) ≡ all
     → all ≡ Err (TooManyEvents, (get_or lines i d).0 + 1)
 too_many lines i d act front all l means many so_far =
-    let x = get_or lines i d in
-    let r = events_of (i + 1) (drop (i + 1) (seen lines)) in
-    let none = false_from_ne_true (nat_lt i most_events) (λ t. let k = ltb-true i 10000 t in omega (arith, k, many)) in
-    sym so_far ∙ ap (behind front) (
-    at_line lines i i d l
-    ∙ ap (λ o. event_then x.0 i o r) (sym means)
-    ∙ cond-false (nat_lt i most_events) (onto act r) (wrong TooManyEvents x.0) none
-    )
+    let here = at_line lines i i d l in
+    let full : nat_lt i most_events ≡ false = le-ltb i 10000 many in
+    rw (← so_far, here, ← means, full) refl

@@ -1,5 +1,5 @@
 -- The lines of events, one more at a time.
-use Rattle.std.proofs.Common.{◌≡◌, ℕ, ◌+◌, ◌<◌, List, [], ◌∷◌, ◌++◌, codes, length, get_or, take, sym, ap, ◌∙◌, append_assoc, arith, add-one}
+use Rattle.std.proofs.Common.{◌≡◌, ℕ, ◌+◌, ◌<◌, List, [], ◌∷◌, ◌++◌, codes, length, get_or, take, refl, sym, ap, ◌∙◌, append_assoc, arith, add-one}
 use Rattle.std.proofs.lemmas.List.{append-nil, length-take}
 use Rattle.std.proofs.Math.Seq.{take-suc}
 use Rattle.std.specs.Fmt.{decimal}
@@ -36,13 +36,7 @@ pub one_more : (messages : List (List ℕ)) (i : ℕ) (outcomes : List Outcome) 
     → now ≡ numbered ++ line (outcome_text messages x)
     → now ≡ before ++ event_lines messages 0 (take (i + 1) outcomes)
 one_more messages i outcomes x before text numbered now lt is text_is numbered_is now_is =
-    let front : take (i + 1) outcomes ≡ take i outcomes ++ x ∷ [] =
-    ap (λ (n : ℕ). take n outcomes) (add-one i) ∙ take-suc outcomes i x lt ∙ ap (λ (y : Outcome). take i outcomes ++ y ∷ []) (sym is) in
+    let front : take (i + 1) outcomes ≡ take i outcomes ++ x ∷ [] = rw (add-one, take-suc outcomes i x lt, ← is) refl in
     let at : 0 + length (take i outcomes) ≡ i = omega (arith, length-take i outcomes) in
-    let ended : now ≡ text ++ one_line messages i x = now_is ∙ ap (λ t. t ++ line (outcome_text messages x)) numbered_is ∙ regrouped text (decimal i) (outcome_text messages x) in
-    ended ∙ ap (λ t. t ++ one_line messages i x) text_is
-    ∙ append_assoc before (event_lines messages 0 (take i outcomes)) (one_line messages i x)
-    ∙ ap (λ t. before ++ t)
-    (ap (λ (n : ℕ). event_lines messages 0 (take i outcomes) ++ one_line messages n x) (sym at)
-    ∙ sym (lines_push messages 0 (take i outcomes) x)
-    ∙ ap (λ (os : List Outcome). event_lines messages 0 os) (sym front))
+    let lines = event_lines messages 0 (take i outcomes) in
+    rw (now_is, numbered_is, text_is, regrouped (before ++ lines) (decimal i) (outcome_text messages x), front, lines_push messages 0 (take i outcomes) x, at) (append_assoc before lines (one_line messages i x))

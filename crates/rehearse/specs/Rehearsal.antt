@@ -63,13 +63,8 @@ outcome_text messages (Refused fault) = codes "refused " ++ event_fault_text fau
 
 -- the message of an outcome that tells one is there, among so many
 abbrev pub IsSentAmong : ℕ → Outcome → Type 0
-IsSentAmong messages (Took _) = ⊤
-IsSentAmong messages (Retired _) = ⊤
 IsSentAmong messages (Sent message) = message < messages
-IsSentAmong messages Delivered = ⊤
-IsSentAmong messages Saved = ⊤
-IsSentAmong messages Stopped = ⊤
-IsSentAmong messages (Refused _) = ⊤
+IsSentAmong messages _ = ⊤
 
 -- a line an event, each with its number, which are those from this one on
 unfoldable pub event_lines : List (List ℕ) → ℕ → List Outcome → List ℕ

@@ -3,11 +3,9 @@ use Rattle.sorted_archive.proofs.Listed.{part_of_list}
 use Rattle.archive_laws.proofs.Parts.{parts_in_order}
 use Rattle.archive_laws.proofs.content_laws.finds_are_parts.Goals as goal
 
-pub returns-clause-part : goal.returns-clause-part
-returns-clause-part c = part_of_list
-
-pub returns-clause-found : goal.returns-clause-found
-returns-clause-found c = λ o uuid rows found list finds. c.one_find.ensures.one o uuid found (rows_under uuid rows) finds (part_of_list o uuid rows list)
-
-pub returns-clause-parts : goal.returns-clause-parts
-returns-clause-parts c = parts_in_order
+pub returns : goal.returns
+returns c = record {
+  part = part_of_list;
+  found = λ o uuid rows found list finds. c.one_find.ensures.one o uuid found (rows_under uuid rows) finds (part_of_list o uuid rows list);
+  parts = parts_in_order;
+}

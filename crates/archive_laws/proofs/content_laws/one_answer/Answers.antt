@@ -1,4 +1,4 @@
-use Rattle.std.proofs.Common.{◌≡◌, ◌≤◌, ℕ, List, [], ◌∷◌, length, Option, Some, None, MatchOption, refl, sym, ap, ◌∙◌, subst, arith}
+use Rattle.std.proofs.Common.{◌≡◌, ℕ, List, [], ◌∷◌, length, Option, Some, None, MatchOption, refl, sym, ap, ◌∙◌, subst, arith}
 use Rattle.std.specs.Option.{option_map}
 use Rattle.std.specs.List.{AllZip}
 use Rattle.sha2.specs.Sha256.{sha256}
@@ -11,16 +11,6 @@ use Rattle.archive_core.specs.declared.keys.SliceKey.{SliceKey}
 use Rattle.archive_core.specs.declared.lookup.Where.{Where}
 use Rattle.archive_laws.proofs.Answerers.{some_answering, one_answering}
 use Rattle.archive_laws.proofs.content_laws.one_answer.Goals as goal
-
--- no list has too few and too many
-none_one : (slices : List (List ℕ)) (slice : List ℕ) → slices ≡ [] → slices ≡ slice ∷ [] → ⊥
-none_one slices slice e f = cc
-
-none_several : (slices : List (List ℕ)) → slices ≡ [] → 2 ≤ length slices → ⊥
-none_several slices e h = let none : length slices ≡ 0 = ap length e in omega arith
-
-one_several : (slices : List (List ℕ)) (slice : List ℕ) → slices ≡ slice ∷ [] → 2 ≤ length slices → ⊥
-one_several slices slice e h = let one : length slices ≡ 1 = ap length e in omega arith
 
 module _ (one : (image : List ℕ) (address : ℕ) (found other : Option Tuple) → IsNearest image address found → IsNearest image address other → found ≡ other) where
   -- a slice tells one thing of a place
@@ -38,22 +28,21 @@ module _ (one : (image : List ℕ) (address : ℕ) (found other : Option Tuple) 
   one_rows : (asked : Where) (slices : List (List ℕ)) (rows others : List OwnRow) → AllZip (IsOwnRow asked) slices rows → AllZip (IsOwnRow asked) slices others → rows ≡ others
   one_rows asked [] [] [] a b = refl
   one_rows asked [] [] (y ∷ ys) a b = absurd b
-  one_rows asked [] (x ∷ xs) others a b = absurd a
-  one_rows asked (s ∷ slices) [] others a b = absurd a
   one_rows asked (s ∷ slices) (x ∷ xs) [] a b = absurd b
   one_rows asked (s ∷ slices) (x ∷ xs) (y ∷ ys) a b = λ i. one_row asked s x y a.0 b.0 i ∷ one_rows asked slices xs ys a.1 b.1 i
+  one_rows asked _ _ others a b = absurd a
 
   one_answer_of : (asked : Where) (slices : List (List ℕ)) (answer other : AnswerRecord) → IsAnswerOf asked slices answer → IsAnswerOf asked slices other → answer ≡ other
   one_answer_of asked slices Unanswered Unanswered a b = refl
-  one_answer_of asked slices Unanswered (Alone own) a b = absurd (none_one slices b.0 a b.1)
-  one_answer_of asked slices Unanswered (Disputed rows) a b = absurd (none_several slices a b.0)
-  one_answer_of asked slices (Alone own) Unanswered a b = absurd (none_one slices a.0 b a.1)
+  one_answer_of asked slices Unanswered (Alone own) a b = cc (sym a ∙ b.1)
+  one_answer_of asked slices Unanswered (Disputed rows) a b = absurd (omega (arith, ap length a, b.0))
+  one_answer_of asked slices (Alone own) Unanswered a b = cc (sym b ∙ a.1)
   one_answer_of asked slices (Alone own) (Alone more) a b =
-      let same : a.0 ≡ b.0 = let e : a.0 ∷ [] ≡ b.0 ∷ [] = sym a.1 ∙ b.1 in cc in
+      let same : a.0 ≡ b.0 = cc (sym a.1 ∙ b.1) in
       ap Alone (one_own a.0 (file_address a.0 asked) own more a.2 (subst (λ s. IsOwn s asked more) (sym same) b.2))
-  one_answer_of asked slices (Alone own) (Disputed rows) a b = absurd (one_several slices a.0 a.1 b.0)
-  one_answer_of asked slices (Disputed rows) Unanswered a b = absurd (none_several slices b a.0)
-  one_answer_of asked slices (Disputed rows) (Alone own) a b = absurd (one_several slices b.0 b.1 a.0)
+  one_answer_of asked slices (Alone own) (Disputed rows) a b = absurd (omega (arith, ap length a.1, b.0))
+  one_answer_of asked slices (Disputed rows) Unanswered a b = absurd (omega (arith, ap length b, a.0))
+  one_answer_of asked slices (Disputed rows) (Alone own) a b = absurd (omega (arith, ap length b.1, a.0))
   one_answer_of asked slices (Disputed rows) (Disputed others) a b = ap Disputed (one_rows asked slices rows others a.1 b.1)
 
   one_answer : (o : Operations) (key : SliceKey) (asked : Where) (answer other : AnswerRecord) → IsAnswer o key asked answer → IsAnswer o key asked other → answer ≡ other

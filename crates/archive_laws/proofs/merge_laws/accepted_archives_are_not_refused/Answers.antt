@@ -1,4 +1,4 @@
-use Rattle.archive_laws.proofs.Archives.{merge_refused}
+use Rattle.archive_laws.proofs.Accepted.{merge_refused}
 use Rattle.archive_laws.proofs.merge_laws.accepted_archives_are_not_refused.Goals as goal
 
 pub returns : goal.returns

@@ -1,5 +1,9 @@
-use Rattle.archive_laws.proofs.NameTold.{one_told}
+use Rattle.std.proofs.Common.{◌∙◌, sym, ap}
+use Rattle.report_text.specs.Names.{name_lines}
+use Rattle.archive_queries.specs.Name.{name_status}
 use Rattle.archive_laws.proofs.name_laws.one_telling.Goals as goal
 
 pub returns : goal.returns
-returns c = one_told c.one_find_name.ensures.one
+returns c = λ o sought status other_status text other_text tells also.
+    let rows = c.one_find_name.ensures.one o sought tells.rows also.rows tells.names also.names in
+    (tells.status_is ∙ ap name_status rows ∙ sym also.status_is, tells.text_is ∙ ap name_lines rows ∙ sym also.text_is)

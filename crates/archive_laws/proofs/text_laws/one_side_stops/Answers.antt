@@ -3,17 +3,15 @@ use Rattle.archive_core.specs.Content.{Operations}
 use Rattle.record_merge.specs.Merging.{HasMagic, IsArchiveText, EndsBelow, LeftStops, RightStops, IsWrittenBefore}
 use Rattle.archive_laws.proofs.text_laws.one_side_stops.Goals as goal
 
-behind : (left right : List ℕ) (lefts rights : List (List ℕ)) → (IsArchiveText left → ⊥) → (IsArchiveText right → ⊥) → HasMagic right → IsArchiveText right ⊎ (EndsBelow rights lefts → ⊥) → (HasMagic right → ⊥) ⊎ IsArchiveText left ⊎ EndsBelow rights lefts → ⊥
-behind left right lefts rights f g m x (inl n) = n m
-behind left right lefts rights f g m x (inr (inl a)) = f a
-behind left right lefts rights f g m (inl a) (inr (inr b)) = g a
-behind left right lefts rights f g m (inr n) (inr (inr b)) = n b
-
 side : (left right : List ℕ) (lefts rights : List (List ℕ)) → LeftStops left right lefts rights → RightStops left right lefts rights → ⊥
-side left right lefts rights l r = elim l.first [
-  | inl n ↦ n r.magic_left
-  | inr x ↦ behind left right lefts rights l.faulty r.faulty x.0 x.1 r.first
-]
+side left right lefts rights l r = by l.first r.first
+  where
+    by : (HasMagic left → ⊥) ⊎ (HasMagic right × (IsArchiveText right ⊎ (EndsBelow rights lefts → ⊥))) → (HasMagic right → ⊥) ⊎ IsArchiveText left ⊎ EndsBelow rights lefts → ⊥
+    by (inl n) y = n r.magic_left
+    by (inr x) (inl n) = n x.0
+    by (inr x) (inr (inl a)) = l.faulty a
+    by (inr (m, inl a)) (inr (inr b)) = r.faulty a
+    by (inr (m, inr n)) (inr (inr b)) = n b
 
 none : (left right : List ℕ) → (HasMagic left → ⊥) ⊎ (HasMagic right → ⊥) → HasMagic left → HasMagic right → ⊥
 none left right (inl n) l r = n l
@@ -25,8 +23,5 @@ place left right o low a b (inr x) (inr y) = x.2 ∙ sym y.2
 place left right o low a b (inl x) (inr y) = absurd (none left right x.0 y.0 y.1)
 place left right o low a b (inr x) (inl y) = absurd (none left right y.0 x.0 x.1)
 
-pub returns-clause-side : goal.returns-clause-side
-returns-clause-side c = side
-
-pub returns-clause-place : goal.returns-clause-place
-returns-clause-place c = place
+pub returns : goal.returns
+returns c = record { side = side; place = place }

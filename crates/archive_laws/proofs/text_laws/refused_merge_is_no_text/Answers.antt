@@ -2,14 +2,10 @@ use Rattle.record_merge.specs.Merging.{of_both}
 use Rattle.record_merge.proofs.Unread.{no_text, good_content, written_first, written_none}
 use Rattle.archive_laws.proofs.text_laws.refused_merge_is_no_text.Goals as goal
 
-pub returns-clause-content : goal.returns-clause-content
-returns-clause-content c = good_content
-
-pub returns-clause-beginning : goal.returns-clause-beginning
-returns-clause-beginning c = λ left right lefts rights low bytes l r. written_first left right (of_both lefts rights) low bytes (good_content left right lefts rights l r)
-
-pub returns-clause-stopped : goal.returns-clause-stopped
-returns-clause-stopped c = λ left right lefts rights low bytes l r. written_none left right (of_both lefts rights) low bytes (good_content left right lefts rights l r)
-
-pub returns-clause-cut : goal.returns-clause-cut
-returns-clause-cut c = λ left right lefts rights n l r. no_text (of_both lefts rights) n (good_content left right lefts rights l r)
+pub returns : goal.returns
+returns c = record {
+  content = good_content;
+  beginning = λ left right lefts rights low bytes l r. written_first left right (of_both lefts rights) low bytes (good_content left right lefts rights l r);
+  stopped = λ left right lefts rights low bytes l r. written_none left right (of_both lefts rights) low bytes (good_content left right lefts rights l r);
+  cut = λ left right lefts rights n l r. no_text (of_both lefts rights) n (good_content left right lefts rights l r);
+}

@@ -1,5 +1,7 @@
-use Rattle.std.proofs.Common.{sym, ◌∙◌}
+use Rattle.std.proofs.Common.{◌≡◌, false, codes, refl, sym, ◌∙◌, ◌∷◌}
+use Rattle.std.specs.Str.{bytes_eq}
 use Rattle.std.proofs.lemmas.Bool.{not-true}
+use Rattle.rehearsal.specs.Events.{act_at}
 use Rattle.rehearsal.proofs.EventLemmas.{longer, other_word}
 use Rattle.rehearsal.proofs.events.long_event.Goals as goal
 use Rattle.rehearsal.proofs.events.long_event.Goals.{then-is_some-via-then-is_some, then-is_some-via-else-is_some+then-ne}
@@ -8,7 +10,8 @@ pub returns-then-is_some : goal.returns-then-is_some
 returns-then-is_some c =
     elim c.then-is_some.branch [
       | then-is_some-via-then-is_some w ↦
-          longer c.args.word.now c.args.site c.args.uuid.now c.args.text.now c.cut_field.result.0.now c.cut_field-2.result.0.now c.cut_field.result.1 c.in_ok-behind.field-0 c.cut_field-2.result.1 c.cut_field.ensures c.in_ok-behind.was c.cut_field-2.ensures (sym c.is_some.ensures ∙ w.if-is_some.true)
+          longer (λ fs. act_at c.args.word.now c.args.site (c.args.uuid.now ∷ fs)) c.args.text.now _ _ _ _ _ c.cut_field.ensures c.in_ok-behind.was c.cut_field-2.ensures (sym c.is_some.ensures ∙ w.if-is_some.true) (λ f fs. refl)
       | then-is_some-via-else-is_some+then-ne w ↦
-          other_word c.args.word.now c.args.site c.args.uuid.now c.args.text.now c.cut_field.result.0.now c.cut_field-2.result.0.now c.cut_field.result.1 c.in_ok-behind.field-0 c.cut_field-2.result.1 c.cut_field.ensures c.in_ok-behind.was c.cut_field-2.ensures (sym c.is_some.ensures ∙ w.if-is_some.false) (not-true _ (sym w.ne.ensures ∙ w.if-ne.true))
+          let other : bytes_eq c.args.word.now (codes "retire") ≡ false = not-true _ (sym w.ne.ensures ∙ w.if-ne.true) in
+          other_word (λ fs. act_at c.args.word.now c.args.site (c.args.uuid.now ∷ fs)) c.args.text.now _ _ _ _ _ c.cut_field.ensures c.in_ok-behind.was c.cut_field-2.ensures (sym c.is_some.ensures ∙ w.if-is_some.false) (rw other refl)
     ]

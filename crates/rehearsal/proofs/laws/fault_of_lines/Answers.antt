@@ -1,4 +1,4 @@
-use Rattle.rehearsal.proofs.Faulty.{fault_lines, fault_said}
+use Rattle.rehearsal.proofs.Meant.{fault_lines, fault_said}
 use Rattle.rehearsal.proofs.laws.fault_of_lines.Goals as goal
 
 pub returns : goal.returns

@@ -1,4 +1,4 @@
-use Rattle.rehearsal.proofs.Faulty.{either, not_both, one_fault}
+use Rattle.rehearsal.proofs.Meant.{either, not_both, one_fault}
 use Rattle.rehearsal.proofs.laws.script_or_fault.Goals as goal
 
 pub returns : goal.returns
