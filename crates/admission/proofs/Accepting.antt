@@ -36,7 +36,8 @@ module _ (file u : List ℕ) (fat : is_fat (kind_of file) ≡ true) (universal :
 
   pub accepted_fat : (n : ℕ) (found : Bool) → n ≡ length (slices u) → found ≡ true → IsChecked (slices u) n found → IsAcceptedFile file
   accepted_fat n found all is checked =
-      accepted_by file (has_parts_fat file fat universal) (all_taken IsGood n all checked.valid) (subst HasOne same (checked.some is))
+      accepted_by file (has_parts_fat file fat universal) (all_taken IsGood n all checked.valid)
+      (subst HasOne same (checked.some is))
 
   pub nothing_fat : (n : ℕ) (found : Bool) → n ≡ length (slices u) → found ≡ false → IsChecked (slices u) n found → IsTakeFault file NothingToAdmit
   nothing_fat n found all is checked =

@@ -66,7 +66,8 @@ module _ (decide : (bytes : List ℕ) → IsValid bytes ⊎ ((f : SliceFault) ×
     where
       go : (kept : List (List ℕ)) → admissible file ≡ kept → All IsGood (parts file) → HasAnswer file
       go [] none valid = inr (NothingToAdmit, (λ e. cc), (has, none))
-      go (x ∷ kept) some valid = inl (record { parts_are = has; valid = all_valid (parts file) valid; some = λ none. cc })
+      go (x ∷ kept) some valid =
+          inl (record { parts_are = has; valid = all_valid (parts file) valid; some = λ none. cc })
 
   of_fat : (file : List ℕ) → is_fat (kind_of file) ≡ true → HasAnswer file
   of_fat file fat = elim (decide_fat file) [

@@ -41,7 +41,9 @@ pub one_kept : (xs : List (List ℕ)) → HasOne xs → filter is_admissible xs 
 one_kept xs (x, has, begins) none = let kept = to_filter is_admissible xs x has begins in omega (arith, ap length none, kept.1)
 
 pub none_kept : (xs : List (List ℕ)) → All IsOut xs → filter is_admissible xs ≡ []
-none_kept xs out = go (filter is_admissible xs) (λ k d lt. All-filter is_admissible IsOut xs out k d lt) (filter_passes is_admissible xs)
+none_kept xs out =
+    go (filter is_admissible xs) (λ k d lt. All-filter is_admissible IsOut xs out k d lt)
+    (filter_passes is_admissible xs)
   where
     go : (kept : List (List ℕ)) → All IsOut kept → All (λ x. is_admissible x ≡ true) kept → kept ≡ []
     go [] out in' = refl
@@ -61,7 +63,8 @@ refused_by file i x why sound has valid is begins wrong = (
   where
     before : (j : ℕ) (y : List ℕ) → j < i → slice_get (parts file) j ≡ Some y → IsGood y
     before j y lt at =
-        let low : j < length (take i (parts file)) = omega (arith, length-take i (parts file), slice_get_within (parts file) j y at) in
+        let low : j < length (take i (parts file)) =
+        omega (arith, length-take i (parts file), slice_get_within (parts file) j y at) in
         subst IsGood (get_or-take i (parts file) j y lt ∙ get_or_from_slice_get (parts file) j y y at) (valid j y low)
 
 pub nothing_by : (file : List ℕ) → HasParts file → All IsOut (parts file) → IsTakeFault file NothingToAdmit
@@ -77,7 +80,8 @@ pub checked_none : (xs : List (List ℕ)) → IsChecked xs 0 false
 checked_none xs = record { valid = All-nil IsGood; some = λ e. cc; none = λ e. All-nil IsOut }
 
 -- one more is looked at
-one_more : (P : List ℕ → Type 0) (xs : List (List ℕ)) (i : ℕ) (x : List ℕ) → slice_get xs i ≡ Some x → All P (take i xs) → P x → All P (take (i + 1) xs)
+one_more : (P : List ℕ → Type 0) (xs : List (List ℕ)) (i : ℕ) (x : List ℕ) → slice_get xs i ≡ Some x → All P (take i xs)
+    → P x → All P (take (i + 1) xs)
 one_more P xs i x is before here =
     All-more P xs i x (slice_get_within xs i x is) before (subst P (sym (get_or_from_slice_get xs i x x is)) here)
 

@@ -35,7 +35,8 @@ found_more parts i part found facts before is here room = record {
     | inr high ↦
         let e : j ≡ i = omega arith in
         let same : part ≡ other = cc in
-        rw (e, get_or-set_same found i facts None (omega (arith, before.places))) (subst (λ p. IsFoundOf p facts) same here)
+        rw (e, get_or-set_same found i facts None (omega (arith, before.places)))
+        (subst (λ p. IsFoundOf p facts) same here)
   ];
 }
 

@@ -27,7 +27,8 @@ taking_none xs o rows is = record { content = refl; rows_are = is }
 
 front_more : (xs : List (List ℕ)) (i : ℕ) (x : List ℕ) → slice_get xs i ≡ Some x → take (i + 1) xs ≡ take i xs ++ x ∷ []
 front_more xs i x is =
-    (take_at_read xs i x (slice_get_within xs i x is)).1 ∙ ap (λ y. take i xs ++ y ∷ []) (get_or_from_slice_get xs i x x is)
+    (take_at_read xs i x (slice_get_within xs i x is)).1
+    ∙ ap (λ y. take i xs ++ y ∷ []) (get_or_from_slice_get xs i x x is)
 
 pub content_more : (xs : List (List ℕ)) (i : ℕ) (x : List ℕ) (old mid new : Operations) (rows : List Taken)
     → IsTaking xs i old mid rows → slice_get xs i ≡ Some x → new ≡ admitted mid (filter is_admissible (x ∷ []))
@@ -43,14 +44,17 @@ pub taking_more : (xs : List (List ℕ)) (i : ℕ) (x : List ℕ) (old mid new :
     → IsTaking xs (i + 1) old new more
 taking_more xs i x old mid new rows more row before is new_is row_is more_is = record {
   content = content_more xs i x old mid new rows before is new_is;
-  rows_are = rw (front_more xs i x is, taken_rows-append old (take i xs) (x ∷ []), ← before.rows_are, ← before.content, ← row_is) more_is;
+  rows_are =
+      rw (front_more xs i x is, taken_rows-append old (take i xs) (x ∷ []), ← before.rows_are, ← before.content)
+      (rw (← row_is) more_is);
 }
 
 -- what a filter keeps of the first i begins what it keeps of all
 kept_front : (xs : List (List ℕ)) (i : ℕ) → filter is_admissible xs ≡ filter is_admissible (take i xs) ++ filter is_admissible (drop i xs)
 kept_front xs i = ap (filter is_admissible) (sym (take-append-drop i xs)) ∙ filter-append is_admissible (take i xs) (drop i xs)
 
-in_part : (file : List ℕ) (i : ℕ) (old new : Operations) → new ≡ admitted old (filter is_admissible (take i (parts file))) → HoldsFirstParts file old new
+in_part : (file : List ℕ) (i : ℕ) (old new : Operations)
+    → new ≡ admitted old (filter is_admissible (take i (parts file))) → HoldsFirstParts file old new
 in_part file i old new is =
     let kept = filter is_admissible (take i (parts file)) in
     let rest = filter is_admissible (drop i (parts file)) in
@@ -67,7 +71,8 @@ none_taken file old new is = in_part file 0 old new is
 -- of a universal file
 module _ (file : List ℕ) (fat : is_fat (kind_of file) ≡ true) where
   pub stopped_before : (i : ℕ) (old mid new : Operations) (rows : List Taken) → IsTaking (slices file) i old mid rows → new ≡ mid → HoldsFirstParts file old new
-  stopped_before i old mid new rows before same = in_part file i old new (rw (parts_fat file fat) (same ∙ before.content))
+  stopped_before i old mid new rows before same =
+      in_part file i old new (rw (parts_fat file fat) (same ∙ before.content))
 
   pub stopped_behind : (i : ℕ) (x : List ℕ) (old mid new : Operations) (rows : List Taken) → IsTaking (slices file) i old mid rows → slice_get (slices file) i ≡ Some x
       → new ≡ admitted mid (filter is_admissible (x ∷ [])) → HoldsFirstParts file old new

@@ -30,7 +30,8 @@ behind : (o : Operations) (x : List ℕ) (kept : List (List ℕ)) (rest : Operat
 behind o x kept rest i row true step = step (admitted o (x ∷ []))
 behind o x kept rest i row false step = step o
 
-first_row : (row there : Taken) (rows others : List Taken) (b c : Bool) → b ≡ c → slice_get (if b then row ∷ rows else there ∷ others) 0 ≡ Some (if c then row else there)
+first_row : (row there : Taken) (rows others : List Taken) (b c : Bool) → b ≡ c
+    → slice_get (if b then row ∷ rows else there ∷ others) 0 ≡ Some (if c then row else there)
 first_row row there rows others b c same = grind arith
 
 pub skipped_at : (o : Operations) (xs : List (List ℕ)) (i : ℕ) (part : List ℕ) → slice_get xs i ≡ Some part → is_admissible part ≡ false → slice_get (taken_rows o xs) i ≡ Some Skipped
@@ -48,7 +49,8 @@ unfolding taken_rows
 taken_at o [] i part is begins = cc
 taken_at o (x ∷ xs) zero part is begins =
     let same : x ≡ part = cc in
-    first_row (taken_of o x) Skipped _ _ (is_admissible x) true (ap is_admissible same ∙ begins) ∙ ap (λ y. Some (taken_of o y)) same
+    first_row (taken_of o x) Skipped _ _ (is_admissible x) true (ap is_admissible same ∙ begins)
+    ∙ ap (λ y. Some (taken_of o y)) same
 taken_at o (x ∷ xs) (suc i) part is begins =
     behind o x (filter is_admissible (take i xs)) (λ p. taken_rows p xs) i (λ p. taken_of p part) (is_admissible x) (λ p. taken_at p xs i part is begins)
 

@@ -12,7 +12,8 @@ returns-in_ok-bytes-in-Some-clause-row g c =
     let part = c.args.part.now in
     let valid = valid_found part c.in-Some.facts (subst (IsFoundOf part) c.in-Some.is c.requires) in
     let bytes = c.of_checked.ensures ∙ c.in_ok-bytes-in-Some.ensures.items in
-    IfOk-weaker c.take_slice.result _ _ (λ row is. taken_row _ part row (valid_begins part valid) (is ∙ ap (taken_of _) bytes)) c.take_slice.ensures.row
+    IfOk-weaker c.take_slice.result _ _
+    (λ row is. taken_row _ part row (valid_begins part valid) (is ∙ ap (taken_of _) bytes)) c.take_slice.ensures.row
 
 pub returns-in-None-clause-row : goal.returns-in-None-clause-row
 returns-in-None-clause-row g c = skipped_row _ c.args.part.now (sym (subst (IsFoundOf c.args.part.now) c.in-None.is c.requires))
