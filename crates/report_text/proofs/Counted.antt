@@ -48,7 +48,8 @@ below_differs a b e = tied a b ∙ ap is_eq e
 above_differs : (a b : SliceKey) → key_cmp a b ≡ Less → is_key b a ≡ false
 above_differs a b e = tied b a ∙ ap is_eq (key_total.antisymm b a ∙ ap ordering_reverse e)
 
-less_by : (o p : Ordering) (same : Bool) → same ≡ is_eq p → p ≡ ordering_reverse o → o ≢ Greater → same ≡ false → o ≡ Less
+less_by : (o p : Ordering) (same : Bool) → same ≡ is_eq p → p ≡ ordering_reverse o → o ≢ Greater → same ≡ false
+    → o ≡ Less
 less_by o p same tie turned not_above differs = grind arith
 
 is_below : (a b : SliceKey) → key_cmp a b ≢ Greater → is_key b a ≡ false → key_cmp a b ≡ Less
@@ -63,7 +64,8 @@ put_before P row group after leads apart =
     cond_both (is_key group.key row.key) _ _ P (λ e. leads (same_key group.key row.key e)) apart
 
 -- what holds of each holds of each in what follows from it
-weaker : {X : Type 0} (P Q : X → Type 0) → ((x : X) → P x → Q x) → (xs : List X) → AllByRecursion P xs → AllByRecursion Q xs
+weaker : {X : Type 0} (P Q : X → Type 0) → ((x : X) → P x → Q x) → (xs : List X) → AllByRecursion P xs
+    → AllByRecursion Q xs
 weaker P Q step [] all = tt
 weaker P Q step (x ∷ xs) all = (step x all.0, weaker P Q step xs all.1)
 
@@ -81,7 +83,8 @@ from_rows P (row ∷ rows) all = onto P row (groups rows) all.0 (from_rows P row
 off : (P : SliceKey → Type 0) (row : FindRow) (before : List Group) → AllByRecursion (λ g. P g.key) (with_row row before) → P row.key × AllByRecursion (λ g. P g.key) before
 off P row [] = λ all. all
 off P row (group ∷ after) =
-    put_before (λ gs. AllByRecursion (λ g. P g.key) gs → P row.key × AllByRecursion (λ g. P g.key) (group ∷ after)) row group after
+    put_before
+    (λ gs. AllByRecursion (λ g. P g.key) gs → P row.key × AllByRecursion (λ g. P g.key) (group ∷ after)) row group after
     (λ same all. (all.0, (subst P (sym same) all.0, all.1))) (λ _ all. all)
 
 to_rows : (P : SliceKey → Type 0) (rows : List FindRow) → AllByRecursion (λ g. P g.key) (groups rows) → AllByRecursion (λ row. P row.key) rows
@@ -106,7 +109,8 @@ put row [] low sorted = (tt, tt)
 put row (group ∷ after) low sorted = put_before AreSorted row group after
     (λ same. let Above : SliceKey → Type 0 = λ key. AreAbove key after in (subst Above same sorted.0, sorted.1))
     (λ apart. let less = is_below row.key group.key low.0 apart in
-    ((less, weaker _ _ (λ (g : Group) above. key_total.trans row.key group.key g.key less above) after sorted.0), sorted))
+    let step = λ (g : Group) (e : key_cmp group.key g.key ≡ Less). key_total.trans row.key group.key g.key less e in
+    ((less, weaker _ _ step after sorted.0), sorted))
 
 are_sorted : (rows : List FindRow) → Ascends rows → AreSorted (groups rows)
 unfolding groups
@@ -140,7 +144,8 @@ add row rows (group ∷ after) none sorted old =
     put_before (λ gs. AreSorted gs → AllByRecursion (λ g. g.rows ≡ own g.key (row ∷ rows)) gs) row group after
     (λ same sorted. let here = ap (λ rs. row ∷ rs) (old.0 ∙ ap (λ key. own key rows) same) in
     (here ∙ sym (own-here row rows), kept row rows after sorted.0 old.1))
-    (λ _ sorted. (ap (λ rs. row ∷ rs) (sym (none sorted.0)) ∙ sym (own-here row rows), kept row rows (group ∷ after) sorted.0 old))
+    (λ _ sorted. let here = ap (λ rs. row ∷ rs) (sym (none sorted.0)) in
+    (here ∙ sym (own-here row rows), kept row rows (group ∷ after) sorted.0 old))
     sorted
 
 own_rows : (rows : List FindRow) → Ascends rows → AllByRecursion (λ g. g.rows ≡ own g.key rows) (groups rows)
@@ -161,21 +166,24 @@ own_by : (key : SliceKey) (rows : List FindRow) → own key rows ≡ of_arch key
 own_by key rows = filter-and (λ row. bytes_eq row.key.uuid key.uuid) (λ row. is_arch row.key.arch key.arch) rows
 
 -- as many rows of a kind
-filter-twice : {X : Type 0} (p q : X → Bool) (xs : List X) → filter (λ x. p x && q x) (filter p xs) ≡ filter (λ x. p x && q x) xs
+filter-twice : {X : Type 0} (p q : X → Bool) (xs : List X)
+    → filter (λ x. p x && q x) (filter p xs) ≡ filter (λ x. p x && q x) xs
 filter-twice p q [] = refl
 filter-twice p q (x ∷ xs) = grind (arith, filter-twice p q xs)
 
 count-own : (q : FindRow → Bool) (arch : ArchKey) (rows : List FindRow) → count_by (λ row. is_arch row.key.arch arch && q row) (of_arch arch rows) ≡ count_by (λ row. is_arch row.key.arch arch && q row) rows
 count-own q arch rows =
     sym (length-filter (λ row. is_arch row.key.arch arch && q row) (of_arch arch rows))
-    ∙ ap length (filter-twice (λ row. is_arch row.key.arch arch) q rows) ∙ length-filter (λ row. is_arch row.key.arch arch && q row) rows
+    ∙ ap length (filter-twice (λ row. is_arch row.key.arch arch) q rows)
+    ∙ length-filter (λ row. is_arch row.key.arch arch && q row) rows
 
 count_alike : (arch : ArchKey) (rows : List FindRow) → answering_count (of_arch arch rows) arch ≡ answering_count rows arch
 count_alike arch rows = rw (count-own (λ row. is_dsym row.state) arch rows, count-own (λ row. is_image row.state) arch rows) refl
 
 counted : (rows : List FindRow) (gs : List Group) → AllByRecursion (λ g. g.rows ≡ own g.key rows) gs → All (λ g. answering_count g.rows g.key.arch ≡ answering_count (rows_under g.key.uuid rows) g.key.arch) gs
 counted rows gs all = All-from_recursion _ gs (weaker _ _ (λ (g : Group) is.
-    ap (λ rs. answering_count rs g.key.arch) (is ∙ own_by g.key rows) ∙ count_alike g.key.arch (rows_under g.key.uuid rows)) gs all)
+    ap (λ rs. answering_count rs g.key.arch) (is ∙ own_by g.key rows)
+    ∙ count_alike g.key.arch (rows_under g.key.uuid rows)) gs all)
 
 -- what a list tells ascends
 by_key : (u a r : Ordering) → ordering_then u (ordering_then a r) ≡ Less → ordering_then u a ≢ Greater
@@ -227,14 +235,18 @@ groups_count_found o uuid rows finds =
     let under : IsUnder rows = subst IsUnder (sym finds.rows_are) (rows_are_under uuid finds.operations are) in
     let up : Up rows = subst Up (sym finds.rows_are) (ascends finds.operations (ascends_in_list uuid finds.operations are finds.ascending)) in
     let count = counted rows (groups rows) (own_rows rows up) in
-    let uuids = All-from_recursion (λ g. g.key.uuid ≡ uuid) (groups rows) (from_rows (λ key. key.uuid ≡ uuid) rows under) in
-    λ k d lt. count k d lt ∙ ap (λ rs. answering_count rs (slice_index_or (groups rows) k d).key.arch) (ap (λ u. rows_under u rows) (uuids k d lt) ∙ all_under uuid rows under)
+    let uuids = All-from_recursion (λ g. g.key.uuid ≡ uuid) (groups rows)
+    (from_rows (λ key. key.uuid ≡ uuid) rows under) in
+    λ k d lt. count k d lt
+    ∙ ap (λ rs. answering_count rs (slice_index_or (groups rows) k d).key.arch)
+    (ap (λ u. rows_under u rows) (uuids k d lt) ∙ all_under uuid rows under)
 
 -- the groups of rows are these rows
 one_more : (row : FindRow) (before : List Group) → flat_map (λ g. g.rows) (with_row row before) ≡ row ∷ flat_map (λ g. g.rows) before
 one_more row [] = refl
 one_more row (group ∷ after) =
-    put_before (λ gs. flat_map (λ g. g.rows) gs ≡ row ∷ flat_map (λ g. g.rows) (group ∷ after)) row group after (λ _. refl) (λ _. refl)
+    put_before (λ gs. flat_map (λ g. g.rows) gs ≡ row ∷ flat_map (λ g. g.rows) (group ∷ after)) row group after
+    (λ _. refl) (λ _. refl)
 
 pub groups_rows : (rows : List FindRow) → flat_map (λ g. g.rows) (groups rows) ≡ rows
 unfolding groups
