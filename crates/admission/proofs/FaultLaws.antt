@@ -1,6 +1,8 @@
 -- A file is accepted or has one fault.
-use Rattle.std.proofs.Common.{◌≡◌, ◌≢◌, ℕ, zero, suc, ◌<◌, Bool, true, false, List, [], ◌∷◌, length, Some, slice_get, refl, sym, ap, ◌∙◌, subst, arith, ◌⊎◌, inl, inr}
-use Rattle.std.proofs.lemmas.Bool.{cases_lt}
+use Rattle.std.proofs.Common.{◌≡◌, ◌≢◌, ℕ, suc, true, List, [], ◌∷◌, Some, slice_get, take, refl, ap, subst, ◌⊎◌, inl, inr}
+use Rattle.std.proofs.lemmas.Bool.{cases_Bool, cases_order}
+use Rattle.std.specs.Prelude.{All}
+use Rattle.std.proofs.lemmas.List.Elements.{All-nil, All-cons}
 use Rattle.fat_slices.specs.Kind.{kind_of, is_fat}
 use Rattle.fat_slices.specs.Fault.{IsFatFault, IsUniversal}
 use Rattle.fat_slices.specs.declared.fault.FatFault.{FatFault}
@@ -12,7 +14,7 @@ use Rattle.admission.specs.File.{is_admissible, parts, admissible, HasParts, IsA
 use Rattle.admission.specs.declared.fault.TakeFault.{TakeFault}
 use Rattle.admission.specs.declared.fault.TakeFault.TheVariants.{Unrecognised, Fat, Slice, NothingToAdmit, OutOfMemory}
 use Rattle.admission.proofs.FileKinds.{not_other, has_parts_thin, has_parts_fat}
-use Rattle.admission.proofs.Files.{NoneFaulty, AreValidBelow, HasOne, HasNoneBelow, kept_is, one_kept, accepted_by, refused_by, nothing_by}
+use Rattle.admission.proofs.Files.{NoneFaulty, IsGood, all_valid, kept_is, one_kept, refused_by, there}
 
 -- the first part that is refused
 record HasRefused (xs : List (List ℕ)) : Type 0 where
@@ -22,18 +24,11 @@ record HasRefused (xs : List (List ℕ)) : Type 0 where
   is : slice_get xs at ≡ Some x
   begins : is_admissible x ≡ true
   refused : IsSliceFault x why
-  before : AreValidBelow xs at
-
-valid_behind : (x : List ℕ) (xs : List (List ℕ)) (n : ℕ) → (is_admissible x ≡ true → IsValid x) → AreValidBelow xs n → AreValidBelow (x ∷ xs) (suc n)
-valid_behind x xs n here rest = record { each = each }
-  where
-    each : (j : ℕ) (y : List ℕ) → j < suc n → slice_get (x ∷ xs) j ≡ Some y → is_admissible y ≡ true → IsValid y
-    each zero y lt is begins = let same : x ≡ y = cc in subst IsValid same (here (ap is_admissible same ∙ begins))
-    each (suc j) y lt is begins = rest.each j y (omega arith) is begins
+  before : All IsGood (take at xs)
 
 module _ (decide : (bytes : List ℕ) → IsValid bytes ⊎ ((f : SliceFault) × IsSliceFault bytes f)) where
-  refused_behind : (x : List ℕ) (xs : List (List ℕ)) → (is_admissible x ≡ true → IsValid x) → AreValidBelow xs (length xs) ⊎ HasRefused xs → AreValidBelow (x ∷ xs) (suc (length xs)) ⊎ HasRefused (x ∷ xs)
-  refused_behind x xs here (inl rest) = inl (valid_behind x xs (length xs) here rest)
+  refused_behind : (x : List ℕ) (xs : List (List ℕ)) → IsGood x → All IsGood xs ⊎ HasRefused xs → All IsGood (x ∷ xs) ⊎ HasRefused (x ∷ xs)
+  refused_behind x xs here (inl rest) = inl (All-cons IsGood x xs here rest)
   refused_behind x xs here (inr r) = inr (record {
     at = suc r.at;
     x = r.x;
@@ -41,40 +36,21 @@ module _ (decide : (bytes : List ℕ) → IsValid bytes ⊎ ((f : SliceFault) ×
     is = r.is;
     begins = r.begins;
     refused = r.refused;
-    before = valid_behind x xs r.at here r.before;
+    before = All-cons IsGood x (take r.at xs) here r.before;
   })
 
-  refused_here : (x : List ℕ) (xs : List (List ℕ)) (b : Bool) → is_admissible x ≡ b → AreValidBelow xs (length xs) ⊎ HasRefused xs → AreValidBelow (x ∷ xs) (suc (length xs)) ⊎ HasRefused (x ∷ xs)
-  refused_here x xs false out rest = refused_behind x xs (λ begins. cc) rest
-  refused_here x xs true begins rest = elim (decide x) [
-    | inl valid ↦ refused_behind x xs (λ _. valid) rest
-    | inr wrong ↦ inr (record {
-      at = 0;
-      x = x;
-      why = wrong.0;
-      is = refl;
-      begins = begins;
-      refused = wrong.1;
-      before = record { each = λ j y lt. absurd (omega arith) };
-    })
+  good_or_refused : (x : List ℕ) → IsGood x ⊎ ((is_admissible x ≡ true) × (f : SliceFault) × IsSliceFault x f)
+  good_or_refused x = elim (cases_Bool (is_admissible x)) [
+    | inr out ↦ inl (λ begins. cc)
+    | inl begins ↦ elim (decide x) [ inl valid ↦ inl (λ _. valid) | inr wrong ↦ inr (begins, wrong.0, wrong.1) ]
   ]
 
-  valid_or_refused : (xs : List (List ℕ)) → AreValidBelow xs (length xs) ⊎ HasRefused xs
-  valid_or_refused [] = inl (record { each = λ j y lt. absurd (omega arith) })
-  valid_or_refused (x ∷ xs) = refused_here x xs (is_admissible x) refl (valid_or_refused xs)
-
-one_behind : (x : List ℕ) (xs : List (List ℕ)) (b : Bool) → is_admissible x ≡ b → HasOne xs ⊎ HasNoneBelow xs (length xs) → HasOne (x ∷ xs) ⊎ HasNoneBelow (x ∷ xs) (suc (length xs))
-one_behind x xs true begins rest = inl (record { at = 0; x = x; is = refl; begins = begins })
-one_behind x xs false out (inl one) = inl (record { at = suc one.at; x = one.x; is = one.is; begins = one.begins })
-one_behind x xs false out (inr none) = inr (record { each = each })
-  where
-    each : (j : ℕ) (y : List ℕ) → j < suc (length xs) → slice_get (x ∷ xs) j ≡ Some y → is_admissible y ≡ false
-    each zero y lt is = let same : x ≡ y = cc in ap is_admissible (sym same) ∙ out
-    each (suc j) y lt is = none.each j y (omega arith) is
-
-one_or_none : (xs : List (List ℕ)) → HasOne xs ⊎ HasNoneBelow xs (length xs)
-one_or_none [] = inr (record { each = λ j y lt. absurd (omega arith) })
-one_or_none (x ∷ xs) = one_behind x xs (is_admissible x) refl (one_or_none xs)
+  valid_or_refused : (xs : List (List ℕ)) → All IsGood xs ⊎ HasRefused xs
+  valid_or_refused [] = inl (All-nil IsGood)
+  valid_or_refused (x ∷ xs) = elim (good_or_refused x) [
+    | inl good ↦ refused_behind x xs good (valid_or_refused xs)
+    | inr (begins, f, refused) ↦ inr (record { at = 0; x = x; why = f; is = refl; begins = begins; refused = refused; before = All-nil IsGood })
+  ]
 
 abbrev HasAnswer : List ℕ → Type 0
 HasAnswer file = IsAcceptedFile file ⊎ ((f : TakeFault) × (f ≢ OutOfMemory) × IsTakeFault file f)
@@ -85,11 +61,13 @@ module _ (decide : (bytes : List ℕ) → IsValid bytes ⊎ ((f : SliceFault) ×
   of_parts : (file : List ℕ) → HasParts file → HasAnswer file
   of_parts file has = elim (valid_or_refused decide (parts file)) [
     | inr r ↦ inr (Slice r.at r.why, (λ e. cc), refused_by file r.at r.x r.why sound has r.before r.is r.begins r.refused)
-    | inl valid ↦ elim (one_or_none (parts file)) [
-      | inl one ↦ inl (accepted_by file has valid one)
-      | inr none ↦ inr (NothingToAdmit, (λ e. cc), nothing_by file has none)
-    ]
+    | inl valid ↦ go (admissible file) refl valid
   ]
+    where
+      go : (kept : List (List ℕ)) → admissible file ≡ kept → All IsGood (parts file) → HasAnswer file
+      go [] none valid = inr (NothingToAdmit, (λ e. cc), (has, none))
+      go (x ∷ kept) some valid =
+          inl (record { parts_are = has; valid = all_valid (parts file) valid; some = λ none. cc })
 
   of_fat : (file : List ℕ) → is_fat (kind_of file) ≡ true → HasAnswer file
   of_fat file fat = elim (decide_fat file) [
@@ -110,7 +88,7 @@ module _ (sound : NoneFaulty) (one_fault : (bytes : List ℕ) (f g : SliceFault)
     (one_fat : (file : List ℕ) (f g : FatFault) → IsFatFault file f → IsFatFault file g → f ≡ g)
     (no_fat : (file : List ℕ) (f : FatFault) → IsUniversal file → IsFatFault file f → ⊥) (file : List ℕ) where
   not_nothing : (i : ℕ) (why : SliceFault) → IsRefusedPart file i why → admissible file ≡ [] → ⊥
-  not_nothing i why refused none = one_kept (parts file) (record { at = i; x = refused.part; is = refused.is; begins = refused.begins }) none
+  not_nothing i why refused none = one_kept (parts file) (refused.part, there (parts file) i refused.part refused.is, refused.begins) none
 
   not_accepted : (i : ℕ) (why : SliceFault) → IsRefusedPart file i why → IsAcceptedFile file → ⊥
   not_accepted i why refused accepted = sound refused.part why (kept_is IsValid (parts file) i refused.part accepted.valid refused.is refused.begins) refused.refused
@@ -120,17 +98,15 @@ module _ (sound : NoneFaulty) (one_fault : (bytes : List ℕ) (f g : SliceFault)
 
   same_place : (i j : ℕ) (f g : SliceFault) → i ≡ j → IsRefusedPart file i f → IsRefusedPart file j g → Slice i f ≡ Slice j g
   same_place i j f g e p q =
-      let same : q.part ≡ p.part = let at : slice_get (parts file) i ≡ slice_get (parts file) j = ap (slice_get (parts file)) e in let is = p.is in let is' = q.is in cc in
+      let same : q.part ≡ p.part = cc (e, p.is, q.is) in
       let why : f ≡ g = one_fault p.part f g p.refused (subst (λ (x : List ℕ). IsSliceFault x g) same q.refused) in
       cc
 
   one_slice : (i j : ℕ) (f g : SliceFault) → IsFirstRefused file i f → IsFirstRefused file j g → Slice i f ≡ Slice j g
-  one_slice i j f g p q = elim (cases_lt i j) [
-    | inl low ↦ absurd (q.first i f low p.here)
-    | inr above ↦ elim (cases_lt j i) [
-      | inl low ↦ absurd (p.first j g low q.here)
-      | inr below ↦ same_place i j f g (omega arith) p.here q.here
-    ]
+  one_slice i j f g p q = elim (cases_order i j) [
+    | inl same ↦ same_place i j f g same p.here q.here
+    | inr (inl low) ↦ absurd (q.first i f low p.here)
+    | inr (inr low) ↦ absurd (p.first j g low q.here)
   ]
 
   pub one_take_fault : (f g : TakeFault) → IsTakeFault file f → IsTakeFault file g → f ≡ g

@@ -1,6 +1,7 @@
 -- What the kind of a file says of its first bytes and of its parts.
 use Rattle.std.proofs.Common.{◌≡◌, ◌≢◌, ℕ, Bool, true, false, List, [], ◌∷◌, refl, sym, ap, arith}
 use Rattle.std.specs.Prelude.{◌&&◌, nat_eq, if◌then◌else◌}
+use Rattle.std.proofs.lemmas.Bool.{false_from_ne_true}
 use Rattle.std.proofs.lemmas.Bool.Decides.{nat_tests}
 use Rattle.fat_slices.specs.Kind.{kind_of, is_fat}
 use Rattle.fat_slices.specs.Slices.{slices}
@@ -16,10 +17,7 @@ not_both : (x : ℕ) (r s : Bool) → (nat_eq 0xcf x && r) ≡ true → (nat_eq 
 not_both x r s h = grind (arith, nat_tests)
 
 thin_by : (a b c : Bool) → (if a then Universal else if b then Universal64 else if c then Thin else Other) ≡ Thin → true ≡ c
-thin_by true b c e = cc
-thin_by false true c e = cc
-thin_by false false true e = refl
-thin_by false false false e = cc
+thin_by a b c e = grind arith
 
 by_thin : (a b c : Bool) → a ≡ false → b ≡ false → c ≡ true → (if a then Universal else if b then Universal64 else if c then Thin else Other) ≡ Thin
 by_thin a b c x y z = rw (x, y, z) refl
@@ -34,31 +32,21 @@ begins_thin [] e = cc
 begins_thin (x ∷ xs) e = by_thin _ _ _ (not_both x _ _ e) (not_both x _ _ e) e
 
 pub other_begins : (file : List ℕ) → kind_of file ≢ Thin → false ≡ is_admissible file
-other_begins file other = by (is_admissible file) refl
-  where
-    by : (b : Bool) → is_admissible file ≡ b → false ≡ b
-    by true e = absurd (other (begins_thin file e))
-    by false e = refl
+other_begins file other = sym (false_from_ne_true _ (λ e. other (begins_thin file e)))
 
 pub parts_thin : (file : List ℕ) → kind_of file ≡ Thin → parts file ≡ file ∷ []
 unfolding parts
 parts_thin file e = ap (λ (k : FileKind). parts_of k file) e
 
 slices_by : (k : FileKind) (file : List ℕ) → is_fat k ≡ true → parts_of k file ≡ slices file
-slices_by Thin file e = cc
-slices_by Universal file e = refl
-slices_by Universal64 file e = refl
-slices_by Other file e = cc
+slices_by k file e = grind arith
 
 pub parts_fat : (file : List ℕ) → is_fat (kind_of file) ≡ true → parts file ≡ slices file
 unfolding parts
 parts_fat file e = slices_by (kind_of file) file e
 
 pub not_other : (k : FileKind) → is_fat k ≡ true → k ≢ Other
-not_other Thin e w = cc
-not_other Universal e w = cc
-not_other Universal64 e w = cc
-not_other Other e w = cc
+not_other k e w = grind arith
 
 pub has_parts_thin : (file : List ℕ) → kind_of file ≡ Thin → HasParts file
 has_parts_thin file e = record { kind = λ w. cc; table = λ h. let fat : is_fat Thin ≡ true = rw e at h in absurd (cc) }

@@ -1,13 +1,13 @@
 -- What was found of the parts of a file, of one more at a time.
-use Rattle.std.proofs.Common.{◌≡◌, ◌≢◌, ℕ, ◌+◌, ◌<◌, true, true≢false, List, length, Option, None, Some, slice_get, slice_set, slice_index_or, sym, ◌∙◌, subst, arith, inl, inr}
+use Rattle.std.proofs.Common.{◌≡◌, ℕ, ◌+◌, ◌<◌, true, List, length, Option, None, Some, slice_get, slice_set, slice_index_or, ◌∙◌, subst, arith, inl, inr}
 use Rattle.std.proofs.lemmas.Bool.{cases_lt}
 use Rattle.std.proofs.lemmas.List.{get_or_default, get_or-set_same, get_or-set_other, length-set}
+use Rattle.std.proofs.lemmas.Option.{slice_get_within}
 use Rattle.fat_slices.specs.Slices.{slices}
 use Rattle.archive_core.specs.Valid.{IsValid}
 use Rattle.archive_core.specs.declared.slices.SliceFacts.{SliceFacts}
 use Rattle.admission.specs.File.{is_admissible}
 use Rattle.admission.specs.Accepted.{AreFound, IsFoundOf}
-use Rattle.admission.proofs.Files.{inside}
 
 -- a part of which something was found is a slice
 pub valid_found : (part : List ℕ) (facts : SliceFacts) → IsFoundOf part (Some facts) → IsValid part
@@ -15,7 +15,7 @@ valid_found part facts found = record { image = found.image.sound; symbols = fou
 
 -- so is one that begins as an image
 pub valid_if_begins : (part : List ℕ) (found : Option SliceFacts) → IsFoundOf part found → is_admissible part ≡ true → IsValid part
-valid_if_begins part None out begins = absurd (true≢false (sym begins ∙ out))
+valid_if_begins part None out begins = cc
 valid_if_begins part (Some facts) found begins = valid_found part facts found
 
 -- of 32 places that of each of the first i parts has what was found of it
@@ -31,16 +31,12 @@ pub found_more : (parts : List (List ℕ)) (i : ℕ) (part : List ℕ) (found : 
 found_more parts i part found facts before is here room = record {
   places = length-set found i facts ∙ before.places;
   each = λ j other lt at. elim (cases_lt j i) [
-    | inl low ↦
-        let apart : j ≢ i = λ e. absurd (omega (arith, e)) in
-        subst (IsFoundOf other) (sym (get_or-set_other found i j facts None apart)) (before.each j other low at)
+    | inl low ↦ rw (get_or-set_other found i j facts None (λ e. absurd (omega (arith, e)))) (before.each j other low at)
     | inr high ↦
-        let e : i ≡ j = omega arith in
-        let there : Some part ≡ Some other = sym is ∙ subst (λ k. slice_get parts k ≡ Some other) (sym e) at in
+        let e : j ≡ i = omega arith in
         let same : part ≡ other = cc in
-        let inside_found : i < length found = omega (arith, before.places) in
-        subst (λ k. IsFoundOf other (slice_index_or (slice_set found i facts) k None)) e
-        (subst (IsFoundOf other) (sym (get_or-set_same found i facts None inside_found)) (subst (λ p. IsFoundOf p facts) same here))
+        rw (e, get_or-set_same found i facts None (omega (arith, before.places)))
+        (subst (λ p. IsFoundOf p facts) same here)
   ];
 }
 
@@ -48,7 +44,7 @@ found_more parts i part found facts before is here room = record {
 pub found_all : (file u : List ℕ) (n : ℕ) (found : List (Option SliceFacts)) → u ≡ file → n ≡ length (slices u) → AreFoundBelow (slices u) n found → AreFound (slices file) found
 found_all file u n found bytes all below =
     subst (λ bs. AreFound (slices bs) found) bytes
-    (λ i part is. let low : i < length (slices u) = inside (slices u) i part is in below.each i part (omega (arith, all)) is)
+    (λ i part is. let low : i < length (slices u) = slice_get_within (slices u) i part is in below.each i part (omega (arith, all)) is)
 
 -- what stands at the place of a part, read with any default
 pub found_at : (parts : List (List ℕ)) (found : List (Option SliceFacts)) (i : ℕ) (part : List ℕ) (other : Option SliceFacts) → AreFound parts found → slice_get parts i ≡ Some part

@@ -1,5 +1,5 @@
 -- Which row stands where.
-use Rattle.std.proofs.Common.{◌≡◌, ℕ, zero, suc, Bool, true, false, List, [], ◌∷◌, length, take, Some, slice_get, refl, ap, ◌∙◌}
+use Rattle.std.proofs.Common.{◌≡◌, ℕ, zero, suc, Bool, true, false, List, [], ◌∷◌, length, take, Some, slice_get, refl, ap, arith, ◌∙◌}
 use Rattle.std.specs.Prelude.{filter, if◌then◌else◌}
 use Rattle.std.specs.FinSet as set
 use Rattle.sha2.specs.Sha256.{sha256}
@@ -15,8 +15,7 @@ use Rattle.admission.specs.declared.taken.Taken.{Taken}
 use Rattle.admission.specs.declared.taken.Taken.TheVariants.{Added, Known, Skipped}
 
 count_by : (n : ℕ) (here there : Taken) (rows others : List Taken) (b : Bool) → length rows ≡ n → length others ≡ n → length (if b then here ∷ rows else there ∷ others) ≡ suc n
-count_by n here there rows others true e f = ap suc e
-count_by n here there rows others false e f = ap suc f
+count_by n here there rows others b e f = grind arith
 
 pub rows_number : (o : Operations) (xs : List (List ℕ)) → length (taken_rows o xs) ≡ length xs
 unfolding taken_rows
@@ -31,20 +30,16 @@ behind : (o : Operations) (x : List ℕ) (kept : List (List ℕ)) (rest : Operat
 behind o x kept rest i row true step = step (admitted o (x ∷ []))
 behind o x kept rest i row false step = step o
 
-first_taken : (o : Operations) (x part : List ℕ) (rows others : List Taken) (b : Bool) → b ≡ true → x ≡ part → slice_get (if b then taken_of o x ∷ rows else Skipped ∷ others) 0 ≡ Some (taken_of o part)
-first_taken o x part rows others true e same = ap (λ (y : List ℕ). Some (taken_of o y)) same
-first_taken o x part rows others false e same = cc
-
-first_skipped : (row : Taken) (rows others : List Taken) (b : Bool) → b ≡ false → slice_get (if b then row ∷ rows else Skipped ∷ others) 0 ≡ Some Skipped
-first_skipped row rows others true e = cc
-first_skipped row rows others false e = refl
+first_row : (row there : Taken) (rows others : List Taken) (b c : Bool) → b ≡ c
+    → slice_get (if b then row ∷ rows else there ∷ others) 0 ≡ Some (if c then row else there)
+first_row row there rows others b c same = grind arith
 
 pub skipped_at : (o : Operations) (xs : List (List ℕ)) (i : ℕ) (part : List ℕ) → slice_get xs i ≡ Some part → is_admissible part ≡ false → slice_get (taken_rows o xs) i ≡ Some Skipped
 unfolding taken_rows
 skipped_at o [] i part is out = cc
 skipped_at o (x ∷ xs) zero part is out =
     let same : x ≡ part = cc in
-    first_skipped (taken_of o x) (taken_rows (admitted o (x ∷ [])) xs) (taken_rows o xs) (is_admissible x) (ap is_admissible same ∙ out)
+    first_row (taken_of o x) Skipped _ _ (is_admissible x) false (ap is_admissible same ∙ out)
 skipped_at o (x ∷ xs) (suc i) part is out =
     behind o x [] (λ p. taken_rows p xs) i (λ p. Skipped) (is_admissible x) (λ p. skipped_at p xs i part is out)
 
@@ -54,7 +49,8 @@ unfolding taken_rows
 taken_at o [] i part is begins = cc
 taken_at o (x ∷ xs) zero part is begins =
     let same : x ≡ part = cc in
-    first_taken o x part (taken_rows (admitted o (x ∷ [])) xs) (taken_rows o xs) (is_admissible x) (ap is_admissible same ∙ begins) same
+    first_row (taken_of o x) Skipped _ _ (is_admissible x) true (ap is_admissible same ∙ begins)
+    ∙ ap (λ y. Some (taken_of o y)) same
 taken_at o (x ∷ xs) (suc i) part is begins =
     behind o x (filter is_admissible (take i xs)) (λ p. taken_rows p xs) i (λ p. taken_of p part) (is_admissible x) (λ p. taken_at p xs i part is begins)
 

@@ -23,9 +23,7 @@ pub row_of : (o : Operations) (image : List ℕ) (changed : Bool) (key : SliceKe
 unfolding taken_of
 row_of o image changed key digest taken is key_is digest_is answer =
     let digest' : digest ≡ record { 0 = sha256 image } = ap (λ (d : List ℕ). record { 0 = d }) digest_is in
-    is ∙ ap (λ (k : SliceKey). if changed then Added k digest else Known k digest) key_is
-    ∙ ap (λ (d : Digest). if changed then Added (key_of image) d else Known (key_of image) d) digest'
-    ∙ ap (λ (b : Bool). if b then Added (key_of image) (record { 0 = sha256 image }) else Known (key_of image) (record { 0 = sha256 image })) answer
+    rw (is, key_is, digest', answer) refl
 
 pub skipped_row : (o : Operations) (part : List ℕ) → false ≡ is_admissible part → Skipped ∷ [] ≡ taken_rows o (part ∷ [])
 unfolding taken_rows

@@ -1,5 +1,5 @@
 -- Hex digits, as they are printed.
-use Rattle.std.proofs.Common.{◌≡◌, ◌∙◌, ℕ, zero, suc, ◌+◌, ◌-◌, ◌/◌, ◌%◌, ◌^◌, ◌<◌, List, [], ◌∷◌, ◌++◌, length, replicate, refl, sym, ap, arith, rules, false, true, pow-suc, ◌==◌, if◌then◌else◌, append_assoc, nat_lt}
+use Rattle.std.proofs.Common.{◌≡◌, ◌∙◌, ℕ, zero, suc, ◌+◌, ◌-◌, ◌/◌, ◌%◌, ◌^◌, ◌<◌, List, [], ◌∷◌, ◌++◌, length, replicate, refl, sym, ap, arith, rules, false, true, pow-suc, ◌==◌, append_assoc, nat_lt}
 use Rattle.std.proofs.lemmas.Fmt.{hex_byte}
 use Rattle.std.proofs.lemmas.List.{append-nil, replicate_more}
 use Rattle.std.specs.Fmt.{digits, digits_onto, digit_glyph, padded_integral, format_spec, char_count}
@@ -19,8 +19,7 @@ not_zero : (n q : ℕ) → n ≡ suc q → (n == 0) ≡ false
 not_zero n q e = search (rules, arith, e)
 
 more : (k n q : ℕ) (acc : List ℕ) → n / 16 ≡ suc q → digits_onto (suc k) 16 false n acc ≡ digits_onto k 16 false (n / 16) (digit_glyph false (n % 16) ∷ acc)
-more k n q acc e =
-    ap (λ b. if b then digit_glyph false (n % 16) ∷ acc else digits_onto k 16 false (n / 16) (digit_glyph false (n % 16) ∷ acc)) (not_zero (n / 16) q e)
+more k n q acc e = rw (not_zero (n / 16) q e) refl
 
 zeros : (w : ℕ) → hex_digits w 0 ≡ replicate w 48
 unfolding hex_digits
@@ -47,23 +46,22 @@ pad : (k w n : ℕ) (acc : List ℕ) → n < 16 ^ suc w → w < k → IsPadded w
 pad zero w n acc small deep = absurd (omega arith)
 pad (suc k) w n acc small deep = step k n acc (λ w. pad k w (n / 16) (digit_glyph false (n % 16) ∷ acc)) w (n / 16) refl small deep
 
-of8 : (ds : List ℕ) → padded_integral (format_spec 32 0 4 8 (2 ^ 64 - 1)) false [] ds ≡ replicate (8 - length ds) 48 ++ ds
+to_width : (w : ℕ) (ds : List ℕ)
+    → padded_integral (format_spec 32 0 4 w (2 ^ 64 - 1)) false [] ds ≡ replicate (w - length ds) 48 ++ ds
 unfolding padded_integral char_count
-of8 ds = let none : 8 - length ds - 0 - 0 ≡ 8 - length ds = omega arith in rw (append-nil ds, none) refl
-
-of16 : (ds : List ℕ) → padded_integral (format_spec 32 0 4 16 (2 ^ 64 - 1)) false [] ds ≡ replicate (16 - length ds) 48 ++ ds
-unfolding padded_integral char_count
-of16 ds = let none : 16 - length ds - 0 - 0 ≡ 16 - length ds = omega arith in rw (append-nil ds, none) refl
+to_width w ds = let none : w - length ds - 0 - 0 ≡ w - length ds = omega arith in rw (append-nil ds, none) refl
 
 onto : (n : ℕ) → digits 16 false n ≡ digits_onto 64 16 false n []
 unfolding digits
 onto n = refl
 
 pub padded_hex8 : (n : ℕ) → n < 2 ^ 32 → padded_integral (format_spec 32 0 4 8 (2 ^ 64 - 1)) false [] (digits 16 false n) ≡ hex_digits 8 n
-padded_hex8 n small = of8 (digits 16 false n) ∙ rw (onto n) (pad 64 7 n [] (omega arith) (omega arith) ∙ append-nil _)
+padded_hex8 n small =
+    to_width 8 (digits 16 false n) ∙ rw (onto n) (pad 64 7 n [] (omega arith) (omega arith) ∙ append-nil _)
 
 pub padded_hex16 : (n : ℕ) → n < 2 ^ 64 → padded_integral (format_spec 32 0 4 16 (2 ^ 64 - 1)) false [] (digits 16 false n) ≡ hex_digits 16 n
-padded_hex16 n small = of16 (digits 16 false n) ∙ rw (onto n) (pad 64 15 n [] (omega arith) (omega arith) ∙ append-nil _)
+padded_hex16 n small =
+    to_width 16 (digits 16 false n) ∙ rw (onto n) (pad 64 15 n [] (omega arith) (omega arith) ∙ append-nil _)
 
 pub padded_hex2 : (n : ℕ) → n < 2 ^ 8 → padded_integral (format_spec 32 0 4 2 (2 ^ 64 - 1)) false [] (digits 16 false n) ≡ hex_digits 2 n
 unfolding hex_digits

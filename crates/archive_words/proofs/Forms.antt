@@ -24,13 +24,10 @@ one_more-lt n i d small digit =
 
 -- what stands behind three tests, the second or the third of which fails
 second_fails : {X : Type 0} (a b c : Bool) (x : Option X) → b ≡ false → None ≡ (if a && (b && c) then x else None)
-second_fails true b c x fails = rw fails refl
-second_fails false b c x fails = refl
+second_fails a b c x fails = grind arith
 
 third_fails : {X : Type 0} (a b c : Bool) (x : Option X) → c ≡ false → None ≡ (if a && (b && c) then x else None)
-third_fails true true c x fails = rw fails refl
-third_fails true false c x fails = refl
-third_fails false b c x fails = refl
+third_fails a b c x fails = grind arith
 
 -- a text of another length, or with another byte before the numbers
 pub other_length : (text : List ℕ) → ¬ (length text ≡ 21) → None ≡ cpu_of text

@@ -1,8 +1,9 @@
 -- The numbers of the lines that count.
 use Rattle.std.proofs.Common.{◌≡◌, sym, subst, arith, ℕ, ◌+◌, ◌<◌, ◌≤◌, ◌^◌, Bool, List, [], ◌∷◌, length, filter, ◌==◌}
-use Rattle.std.proofs.Common.{Bor, All, IfOk, Result, Ok, Err}
+use Rattle.std.proofs.Common.{Bor, All, IfOk, Result}
 use Rattle.std.specs.List.{AllByRecursion, enumerate_from}
 use Rattle.std.proofs.lemmas.Bool.{cond_both}
+use Rattle.std.proofs.lemmas.Result.{IfOk-weaker}
 use Rattle.std.proofs.lemmas.List.Elements.{All-from_recursion}
 use Rattle.std.proofs.lemmas.List.Splits.{length-slice_split}
 use Rattle.std.proofs.lemmas.List.Sums.{count_by-le-length}
@@ -31,5 +32,4 @@ places bytes found h is =
 -- the same of what a call gives
 pub few_found : {V E : Type 0} (items : V → List (ℕ × Bor (List ℕ))) (bytes : List ℕ) (found : Result V E) → length bytes < 2 ^ 63
     → IfOk found (λ v. seen (items v) ≡ counting bytes) → IfOk found (λ v. All (λ l. l.0 < 2 ^ 63) (items v))
-few_found items bytes (Ok v) h is = places bytes (items v) h is
-few_found items bytes (Err e) h is = tt
+few_found items bytes found h is = IfOk-weaker found _ _ (λ v. places bytes (items v) h) is

@@ -1,26 +1,19 @@
 -- Searches in the table of named architectures.
-use Rattle.std.proofs.Common.{◌≡◌, ◌∙◌, Bool, Bor, true, false, Option, Some, None, List, [], ◌∷◌, cond, map, refl, sym, ap}
+use Rattle.std.proofs.Common.{◌≡◌, ◌∙◌, Bool, Bor, Option, Some, None, List, [], ◌∷◌, arith, map, refl, sym, ap}
 use Rattle.std.specs.List.{find}
 use Rattle.std.specs.Option.{IsSomeAnd, MatchOption, option_map}
 use Rattle.archive_words.specs.Words.{NamedArch}
 use Rattle.archive_words.specs.declared.machine.NamedArch.{NamedArch as Row}
 
-chosen : {A B : Type 0} (view : A → B) (test : Bool) (x : A) (o : Option A) (p : Option B) → p ≡ option_map view o
-    → cond test (Some (view x)) p ≡ option_map view (cond test (Some x) o)
-chosen view true x o p rest = refl
-chosen view false x o p rest = rest
-
 -- what is found among views is the view of what is found
 find-map : {A B : Type 0} (view : A → B) (test : B → Bool) (xs : List A)
     → find test (map view xs) ≡ option_map view (find (λ x. test (view x)) xs)
 find-map view test [] = refl
-find-map view test (x ∷ xs) =
-    chosen view (test (view x)) x (find (λ y. test (view y)) xs) (find test (map view xs)) (find-map view test xs)
+find-map view test (x ∷ xs) = grind (arith, find-map view test xs)
 
 fused : {X A B C : Type 0} (now : X → A) (view : A → B) (part : B → C) (o : Option X)
     → option_map (λ x. part (view (now x))) o ≡ option_map part (option_map view (option_map now o))
-fused now view part None = refl
-fused now view part (Some x) = refl
+fused now view part o = grind arith
 
 -- a row of the code's table, as it is defined
 abbrev seen : Row → NamedArch
@@ -46,5 +39,4 @@ map_is made Post (Some x) (Some y) is post = ap Some (post x y is)
 -- a part of a part
 pub twice : {A B C : Type 0} (outer : B → C) (inner : A → B) (o : Option A)
     → option_map outer (option_map inner o) ≡ option_map (λ x. outer (inner x)) o
-twice outer inner None = refl
-twice outer inner (Some x) = refl
+twice outer inner o = grind arith

@@ -1,6 +1,6 @@
 -- What is printed is read back.
-use Rattle.std.proofs.Common.{◌≡◌, ◌∙◌, ◌<◌, ◌/◌, ◌%◌, ◌^◌, ℕ, zero, suc, Bool, true, false, Some, List, [], ◌∷◌, ◌++◌, All, codes, length, length-append, refl, sym, ap, arith, pow-suc, inl, slice_index, unwrap_or, nat_lt, cond, subst}
-use Rattle.std.proofs.lemmas.Bool.{ltb-false, ltb-true}
+use Rattle.std.proofs.Common.{◌≡◌, ◌∙◌, ◌<◌, ◌/◌, ◌%◌, ◌^◌, ℕ, zero, suc, true, false, Some, List, [], ◌∷◌, ◌++◌, All, codes, length, length-append, refl, sym, ap, arith, pow-suc, inl, inr, slice_index, unwrap_or}
+use Rattle.std.proofs.lemmas.Bool.{cases_lt, cond_both}
 use Rattle.std.proofs.lemmas.Bool.Decides.{nat_tests}
 use Rattle.std.proofs.lemmas.Int.Digits.{digits_value_push}
 use Rattle.std.proofs.lemmas.List.{get_or_past}
@@ -69,16 +69,18 @@ pub uuid_back : (uuid : List ℕ) → length uuid ≡ 16 → All (λ byte. byte 
     → parsed (hyphenated_text lower uuid) ≡ Some uuid
 uuid_back uuid sized bytes = sym (parses_hyphenated lower uuid (inl refl) sized bytes)
 
-are_bytes : (xs : List ℕ) → All (λ byte. byte < 256) xs → (i : ℕ) → (b : Bool) → nat_lt i (length xs) ≡ b → slice_index xs i < 256
-are_bytes xs bytes i true e = bytes i 0 (ltb-true i (length xs) e)
-are_bytes xs bytes i false e = rw (get_or_past xs i 0 (omega (arith, ltb-false i (length xs) e))) (omega arith)
+are_bytes : (xs : List ℕ) → All (λ byte. byte < 256) xs → (i : ℕ) → slice_index xs i < 256
+are_bytes xs bytes i = elim (cases_lt i (length xs)) [
+  | inl within ↦ bytes i 0 within
+  | inr past ↦ rw (get_or_past xs i 0 past) (omega arith)
+]
 
 pub digest_back : (digest : Digest) → length digest.0 ≡ 32 → All (λ byte. byte < 256) digest.0
     → digest_of (digest_text digest) ≡ Some digest
 unfolding digest_text
 digest_back digest sized bytes =
     ap (λ r. option_map (λ xs. record { 0 = xs }) (result_ok r))
-    (decode_sized-encode_lower digest.0 32 sized (λ i. are_bytes digest.0 bytes i (nat_lt i (length digest.0)) refl))
+    (decode_sized-encode_lower digest.0 32 sized (are_bytes digest.0 bytes))
 
 -- ---- architectures
 
@@ -113,33 +115,18 @@ cpu_back arch cputype cpusubtype =
       number_back 8 arch.cpusubtype (omega arith),
     ) refl
 
-unnamed : (arch : ArchKey) → arch_of (cpu_text arch) ≡ cpu_of (cpu_text arch)
-unnamed arch = refl
-
 -- the word of an architecture, where these have a name
 abbrev word_among : List NamedArch → ArchKey → List ℕ
 word_among named arch =
     unwrap_or (option_map (λ n. n.name) (find (λ n. is_arch n.arch arch) named)) (cpu_text arch)
 
-chosen_back : (arch : ArchKey) (n : NamedArch) (named : List NamedArch) (same : Bool) → is_arch n.arch arch ≡ same
-    → arch_of n.name ≡ Some n.arch → arch_of (word_among named arch) ≡ Some arch
-    → arch_of (unwrap_or (option_map (λ m. m.name) (cond same (Some n) (find (λ m. is_arch m.arch arch) named)))
-    (cpu_text arch)) ≡ Some arch
-chosen_back arch n named true is read rest = read ∙ ap Some (one_arch n.arch arch is)
-chosen_back arch n named false is read rest = rest
-
-step_back : (arch : ArchKey) (n : NamedArch) (named : List NamedArch) (same : Bool) → is_arch n.arch arch ≡ same
-    → arch_of n.name ≡ Some n.arch → arch_of (word_among named arch) ≡ Some arch
-    → arch_of (word_among (n ∷ named) arch) ≡ Some arch
-step_back arch n named same is read rest =
-    subst (λ b. arch_of (unwrap_or (option_map (λ m. m.name) (cond b (Some n) (find (λ m. is_arch m.arch arch) named)))
-    (cpu_text arch)) ≡ Some arch) (sym is) (chosen_back arch n named same is read rest)
-
 among_back : (arch : ArchKey) (named : List NamedArch) → AllByRecursion (λ n. arch_of n.name ≡ Some n.arch) named
     → arch_of (cpu_text arch) ≡ Some arch → arch_of (word_among named arch) ≡ Some arch
 among_back arch [] read cpu = cpu
 among_back arch (n ∷ named) read cpu =
-    step_back arch n named (is_arch n.arch arch) refl read.0 (among_back arch named read.1 cpu)
+    cond_both (is_arch n.arch arch) _ _
+    (λ o. arch_of (unwrap_or (option_map (λ m. m.name) o) (cpu_text arch)) ≡ Some arch)
+    (λ is. read.0 ∙ ap Some (one_arch n.arch arch is)) (λ _. among_back arch named read.1 cpu)
 
 named_back : AllByRecursion (λ n. arch_of n.name ≡ Some n.arch) named_archs
 named_back = (refl, (refl, (refl, (refl, tt))))
@@ -147,4 +134,4 @@ named_back = (refl, (refl, (refl, (refl, tt))))
 pub arch_back : (arch : ArchKey) → arch.cputype < 2 ^ 32 → arch.cpusubtype < 2 ^ 24 → arch_of (arch_text arch) ≡ Some arch
 unfolding arch_text
 arch_back arch cputype cpusubtype =
-    among_back arch named_archs named_back (unnamed arch ∙ cpu_back arch cputype cpusubtype)
+    among_back arch named_archs named_back (cpu_back arch cputype cpusubtype)

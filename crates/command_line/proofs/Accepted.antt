@@ -1,74 +1,49 @@
 -- A line that `clap` accepts names a command, with a value at each name that has to have one.
-use Rattle.std.proofs.Common.{◌≡◌, ◌∙◌, ◌&&◌, ◌||◌, Bool, true, false, not, cond, refl, sym, ap, ap₂, subst}
-use Rattle.std.proofs.Common.{List, [], ◌∷◌, Option, Some, None, IsSome, is_some, option_map, true≢false, codes}
+use Rattle.std.proofs.Common.{arith, ◌≡◌, ◌∙◌, ◌&&◌, ◌||◌, Bool, true, false, not, refl, sym, ap}
+use Rattle.std.proofs.Common.{List, [], ◌∷◌, Option, Some, None, IsSome, is_some, option_map, codes}
 use Rattle.std.specs.Prelude.{find, option_and_then, slice_get, unwrap_or}
 use Rattle.std.specs.List.{list_all, list_any}
 use Rattle.std.specs.Option.{option_map_or}
 use Rattle.std.specs.Str.{bytes_eq}
+use Rattle.std.proofs.lemmas.Bool.{and_from, not-true, or_left}
 use Rattle.std.proofs.lemmas.Slice.Eq.{bytes_eq-Decides}
 use Rattle.clap.specs.Words.{App, Row, Rule, Shape, Text, built, first_of, subcommand_of, takes}
-use Rattle.clap.specs.Facts.{explicit_source}
 use Rattle.clap.specs.Walk.{answers_to, is_empty, nothing_held, rows_after, stop_after}
 use Rattle.clap.specs.Simple.{argument_words, entered, is_simple, label_of, names_of, rows_at}
 use Rattle.clap.specs.Takes.{built_takes, entered_passes, is_given, is_valid, level_passes}
 use Rattle.clap.proofs.SimpleLemmas.{is_nil}
 use Rattle.clap.proofs.WalkLemmas.{both}
-use Rattle.command_line.specs.Arguments.{Argument, Count, Often, Once, Perhaps, Several, Values, form_of, perhaps}
+use Rattle.command_line.specs.Arguments.{Argument, Count, Often, Once, Perhaps, Several, form_of, perhaps}
 use Rattle.command_line.specs.Arguments.{several}
 use Rattle.command_line.specs.Commands.{symarch_command}
 use Rattle.command_line.specs.Lines.{all_values, are_accepted, asked_of, has_form, have_forms, line_at, line_in}
-use Rattle.command_line.specs.Lines.{line_with, named_command, values_at, values_spelled, words_by}
+use Rattle.command_line.specs.Lines.{named_command, values_at, values_spelled, words_by}
 use Rattle.command_line.specs.Table.{Signature, signature_named}
 use Rattle.command_line.specs.declared.commands.Form.{Form}
-use Rattle.command_line.specs.declared.commands.Form.TheVariants as forms
 use Rattle.command_line.proofs.Filled.{are_filled, found_passes, is_filled, lets_name, lets_stop, level, want_values}
 
 -- ---- tests
 
-one_of_two : (a b : Bool) → (a || b) ≡ true → a ≡ false → b ≡ true
-one_of_two true b is none = absurd (true≢false none)
-one_of_two false b is none = is
+left_of : (a b : Bool) → (a || b) ≡ true → b ≡ false → a ≡ true
+left_of a b is none = grind arith
 
-first_of_two : (a b : Bool) → (a || b) ≡ true → b ≡ false → a ≡ true
-first_of_two true b is none = refl
-first_of_two false b is none = absurd (true≢false (sym is ∙ none))
-
-given_if : (a b : Bool) → (not a || b) ≡ true → a ≡ true → b ≡ true
-given_if true b is there = is
-given_if false b is there = absurd (true≢false (sym there))
-
-is_false : (b : Bool) → not b ≡ true → b ≡ false
-is_false true is = absurd (true≢false (sym is))
-is_false false is = refl
-
-some_of : {X : Type 0} (o : Option X) → is_some o ≡ true → (x : X) × (o ≡ Some x)
-some_of None is = absurd (true≢false (sym is))
-some_of (Some x) is = (x, refl)
+right_of : (a b : Bool) → (a || b) ≡ true → a ≡ false → b ≡ true
+right_of a b is none = grind arith
 
 found_holds : {X : Type 0} (q : X → Bool) (xs : List X) (x : X) → find q xs ≡ Some x → q x ≡ true
 found_holds q [] x is = cc
-found_holds q (y ∷ ys) x is = go (q y) refl (found_holds q ys x) is
-  where
-    go : (b : Bool) → q y ≡ b → (find q ys ≡ Some x → q x ≡ true) → cond b (Some y) (find q ys) ≡ Some x → q x ≡ true
-    go true holds after here = let same : y ≡ x = cc in ap q (sym same) ∙ holds
-    go false fails after there = after there
+found_holds q (y ∷ ys) x is = grind (arith, found_holds q ys x)
 
 -- ---- what stands at a name
 
+filled_first : (values : List Text) → is_filled values ≡ true → is_some (slice_get values 0) ≡ true
+filled_first [] is = cc
+filled_first (v ∷ vs) is = refl
+
 given_stands : (id : Text) (rows : List Row) → is_given id rows ≡ true → are_filled rows ≡ true
     → is_some (first_of id rows) ≡ true
-given_stands id rows given filled = go (find (λ x. bytes_eq x.id id) rows) refl given
-  where
-    filled_first : (values : List Text) → is_filled values ≡ true → is_some (slice_get values 0) ≡ true
-    filled_first [] is = absurd (true≢false (sym is))
-    filled_first (v ∷ vs) is = refl
-
-    go : (o : Option Row) → find (λ x. bytes_eq x.id id) rows ≡ o
-        → option_map_or (λ (r : Row). explicit_source r.source) o false ≡ true
-        → is_some (option_and_then (λ (r : Row). slice_get r.values 0) o) ≡ true
-    go None found is = absurd (true≢false (sym is))
-    go (Some r) found is = filled_first r.values
-        (found_passes (λ (x : Row). is_filled x.values) (λ x. bytes_eq x.id id) rows r filled found)
+given_stands id rows given filled =
+    grind (arith, filled_first, found_passes (λ (x : Row). is_filled x.values) (λ x. bytes_eq x.id id) rows)
 
 -- the command requires the argument with this id
 abbrev requires : Text → List Rule → Bool
@@ -80,18 +55,9 @@ all_given rules rows = list_all (λ a. not a.required || is_given a.id rows) rul
 required_given : (id : Text) (rules : List Rule) (rows : List Row) → requires id rules ≡ true
     → all_given rules rows ≡ true
     → is_given id rows ≡ true
-required_given id [] rows asks given = absurd (true≢false (sym asks))
+required_given id [] rows asks given = cc
 required_given id (a ∷ rules) rows asks given =
-    go (a.required && bytes_eq a.id id) refl asks
-    (λ later. required_given id rules rows later (both (not a.required || is_given a.id rows) _ given).1)
-  where
-    go : (b : Bool) → (a.required && bytes_eq a.id id) ≡ b → (b || requires id rules) ≡ true
-        → (requires id rules ≡ true → is_given id rows ≡ true) → is_given id rows ≡ true
-    go true here is later =
-        let parts = both a.required _ here in
-        let same : a.id ≡ id = (bytes_eq-Decides a.id id).0 parts.1 in
-        subst (λ i. is_given i rows ≡ true) same (given_if a.required _ (both _ _ given).0 parts.0)
-    go false here is later = later is
+    grind (arith, required_given id rules rows, (bytes_eq-Decides a.id id).0)
 
 -- ---- the line of a command, where what is required stands there
 
@@ -110,6 +76,11 @@ record Stood (rules : List Rule) (rows : List Row) : Type 0 where
   given : all_given rules rows ≡ true
   filled : are_filled rows ≡ true
 
+-- no word has any form
+none_spelled : (form : Form) → (is_some (values_spelled form (perhaps None)) ≡ true)
+    × (is_some (values_spelled form (several [])) ≡ true)
+none_spelled form = grind arith
+
 -- an argument that has its form has its values
 values_some : (a : Argument) (rules : List Rule) (rows : List Row) → Stood rules rows
     → (is_free a.count || requires a.name rules) ≡ true → has_form a rows ≡ true → is_some (values_at a rows) ≡ true
@@ -118,49 +89,39 @@ values_some a rules rows stood asks has = go a.count asks has
     stands : requires a.name rules ≡ true → not (is_some (first_of a.name rows)) ≡ false
     stands asks = ap not (given_stands a.name rows (required_given a.name rules rows asks stood.given) stood.filled)
 
-    left_out : (form : Form) → is_some (values_spelled form (perhaps None)) ≡ true
-    left_out forms.Plain = refl
-    left_out forms.Uuid = refl
-    left_out forms.Arch = refl
-    left_out forms.Digest = refl
-    left_out forms.Number = refl
-
-    none_there : (form : Form) → is_some (values_spelled form (several [])) ≡ true
-    none_there forms.Plain = refl
-    none_there forms.Uuid = refl
-    none_there forms.Arch = refl
-    none_there forms.Digest = refl
-    none_there forms.Number = refl
-
     if_there : (form : Form) (o : Option Text)
         → (is_some (values_spelled form (perhaps o)) || not (is_some o)) ≡ true
         → is_some (values_spelled form (perhaps o)) ≡ true
-    if_there form None has = left_out form
-    if_there form (Some word) has = first_of_two (is_some (values_spelled form (perhaps (Some word)))) false has refl
+    if_there form None has = (none_spelled form).0
+    if_there form (Some word) has = left_of _ _ has refl
 
     -- a row without a value gives no word, as no row does
     filled_row : (form : Form) (words : List Text)
         → (is_some (values_spelled form (several words)) || not (is_some (slice_get words 0))) ≡ true
         → is_some (values_spelled form (several words)) ≡ true
-    filled_row form [] has = none_there form
-    filled_row form (word ∷ words) has =
-        first_of_two (is_some (values_spelled form (several (word ∷ words)))) false has refl
+    filled_row form [] has = (none_spelled form).1
+    filled_row form (word ∷ words) has = left_of _ _ has refl
 
     each_there : (form : Form) (o : Option Row)
         → (is_some (values_spelled form (several (unwrap_or (option_map (λ (r : Row). r.values) o) [])))
         || not (is_some (option_and_then (λ (r : Row). slice_get r.values 0) o))) ≡ true
         → is_some (values_spelled form (several (unwrap_or (option_map (λ (r : Row). r.values) o) []))) ≡ true
-    each_there form None has = none_there form
+    each_there form None has = (none_spelled form).1
     each_there form (Some r) has = filled_row form r.values has
 
     go : (count : Count) → (is_free count || requires a.name rules) ≡ true
         → (is_some (option_and_then (values_spelled (form_of a.role)) (words_by count a.name rows))
         || not (is_some (first_of a.name rows))) ≡ true
         → is_some (option_and_then (values_spelled (form_of a.role)) (words_by count a.name rows)) ≡ true
-    go Once asks has = first_of_two _ _ has (stands asks)
-    go Several asks has = first_of_two _ _ has (stands asks)
+    go Once asks has = left_of _ _ has (stands asks)
+    go Several asks has = left_of _ _ has (stands asks)
     go (Perhaps option) asks has = if_there (form_of a.role) (first_of a.name rows) has
     go (Often option) asks has = each_there (form_of a.role) (find (λ x. bytes_eq x.id a.name) rows) has
+
+-- two values are there exactly where what is made of both is
+both_some : {X Y Z : Type 0} (f : X → Y → Z) (o : Option X) (p : Option Y) → (is_some o && is_some p)
+    ≡ is_some (option_and_then (λ x. option_map (f x) p) o)
+both_some f o p = grind arith
 
 abbrev each_has_form : List Argument → List Row → Bool
 each_has_form arguments rows = list_all (λ a. has_form a rows) arguments
@@ -173,34 +134,21 @@ all_some [] rules rows stood asks have = refl
 all_some (a ∷ rest) rules rows stood asks have =
     let asked = both (is_free a.count || requires a.name rules) _ asks in
     let has = both (has_form a rows) _ have in
-    let value = some_of (values_at a rows) (values_some a rules rows stood asked.0 has.0) in
-    let others = some_of (all_values rest rows) (all_some rest rules rows stood asked.1 has.1) in
-    ap₂ (λ o p. is_some (option_and_then (λ v. option_map (λ vs. v ∷ vs) p) o)) value.1 others.1
+    sym (both_some (λ v vs. v ∷ vs) (values_at a rows) (all_values rest rows))
+    ∙ and_from _ _ (values_some a rules rows stood asked.0 has.0) (all_some rest rules rows stood asked.1 has.1)
 
 -- and where they are there, each has its form
 forms_of_all : (arguments : List Argument) (rows : List Row) → IsSome (all_values arguments rows)
     → each_has_form arguments rows ≡ true
 forms_of_all [] rows some = refl
 forms_of_all (a ∷ rest) rows some =
-    go (values_at a rows) refl (all_values rest rows) (forms_of_all rest rows) some
-  where
-    go : (o : Option Values) → values_at a rows ≡ o → (p : Option (List Values))
-        → (IsSome p → each_has_form rest rows ≡ true)
-        → IsSome (option_and_then (λ v. option_map (λ vs. v ∷ vs) p) o) → each_has_form (a ∷ rest) rows ≡ true
-    go None is p after some = absurd (true≢false (sym some))
-    go (Some v) is None after some = absurd (true≢false (sym some))
-    go (Some v) is (Some vs) after some =
-        ap₂ (λ x y. x && y) (ap (λ o. is_some o || not (is_some (first_of a.name rows))) is) (after refl)
+    let parts = both _ _ (both_some (λ v vs. v ∷ vs) (values_at a rows) (all_values rest rows) ∙ some) in
+    and_from _ _ (or_left _ _ parts.0) (forms_of_all rest rows parts.1)
 
 -- ---- any of the table
 
-map_some : {X Y : Type 0} (f : X → Y) (o : Option X) → IsSome o → IsSome (option_map f o)
-map_some f None some = some
-map_some f (Some x) some = refl
-
-some_mapped : {X Y : Type 0} (f : X → Y) (o : Option X) → IsSome (option_map f o) → IsSome o
-some_mapped f None some = some
-some_mapped f (Some x) some = refl
+mapped_some : {X Y : Type 0} (f : X → Y) (o : Option X) → is_some (option_map f o) ≡ is_some o
+mapped_some f o = grind arith
 
 -- the command of this name requires what its line asks for
 abbrev asks : Text → List Rule → Bool
@@ -213,9 +161,8 @@ line_some name rules rows stood = go (signature_named name)
     go : (o : Option Signature) → option_map_or (λ s. asks_for s.arguments rules) o false ≡ true
         → each_has_form (option_map_or (λ s. s.arguments) o []) rows ≡ true
         → IsSome (option_and_then (λ s. line_at s rows) o)
-    go None asked have = absurd (true≢false (sym asked))
-    go (Some s) asked have =
-        map_some (line_with s) (all_values s.arguments rows) (all_some s.arguments rules rows stood asked have)
+    go None asked have = cc
+    go (Some s) asked have = mapped_some _ _ ∙ all_some s.arguments rules rows stood asked have
 
 -- where a line is asked for, each value has its form
 pub forms_of_asked : (named : Option (Text × List Row)) → IsSome (option_and_then line_in named)
@@ -225,9 +172,8 @@ forms_of_asked (Some p) some = go (signature_named p.0) some
   where
     go : (o : Option Signature) → IsSome (option_and_then (λ s. line_at s p.1) o)
         → each_has_form (option_map_or (λ s. s.arguments) o []) p.1 ≡ true
-    go None some = absurd (true≢false (sym some))
-    go (Some s) some =
-        forms_of_all s.arguments p.1 (some_mapped (line_with s) (all_values s.arguments p.1) some)
+    go None some = cc
+    go (Some s) some = forms_of_all s.arguments p.1 (sym (mapped_some _ _) ∙ some)
 
 -- ---- commands that are built
 
@@ -245,16 +191,8 @@ record IsSound (a : App) : Type 0 where
 abbrev in_order : Option (Text × List Row) → Bool
 in_order named = option_map_or have_forms named true
 
-required_here : (s : Shape) (rows : List Row) (has : Bool) → is_valid s rows has ≡ true
-    → (s.subcommand_negates_reqs && has) ≡ false
-    → all_given s.rules rows ≡ true
-required_here s rows has valid not_excused =
-    let rest = both (not s.subcommand_required || has) _ (both (not s.arg_required_else_help || _) _ valid).1 in
-    one_of_two (s.subcommand_negates_reqs && has) _ (both (list_all (λ a. a.is_free) s.rules) _ rest.1).1 not_excused
-
-and_false : (b : Bool) → (b && false) ≡ false
-and_false true = refl
-and_false false = refl
+required_here : (s : Shape) (rows : List Row) → is_valid s rows false ≡ true → all_given s.rules rows ≡ true
+required_here s rows valid = grind arith
 
 -- the line of a command that was entered
 entered_some : (top s : Shape) (name : Text) (words : List Text) → is_sound s ≡ true
@@ -265,16 +203,13 @@ entered_some : (top s : Shape) (name : Text) (words : List Text) → is_sound s 
 unfolding is_sound
 entered_some top s name words sound answers lets help passes tests =
     let parts = both (is_empty s.aliases) _ sound in
-    let alone : list_any (λ alias. bytes_eq alias name) s.aliases ≡ false =
-    ap (list_any (λ alias. bytes_eq alias name)) (is_nil s.aliases parts.0) in
-    let same : s.name ≡ name = (bytes_eq-Decides s.name name).0 (first_of_two (bytes_eq s.name name) _ answers alone) in
-    let other : bytes_eq s.name (codes "help") ≡ false =
-    ap (λ n. bytes_eq n (codes "help")) same
-    ∙ is_false _ (first_of_two (not (bytes_eq name (codes "help"))) _ lets help) in
-    let own = both (want_values s.rules) _ (one_of_two (bytes_eq s.name (codes "help")) _ parts.1 other) in
+    let alone = ap (list_any (λ alias. bytes_eq alias name)) (is_nil s.aliases parts.0) in
+    let same = (bytes_eq-Decides s.name name).0 (left_of _ _ answers alone) in
+    let other = ap (λ n. bytes_eq n (codes "help")) same ∙ not-true _ (left_of _ _ lets help) in
+    let own = both (want_values s.rules) _ (right_of _ _ parts.1 other) in
     let passed = level s [] words false own.0 passes in
     line_some s.name s.rules (rows_after s.rules [] words) (record {
-      given = required_here s (rows_after s.rules [] words) false passed.valid (and_false s.subcommand_negates_reqs);
+      given = required_here s (rows_after s.rules [] words) passed.valid;
       filled = passed.filled;
     }) own.1 tests
 
@@ -284,7 +219,7 @@ found_some : (a : App) (p : Text × List Text) (o : Option Shape) → find (λ s
     → option_map_or (λ s. level_passes s [] nothing_held p.1 false) o true ≡ true
     → in_order (option_map (λ s. rows_at s p.1) o) ≡ true
     → IsSome (option_and_then line_in (option_map (λ s. rows_at s p.1) o))
-found_some a p None found sound lets met passes tests = absurd (true≢false (sym met))
+found_some a p None found sound lets met passes tests = cc
 found_some a p (Some s) found sound lets met passes tests =
     entered_some a.top s p.0 p.1 (found_passes is_sound _ a.subs s sound.commands found)
     (found_holds _ a.subs s found) lets sound.has_help passes tests
@@ -292,7 +227,7 @@ found_some a p (Some s) found sound lets met passes tests =
 stopped_some : (a : App) (stop : Option (Text × List Text)) → IsSound a → lets_stop a.top stop ≡ true
     → is_some (entered a stop) ≡ true → entered_passes a stop ≡ true → in_order (entered a stop) ≡ true
     → IsSome (option_and_then line_in (entered a stop))
-stopped_some a None sound lets met passes tests = absurd (true≢false (sym met))
+stopped_some a None sound lets met passes tests = cc
 stopped_some a (Some p) sound lets met passes tests =
     found_some a p (find (λ s. answers_to p.0 (label_of s)) a.subs) refl sound lets met passes tests
 
@@ -304,7 +239,7 @@ built_some a words sound passes tests =
     let parts = both (entered_passes a stop) _ passes in
     let top = level a.top (names_of a) words (is_some (entered a stop)) sound.values parts.1 in
     let valid = both (not a.top.arg_required_else_help || _) _ top.valid in
-    let met = given_if a.top.subcommand_required (is_some (entered a stop)) (both _ _ valid.1).0 sound.needs_command in
+    let met = right_of _ _ (both _ _ valid.1).0 (ap not sound.needs_command) in
     stopped_some a stop sound top.stop met parts.0 tests
 
 accepted_some : (a : App) (words : List Text) → IsSound (built a) → takes a words ≡ true

@@ -1,10 +1,11 @@
 -- A line whose OUT is none of its inputs is kept.
-use Rattle.std.proofs.Common.{◌≡◌, ◌∙◌, Bool, true, false, not, List, Contains, Option, Some, None, IfSome, ap, refl}
-use Rattle.std.proofs.Common.{if◌then◌else◌, IsSome, ◌&&◌, ap₂, subst, sym, true≢false}
+use Rattle.std.proofs.Common.{◌≡◌, ◌∙◌, true, false, not, List, Contains, Option, Some, None, IfSome, ap, refl}
+use Rattle.std.proofs.Common.{if◌then◌else◌, IsSome, ◌&&◌, ap₂, subst, sym}
 use Rattle.std.specs.Prelude.{option_and_then}
 use Rattle.std.specs.Bool.{Decides}
 use Rattle.std.specs.Option.{option_map_or}
 use Rattle.std.specs.Str.{bytes_eq}
+use Rattle.std.proofs.lemmas.Bool.{not-true}
 use Rattle.std.proofs.lemmas.Bool.Decides.{Decides-by_or}
 use Rattle.std.proofs.lemmas.List.Elements.{Decides-contains}
 use Rattle.std.proofs.lemmas.Slice.Eq.{bytes_eq-Decides}
@@ -26,7 +27,7 @@ keeps_inputs line apart = go (out_of line) (inputs_of line) apart
     go : (out : Option Text) (inputs : List Text) → option_map_or (λ o. is_path_among o inputs) out false ≡ false
         → IfSome out (λ o. ¬ Contains inputs o)
     go None inputs apart = tt
-    go (Some o) inputs apart = λ among. true≢false (sym ((is_path_among-Decides o inputs).1 among) ∙ apart)
+    go (Some o) inputs apart = λ among. cc ((is_path_among-Decides o inputs).1 among)
 
 -- the line that is asked for is kept
 pub kept_line : (asked : Option Line) (line : Line) → Some line ≡ asked → overwrites_input line ≡ false
@@ -38,11 +39,7 @@ kept_line asked line is apart =
 pub in_order_apart : (asked : Option Line) (line : Line) → Some line ≡ asked
     → option_map_or (λ l. not (overwrites_input l)) asked true ≡ true → overwrites_input line ≡ false
 in_order_apart asked line is ordered =
-    go (overwrites_input line) (ap (λ o. option_map_or (λ l. not (overwrites_input l)) o true) is ∙ ordered)
-  where
-    go : (b : Bool) → not b ≡ true → b ≡ false
-    go true is = absurd (true≢false (sym is))
-    go false is = refl
+    not-true _ (ap (λ o. option_map_or (λ l. not (overwrites_input l)) o true) is ∙ ordered)
 
 -- a line that is asked for and overwrites no input is in order
 pub in_order_of : (named : Option (Text × List Row)) (line : Line) → Some line ≡ option_and_then line_in named

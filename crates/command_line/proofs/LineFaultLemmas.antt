@@ -1,5 +1,5 @@
 -- What a line that `clap` refuses has for an answer, by the kinds of error that its own definition names.
-use Rattle.std.proofs.Common.{◌≡◌, ◌∙◌, ℕ, inl, inr, List, [], ◌∷◌, Option, Some, None, Result, Ok, Err, IfOk}
+use Rattle.std.proofs.Common.{◌≡◌, ℕ, inl, inr, List, [], ◌∷◌, Option, Some, None, Result, Ok, Err, IfOk}
 use Rattle.std.proofs.Common.{Global, IfErr, IsErrAnd, IsSomeAnd, MatchResult, String, string_bytes, subst, sym}
 use Rattle.clap.specs.Words.{HasKind, IsAmong, Kinds, Row, Text, kind_of}
 use Rattle.clap.specs.declared.error.Error.{Error}
@@ -9,10 +9,6 @@ use Rattle.command_line.specs.LineFaults.{IsHelpUnlessMemory, IsRefusalUnlessMem
 use Rattle.command_line.specs.LineFaults.{out_is_input}
 use Rattle.command_line.specs.declared.line_faults.LineFault.{LineFault}
 use Rattle.command_line.specs.declared.line_faults.LineFault.TheVariants.{OutOfMemory, Refused}
-
--- words that are accepted ask for no text
-pub never_asked : (kinds : Kinds) (asked : ErrorKind) → kinds ≡ [] → kinds ≡ asked ∷ [] → ⊥
-never_asked kinds asked none alone = let same : [] ≡ asked ∷ [] = sym none ∙ alone in cc
 
 -- where help, or the version, is the only kind, the error is its text or a want of memory
 pub asked_is_help : (e : Error) (fault : LineFault) (kinds : Kinds) (asked : ErrorKind) → HasKind kinds e

@@ -1,15 +1,12 @@
 -- Where the arguments or their values are passed, no text is left.
-use Rattle.std.proofs.Common.{◌≡◌, ◌⊎◌, inl, inr, ℕ, zero, suc, Bool, refl, List, [], ◌∷◌, length, map}
+use Rattle.std.proofs.Common.{◌≡◌, ◌⊎◌, arith, inl, inr, Bool, refl, List, [], ◌∷◌, length, map}
 use Rattle.command_line.specs.Arguments.{Argument, Values}
 use Rattle.command_line.specs.Lines.{texts_by}
 use Rattle.command_line.specs.declared.commands.Role.{Role}
-
-not_zero : {n : ℕ} → suc n ≡ zero → ⊥
-not_zero e = cc
 
 pub none_left : {A B : Type 0} (wants : Role → Bool) (f : A → Argument) (g : B → Values) (xs : List A) (ys : List B)
     → (length xs ≡ 0) ⊎ (length ys ≡ 0) → texts_by wants (map f xs) (map g ys) ≡ []
 none_left wants f g [] ys passed = refl
 none_left wants f g (x ∷ xs) [] passed = refl
-none_left wants f g (x ∷ xs) (y ∷ ys) (inl none) = absurd (not_zero none)
-none_left wants f g (x ∷ xs) (y ∷ ys) (inr none) = absurd (not_zero none)
+none_left wants f g (x ∷ xs) (y ∷ ys) (inl none) = absurd (omega arith)
+none_left wants f g (x ∷ xs) (y ∷ ys) (inr none) = absurd (omega arith)

@@ -1,5 +1,5 @@
 -- What the groups of rows hold, and how many slices answer in them, where rows ascend by key.
-use Rattle.std.proofs.Common.{◌≡◌, ◌≢◌, ◌∙◌, ℕ, List, [], ◌∷◌, Bool, true, false, ◌&&◌, ◌==◌, if◌then◌else◌, cond, refl, sym, ap, subst, map, length}
+use Rattle.std.proofs.Common.{◌≡◌, ◌≢◌, ◌∙◌, ℕ, List, [], ◌∷◌, Bool, false, ◌&&◌, ◌==◌, refl, sym, ap, arith, subst, map, length}
 use Rattle.std.specs.declared.cmp.Ordering.{Ordering}
 use Rattle.std.specs.declared.cmp.Ordering.TheVariants.{Less, Equal, Greater}
 use Rattle.std.specs.Ordering.{nat_cmp, ordering_then, ordering_reverse, is_eq}
@@ -9,9 +9,10 @@ use Rattle.std.specs.Cmp.Lexicographic.{slice_cmp, nat_list_cmp_total, on_texts}
 use Rattle.std.proofs.lemmas.Cmp.{then_total, on_total, nat_cmp_total}
 use Rattle.std.proofs.lemmas.Map.Text.{is_eq-slice_cmp}
 use Rattle.std.proofs.lemmas.Slice.Eq.{bytes_eq-Decides}
-use Rattle.std.specs.List.{AllByRecursion, All, Contains, filter, count_by, flat_map}
+use Rattle.std.specs.List.{AllByRecursion, All, Contains, filter, count_by, flat_map, slice_index_or}
 use Rattle.std.specs.List.Sorted.{IsStrictlySortedBy}
-use Rattle.std.proofs.lemmas.List.Elements.{All-nil, All-cons}
+use Rattle.std.proofs.lemmas.Bool.{cond_both}
+use Rattle.std.proofs.lemmas.List.Elements.{All-from_recursion}
 use Rattle.std.proofs.lemmas.List.Sums.{length-filter}
 use Rattle.std.proofs.lemmas.Map.Keys.{sorted_head, sorted_tail}
 use Rattle.archive_core.specs.Content.{Operations}
@@ -47,36 +48,44 @@ below_differs a b e = tied a b ∙ ap is_eq e
 above_differs : (a b : SliceKey) → key_cmp a b ≡ Less → is_key b a ≡ false
 above_differs a b e = tied b a ∙ ap is_eq (key_total.antisymm b a ∙ ap ordering_reverse e)
 
-is_below : (a b : SliceKey) (o : Ordering) → o ≡ key_cmp a b → key_cmp a b ≢ Greater → is_key b a ≡ false → key_cmp a b ≡ Less
-is_below a b Less e not_above differs = sym e
-is_below a b Equal e not_above differs =
-    let same : is_key b a ≡ true = tied b a ∙ ap is_eq (key_total.antisymm b a ∙ ap ordering_reverse (sym e)) in cc
-is_below a b Greater e not_above differs = absurd (not_above (sym e))
+less_by : (o p : Ordering) (same : Bool) → same ≡ is_eq p → p ≡ ordering_reverse o → o ≢ Greater → same ≡ false
+    → o ≡ Less
+less_by o p same tie turned not_above differs = grind arith
+
+is_below : (a b : SliceKey) → key_cmp a b ≢ Greater → is_key b a ≡ false → key_cmp a b ≡ Less
+is_below a b = less_by (key_cmp a b) (key_cmp b a) (is_key b a) (tied b a) (key_total.antisymm b a)
+
+-- a row before a group leads it where it is of its key, and else a group of its own
+put_before : (P : List Group → Type 0) (row : FindRow) (group : Group) (after : List Group)
+    → (group.key ≡ row.key → P (record { key = row.key; rows = row ∷ group.rows } ∷ after))
+    → (is_key group.key row.key ≡ false → P (record { key = row.key; rows = row ∷ [] } ∷ (group ∷ after)))
+    → P (with_row row (group ∷ after))
+put_before P row group after leads apart =
+    cond_both (is_key group.key row.key) _ _ P (λ e. leads (same_key group.key row.key e)) apart
+
+-- what holds of each holds of each in what follows from it
+weaker : {X : Type 0} (P Q : X → Type 0) → ((x : X) → P x → Q x) → (xs : List X) → AllByRecursion P xs
+    → AllByRecursion Q xs
+weaker P Q step [] all = tt
+weaker P Q step (x ∷ xs) all = (step x all.0, weaker P Q step xs all.1)
 
 -- the keys of groups are those of the rows
-onto_if : (P : SliceKey → Type 0) (row : FindRow) (group : Group) (after : List Group) (b : Bool) → P row.key → AllByRecursion (λ g. P g.key) (group ∷ after)
-    → AllByRecursion (λ g. P g.key) (if b then record { key = row.key; rows = row ∷ group.rows } ∷ after else record { key = row.key; rows = row ∷ [] } ∷ (group ∷ after))
-onto_if P row group after true p all = (p, all.1)
-onto_if P row group after false p all = (p, all)
-
 onto : (P : SliceKey → Type 0) (row : FindRow) (before : List Group) → P row.key → AllByRecursion (λ g. P g.key) before → AllByRecursion (λ g. P g.key) (with_row row before)
 onto P row [] p all = (p, tt)
-onto P row (group ∷ after) p all = onto_if P row group after (is_key group.key row.key) p all
+onto P row (group ∷ after) p all =
+    put_before (AllByRecursion (λ g. P g.key)) row group after (λ _. (p, all.1)) (λ _. (p, all))
 
 from_rows : (P : SliceKey → Type 0) (rows : List FindRow) → AllByRecursion (λ row. P row.key) rows → AllByRecursion (λ g. P g.key) (groups rows)
 unfolding groups
 from_rows P [] all = tt
 from_rows P (row ∷ rows) all = onto P row (groups rows) all.0 (from_rows P rows all.1)
 
-off_if : (P : SliceKey → Type 0) (row : FindRow) (group : Group) (after : List Group) (b : Bool) → is_key group.key row.key ≡ b
-    → AllByRecursion (λ g. P g.key) (if b then record { key = row.key; rows = row ∷ group.rows } ∷ after else record { key = row.key; rows = row ∷ [] } ∷ (group ∷ after))
-    → P row.key × AllByRecursion (λ g. P g.key) (group ∷ after)
-off_if P row group after true e all = (all.0, (subst P (sym (same_key group.key row.key e)) all.0, all.1))
-off_if P row group after false e all = all
-
 off : (P : SliceKey → Type 0) (row : FindRow) (before : List Group) → AllByRecursion (λ g. P g.key) (with_row row before) → P row.key × AllByRecursion (λ g. P g.key) before
-off P row [] all = all
-off P row (group ∷ after) all = off_if P row group after (is_key group.key row.key) refl all
+off P row [] = λ all. all
+off P row (group ∷ after) =
+    put_before
+    (λ gs. AllByRecursion (λ g. P g.key) gs → P row.key × AllByRecursion (λ g. P g.key) (group ∷ after)) row group after
+    (λ same all. (all.0, (subst P (sym same) all.0, all.1))) (λ _ all. all)
 
 to_rows : (P : SliceKey → Type 0) (rows : List FindRow) → AllByRecursion (λ g. P g.key) (groups rows) → AllByRecursion (λ row. P row.key) rows
 unfolding groups
@@ -95,22 +104,13 @@ abbrev AreSorted : List Group → Type 0
 AreSorted [] = Unit {0}
 AreSorted (group ∷ after) = AreAbove group.key after × AreSorted after
 
-all_above : (a b : SliceKey) → key_cmp a b ≡ Less → (gs : List Group) → AreAbove b gs → AreAbove a gs
-all_above a b e [] above = tt
-all_above a b e (group ∷ after) above = (key_total.trans a b group.key e above.0, all_above a b e after above.1)
-
-put_if : (row : FindRow) (group : Group) (after : List Group) (b : Bool) → is_key group.key row.key ≡ b → key_cmp row.key group.key ≢ Greater → AreSorted (group ∷ after)
-    → AreSorted (if b then record { key = row.key; rows = row ∷ group.rows } ∷ after else record { key = row.key; rows = row ∷ [] } ∷ (group ∷ after))
-put_if row group after true e low sorted =
-    let Above : SliceKey → Type 0 = λ key. AreAbove key after in
-    (subst Above (same_key group.key row.key e) sorted.0, sorted.1)
-put_if row group after false e low sorted =
-    let less = is_below row.key group.key (key_cmp row.key group.key) refl low e in
-    ((less, all_above row.key group.key less after sorted.0), sorted)
-
 put : (row : FindRow) (before : List Group) → AllByRecursion (λ g. key_cmp row.key g.key ≢ Greater) before → AreSorted before → AreSorted (with_row row before)
 put row [] low sorted = (tt, tt)
-put row (group ∷ after) low sorted = put_if row group after (is_key group.key row.key) refl low.0 sorted
+put row (group ∷ after) low sorted = put_before AreSorted row group after
+    (λ same. let Above : SliceKey → Type 0 = λ key. AreAbove key after in (subst Above same sorted.0, sorted.1))
+    (λ apart. let less = is_below row.key group.key low.0 apart in
+    let step = λ (g : Group) (e : key_cmp group.key g.key ≡ Less). key_total.trans row.key group.key g.key less e in
+    ((less, weaker _ _ step after sorted.0), sorted))
 
 are_sorted : (rows : List FindRow) → Ascends rows → AreSorted (groups rows)
 unfolding groups
@@ -121,14 +121,11 @@ are_sorted (row ∷ rows) up = put row (groups rows) (from_rows (λ key. key_cmp
 abbrev own : SliceKey → List FindRow → List FindRow
 own key rows = filter (λ row. is_key row.key key) rows
 
-own-cons : (key : SliceKey) (row : FindRow) (rows : List FindRow) (b : Bool) → is_key row.key key ≡ b → own key (row ∷ rows) ≡ cond b (row ∷ own key rows) (own key rows)
-own-cons key row rows b e = rw e refl
-
 own-here : (row : FindRow) (rows : List FindRow) → own row.key (row ∷ rows) ≡ row ∷ own row.key rows
-own-here row rows = own-cons row.key row rows true (key_is_same row.key)
+own-here row rows = rw (key_is_same row.key) refl
 
 own-other : (key : SliceKey) (row : FindRow) (rows : List FindRow) → is_key row.key key ≡ false → own key (row ∷ rows) ≡ own key rows
-own-other key row rows e = own-cons key row rows false e
+own-other key row rows e = rw e refl
 
 own-none : (key : SliceKey) (rows : List FindRow) → AllByRecursion (λ row. key_cmp key row.key ≡ Less) rows → own key rows ≡ []
 own-none key [] above = refl
@@ -140,21 +137,16 @@ kept row rows [] above old = tt
 kept row rows (group ∷ after) above old =
     (old.0 ∙ sym (own-other group.key row rows (below_differs row.key group.key above.0)), kept row rows after above.1 old.1)
 
-add_if : (row : FindRow) (rows : List FindRow) (group : Group) (after : List Group) (b : Bool) → is_key group.key row.key ≡ b
-    → (AreAbove row.key (group ∷ after) → own row.key rows ≡ [])
-    → AreSorted (if b then record { key = row.key; rows = row ∷ group.rows } ∷ after else record { key = row.key; rows = row ∷ [] } ∷ (group ∷ after))
-    → AllByRecursion (λ g. g.rows ≡ own g.key rows) (group ∷ after)
-    → AllByRecursion (λ g. g.rows ≡ own g.key (row ∷ rows)) (if b then record { key = row.key; rows = row ∷ group.rows } ∷ after else record { key = row.key; rows = row ∷ [] } ∷ (group ∷ after))
-add_if row rows group after true e none sorted old =
-    let here : row ∷ group.rows ≡ row ∷ own row.key rows = ap (λ rs. row ∷ rs) (old.0 ∙ ap (λ key. own key rows) (same_key group.key row.key e)) in
-    (here ∙ sym (own-here row rows), kept row rows after sorted.0 old.1)
-add_if row rows group after false e none sorted old =
-    (ap (λ rs. row ∷ rs) (sym (none sorted.0)) ∙ sym (own-here row rows), kept row rows (group ∷ after) sorted.0 old)
-
 add : (row : FindRow) (rows : List FindRow) (before : List Group) → (AreAbove row.key before → own row.key rows ≡ []) → AreSorted (with_row row before)
     → AllByRecursion (λ g. g.rows ≡ own g.key rows) before → AllByRecursion (λ g. g.rows ≡ own g.key (row ∷ rows)) (with_row row before)
 add row rows [] none sorted old = (ap (λ rs. row ∷ rs) (sym (none tt)) ∙ sym (own-here row rows), tt)
-add row rows (group ∷ after) none sorted old = add_if row rows group after (is_key group.key row.key) refl none sorted old
+add row rows (group ∷ after) none sorted old =
+    put_before (λ gs. AreSorted gs → AllByRecursion (λ g. g.rows ≡ own g.key (row ∷ rows)) gs) row group after
+    (λ same sorted. let here = ap (λ rs. row ∷ rs) (old.0 ∙ ap (λ key. own key rows) same) in
+    (here ∙ sym (own-here row rows), kept row rows after sorted.0 old.1))
+    (λ _ sorted. let here = ap (λ rs. row ∷ rs) (sym (none sorted.0)) in
+    (here ∙ sym (own-here row rows), kept row rows (group ∷ after) sorted.0 old))
+    sorted
 
 own_rows : (rows : List FindRow) → Ascends rows → AllByRecursion (λ g. g.rows ≡ own g.key rows) (groups rows)
 unfolding groups
@@ -163,56 +155,39 @@ own_rows (row ∷ rows) up =
     add row rows (groups rows) (λ above. own-none row.key rows (to_rows (λ key. key_cmp row.key key ≡ Less) rows above)) (are_sorted (row ∷ rows) up) (own_rows rows up.1)
 
 -- the rows of a key are those of its UUID that have its architecture
-of_arch : ArchKey → List FindRow → List FindRow
+abbrev of_arch : ArchKey → List FindRow → List FindRow
 of_arch arch rows = filter (λ row. is_arch row.key.arch arch) rows
 
+filter-and : {X : Type 0} (p q : X → Bool) (xs : List X) → filter (λ x. p x && q x) xs ≡ filter q (filter p xs)
+filter-and p q [] = refl
+filter-and p q (x ∷ xs) = grind (arith, filter-and p q xs)
+
 own_by : (key : SliceKey) (rows : List FindRow) → own key rows ≡ of_arch key.arch (rows_under key.uuid rows)
-unfolding of_arch
-own_by key [] = refl
-own_by key (row ∷ rows) = by (bytes_eq row.key.uuid key.uuid) (is_arch row.key.arch key.arch) refl refl (own_by key rows)
-  where
-    by : (p q : Bool) → bytes_eq row.key.uuid key.uuid ≡ p → is_arch row.key.arch key.arch ≡ q → own key rows ≡ of_arch key.arch (rows_under key.uuid rows)
-        → cond (p && q) (row ∷ own key rows) (own key rows) ≡ of_arch key.arch (cond p (row ∷ rows_under key.uuid rows) (rows_under key.uuid rows))
-    by true true is_uuid is_one e = rw is_one (ap (λ rs. row ∷ rs) e)
-    by true false is_uuid is_one e = rw is_one e
-    by false q is_uuid is_one e = e
+own_by key rows = filter-and (λ row. bytes_eq row.key.uuid key.uuid) (λ row. is_arch row.key.arch key.arch) rows
 
 -- as many rows of a kind
-filter-more : (q : FindRow → Bool) (arch : ArchKey) (row : FindRow) (rows : List FindRow) (b : Bool) → is_arch row.key.arch arch ≡ b
-    → filter (λ other. is_arch other.key.arch arch && q other) (of_arch arch rows) ≡ filter (λ other. is_arch other.key.arch arch && q other) rows
-    → filter (λ other. is_arch other.key.arch arch && q other) (of_arch arch (row ∷ rows)) ≡ filter (λ other. is_arch other.key.arch arch && q other) (row ∷ rows)
-unfolding of_arch
-filter-more q arch row rows true e more = rw (e, e) (ap (λ rs. cond (q row) (row ∷ rs) rs) more)
-filter-more q arch row rows false e more = rw e more
-
-filter-own : (q : FindRow → Bool) (arch : ArchKey) (rows : List FindRow) → filter (λ row. is_arch row.key.arch arch && q row) (of_arch arch rows) ≡ filter (λ row. is_arch row.key.arch arch && q row) rows
-unfolding of_arch
-filter-own q arch [] = refl
-filter-own q arch (row ∷ rows) = filter-more q arch row rows (is_arch row.key.arch arch) refl (filter-own q arch rows)
+filter-twice : {X : Type 0} (p q : X → Bool) (xs : List X)
+    → filter (λ x. p x && q x) (filter p xs) ≡ filter (λ x. p x && q x) xs
+filter-twice p q [] = refl
+filter-twice p q (x ∷ xs) = grind (arith, filter-twice p q xs)
 
 count-own : (q : FindRow → Bool) (arch : ArchKey) (rows : List FindRow) → count_by (λ row. is_arch row.key.arch arch && q row) (of_arch arch rows) ≡ count_by (λ row. is_arch row.key.arch arch && q row) rows
 count-own q arch rows =
-    sym (length-filter (λ row. is_arch row.key.arch arch && q row) (of_arch arch rows)) ∙ ap length (filter-own q arch rows) ∙ length-filter (λ row. is_arch row.key.arch arch && q row) rows
+    sym (length-filter (λ row. is_arch row.key.arch arch && q row) (of_arch arch rows))
+    ∙ ap length (filter-twice (λ row. is_arch row.key.arch arch) q rows)
+    ∙ length-filter (λ row. is_arch row.key.arch arch && q row) rows
 
 count_alike : (arch : ArchKey) (rows : List FindRow) → answering_count (of_arch arch rows) arch ≡ answering_count rows arch
 count_alike arch rows = rw (count-own (λ row. is_dsym row.state) arch rows, count-own (λ row. is_image row.state) arch rows) refl
 
 counted : (rows : List FindRow) (gs : List Group) → AllByRecursion (λ g. g.rows ≡ own g.key rows) gs → All (λ g. answering_count g.rows g.key.arch ≡ answering_count (rows_under g.key.uuid rows) g.key.arch) gs
-counted rows [] all = All-nil (λ g. answering_count g.rows g.key.arch ≡ answering_count (rows_under g.key.uuid rows) g.key.arch)
-counted rows (group ∷ after) all =
-    All-cons (λ g. answering_count g.rows g.key.arch ≡ answering_count (rows_under g.key.uuid rows) g.key.arch) group after
-    (ap (λ rs. answering_count rs group.key.arch) (all.0 ∙ own_by group.key rows) ∙ count_alike group.key.arch (rows_under group.key.uuid rows)) (counted rows after all.1)
+counted rows gs all = All-from_recursion _ gs (weaker _ _ (λ (g : Group) is.
+    ap (λ rs. answering_count rs g.key.arch) (is ∙ own_by g.key rows)
+    ∙ count_alike g.key.arch (rows_under g.key.uuid rows)) gs all)
 
 -- what a list tells ascends
-not_above : (o p : Ordering) → ordering_then o p ≡ Less → o ≢ Greater
-not_above Less p e g = cc
-not_above Equal p e g = cc
-not_above Greater p e g = cc
-
 by_key : (u a r : Ordering) → ordering_then u (ordering_then a r) ≡ Less → ordering_then u a ≢ Greater
-by_key Less a r e g = cc
-by_key Equal a r e g = not_above a r e g
-by_key Greater a r e g = cc
+by_key u a r e = λ g. grind arith
 
 rows_above : (operation : Operation) (others : List Operation) → AllByRecursion (λ other. list_cmp operation other ≡ Less) others → AllByRecursion (λ other. key_cmp (row_of operation).key other.key ≢ Greater) (map row_of others)
 rows_above operation [] above = tt
@@ -252,14 +227,6 @@ all_under : (uuid : List ℕ) (rows : List FindRow) → AllByRecursion (λ row. 
 all_under uuid [] are = refl
 all_under uuid (row ∷ rows) are = rw ((bytes_eq-Decides row.key.uuid uuid).1 are.0) (ap (λ rs. row ∷ rs) (all_under uuid rows are.1))
 
-counted_under : (uuid : List ℕ) (rows : List FindRow) → rows_under uuid rows ≡ rows → (gs : List Group) → AllByRecursion (λ g. g.rows ≡ own g.key rows) gs → AllByRecursion (λ g. g.key.uuid ≡ uuid) gs
-    → All (λ g. answering_count g.rows g.key.arch ≡ answering_count rows g.key.arch) gs
-counted_under uuid rows whole [] all are = All-nil (λ g. answering_count g.rows g.key.arch ≡ answering_count rows g.key.arch)
-counted_under uuid rows whole (group ∷ after) all are =
-    let here : own group.key rows ≡ of_arch group.key.arch rows = own_by group.key rows ∙ ap (of_arch group.key.arch) (ap (λ u. rows_under u rows) are.0 ∙ whole) in
-    All-cons (λ g. answering_count g.rows g.key.arch ≡ answering_count rows g.key.arch) group after
-    (ap (λ rs. answering_count rs group.key.arch) (all.0 ∙ here) ∙ count_alike group.key.arch rows) (counted_under uuid rows whole after all.1 are.1)
-
 pub groups_count_found : (o : Operations) (uuid : List ℕ) (rows : List FindRow) → IsFinds o uuid rows → All (λ group. answering_count group.rows group.key.arch ≡ answering_count rows group.key.arch) (groups rows)
 groups_count_found o uuid rows finds =
     let Up : List FindRow → Type 0 = λ rs. Ascends rs in
@@ -267,16 +234,19 @@ groups_count_found o uuid rows finds =
     let are = each_of (λ a. (key_in a).uuid ≡ uuid) finds.operations (λ a h. found_under o uuid a ((finds.exactly a).0 h).1) in
     let under : IsUnder rows = subst IsUnder (sym finds.rows_are) (rows_are_under uuid finds.operations are) in
     let up : Up rows = subst Up (sym finds.rows_are) (ascends finds.operations (ascends_in_list uuid finds.operations are finds.ascending)) in
-    counted_under uuid rows (all_under uuid rows under) (groups rows) (own_rows rows up) (from_rows (λ key. key.uuid ≡ uuid) rows under)
+    let count = counted rows (groups rows) (own_rows rows up) in
+    let uuids = All-from_recursion (λ g. g.key.uuid ≡ uuid) (groups rows)
+    (from_rows (λ key. key.uuid ≡ uuid) rows under) in
+    λ k d lt. count k d lt
+    ∙ ap (λ rs. answering_count rs (slice_index_or (groups rows) k d).key.arch)
+    (ap (λ u. rows_under u rows) (uuids k d lt) ∙ all_under uuid rows under)
 
 -- the groups of rows are these rows
 one_more : (row : FindRow) (before : List Group) → flat_map (λ g. g.rows) (with_row row before) ≡ row ∷ flat_map (λ g. g.rows) before
 one_more row [] = refl
-one_more row (group ∷ after) = by_case (is_key group.key row.key) refl
-  where
-    by_case : (b : Bool) → is_key group.key row.key ≡ b → flat_map (λ g. g.rows) (with_row row (group ∷ after)) ≡ row ∷ flat_map (λ g. g.rows) (group ∷ after)
-    by_case true e = rw e refl
-    by_case false e = rw e refl
+one_more row (group ∷ after) =
+    put_before (λ gs. flat_map (λ g. g.rows) gs ≡ row ∷ flat_map (λ g. g.rows) (group ∷ after)) row group after
+    (λ _. refl) (λ _. refl)
 
 pub groups_rows : (rows : List FindRow) → flat_map (λ g. g.rows) (groups rows) ≡ rows
 unfolding groups

@@ -1,25 +1,19 @@
 -- The groups of rows, one cut off after another.
-use Rattle.std.proofs.Common.{◌≡◌, ◌∙◌, ℕ, suc, ◌+◌, ◌<◌, Some, None, List, [], ◌∷◌, ◌++◌, Bool, true, false, ◌==◌, if◌then◌else◌, refl, sym, ap, subst, take, drop, arith, append_assoc, append-nil, length, length-drop}
+use Rattle.std.proofs.Common.{◌≡◌, ◌∙◌, ℕ, suc, ◌+◌, ◌<◌, Some, None, List, [], ◌∷◌, ◌++◌, Bool, true, false, if◌then◌else◌, refl, sym, ap, subst, take, drop, arith, append_assoc, append-nil, length, length-drop}
 use Rattle.std.specs.List.{prefix_len, flat_map, slice_get}
-use Rattle.std.proofs.lemmas.Bool.{and_parts, eqb-true, eq-eqb}
+use Rattle.std.proofs.lemmas.Bool.Decides.{nat_tests}
+use Rattle.std.proofs.lemmas.Bool.{eq-eqb}
 use Rattle.archive_core.specs.declared.keys.SliceKey.{SliceKey}
 use Rattle.archive_core.specs.Find.{is_key}
-use Rattle.std.specs.Str.{bytes_eq}
 use Rattle.std.proofs.lemmas.Slice.Eq.{bytes_eq-Decides}
 use Rattle.report_text.specs.declared.finds.KeyForm.{KeyForm}
 use Rattle.archive_core.specs.declared.find.FindRow.{FindRow}
-use Rattle.archive_core.specs.Find.{is_arch, answering_count}
+use Rattle.archive_core.specs.Find.{answering_count}
 use Rattle.report_text.specs.Finds.{Group, with_row, groups, group_lines, groups_lines, find_row_text, conflict_line}
 use Rattle.report_text.specs.Report.{line}
 
 pub same_key : (a b : SliceKey) → is_key a b ≡ true → a ≡ b
-same_key a b e =
-    let parts = and_parts (bytes_eq a.uuid b.uuid) (is_arch a.arch b.arch) e in
-    let numbers = and_parts (a.arch.cputype == b.arch.cputype) (a.arch.cpusubtype == b.arch.cpusubtype) parts.1 in
-    let uuid : a.uuid ≡ b.uuid = (bytes_eq-Decides a.uuid b.uuid).0 parts.0 in
-    let cputype : a.arch.cputype ≡ b.arch.cputype = eqb-true a.arch.cputype b.arch.cputype numbers.0 in
-    let cpusubtype : a.arch.cpusubtype ≡ b.arch.cpusubtype = eqb-true a.arch.cpusubtype b.arch.cpusubtype numbers.1 in
-    λ i. record { uuid = uuid i; arch = record { cputype = cputype i; cpusubtype = cpusubtype i } }
+same_key a b e = grind (arith, nat_tests, (bytes_eq-Decides a.uuid b.uuid).0)
 
 -- how many rows behind one of this key are of it
 abbrev pub len_behind : SliceKey → List FindRow → ℕ
@@ -33,10 +27,6 @@ pub groups-cons : (row : FindRow) (rows : List FindRow) → groups (row ∷ rows
 unfolding groups
 groups-cons row rows = refl
 
-with_row-cons : (row : FindRow) (group : Group) (after : List Group) (b : Bool) → is_key group.key row.key ≡ b
-    → with_row row (group ∷ after) ≡ (if b then record { key = row.key; rows = row ∷ group.rows } ∷ after else record { key = row.key; rows = row ∷ [] } ∷ (group ∷ after))
-with_row-cons row group after b e = rw e refl
-
 len_behind-cons : (key : SliceKey) (next : FindRow) (rows : List FindRow) (b : Bool) → is_key next.key key ≡ b
     → len_behind key (next ∷ rows) ≡ (if b then suc (len_behind key rows) else 0)
 len_behind-cons key next rows true e = let one : 1 + len_behind key rows ≡ suc (len_behind key rows) = omega arith in rw e one
@@ -44,18 +34,10 @@ len_behind-cons key next rows false e = rw e refl
 
 step : (row next : FindRow) (rows : List FindRow) (b : Bool) → is_key next.key row.key ≡ b → groups (next ∷ rows) ≡ cut next rows → with_row row (cut next rows) ≡ cut row (next ∷ rows)
 step row next rows true e before =
-    let same : next.key ≡ row.key = same_key next.key row.key e in
-    let there : cut row (next ∷ rows) ≡ record { key = row.key; rows = row ∷ (next ∷ take (len_behind row.key rows) rows) } ∷ groups (drop (len_behind row.key rows) rows) =
-    ap (λ n. record { key = row.key; rows = row ∷ take n (next ∷ rows) } ∷ groups (drop n (next ∷ rows))) (len_behind-cons row.key next rows true e) in
-    let moved : record { key = row.key; rows = row ∷ (next ∷ take (len_behind next.key rows) rows) } ∷ groups (drop (len_behind next.key rows) rows)
-    ≡ record { key = row.key; rows = row ∷ (next ∷ take (len_behind row.key rows) rows) } ∷ groups (drop (len_behind row.key rows) rows) =
-    ap (λ a. record { key = row.key; rows = row ∷ (next ∷ take (len_behind a rows) rows) } ∷ groups (drop (len_behind a rows) rows)) same in
-    with_row-cons row (record { key = next.key; rows = next ∷ take (len_behind next.key rows) rows }) (groups (drop (len_behind next.key rows) rows)) true e ∙ moved ∙ sym there
-step row next rows false e before =
-    let there : cut row (next ∷ rows) ≡ record { key = row.key; rows = row ∷ [] } ∷ groups (next ∷ rows) =
-    ap (λ n. record { key = row.key; rows = row ∷ take n (next ∷ rows) } ∷ groups (drop n (next ∷ rows))) (len_behind-cons row.key next rows false e) in
-    with_row-cons row (record { key = next.key; rows = next ∷ take (len_behind next.key rows) rows }) (groups (drop (len_behind next.key rows) rows)) false e
-    ∙ ap (λ after. record { key = row.key; rows = row ∷ [] } ∷ after) (sym before) ∙ sym there
+    let same = same_key next.key row.key e in
+    let one : 1 + len_behind row.key rows ≡ suc (len_behind row.key rows) = omega arith in
+    rw (e, one, same) refl
+step row next rows false e before = rw (e, before) refl
 
 pub groups_cut : (row : FindRow) (rows : List FindRow) → groups (row ∷ rows) ≡ cut row rows
 unfolding groups
@@ -100,9 +82,7 @@ pub first_written : (form : KeyForm) (whole text with_rows with_conflict : List 
 first_written form whole text with_rows with_conflict first [] group others n count e len front back counted before rows_e conflict_e = cc
 first_written form whole text with_rows with_conflict first (row ∷ rows) group others n count e len front back counted before rows_e conflict_e =
     let is_first : row ≡ first = cc in
-    let IsLen : FindRow → Type 0 = λ r. n ≡ len_behind first.key (r ∷ rows) in
-    let IsBefore : FindRow → Type 0 = λ r. text ++ groups_lines form (r ∷ rows) ≡ whole in
-    rw (conflict_e, rows_e, counted, front, back, is_first) (next_written form whole text first rows n (subst IsLen is_first len) (subst IsBefore is_first before))
+    rw (conflict_e, rows_e, counted, front, back, is_first) (next_written form whole text first rows n (rw is_first at len) (rw is_first at before))
 
 pub all_written : (form : KeyForm) (whole text : List ℕ) (rows : List FindRow) → None ≡ slice_get rows 0 → text ++ groups_lines form rows ≡ whole → text ≡ whole
 unfolding groups_lines groups

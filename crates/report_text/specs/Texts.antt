@@ -1,5 +1,5 @@
 -- The printed texts of faults.
-use Rattle.std.specs.Prelude.{List, ℕ, ◌++◌, codes, ◌+◌}
+use Rattle.std.specs.Prelude.{List, ℕ, ◌++◌, codes}
 use Rattle.std.specs.Fmt.{decimal}
 use Rattle.macho_image.specs.declared.fault.ImageFault.{ImageFault}
 use Rattle.macho_image.specs.declared.fault.ImageFault.TheVariants.{NotMachO64, HeaderTruncated, CommandsOutside}

@@ -18,22 +18,22 @@ take_part-requires g c =
 
 pub returns-in_err-clone-2-clause-stopped : goal.returns-in_err-clone-2-clause-stopped
 returns-in_err-clone-2-clause-stopped g c =
-    errs _ (stopped_before c.args.universal.now c.args.universal.now c.requires.fat refl c.parts.index _ _ _ c.parts.rows.items c.parts.invariant refl)
+    errs _ (stopped_before c.args.universal.now c.requires.fat c.parts.index _ _ _ c.parts.rows.items c.parts.invariant refl)
 
 pub returns-in_err-row-clause-stopped : goal.returns-in_err-row-clause-stopped
 returns-in_err-row-clause-stopped g c =
-    errs _ (stopped_before c.args.universal.now c.args.universal.now c.requires.fat refl c.parts.index _ _ _ c.parts.rows.items c.parts.invariant c.in_err-row.ensures.refused)
+    errs _ (stopped_before c.args.universal.now c.requires.fat c.parts.index _ _ _ c.parts.rows.items c.parts.invariant c.in_err-row.ensures.refused)
 
 pub returns-in_err-push-clause-stopped : goal.returns-in_err-push-clause-stopped
 returns-in_err-push-clause-stopped g c =
-    errs _ (stopped_behind c.args.universal.now c.args.universal.now c.requires.fat refl c.parts.index c.slice.result.now _ _ _ c.parts.rows.items c.parts.invariant c.slice.ensures.part c.in_ok-row.ensures.content)
+    errs _ (stopped_behind c.args.universal.now c.requires.fat c.parts.index c.slice.result.now _ _ _ c.parts.rows.items c.parts.invariant c.slice.ensures.part c.in_ok-row.ensures.content)
 
 pub returns-clause-content : goal.returns-clause-content
 returns-clause-content g c =
     let all : c.parts.index ≡ c.len-index-end.result = omega arith in
-    all_content c.args.universal.now c.args.universal.now c.requires.fat refl c.parts.index _ _ _ c.parts.invariant (all ∙ c.len-index-end.ensures.number)
+    all_content c.args.universal.now c.requires.fat c.parts.index _ _ _ c.parts.invariant (all ∙ c.len-index-end.ensures.number)
 
 pub returns-clause-rows : goal.returns-clause-rows
 returns-clause-rows g c =
     let all : c.parts.index ≡ c.len-index-end.result = omega arith in
-    all_rows c.args.universal.now c.args.universal.now c.requires.fat refl c.parts.index _ _ _ c.parts.invariant (all ∙ c.len-index-end.ensures.number)
+    all_rows c.args.universal.now c.requires.fat c.parts.index _ _ _ c.parts.invariant (all ∙ c.len-index-end.ensures.number)

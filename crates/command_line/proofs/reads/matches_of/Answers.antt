@@ -2,7 +2,7 @@ use Rattle.std.proofs.Common.{◌∙◌, ap, map, sym}
 use Rattle.clap.specs.Words.{fault_of, is_simple, is_simple_and_free, subcommand_of, takes}
 use Rattle.command_line.specs.Lines.{are_accepted, error_kinds, named_command}
 use Rattle.command_line.proofs.Simple.{symarch_free, symarch_simple}
-use Rattle.command_line.proofs.LineFaultLemmas.{asked_is_help, never_asked, other_is_refusal}
+use Rattle.command_line.proofs.LineFaultLemmas.{asked_is_help, other_is_refusal}
 use Rattle.command_line.proofs.reads.matches_of.Goals as goal
 
 pub returns-in-Ok-clause-ok : goal.returns-in-Ok-clause-ok
@@ -20,10 +20,10 @@ returns-in-Ok-clause-accepted g c =
     ∙ c.in-Ok.ensures.kinds (ap is_simple_and_free is ∙ symarch_free)
 
 pub returns-in-Ok-clause-help : goal.returns-in-Ok-clause-help
-returns-in-Ok-clause-help g c = λ alone. never_asked _ _ (returns-in-Ok-clause-accepted g c) alone
+returns-in-Ok-clause-help g c = λ alone. cc (returns-in-Ok-clause-accepted g c)
 
 pub returns-in-Ok-clause-version : goal.returns-in-Ok-clause-version
-returns-in-Ok-clause-version g c = λ alone. never_asked _ _ (returns-in-Ok-clause-accepted g c) alone
+returns-in-Ok-clause-version g c = λ alone. cc (returns-in-Ok-clause-accepted g c)
 
 pub returns-in-Err-clause-err : goal.returns-in-Err-clause-err
 unfolding are_accepted

@@ -1,4 +1,4 @@
-use Rattle.std.proofs.Common.{◌≡◌, ◌∙◌, List, Option, Some, None, Result, Ok, Err, IfErr, IsErrAnd, IsSome, ap, inl}
+use Rattle.std.proofs.Common.{◌≡◌, ◌∙◌, List, Option, Some, None, IsSome, ap, inl}
 use Rattle.std.proofs.Common.{inr, is_some, map, option_map, refl, subst, sym, true≢false}
 use Rattle.std.specs.Prelude.{option_and_then}
 use Rattle.clap.specs.Words.{Row, Text, found_of, rows_of}
@@ -7,7 +7,6 @@ use Rattle.command_line.specs.LineView.{line_view}
 use Rattle.command_line.specs.Lines.{line_in, named_command}
 use Rattle.command_line.specs.declared.line_faults.LineFault.{LineFault}
 use Rattle.command_line.specs.declared.line_faults.LineFault.TheVariants.{OutOfMemory}
-use Rattle.command_line.specs.declared.lines.Line.{Line}
 use Rattle.command_line.specs.LineFaults.{IsToldFor}
 use Rattle.command_line.proofs.Exactly.{accepted_if_faultless}
 use Rattle.command_line.proofs.LineFaultLemmas.{handed_on, memory_told, out_told, refused_as}
@@ -20,16 +19,6 @@ unnamed : {A : Type 0} (o : Option A) (f : A → Text × List Row) (named : Opti
     → option_map f o ≡ named → ((x : A) → o ≡ Some x → ⊥) → IsSome (option_and_then line_in named) → ⊥
 unnamed None f named is none some = true≢false (sym (ap (λ n. is_some (option_and_then line_in n)) is ∙ some))
 unnamed (Some x) f named is none some = none x refl
-
--- what is handed on as it came
-wanting : (fault : LineFault) (result : Result Line LineFault) → IsErrAnd result (λ e. e ≡ fault) → fault ≡ OutOfMemory
-    → IfErr result (λ e. e ≡ OutOfMemory)
-wanting fault (Ok p) told is = absurd told
-wanting fault (Err e) told is = told ∙ is
-
-told_for : (p : Text × List Row) (named : Option (Text × List Row)) (fault : LineFault) → Some p ≡ named
-    → IsToldFor (Some p) fault → IsToldFor named fault
-told_for p named fault is told = subst (λ n. IsToldFor n fault) is told
 
 nothing_named : {A : Type 0} (o : Option A) (f : A → Text × List Row) (named : Option (Text × List Row))
     (fault : LineFault) → option_map f o ≡ named → ((x : A) → o ≡ Some x → ⊥) → IsToldFor None fault
@@ -56,14 +45,14 @@ returns-in_err-line-clause-err g c = λ accepted ordered.
     let named = c.in-Some.ensures ∙ c.in_ok-matches.ensures.ok in
     let fault = c.in_err-line.ensures.reads.err (subst (λ o. IsSome (option_and_then line_in o)) (sym named)
     (accepted_line (map g.S.AsStr.text c.args.words.now) accepted (both _ _ ordered).0)) in
-    wanting _ _ c.from_residual-in_err-line.ensures.1 fault
+    handed_on (λ e. e ≡ OutOfMemory) _ _ c.from_residual-in_err-line.ensures.1 fault
 
 pub returns-in_err-check_out-clause-err : goal.returns-in_err-check_out-clause-err
 returns-in_err-check_out-clause-err g c = λ accepted ordered.
     let named = c.in-Some.ensures ∙ c.in_ok-matches.ensures.ok in
     let apart = in_order_apart _ _ (c.in_ok-line.ensures.reads.ok ∙ ap (option_and_then line_in) named)
     (both _ _ ordered).1 in
-    wanting _ _ c.from_residual-in_err-check_out.ensures.1
+    handed_on (λ e. e ≡ OutOfMemory) _ _ c.from_residual-in_err-check_out.ensures.1
     (elim c.in_err-check_out.ensures.err [ inl is ↦ is | inr among ↦ absurd (true≢false (sym among ∙ apart)) ])
 
 pub returns-in_default-clause-err : goal.returns-in_default-clause-err
@@ -82,14 +71,14 @@ pub returns-in_err-line-clause-told : goal.returns-in_err-line-clause-told
 returns-in_err-line-clause-told g c = λ _.
     let named = c.in-Some.ensures ∙ c.in_ok-matches.ensures.ok in
     handed_on (IsToldFor (named_command (map g.S.AsStr.text c.args.words.now))) _ _
-    c.from_residual-in_err-line.ensures.1 (told_for _ _ _ named (inl c.in_err-line.ensures.told))
+    c.from_residual-in_err-line.ensures.1 (rw (← named) (inl c.in_err-line.ensures.told))
 
 pub returns-in_err-check_out-clause-told : goal.returns-in_err-check_out-clause-told
 returns-in_err-check_out-clause-told g c = λ _.
     let named = c.in-Some.ensures ∙ c.in_ok-matches.ensures.ok in
     handed_on (IsToldFor (named_command (map g.S.AsStr.text c.args.words.now))) _ _
     c.from_residual-in_err-check_out.ensures.1
-    (told_for _ _ _ named (out_told _ (c.in-Some.name.now, rows_of (found_of c.in-Some.inner.now)) _
+    (rw (← named) (out_told _ (c.in-Some.name.now, rows_of (found_of c.in-Some.inner.now)) _
     c.in_err-check_out.ensures.told))
 
 pub returns-in_default-clause-told : goal.returns-in_default-clause-told

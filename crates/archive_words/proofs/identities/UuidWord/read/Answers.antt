@@ -1,5 +1,4 @@
 use Rattle.std.proofs.Common.{◌≡◌, ◌∙◌, ◌↔◌, refl, List, Option, Some, None, Result, Ok, Err, IfOk, IsOk, ℕ}
-use Rattle.std.proofs.lemmas.Bool.{false≢true}
 use Rattle.std.specs.Result.{result_ok}
 use Rattle.archive_words.proofs.identities.UuidWord.read.Goals as goal
 
@@ -7,7 +6,7 @@ use Rattle.archive_words.proofs.identities.UuidWord.read.Goals as goal
 kept : {E : Type 0} (r : Result (List ℕ) E) (o : Option (List ℕ)) → (IsOk r ↔ ((u : List ℕ) × (o ≡ Some u)))
     → IfOk r (λ u. Some u ≡ o) → result_ok r ≡ o
 kept (Ok u) o found is = is
-kept (Err e) (Some u) found is = absurd (false≢true (found.1 (u, refl)))
+kept (Err e) (Some u) found is = cc (found.1 (u, refl))
 kept (Err e) None found is = refl
 
 pub returns : goal.returns
