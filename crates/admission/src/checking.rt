@@ -1,7 +1,7 @@
 //! Whether a file is accepted, before anything of it is taken.
 ghost use Rattle.std.specs.Prelude.{◌≡◌, ◌≢◌, true, IfOk, IfErr, OnOk, is_some};
 ghost use Rattle.fat_slices.specs.Kind.{kind_of, is_fat};
-ghost use Rattle.archive_core.specs.Valid.{IsValid, IsSliceFault};
+ghost use Rattle.archive_core.specs.Valid.{IsSliceFault};
 ghost use Rattle.archive_core.specs.declared.faults.SliceFault.{SliceFault};
 ghost use Rattle.admission.specs.File.{IsAcceptedFile, IsTakeFault, is_admissible};
 ghost use Rattle.admission.specs.Accepted.{IsAcceptedAs, IsFoundOf};

@@ -1,5 +1,5 @@
 //! Retirements that were read or came, and the slices that they cover.
-ghost use Rattle.std.specs.Prelude.{◌≡◌, ◌≤◌, ◌∷◌, ◌++◌, ℕ, List, [], length, take, true, false, not, OnOk, IfOk};
+ghost use Rattle.std.specs.Prelude.{◌≡◌, ◌∷◌, ◌++◌, ℕ, List, [], length, take, true, false, not, OnOk, IfOk};
 ghost use Rattle.std.specs.Prelude.{OnErr, ◌⊎◌};
 ghost use Rattle.std.specs.FinSet as set;
 ghost use Rattle.std.specs.Ordering.{nat_cmp, is_gt};

@@ -1,7 +1,7 @@
 //! What was called of the system for one output, in order. Only clauses read it: it takes no memory, and its methods do
 //! nothing at run time.
 
-ghost use Rattle.std.specs.Prelude.{◌≡◌, ℕ, List, [], ◌∷◌, ◌++◌};
+ghost use Rattle.std.specs.Prelude.{◌≡◌, List, [], ◌∷◌, ◌++◌};
 ghost use Rattle.std.specs.Borrow.{ftrue};
 ghost use Rattle.archive_files.specs.FileCalls.{FileCall, Creates, Opens, Removes, Renames, Syncs, SyncsFolder, Writes};
 ghost use Rattle.archive_files.specs.FileCalls.{call_of};

@@ -317,7 +317,7 @@ impl<'a, F: Files> OutFile<'a, F> {
 impl<'a, F: Files> Sink for OutFile<'a, F> {
     ghost use Rattle.std.specs.Prelude.{Some};
     ghost use Rattle.std.specs.Io.KnownBytes.{WriteAppends};
-    ghost use Rattle.byte_device.specs.Devices.{CountsFailure, most_failures};
+    ghost use Rattle.byte_device.specs.Devices.{CountsFailure};
 
     ghost held = { λ s. Some (draft_account (is_settled (stage_of s.state)) (option_map string_bytes s.path)
         s.calls.entries) };

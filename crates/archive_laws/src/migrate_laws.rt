@@ -1,6 +1,6 @@
 //! What the definition of `migrate` says in the words of its user. Each law is the contract of a function that does
 //! nothing but call other laws.
-ghost use Rattle.std.specs.Prelude.{◌≡◌, ◌∷◌, [], ℕ, List, Some};
+ghost use Rattle.std.specs.Prelude.{◌≡◌, ◌∷◌, [], ℕ, List};
 ghost use Rattle.std.specs.FinSet as set;
 ghost use Rattle.archive_core.specs.Content.{Operations, IsContent, content_of};
 ghost use Rattle.archive_records.specs.Text.{AreOperations, old_written, written};

@@ -104,6 +104,10 @@ fn put_front<A: Archive, W: Sink>(archive: &A, w: &mut W) -> Result<u128, WriteF
 }
 
 /// Writes the end record behind the first `done` bytes of a text.
+///
+/// # Errors
+///
+/// The writer failed; it has gained the first bytes of the record, and `written` counts the `done` bytes before it too.
 pub fn put_end<W: Sink>(w: &mut W, done: u128, records: u64) -> Result<Sizes, WriteFault>
     requires { done + 9 < 2 ^ 128 }
     ensures puts { Puts W.held W.failures (λ sizes. sizes.bytes) w.old w.new done (end_record records) result }
@@ -163,6 +167,11 @@ pub fn write_summary<W: Sink>(summary: &Summary, w: &mut W) -> Result<Sizes, Wri
 
 /// Writes the record after the first `done.bytes` bytes of a text, unless the summary names it, and says how many
 /// records and bytes there are then.
+///
+/// # Errors
+///
+/// The writer failed; it has gained the first bytes of the record, and `written` counts the `done.bytes` bytes before it
+/// too.
 pub fn put_missing_record<W: Sink>(
     w: &mut W,
     done: Sizes,

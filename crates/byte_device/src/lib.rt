@@ -2,7 +2,7 @@
 //! bytes of one or give it a whole text; and files by their paths, each of which gives bytes.
 #![tactic(auto)]
 
-ghost use Rattle.std.specs.Prelude.{◌≡◌, ℕ, List, Option, Some, IfOk, ◌<◌, ◌≤◌, length};
+ghost use Rattle.std.specs.Prelude.{ℕ, List, Option, IfOk, ◌<◌, ◌≤◌, length};
 ghost use Rattle.std.specs.Io.KnownBytes.{ReadConsumes, WriteAppends};
 ghost use Rattle.byte_device.specs.Devices.{CountsFailure};
 

@@ -1,6 +1,6 @@
 //! Devices over the readers and writers of `std`.
 
-ghost use Rattle.std.specs.Prelude.{◌≡◌, ℕ};
+ghost use Rattle.std.specs.Prelude.{◌≡◌};
 
 use crate::{Failed, Sink, Source};
 use std::io::{self, Read, Write};

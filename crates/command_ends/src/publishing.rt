@@ -1,5 +1,5 @@
 //! The end of each command: OUT, which is put in place, and then the report.
-ghost use Rattle.std.specs.Prelude.{◌≡◌, ◌++◌, ℕ, List, [], length, string_bytes};
+ghost use Rattle.std.specs.Prelude.{◌≡◌, ◌++◌, ℕ, List, length, string_bytes};
 ghost use Rattle.archive_records.specs.Text.{summary_text, written};
 ghost use Rattle.report_text.specs.Report.{archive_line};
 ghost use Rattle.command_ends.specs.Outputs.{Publishes, Reports, Takes, out_of, outs, report_of, summary_report_of};

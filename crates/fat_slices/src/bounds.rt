@@ -1,6 +1,6 @@
 //! What the entries name, tested against the file's end and against the most that a slice may have.
 
-ghost use Rattle.std.specs.Prelude.{◌≡◌, MatchOption};
+ghost use Rattle.std.specs.Prelude.{MatchOption};
 ghost use Rattle.fat_slices.specs.Layout.{nfat_arch};
 ghost use Rattle.fat_slices.specs.Inner.{HasTable, HasNone, IsFirst};
 ghost use Rattle.fat_slices.specs.Fault.{IsOutside, IsTooLarge};

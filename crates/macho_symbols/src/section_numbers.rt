@@ -1,6 +1,5 @@
 //! The sections of an image by the numbers that a symbol can name.
 
-ghost use Rattle.std.specs.Prelude.{◌≡◌};
 ghost use Rattle.macho_symbols.specs.SectionNumbers.{AreByNumber};
 
 use crate::nlist::MAX_SECT;

@@ -1,6 +1,6 @@
 //! The text of operations that stand in memory.
 
-ghost use Rattle.std.specs.Prelude.{◌≡◌, ◌-◌, ◌≤◌, ◌↔◌, ◌++◌, ℕ, List, Some, [], IsTrue, false, length, map, min, drop};
+ghost use Rattle.std.specs.Prelude.{◌≡◌, ◌-◌, ◌≤◌, ◌++◌, Some, [], false, length, map, min};
 ghost use Rattle.std.specs.Prelude.{take};
 ghost use Rattle.std.specs.Prelude.{IfOk, IsOk, ◌≢◌};
 ghost use Rattle.std.specs.Io.KnownBytes.{ReadConsumes};
