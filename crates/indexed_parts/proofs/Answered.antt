@@ -47,11 +47,7 @@ named_of whole now front s gathered size held fits keeps sized long made taken =
 
 -- another length
 pub refused_length : (whole : Option (List ℕ)) (front : List ℕ) (s : Entries) (fault : PlaceFault) → IfSome whole (λ text. IsLengthFault s text fault) → IfSome whole (λ text. IsPartRefused front s text fault)
-refused_length None front s fault h = tt
-refused_length (Some text) front s (Stale None) h = h
-refused_length (Some text) front s (Stale (Some k)) h = absurd h
-refused_length (Some text) front s Device h = tt
-refused_length (Some text) front s OutOfMemory h = tt
+refused_length whole front s fault h = grind arith
 
 -- another record at a place
 pub refused_entry : (whole now : Option (List ℕ)) (front : List ℕ) (s : Entries) (size : ℕ) (fault : PlaceFault) → size < 2 ^ 64 → now ≡ whole → HasSize whole size → IfSome now (λ text. IsEntryFault front s text fault) → IfSome whole (λ text. IsPartRefused front s text fault)
@@ -59,18 +55,11 @@ refused_entry whole now front s size fault fits keeps sized h =
     there whole fault sized (subst (λ (w : Option (List ℕ)). IfSome w (λ text. IsEntryFault front s text fault)) keeps h)
   where
     there : (w : Option (List ℕ)) (f : PlaceFault) → HasSize w size → IfSome w (λ text. IsEntryFault front s text f) → IfSome w (λ text. IsPartRefused front s text f)
-    there None f a t = tt
-    there (Some text) (Stale None) a t = absurd t
-    there (Some text) (Stale (Some k)) a t = (t, omega (arith, a, fits))
-    there (Some text) Device a t = tt
-    there (Some text) OutOfMemory a t = tt
+    there w f a t = grind arith
 
 -- as a fault that is told
 pub told : (whole : Option (List ℕ)) (front : List ℕ) (s : Entries) (fault : PlaceFault) → IfSome whole (λ text. IsPartRefused front s text fault) → IfSome whole (λ text. IsPlaceFault front s text fault)
-told None front s fault h = tt
-told (Some text) front s (Stale e) h = h.0
-told (Some text) front s Device h = tt
-told (Some text) front s OutOfMemory h = tt
+told whole front s fault h = grind arith
 
 -- ---- with the index of this very archive
 

@@ -3,6 +3,7 @@ use Rattle.std.proofs.Common.{◌≡◌, ℕ, ◌+◌, ◌<◌, ◌≤◌, zero,
 use Rattle.std.specs.Prelude.{filter, IfSome, Result, Ok, Err}
 use Rattle.std.specs.List.{AllWithin, AllZip}
 use Rattle.std.proofs.lemmas.List.{append-nil, take_all}
+use Rattle.std.proofs.Math.Seq.{take-nil}
 use Rattle.std.proofs.lemmas.Option.{IfSome_then}
 use Rattle.std.proofs.lemmas.List.Elements.{All-from_recursion, AllZip-push, filter_more}
 use Rattle.std.specs.Ordering.{nat_cmp, eq_by_cmp}
@@ -34,28 +35,23 @@ use Rattle.indexed_parts.proofs.Ordered.{not_second, one_of_two, two_runs}
 module _ (R : List ℕ → List ℕ → Type 0) where
   picked : (p : List ℕ → Bool) (xs : List (List ℕ)) (i : ℕ) (x : List ℕ) (ys : List (List ℕ)) (y : List ℕ) → i < length xs → x ≡ get_or xs i [] → p x ≡ true → AllZip R (filter p (take i xs)) ys → R x y → AllZip R (filter p (take (i + 1) xs)) (ys ++ y ∷ [])
   picked p xs i x ys y lt is passes zip r =
-      let one : cond (p (get_or xs i [])) (get_or xs i [] ∷ []) [] ≡ x ∷ [] = ap (λ (z : List ℕ). cond (p z) (z ∷ []) []) (sym is) ∙ ap (λ (b : Bool). cond b (x ∷ []) []) passes in
-      subst (λ (zs : List (List ℕ)). AllZip R zs (ys ++ y ∷ [])) (sym (filter_more p xs i [] lt ∙ ap (λ (zs : List (List ℕ)). filter p (take i xs) ++ zs) one)) (AllZip-push R (filter p (take i xs)) ys x y zip r)
+      rw (filter_more p xs i [] lt, ← is, passes) (AllZip-push R (filter p (take i xs)) ys x y zip r)
 
 -- where none passes from one place up to another, none more is kept
 past : (p : List ℕ → Bool) (xs : List (List ℕ)) (n m : ℕ) → n ≤ m → AllWithin (λ x. p x ≡ false) xs n m → filter p (take m xs) ≡ filter p (take n xs)
-past p [] zero zero le none = refl
-past p [] zero (suc m) le none = refl
-past p [] (suc n) zero le none = absurd (omega arith)
-past p [] (suc n) (suc m) le none = refl
+past p [] n m le none = rw (take-nil n, take-nil m)
 past p (x ∷ xs) zero zero le none = refl
 past p (x ∷ xs) zero (suc m) le none = rw (none 0 x (omega arith) (omega arith)) (past p xs 0 m (omega arith) (λ k d low high. none (suc k) d (omega arith) (omega arith)))
 past p (x ∷ xs) (suc n) zero le none = absurd (omega arith)
-past p (x ∷ xs) (suc n) (suc m) le none = ap (λ (l : List (List ℕ)). cond (p x) (x ∷ l) l) (past p xs n m (omega arith) (λ k d low high. none (suc k) d (omega arith) (omega arith)))
+past p (x ∷ xs) (suc n) (suc m) le none =
+    rw (past p xs n m (omega arith) (λ k d low high. none (suc k) d (omega arith) (omega arith)))
 
 -- what follows of each text that is known
 pub known : (P : List ℕ → Type 0) (whole : Option (List ℕ)) → ((text : List ℕ) → P text) → IfSome whole P
-known P None f = tt
-known P (Some text) f = f text
+known P whole f = grind arith
 
 pub along_both : (P Q R : List ℕ → Type 0) (whole : Option (List ℕ)) → ((text : List ℕ) → P text → Q text → R text) → IfSome whole P → IfSome whole Q → IfSome whole R
-along_both P Q R None f a b = tt
-along_both P Q R (Some text) f a b = f text a b
+along_both P Q R whole f a b = grind arith
 
 module _ (whole : Option (List ℕ)) (p : List ℕ → Bool) (entries : List (List ℕ)) where
   abbrev Named : ℕ → List (List ℕ) → List ℕ → Type 0
@@ -92,19 +88,15 @@ module _ (whole : Option (List ℕ)) (p : List ℕ → Bool) (entries : List (Li
 partner : (R : List ℕ → List ℕ → Type 0) (p : List ℕ → Bool) (xs ys : List (List ℕ)) (n j : ℕ) → AllZip R (filter p (take n xs)) ys → j < n → j < length xs → p (get_or xs j []) ≡ true → (y : List ℕ) × R (get_or xs j []) y
 partner R p xs ys zero j zip below lt passes = absurd (omega arith)
 partner R p [] ys (suc n) j zip below lt passes = absurd (omega arith)
-partner R p (x ∷ xs) ys (suc n) zero zip below lt passes =
-    first ys (subst (λ (b : Bool). AllZip R (cond b (x ∷ filter p (take n xs)) (filter p (take n xs))) ys) passes zip)
+partner R p (x ∷ xs) ys (suc n) zero zip below lt passes = first ys (rw passes at zip)
   where
     first : (zs : List (List ℕ)) → AllZip R (x ∷ filter p (take n xs)) zs → (y : List ℕ) × R x y
-    first [] z = absurd z
-    first (z ∷ zs) both = (z, both.0)
+    first zs both = grind arith
 partner R p (x ∷ xs) ys (suc n) (suc j) zip below lt passes =
     by (λ zs z. partner R p xs zs n j z (omega arith) (omega arith) passes) (p x) ys zip
   where
     by : ((zs : List (List ℕ)) → AllZip R (filter p (take n xs)) zs → (y : List ℕ) × R (get_or xs j []) y) → (b : Bool) (zs : List (List ℕ)) → AllZip R (cond b (x ∷ filter p (take n xs)) (filter p (take n xs))) zs → (y : List ℕ) × R (get_or xs j []) y
-    by rest true [] z = absurd z
-    by rest true (z ∷ zs) both = rest zs both.1
-    by rest false zs z = rest zs z
+    by rest b zs z = grind arith
 
 -- where no record is that an entry names, and each before it that passes names one
 pub stale_at : (whole now : Option (List ℕ)) (p : List ℕ → Bool) (entries : List (List ℕ)) (i : ℕ) (x : List ℕ) (old new : List (List ℕ)) (fault : PlaceFault) → i < length entries → x ≡ get_or entries i [] → p x ≡ true → now ≡ whole
@@ -126,10 +118,8 @@ stale_at whole now p entries i x old new fault lt is passes keeps before none =
 -- ---- the retirements under a front, and then the admissions
 
 join : (R : List ℕ → List ℕ → Type 0) (xs ys us vs : List (List ℕ)) → AllZip R xs us → AllZip R ys vs → AllZip R (xs ++ ys) (us ++ vs)
-join R [] ys [] vs a b = b
-join R [] ys (u ∷ us) vs a b = absurd a
-join R (x ∷ xs) ys [] vs a b = absurd a
-join R (x ∷ xs) ys (u ∷ us) vs a b = (a.0, join R xs ys us vs a.1 b)
+join R [] ys us vs a b = grind arith
+join R (x ∷ xs) ys us vs a b = grind (arith, join R xs ys)
 
 module _ (whole : Option (List ℕ)) (front : List ℕ) (entries : List (List ℕ)) (are : AreIndexed entries) (n : ℕ) (all : length entries ≤ n) where
   -- together those under it
@@ -209,9 +199,7 @@ module _ (whole : Option (List ℕ)) (front : List ℕ) (entries : List (List �
 module _ {P : Type 0} (whole : P → Option (List ℕ)) (failures : P → ℕ) (old mid new : P) (keeps : whole mid ≡ whole old) (same : failures mid ≡ failures old) where
   -- a fault
   pub refused_behind : {A B : Type 0} (fault : PlaceFault) → (A → B) → A × (whole new ≡ whole mid) × BlamesPlaced failures mid new fault → B × (whole new ≡ whole old) × BlamesPlaced failures old new fault
-  refused_behind (Stale entry) told h = (told h.0, h.1 ∙ keeps, h.2 ∙ same)
-  refused_behind Device told h = (told h.0, h.1 ∙ keeps, rw (← same) h.2)
-  refused_behind OutOfMemory told h = (told h.0, h.1 ∙ keeps, h.2 ∙ same)
+  refused_behind fault told h = grind arith
 
   -- a value or a fault
   pub reads_behind : {T : Type 0} {A B : T → Type 0} (R S : List ℕ → PlaceFault → Type 0) (r : Result T PlaceFault) → ((v : T) → A v → B v) → ((f : PlaceFault) → IfSome (whole mid) (λ text. R text f) → IfSome (whole old) (λ text. S text f))

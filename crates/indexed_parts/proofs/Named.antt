@@ -26,12 +26,7 @@ unfolding placed_bytes
 first_byte e = refl
 
 tag_two : (state : FindState) → state ≢ Retired → tag_byte state ≡ 2
-tag_two Retired other = absurd (other refl)
-tag_two Image other = refl
-tag_two Dsym other = refl
-
-one_two : (n : ℕ) → n ≡ 1 → n ≡ 2 → ⊥
-one_two n a b = omega arith
+tag_two state other = grind arith
 
 -- an entry of no retirement names an admission, which stands at its place
 pub record IsAdmissionAt (text : List ℕ) (e : PlacedEntry) (r : List ℕ) : Type 0 where
@@ -56,7 +51,7 @@ admission_at text e r is offset_fits length_fits other n =
         entry_is = n.entry_is;
         stands = ap (λ (k : ℕ). take (length r) (drop k text)) (sym offsets) ∙ n.stands (ap is_admission a.is);
       }
-      | inr b ↦ absurd (one_two (get_or r 0 0) (ap (λ (t : List ℕ). get_or t 0 0) b.is) tag)
+      | inr b ↦ absurd (omega (arith, ap (λ (t : List ℕ). get_or t 0 0) b.is, tag))
     ]
 
 -- none where fewer bytes stand
@@ -67,11 +62,8 @@ none_short (Some text) number e is offset_fits length_fits other ends = (
   refl,
   λ r n.
       let at = admission_at text e r is offset_fits length_fits other n in
-      omega (arith, at.long, ap length at.stands, length-take (length r) (drop e.offset text), length-drop e.offset text, ends, nonempty_admission at.admits),
+      omega (arith, at.long, ap length at.stands, length-take (length r) (drop e.offset text), length-drop e.offset text, ends, ap length at.admits.is),
 )
-  where
-    nonempty_admission : {r : List ℕ} → Admits r → 0 < length r
-    nonempty_admission {r = r} a = omega (arith, ap length a.is)
 
 -- none where other bytes stand
 pub none_other : (whole : Option (List ℕ)) (number : ℕ) (e : PlacedEntry) (bytes : List ℕ) → IsPlacedEntry (placed_bytes e) → e.offset < 2 ^ 64 → e.length < 2 ^ 64 → e.row.state ≢ Retired → length bytes ≡ e.length → Stands whole e.offset bytes
@@ -106,23 +98,14 @@ named_retirement (Some text) e is offset_fits length_fits retired is_key long =
       entry_is =
           (λ i. (tag_byte (retired i) ∷ (key_bytes e.row.key ++ e.row.digest.0)) ++ (dsym_byte (retired i) ∷ (to_be_bytes w64 e.offset ++ to_be_bytes w64 (n i))))
           ∙ ap (λ (t : List ℕ). t ++ (0 ∷ (to_be_bytes w64 e.offset ++ to_be_bytes w64 (length r)))) (sym (retirement_entry e.row.key e.row.digest.0));
-      stands = λ h. absurd (no_admission h);
+      stands = λ h. cc;
     }
-  where
-    no_admission : false ≡ true → ⊥
-    no_admission h = cc
-
-number_is : (r : List ℕ) (b : Admits r) → from_be_bytes w64 (take 8 (drop 25 r)) ≡ length b.slice
-unfolding slice_length
-number_is r b = (parts-of r b).number
 
 -- an admission's head claims the length of its slice
 pub claims_long : (bytes : List ℕ) (n : ℕ) → Admits bytes → n ≡ from_be_bytes w64 (take 8 (drop 25 bytes)) → eqb n (length bytes - 33) ≡ false → ⊥
+unfolding slice_length
 claims_long bytes n a is fails =
     let p = parts-of bytes a in
-    let number : from_be_bytes w64 (take 8 (drop 25 bytes)) ≡ length a.slice = number_is bytes a in
+    let number : from_be_bytes w64 (take 8 (drop 25 bytes)) ≡ length a.slice = p.number in
     let same : n ≡ length bytes - 33 = omega (arith, is, number, p.long) in
-    unequal (eqb n (length bytes - 33)) (eq-eqb n (length bytes - 33) same) fails
-  where
-    unequal : (b : Bool) → b ≡ true → b ≡ false → ⊥
-    unequal b e f = cc
+    cc (eq-eqb n (length bytes - 33) same)

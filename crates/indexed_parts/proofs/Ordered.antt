@@ -38,7 +38,7 @@ module _ (test : Ordering → Bool) (less : test Less ≡ true) (greater : test 
   passes : (x y w : List ℕ) (r s : Ordering) → order x y ≡ r → order y w ≡ s → (t : Ordering) → ordering_then r t ≡ Less → test s ≡ true → test (order x w) ≡ true
   passes x y w Less Less e f t h g = rw (nat_list_cmp_total.trans x y w e f) less
   passes x y w Less Equal e f t h g = let same = bytes_same y w f in rw (← same, e) less
-  passes x y w Less Greater e f t h g = absurd (true≢false (sym g ∙ greater))
+  passes x y w Less Greater e f t h g = cc
   passes x y w Equal s e f t h g = let same = bytes_same x y e in rw (same, f) g
   passes x y w Greater s e f t h g = cc
 
@@ -85,24 +85,16 @@ along P (x ∷ xs) low high within h k d le lt = subst P (sym (get_or-map_at pla
 
 -- the three tests of a comparison
 eq_of_lt : (r : Ordering) → is_lt r ≡ true → is_eq r ≡ false
-eq_of_lt Less h = refl
-eq_of_lt Equal h = absurd (true≢false (sym h))
-eq_of_lt Greater h = refl
+eq_of_lt r h = grind arith
 
 eq_of_gt : (r : Ordering) → is_le r ≡ false → is_eq r ≡ false
-eq_of_gt Less h = refl
-eq_of_gt Equal h = absurd (true≢false h)
-eq_of_gt Greater h = refl
+eq_of_gt r h = grind arith
 
 eq_of_both : (r : Ordering) → is_lt r ≡ false → is_le r ≡ true → is_eq r ≡ true
-eq_of_both Less h g = absurd (true≢false h)
-eq_of_both Equal h g = refl
-eq_of_both Greater h g = absurd (true≢false (sym g))
+eq_of_both r h g = grind arith
 
 le_of_lt : (r : Ordering) → is_lt r ≡ true → is_le r ≡ true
-le_of_lt Less h = refl
-le_of_lt Equal h = refl
-le_of_lt Greater h = h
+le_of_lt r h = grind arith
 
 -- the two places that a test by halves finds
 pub run_found : (tag : ℕ) (front : List ℕ) (xs : List PlacedEntry) (start stop : ℕ) → AreIndexed (map placed_bytes xs) → start ≤ length xs → stop ≤ length xs
@@ -162,16 +154,10 @@ module _ (front : List ℕ) where
   none_behind x (y ∷ ys) e up = rw (ap (λ (b : Bool). b && is_under front y) (not_before x y e up.0)) (none_behind x ys e up.1)
 
   first_one : (p q u : Bool) (x : List ℕ) (xs ys all : List (List ℕ)) → p ≡ true → q ≡ false → xs ++ ys ≡ all → cond (p && u) (x ∷ xs) xs ++ cond (q && u) (x ∷ ys) ys ≡ cond u (x ∷ all) all
-  first_one true false true x xs ys all e f h = ap (λ (l : List (List ℕ)). x ∷ l) h
-  first_one true false false x xs ys all e f h = h
-  first_one true true u x xs ys all e f h = absurd (true≢false f)
-  first_one false q u x xs ys all e f h = absurd (true≢false (sym e))
+  first_one p q u x xs ys all e f h = grind arith
 
   second_one : (p q u : Bool) (x : List ℕ) (xs ys all : List (List ℕ)) → p ≡ false → q ≡ true → xs ≡ [] → xs ++ ys ≡ all → cond (p && u) (x ∷ xs) xs ++ cond (q && u) (x ∷ ys) ys ≡ cond u (x ∷ all) all
-  second_one false true true x xs ys all e f none h = ap (λ (l : List (List ℕ)). l ++ (x ∷ ys)) none ∙ ap (λ (l : List (List ℕ)). x ∷ l) (sym (ap (λ (l : List (List ℕ)). l ++ ys) none) ∙ h)
-  second_one false true false x xs ys all e f none h = h
-  second_one false false u x xs ys all e f none h = absurd (true≢false (sym f))
-  second_one true q u x xs ys all e f none h = absurd (true≢false e)
+  second_one p q u x xs ys all e f none h = grind arith
 
   -- so the entries under a front are the retirements there, and behind them the admissions
   pub two_runs : (xs : List (List ℕ)) → IsStrictlySortedBy order xs → AllByRecursion IsPlacedEntry xs → filter (is_tagged 1 front) xs ++ filter (is_tagged 2 front) xs ≡ filter (is_under front) xs
