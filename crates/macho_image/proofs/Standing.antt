@@ -39,16 +39,15 @@ records_stand : (image : List ℕ) (count offset : ℕ) (bytes rest : List ℕ) 
     → AllByRecursion (IsSectionOf image) (section_records count offset bytes)
 unfolding section_records section_at section_record
 records_stand image zero offset bytes rest room stands = tt
-records_stand image (suc count) offset bytes rest room stands = (
-  record {
-    stands = ap (section_record offset) stands ∙ section_record-append offset bytes rest (omega arith);
-    room = omega (arith, ap length stands, length-append bytes rest, length-drop offset image);
-  },
-  records_stand image count (offset + 80) (drop 80 bytes) rest (omega (arith, length-drop 80 bytes)) next,
-)
-  where
-    next : drop (offset + 80) image ≡ drop 80 bytes ++ rest
-    next = sym (drop-drop 80 offset image) ∙ ap (drop 80) stands ∙ drop-append-le 80 bytes rest (omega arith)
+records_stand image (suc count) offset bytes rest room stands =
+    let next : drop (offset + 80) image ≡ drop 80 bytes ++ rest =
+    sym (drop-drop 80 offset image) ∙ ap (drop 80) stands ∙ drop-append-le 80 bytes rest (omega arith) in (
+      record {
+        stands = ap (section_record offset) stands ∙ section_record-append offset bytes rest (omega arith);
+        room = omega (arith, ap length stands, length-append bytes rest, length-drop offset image);
+      },
+      records_stand image count (offset + 80) (drop 80 bytes) rest (omega (arith, length-drop 80 bytes)) next,
+    )
 
 -- those of a segment
 sections_in-stand : (image : List ℕ) (segment : SegmentRecord) → IsSegmentOf image segment → AllByRecursion (IsSectionOf image) (sections_in segment)

@@ -32,15 +32,12 @@ front_to area count before after command front = record {
   number = length-append before (command ∷ []);
   each = each_to before front.each;
   rest = concat after ++ front.rest;
-  begins = front.begins ∙ ap (λ s. s ++ front.rest) (concat-append before (command ∷ after)) ∙ moved (concat before) command (concat after) front.rest ∙ ap (λ s. s ++ (concat after ++ front.rest)) (ap (λ s. concat before ++ s) (sym (append-nil command)) ∙ sym (concat-append before (command ∷ [])));
+  begins = front.begins ∙ simp (concat-append, append_assoc, append-nil);
 }
   where
     each_to : (xs : List (List ℕ)) → AllByRecursion IsCommand (xs ++ command ∷ after) → AllByRecursion IsCommand (xs ++ command ∷ [])
     each_to [] h = (h.0, tt)
     each_to (x ∷ xs) h = (h.0, each_to xs h.1)
-
-    moved : (a b c d : List ℕ) → (a ++ (b ++ c)) ++ d ≡ (a ++ b) ++ (c ++ d)
-    moved a b c d = simp append_assoc
 
 -- no command of an image has a fault
 pub command_fault-image : (image : List ℕ) → IsImage image → (before after : List (List ℕ)) (command : List ℕ) → commands image ≡ before ++ command ∷ after
@@ -115,11 +112,10 @@ symtab_of-any image command sound contained symtab =
 
 -- each command of an image has room for what its kind holds
 pub commands-room : (image : List ℕ) → IsImage image → AllByRecursion HasRoom (commands image)
-commands-room image sound = each_room [] (commands image) refl (rw same at sound.sound.1.each)
+commands-room image sound =
+    let same : sound.commands ≡ commands image = sym (first_commands-front (ncmds image) (command_bytes image) sound.commands sound.sound.1) in
+    each_room [] (commands image) refl (rw same at sound.sound.1.each)
   where
-    same : sound.commands ≡ commands image
-    same = sym (first_commands-front (ncmds image) (command_bytes image) sound.commands sound.sound.1)
-
     each_room : (before after : List (List ℕ)) → commands image ≡ before ++ after → AllByRecursion IsCommand after → AllByRecursion HasRoom after
     each_room before [] split h = tt
     each_room before (command ∷ after) split h = (

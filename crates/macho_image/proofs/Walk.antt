@@ -72,8 +72,7 @@ module _ (area : List ℕ) (index : ℕ) (rest : List ℕ) (uuid : Option (List 
       number = length-append reached.before (command ∷ []) ∙ omega (arith, reached.number);
       each = each_more IsCommand reached.before command reached.each whole;
       rest = after;
-      begins = reached.begins ∙ ap (λ s. concat reached.before ++ s) cut ∙ sym (append_assoc (concat reached.before) command after)
-          ∙ ap (λ s. s ++ after) (sym (concat-append reached.before (command ∷ []) ∙ ap (λ s. concat reached.before ++ s) (append-nil command)));
+      begins = reached.begins ∙ ap (λ s. concat reached.before ++ s) cut ∙ simp (concat-append, append_assoc, append-nil);
     }
 
     -- the fault of this command is the first
