@@ -28,11 +28,13 @@ passed : (b : Bool) (kind : IndexFaultKind) (r : Result Bool IndexFaultKind) (x 
 passed b kind r x e = grind arith
 
 -- what the tests of an end record say where none fails
-end_passes : (a b c x : Bool) → cond a (failed Truncated) (cond (not b) (failed BadCount) (cond c (failed Trailing) (done true))) ≡ done x → (b ≡ true) × (c ≡ false) × (x ≡ true)
+end_passes : (a b c x : Bool) → cond a (failed Truncated) (cond (not b) (failed BadCount) (cond c (failed Trailing) (done true))) ≡ done x
+    → (b ≡ true) × (c ≡ false) × (x ≡ true)
 end_passes a b c x e = grind arith
 
 -- and those of an entry
-entry_passes : (a b c d f x : Bool) → cond (not a) (failed BadTag) (cond b (failed Truncated) (cond (not c) (failed BadKind) (cond (not d) (failed BadLength) (cond (not f) (failed NotAscending) (done false))))) ≡ done x
+entry_passes : (a b c d f x : Bool)
+    → cond (not a) (failed BadTag) (cond b (failed Truncated) (cond (not c) (failed BadKind) (cond (not d) (failed BadLength) (cond (not f) (failed NotAscending) (done false))))) ≡ done x
     → (a ≡ true) × (b ≡ false) × (c ≡ true) × (d ≡ true) × (f ≡ true) × (x ≡ false)
 entry_passes a b c d f x e = grind arith
 
@@ -48,7 +50,8 @@ length_part rest = ap (take 8) (drop-take 66 8 rest) ∙ take-take 8 8 (drop 66 
 entry_tested : (last rest : List ℕ) → test_entry last rest ≡ done false → IsNextEntry last rest
 unfolding test_entry
 entry_tested last rest e =
-    let p = entry_passes (has_tag rest) (nat_lt (length rest) 74) (has_kind rest) (has_length rest) (is_lt (slice_cmp nat_cmp last (take 74 rest))) false e in
+    let above = is_lt (slice_cmp nat_cmp last (take 74 rest)) in
+    let p = entry_passes (has_tag rest) (nat_lt (length rest) 74) (has_kind rest) (has_length rest) above false e in
     let long : 74 ≤ length rest = ltb-false (length rest) 74 p.1 in
     let at : (i : ℕ) → i < 74 → get_or (take 74 rest) i 0 ≡ get_or rest i 0 = λ i lt. get_or-take 74 rest i 0 lt in
     let tag = at 0 (omega arith) in
@@ -68,7 +71,8 @@ entry_tested last rest e =
 -- no test of an end record answers that an entry is there
 no_entry : (count : ℕ) (rest : List ℕ) → test_end count rest ≡ done false → ⊥
 unfolding test_end
-no_entry count rest e = cc ((end_passes (nat_lt (length rest) 9) (bytes_eq (take 9 rest) (end_record count)) (nat_lt 9 (length rest)) false e).2)
+no_entry count rest e =
+    cc ((end_passes (nat_lt (length rest) 9) (bytes_eq (take 9 rest) (end_record count)) (nat_lt 9 (length rest)) false e).2)
 
 pub next_entry : (last : List ℕ) (count : ℕ) (rest : List ℕ) → next last count rest ≡ done false → IsNextEntry last rest
 unfolding next
@@ -89,7 +93,9 @@ end_tested count rest e =
 -- nor one of an entry that the end record is
 no_end : (last rest : List ℕ) → test_entry last rest ≡ done true → ⊥
 unfolding test_entry
-no_end last rest e = cc ((entry_passes (has_tag rest) (nat_lt (length rest) 74) (has_kind rest) (has_length rest) (is_lt (slice_cmp nat_cmp last (take 74 rest))) true e).5)
+no_end last rest e =
+    let above = is_lt (slice_cmp nat_cmp last (take 74 rest)) in
+    cc ((entry_passes (has_tag rest) (nat_lt (length rest) 74) (has_kind rest) (has_length rest) above true e).5)
 
 pub next_end : (last : List ℕ) (count : ℕ) (rest : List ℕ) → next last count rest ≡ done true → rest ≡ end_record count
 unfolding next
