@@ -68,7 +68,7 @@ no_fails Operations_file low n more kind few alone unended f = unended (alone re
 no_fails file low n more kind few alone unended f = end_fails file low n (end_record n ++ more) kind (next-ok-grows file low n (end_record n) more 9 (next_end file refl low n (few (λ h. cc)))) (end_more n more) f
 
 -- what is covered stands there
-takes_covered : (records : List (List ℕ)) (rest : List ℕ) → IsCoveredNext records rest → Takes Archive (last_of [] records) rest
+abbrev takes_covered : (records : List (List ℕ)) (rest : List ℕ) → IsCoveredNext records rest → Takes Archive (last_of [] records) rest
 takes_covered records rest c = record { item = c.item; more = c.more; whole = c.whole; is = c.is; above = c.above }
 
 covered_behind : (file : Format) (records : List (List ℕ)) (rest : List ℕ) (kind : RecordFaultKind) → FailsBehind file records rest kind → Takes file (last_of [] records) rest
@@ -80,7 +80,6 @@ covered_kind file records rest kind f = grind arith
 
 -- and no good front goes on with it
 covered_stops : (file : Format) (records : List (List ℕ)) (rest : List ℕ) (kind : RecordFaultKind) → FailsBehind file records rest kind → Goes file records rest → ⊥
-unfolding takes_covered
 covered_stops Archive records rest kind f g =
     let same : f.1.item ≡ g.next.item = one_taken Archive (last_of [] records) rest (takes_covered records rest f.1) g.next in
     covered_apart records f.1.item (subst (λ (x : List ℕ). AreApart Archive (records ++ x ∷ [])) (sym same) g.apart) f.1.covered

@@ -3,10 +3,9 @@ use Rattle.std.proofs.Common.{◌≡◌, ℕ, Bool, true, false, ◌||◌, List,
 use Rattle.std.proofs.lemmas.Bool.Decides.{nat_tests}
 use Rattle.std.proofs.lemmas.Bool.{false≢true}
 use Rattle.sha2.specs.Sha256.{sha256}
-use Rattle.std.specs.Prelude.{is_some}
+use Rattle.std.specs.Prelude.{is_some, Option, None, Some}
 use Rattle.std.specs.Cmp.Lexicographic.{nat_list_cmp_total}
 use Rattle.std.specs.FinSet.{contains, contains-insert}
-use Rattle.std.specs.Prelude.{Option, None, Some}
 use Rattle.macho_image.proofs.Told.{has_header}
 use Rattle.archive_core.specs.declared.slices.SliceFacts.{SliceFacts}
 use Rattle.archive_core.specs.Valid.{IsValid, key_of}

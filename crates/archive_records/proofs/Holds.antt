@@ -4,11 +4,10 @@ use Rattle.std.proofs.lemmas.Bool.Decides.{nat_tests}
 use Rattle.archive_records.specs.declared.fault.RecordFaultKind.{RecordFaultKind}
 use Rattle.archive_records.specs.Layout.{head_length, admission_body, body_length, record_count, largest_slice, framed, framed_behind}
 use Rattle.archive_records.specs.Reader.{seen_as}
-use Rattle.archive_records.specs.Kind.{may_follow}
+use Rattle.archive_records.specs.Kind.{may_follow, admission_length}
 use Rattle.archive_records.specs.Fault.{is_end, tested, next, next_by}
 use Rattle.std.specs.Prelude.{MatchResult}
 use Rattle.archive_records.specs.declared.format.Format.{Format}
-use Rattle.archive_records.specs.Kind.{admission_length}
 
 abbrev pub done : {A : Type 0} → A → Result A RecordFaultKind
 done x = Ok x

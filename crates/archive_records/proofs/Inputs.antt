@@ -5,7 +5,7 @@ use Rattle.std.specs.Prelude.{IfSome, All, map, take}
 use Rattle.std.proofs.lemmas.Option.{IfSome_then}
 use Rattle.std.specs.List.{concat}
 use Rattle.std.specs.Io.KnownBytes.{Consumes, IsAtEnd}
-use Rattle.std.specs.Cmp.Lexicographic.{nat_list_cmp_total}
+use Rattle.std.specs.Cmp.Lexicographic.{nat_list_cmp_total, slice_cmp}
 use Rattle.std.specs.FinSet as set
 use Rattle.join_core.specs.Listing.{listing}
 use Rattle.join_core.proofs.Place.{len_listed}
@@ -37,7 +37,6 @@ use Rattle.archive_records.proofs.Versions.{Formed, formed, formed_content, form
 use Rattle.archive_records.specs.declared.kind.TextKind.{TextKind}
 use Rattle.archive_records.specs.declared.kind.TextKind.TheVariants.{Archive as Archive_text, Operations as Operations_text, Summary as Summary_text}
 use Rattle.std.specs.Ordering.{nat_cmp}
-use Rattle.std.specs.Cmp.Lexicographic.{slice_cmp}
 use Rattle.archive_records.specs.declared.format.Format.{Format}
 use Rattle.archive_records.specs.declared.format.Format.TheVariants.{Archive, OldArchive, Operations as Operations_file, Summary as Summary_file}
 
@@ -145,7 +144,7 @@ module _ (file : Format) where
   record_stop records rest fault known (inr (inr d)) = absurd (known.0 d.0)
 
   -- a fault of the text, behind fewer records than are too many
-  FewFault : List ℕ → RecordFault → Type 0
+  abbrev FewFault : List ℕ → RecordFault → Type 0
   FewFault t fault =
       (IsMagicFault file t fault.kind × (fault.offset ≡ 0))
       ⊎ ((records : List (List ℕ)) × (front : IsGoodFront file t records) × (length records < 2 ^ 63) × IsUnended file front.rest × IsFaultBehind file records front.rest fault)
@@ -167,7 +166,6 @@ module _ (file : Format) where
       ]
 
   stopped_few : (t : List ℕ) (b : Option (List ℕ)) (fault : RecordFault) → HasStoppedIn file (Some t) b fault → (fault.kind ≡ Truncated → IsAtEnd b) → IsOfText fault.kind → FewFault t fault
-  unfolding FewFault
   stopped_few t None fault (inl m) ended known = absurd m.1
   stopped_few t (Some ys) fault (inl m) ended known = inl (grown_magic t m.0 ys fault.kind m.1 ended (magic_stop m.0 fault.kind known m.2), m.3)
   stopped_few t None fault (inr s) ended known = absurd s.1.taken
@@ -179,13 +177,11 @@ module _ (file : Format) where
 
   -- the fault is that of the whole input
   pub fault_in : (t : List ℕ) (b : Option (List ℕ)) (fault : RecordFault) → HasStoppedIn file (Some t) b fault → (fault.kind ≡ Truncated → IsAtEnd b) → IsOfText fault.kind → IsFaultOf file t fault
-  unfolding FewFault
   fault_in t b fault s ended known = elim (stopped_few t b fault s ended known) [ inl m ↦ inl m | inr f ↦ inr (f.0, f.1, f.3, f.4) ]
 
   -- a text is refused by the machine alone
   pub machine_alone : (t : List ℕ) (b : Option (List ℕ)) (xs : List (List ℕ)) (more : List ℕ) (fault : RecordFault) → HasStoppedIn file (Some t) b fault → (fault.kind ≡ Truncated → IsAtEnd b) → InOrder file [] xs → AreApart file xs → t ≡ text_of file xs ++ more
       → (file ≡ Operations_file → more ≡ []) → (fault.kind ≡ Trailing → more ≡ []) → (fault.kind ≡ Device) ⊎ (fault.kind ≡ OutOfMemory)
-  unfolding FewFault
   machine_alone t b xs more fault s ended ordered apart e alone all =
       elim (of_text fault.kind) [
         | inl known ↦ elim (stopped_few t b fault s ended known) [

@@ -48,7 +48,7 @@ grown_over : (last : List ℕ) (b n : Buffer) (m : List ℕ) → b.at ≤ length
 grown_over last b n m le at front o =
     ap (λ (d : Ordering). ordering_then d (slice_cmp nat_cmp (take (length m) (drop b.at last)) m)) o.order
     ∙ sym (cmp_parts (take b.at last) (take (length m) (drop b.at last)) (bytes_so_far b) m (omega (arith, length-take b.at last, length-take b.at b.bytes.items))
-        (λ lt. ap (take (length m)) (drop_of_length-le last (omega (arith, length-take b.at last, length-take b.at b.bytes.items))) ∙ take-nil (length m)))
+    (λ lt. ap (take (length m)) (drop_of_length-le last (omega (arith, length-take b.at last, length-take b.at b.bytes.items))) ∙ take-nil (length m)))
     ∙ ap (λ (t : List ℕ). slice_cmp nat_cmp t (bytes_so_far b ++ m)) (sym (take-add b.at (length m) last) ∙ ap (λ (k : ℕ). take k last) (sym at))
     ∙ ap (slice_cmp nat_cmp (take n.at last)) (sym front)
 

@@ -23,12 +23,11 @@ at_start file text fault e (inl m) = m.0
 at_start file text fault e (inr f) = absurd (behind file f.0 f.1.rest fault e f.3)
 
 module _ (text : List ℕ) where
-  format : Format
+  abbrev format : Format
   format = archive_format text
 
   -- first bytes that are not those of the one magic are not those of another
   no_other : (n : ℕ) → n ≤ 8 → take n text ≢ take n (magic_of format) → (g : Format) → kind_of g ≡ Archive_text → take n text ≢ take n (magic_of g)
-  unfolding format
   no_other n few other g is e = elim (cases_lt n 8) [
     | inl short ↦ other (e ∙ same_fronts g format (is ∙ sym (kind_archive text)) n short)
     | inr long ↦
@@ -39,7 +38,6 @@ module _ (text : List ℕ) where
   ]
 
   pub bad_is : IsFault text (record { kind = BadMagic; offset = 0 }) → (n : ℕ) × (n ≤ 8) × (n ≤ length text) × (take n text ≢ take n magic) × (take n text ≢ take n old_magic)
-  unfolding format
   bad_is f =
       let b = at_start format text (record { kind = BadMagic; offset = 0 }) refl f in
       (b.0, b.1, b.2, no_other b.0 b.1 b.3 Archive refl, no_other b.0 b.1 b.3 OldArchive refl)
@@ -48,15 +46,12 @@ module _ (text : List ℕ) where
   bad_in f is n a b = grind arith
 
   pub is_bad : (n : ℕ) × (n ≤ 8) × (n ≤ length text) × (take n text ≢ take n magic) × (take n text ≢ take n old_magic) → IsFault text (record { kind = BadMagic; offset = 0 })
-  unfolding format
   is_bad b = inl ((b.0, b.1, b.2, bad_in format (kind_archive text) b.0 b.3 b.4), refl)
 
   pub truncated_is : IsFault text (record { kind = Truncated; offset = 0 }) → (length text < 8) × (text ≡ take (length text) magic) × (text ≡ take (length text) old_magic)
-  unfolding format
   truncated_is f =
       let b = at_start format text (record { kind = Truncated; offset = 0 }) refl f in
       (b.0, b.1 ∙ same_fronts format Archive (kind_archive text) (length text) b.0, b.1 ∙ same_fronts format OldArchive (kind_archive text) (length text) b.0)
 
   pub is_truncated : (length text < 8) × (text ≡ take (length text) magic) × (text ≡ take (length text) old_magic) → IsFault text (record { kind = Truncated; offset = 0 })
-  unfolding format
   is_truncated b = inl ((b.0, b.1 ∙ same_fronts Archive format (sym (kind_archive text)) (length text) b.0), refl)

@@ -9,8 +9,8 @@ use Rattle.archive_core.specs.Valid.{IsValid, IsSliceFault, key_of}
 use Rattle.archive_records.specs.declared.format.Format.{Format}
 use Rattle.archive_records.specs.declared.format.Format.TheVariants.{Archive, Operations, Summary}
 use Rattle.archive_records.specs.declared.fault.RecordFaultKind.{RecordFaultKind}
-use Rattle.archive_records.specs.declared.fault.RecordFaultKind.TheVariants.{BadMagic, Truncated, NotAscending, BadSlice}
-use Rattle.archive_records.specs.declared.fault.RecordFaultKind.TheVariants.{KeyMismatch, BadCount, Trailing, Device}
+use Rattle.archive_records.specs.declared.fault.RecordFaultKind.TheVariants.{BadMagic, Truncated, BadSlice, KeyMismatch}
+use Rattle.archive_records.specs.declared.fault.RecordFaultKind.TheVariants.{NotAscending, BadCount, Trailing, Device}
 use Rattle.archive_records.specs.declared.fault.RecordFaultKind.TheVariants.{OutOfMemory, Covered}
 use Rattle.archive_records.specs.declared.fault.RecordFault.{RecordFault}
 use Rattle.archive_records.specs.Layout.{record_count, framed}

@@ -19,8 +19,7 @@ use Rattle.archive_core.specs.Content.{Operations, IsMade, is_covered}
 use Rattle.archive_records.specs.declared.format.Format.{Format}
 use Rattle.archive_records.specs.declared.format.Format.TheVariants.{Archive, OldArchive, Operations as Operations_file}
 use Rattle.archive_records.specs.declared.kind.TextKind.{TextKind}
-use Rattle.archive_records.specs.declared.kind.TextKind.TheVariants.{Archive as Archive_text}
-use Rattle.archive_records.specs.declared.kind.TextKind.TheVariants.{Summary as Summary_text}
+use Rattle.archive_records.specs.declared.kind.TextKind.TheVariants.{Archive as Archive_text, Summary as Summary_text}
 use Rattle.archive_records.specs.declared.buffer.Buffer.{Buffer}
 use Rattle.archive_records.specs.declared.next.NextRecord.{NextRecord}
 use Rattle.archive_records.specs.declared.next.NextRecord.TheVariants.{End, Item}
