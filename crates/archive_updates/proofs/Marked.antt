@@ -1,7 +1,7 @@
 -- Rows that are told again, one after another, by the numbers of those of which the records are.
-use Rattle.std.proofs.Common.{◌≡◌, ◌≢◌, ◌⊎◌, ◌<◌, ℕ, zero, suc, ◌+◌, Bool, true, false, List, [], ◌∷◌, length, get_or, set, Some, slice_get, refl, sym, ap, ◌∙◌, inl, inr, arith}
+use Rattle.std.proofs.Common.{◌≡◌, ◌≢◌, ◌⊎◌, ◌<◌, ℕ, zero, suc, ◌+◌, Bool, false, List, [], ◌∷◌, length, get_or, set, Some, slice_get, refl, sym, ap, ◌∙◌, inl, inr, arith}
 use Rattle.std.specs.List.{AllZip}
-use Rattle.std.proofs.lemmas.Bool.{cases_eq, cases_lt}
+use Rattle.std.proofs.lemmas.Bool.{cases_Bool, cases_eq, cases_lt}
 use Rattle.std.proofs.lemmas.List.{ext_get_or, get_or-set_other, get_or-set_same, length-set}
 use Rattle.std.proofs.lemmas.Option.{get_or_from_slice_get, same_Some, slice_get-get_or, slice_get_within}
 use Rattle.admission.specs.declared.taken.Taken.TheVariants.{Skipped}
@@ -117,15 +117,15 @@ module _ (came : List (List ℕ)) (places : List ℕ) (rows : List AdmitRow) (re
   all_marked f k now marked end =
       ext_get_or no_row now (rows_again f rows records) (marked.long ∙ sym (again_long f rows records)) (λ n lt.
       let inside : n < length rows = omega (arith, lt, marked.long) in
-      by_row n inside (was_added (row_at rows n).taken) refl ∙ sym (again_at f rows records n placed.long inside))
+      by_row n inside ∙ sym (again_at f rows records n placed.long inside))
     where
-      by_row : (n : ℕ) → n < length rows → (added : Bool) → was_added (row_at rows n).taken ≡ added → row_at now n ≡ row_again (f (get_or records n [])) (row_at rows n)
-      by_row n inside true is =
-          let at = placed.each n (row_at rows n) (slice_get-get_or rows n no_row inside) is in
-          let low : at.0 < length places = slice_get_within places at.0 n at.1 in
-          let early : at.0 < k = omega (arith, low, end) in
-          marked.first at.0 n early at.1 inside
-      by_row n inside false is = elim (marked.all n inside) [
-        | inl same ↦ same ∙ sym (row_kept (f (get_or records n [])) (row_at rows n) is)
-        | inr told ↦ told
+      by_row : (n : ℕ) → n < length rows → row_at now n ≡ row_again (f (get_or records n [])) (row_at rows n)
+      by_row n inside = elim (cases_Bool (was_added (row_at rows n).taken)) [
+        | inl is ↦
+            let at = placed.each n (row_at rows n) (slice_get-get_or rows n no_row inside) is in
+            marked.first at.0 n (omega (arith, slice_get_within places at.0 n at.1, end)) at.1 inside
+        | inr is ↦ elim (marked.all n inside) [
+          | inl same ↦ same ∙ sym (row_kept (f (get_or records n [])) (row_at rows n) is)
+          | inr told ↦ told
+        ]
       ]
