@@ -1,5 +1,5 @@
 -- Which fault counts, and that there is one or none.
-use Rattle.std.proofs.Common.{◌≡◌, ℕ, zero, suc, ◌+◌, ◌<◌, ◌≤◌, true, false, List, length, refl, sym, ap, ◌∙◌, ◌⊎◌, inl, inr, arith}
+use Rattle.std.proofs.Common.{◌≡◌, ℕ, zero, suc, ◌+◌, ◌<◌, ◌≤◌, true, false, List, length, refl, sym, ◌⊎◌, inl, inr, arith}
 use Rattle.std.proofs.lemmas.Bool.{cases_lt, cases_order, cases_Bool, true_from_ne_false}
 use Rattle.fat_slices.specs.Kind.{kind_of, is_fat}
 use Rattle.fat_slices.specs.Layout.{nfat_arch, table_end, arch_at}
@@ -103,13 +103,7 @@ small_of file i sound h =
 
 -- faults that apply, of one number and one entry, are one
 same_applied : (file : List ℕ) (f g : FatFault) → number f ≡ number g → entry f ≡ entry g → Applies file f → Applies file g → f ≡ g
-same_applied file NotUniversal NotUniversal n e p q = refl
-same_applied file HeaderTruncated HeaderTruncated n e p q = refl
-same_applied file (TooManyArches x) (TooManyArches y) n e p q = ap TooManyArches (p.0 ∙ sym q.0)
-same_applied file TableTruncated TableTruncated n e p q = refl
-same_applied file (SliceOutside i) (SliceOutside j) n e p q = ap SliceOutside e
-same_applied file (TooLarge i) (TooLarge j) n e p q = ap TooLarge e
-same_applied file f g n e p q = absurd (omega arith)
+same_applied file f g n e p q = grind arith
 
 pub one_fat_fault : (file : List ℕ) (f g : FatFault) → IsFatFault file f → IsFatFault file g → f ≡ g
 one_fat_fault file f g p q = elim (cases_order (number f) (number g)) [

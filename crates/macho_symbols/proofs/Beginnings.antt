@@ -1,7 +1,7 @@
 -- Candidates told apart by the first bytes of their names, and by where these begin.
 use Rattle.std.proofs.Common.{◌≡◌, ◌≢◌, ◌+◌, ◌<◌, ◌≤◌, ◌==◌, ◌&&◌, ◌||◌, ◌⊎◌, inl, inr, ℕ, zero, suc, true, false, not, nat_lt, nat_le, List, [], ◌∷◌, length, take, Option, Some, None, refl, sym, ap, ◌∙◌, arith, length-take}
 use Rattle.std.specs.List.{before_first}
-use Rattle.std.specs.Ordering.{ordering_then, nat_cmp, bool_cmp, is_lt, is_gt, is_eq}
+use Rattle.std.specs.Ordering.{ordering_then, nat_cmp, bool_cmp, is_lt, is_eq}
 use Rattle.std.specs.declared.cmp.Ordering.{Ordering}
 use Rattle.std.specs.declared.cmp.Ordering.TheVariants.{Less, Equal, Greater}
 use Rattle.std.specs.Cmp.{IsTotalOrder, bool_cmp_total}
@@ -31,9 +31,6 @@ cuts_total size =
 then_decides : (p q r o : Ordering) → (q ≡ o → r ≡ o) → ordering_then p q ≡ o → ordering_then p r ≡ o
 then_decides p q r o rest e = grind arith
 
-decided : (o p q : Ordering) → o ≢ Equal → p ≡ o → ordering_then p q ≡ o
-decided o p q h e = grind arith
-
 -- first pieces that differ decide
 pieces_decide : (n : ℕ) (xs ys : List ℕ) (o : Ordering) → o ≢ Equal → slice_cmp nat_cmp (take n xs) (take n ys) ≡ o → slice_cmp nat_cmp xs ys ≡ o
 pieces_decide zero xs ys o h e = absurd (h (sym e))
@@ -44,10 +41,7 @@ pieces_decide (suc n) (x ∷ xs) (y ∷ ys) o h e = then_decides (nat_cmp x y) _
 
 -- so do values, kinds and first pieces of names
 pub beginning_decides : (size : ℕ) (c d : Tuple) (o : Ordering) → o ≢ Equal → beginning_cmp size c d ≡ o → tuple_cmp c d ≡ o
-beginning_decides size c d o h =
-    then_decides (nat_cmp d.value c.value) _ _ o
-    (then_decides (bool_cmp d.external c.external) _ _ o
-    (λ e. decided o (slice_cmp nat_cmp c.name d.name) _ h (pieces_decide size c.name d.name o h e)))
+beginning_decides size c d o h e = grind (arith, pieces_decide size c.name d.name o h)
 
 -- two that these do not tell apart
 pub record IsAlike (size : ℕ) (c d : Tuple) : Type 0 where
@@ -87,10 +81,7 @@ lesser_name : (size : ℕ) (c d : Tuple) → IsAlike size c d → slice_cmp nat_
 lesser_name size c d h e = rw (same_heads c d h.value h.external, e)
 
 lesser_sect : (size : ℕ) (c d : Tuple) → IsAlike size c d → c.name ≡ d.name → c.sect ≤ d.sect → UpTo c d
-lesser_sect size c d h n l = ap is_gt (same_names c d h.value h.external n) ∙ not_greater c.sect d.sect l
-  where
-    not_greater : (m n : ℕ) → m ≤ n → is_gt (nat_cmp m n) ≡ false
-    not_greater m n h = grind (arith, nat_tests)
+lesser_sect size c d h n l = rw (same_names c d h.value h.external n) (grind (arith, nat_tests))
 
 -- first bytes decide where those that they tell not apart have one name
 same_first : (size : ℕ) (c d : Tuple) → (beginning_cmp size c d ≡ Equal → c.name ≡ d.name) → is_lt (cut_cmp size c d) ≡ false → tuple_cmp c d ≢ Less

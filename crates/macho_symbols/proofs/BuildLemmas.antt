@@ -49,13 +49,12 @@ pub cut_next : (rows : List Candidate) (index end : ℕ) → AreSorted rows → 
 cut_next rows index end sorted cut some within beside other i j d l m h = elim (cases_lt i index) [
   | inl k ↦ cut i j d k (omega (arith, some, m)) h
   | inr k ↦
+      let onward : Precedes (slice_index_or rows index d) (slice_index_or rows end d) =
+      elim (sorted index end d some (omega (arith, m, h))) [ inl p ↦ p | inr b ↦ absurd (other d (omega (arith, m, h)) (sym b.0, sym b.1)) ] in
       far (slice_index_or rows i d) (slice_index_or rows index d) (slice_index_or rows end d) (slice_index_or rows j d) (beside i d k l) onward
       (from_end (cases_lt end j))
 ]
   where
-    onward : Precedes (slice_index_or rows index d) (slice_index_or rows end d)
-    onward = elim (sorted index end d some (omega (arith, m, h))) [ inl p ↦ p | inr b ↦ absurd (other d (omega (arith, m, h)) (sym b.0, sym b.1)) ]
-
     from_end : (end < j) ⊎ (j ≤ end) → Precedes (slice_index_or rows end d) (slice_index_or rows j d) ⊎ IsBeside (slice_index_or rows end d) (slice_index_or rows j d)
     from_end (inl k) = sorted end j d k h
     from_end (inr k) =
@@ -171,24 +170,19 @@ group_added strings old items rows kept index end row sorted low high size rest 
     up = omega (arith, some)
 
     onward : drop end items ≡ drop end old
-    onward = ap (λ n. drop n items) (sym up) ∙ sym (drop-drop (end - index) index items) ∙ ap (drop (end - index)) rest ∙ drop-drop (end - index) index old ∙ ap (λ n. drop n old) up
+    onward = cc (up, rest, drop-drop (end - index) index items, drop-drop (end - index) index old)
 
     at_place : (k : ℕ) (d : Candidate) → index ≤ k → slice_index_or rows k d ≡ slice_index_or old k d
     at_place k d l =
         let far : index + (k - index) ≡ k = omega (arith, l) in
-        ap (λ xs. slice_index_or xs k d) same ∙ ap (λ n. slice_index_or items n d) (sym far) ∙ sym (get_or-drop index items (k - index) d)
-        ∙ ap (λ xs. slice_index_or xs (k - index) d) rest ∙ get_or-drop index old (k - index) d ∙ ap (λ n. slice_index_or old n d) far
+        cc (far, same, rest, get_or-drop index items (k - index) d, get_or-drop index old (k - index) d)
 
     beside_old : (k : ℕ) (d : Candidate) → index ≤ k → k < end → IsBeside (slice_index_or old k d) (slice_index_or old index d)
-    beside_old k d l h =
-        subst (λ x. IsBeside x (slice_index_or old index d)) (at_place k d l)
-        (subst (IsBeside (slice_index_or rows k d)) (at_place index d (omega arith)) (beside k d l h))
+    beside_old k d l h = rw (← at_place k d l, ← at_place index d (omega arith)) (beside k d l h)
 
     other_old : (d : Candidate) → end < length old → IsBeside (slice_index_or old end d) (slice_index_or old index d) → ⊥
     other_old d l h =
-        other d (omega (arith, l, long, size))
-        (subst (λ x. IsBeside x (slice_index_or rows index d)) (sym (at_place end d (omega (arith, some))))
-        (subst (IsBeside (slice_index_or old end d)) (sym (at_place index d (omega arith))) h))
+        other d (omega (arith, l, long, size)) (rw (at_place end d (omega (arith, some)), at_place index d (omega arith)) h)
 
 -- the order in which the rows stood at first does not count
 pub firsts_of_sorted : (strings : List ℕ) (rows collected sorted firsts : List Candidate) → ((r : Candidate) → Contains collected r ↔ Contains rows r)

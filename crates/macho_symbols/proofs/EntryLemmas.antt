@@ -1,9 +1,9 @@
 -- Steps over the entries of a symbol table.
-use Rattle.std.proofs.Common.{◌≡◌, ◌≤◌, Option, ℕ, zero, suc, ◌-◌, ◌<◌, List, [], ◌∷◌, take, drop, Some, None, refl, ap, ◌∙◌, ◌*◌, length, slice_get, arith, sub-one, length-take, length-drop}
+use Rattle.std.proofs.Common.{◌≡◌, ◌≤◌, ℕ, zero, suc, ◌-◌, ◌<◌, List, [], ◌∷◌, take, drop, Some, refl, ap, ◌∙◌, ◌*◌, length, slice_get, arith, sub-one, length-take, length-drop}
 use Rattle.std.proofs.lemmas.List.{drop-drop}
-use Rattle.std.specs.List.{AllByRecursion, filter_map, cons_option}
+use Rattle.std.specs.List.{AllByRecursion, filter_map}
 use Rattle.macho_symbols.specs.Nlist.{IsEntry}
-use Rattle.macho_symbols.specs.Symbols.{Tuple, table_of, entries, entries_of, candidate_in, candidates}
+use Rattle.macho_symbols.specs.Symbols.{table_of, entries, entries_of, candidate_in, candidates}
 
 -- none is left
 pub no_entry : (count : ℕ) (bytes : List ℕ) → count ≡ 0 → entries count bytes ≡ []
@@ -39,11 +39,7 @@ entry_at (suc count) bytes (suc i) h =
 -- at most one candidate an entry
 length-candidates_in : (image : List ℕ) (es : List (List ℕ)) → length (filter_map (candidate_in image) es) ≤ length es
 length-candidates_in image [] = omega arith
-length-candidates_in image (e ∷ es) = by_entry (candidate_in image e) (length-candidates_in image es)
-  where
-    by_entry : (o : Option Tuple) → length (filter_map (candidate_in image) es) ≤ length es → length (cons_option o (filter_map (candidate_in image) es)) ≤ length (e ∷ es)
-    by_entry None h = omega arith
-    by_entry (Some c) h = omega arith
+length-candidates_in image (e ∷ es) = grind (arith, length-candidates_in image es)
 
 pub length-candidates : (image : List ℕ) → length (candidates image) ≤ length (entries_of image)
 unfolding candidates

@@ -48,10 +48,7 @@ module _ (image : List ℕ) (extents : List Extent) (are : AreExtents image exte
   -- no section has a greater number
   pub section_past : (number : ℕ) → length extents < number → number < 256 → section_of image number ≡ None
   section_past zero l m = absurd (omega arith)
-  section_past (suc i) l m = by_section (section_of image (suc i)) (extent_at i (omega arith) ∙ slice_get_past extents i (omega arith))
-    where
-      by_section : (o : Option SectionRecord) → option_map extent_of o ≡ None → o ≡ None
-      by_section o h = grind arith
+  section_past (suc i) l m = grind (arith, extent_at i (omega arith), slice_get_past extents i (omega arith))
 
   -- the section of a number stands in the image at the place of its extent
   pub record IsThere (number : ℕ) (extent : Extent) : Type 0 where

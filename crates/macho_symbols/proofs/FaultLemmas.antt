@@ -1,10 +1,9 @@
 -- One symbol fault, or none.
-use Rattle.std.proofs.Common.{◌≡◌, ℕ, ◌+◌, ◌*◌, ◌≤◌, ◌&&◌, List, length, ◌⊎◌, inl, inr, refl, Option, Some, None, arith, nat_lt, cond}
+use Rattle.std.proofs.Common.{◌≡◌, ℕ, ◌*◌, ◌≤◌, List, length, ◌⊎◌, inl, inr, refl, Option, Some, None, arith}
 use Rattle.std.proofs.lemmas.Bool.Decides.{nat_tests}
 use Rattle.macho_symbols.specs.Symbols.{table_of}
 use Rattle.macho_symbols.specs.Fault.{symbol_fault, IsSymbolFault, HasSymbols}
 use Rattle.macho_symbols.specs.declared.fault.SymbolFault.{SymbolFault}
-use Rattle.macho_symbols.specs.declared.fault.SymbolFault.TheVariants.{SymbolsOutside}
 
 pub some_fault : (image : List ℕ) → HasSymbols image ⊎ ((f : SymbolFault) × IsSymbolFault image f)
 some_fault image = by_cases (symbol_fault image) refl
@@ -21,7 +20,4 @@ no_fault image f h k = cc (h.fine, k)
 
 -- the entries lie in the image
 pub symbols_fit : (image : List ℕ) → HasSymbols image → 16 * (table_of image).nsyms ≤ length image
-symbols_fit image h = within (table_of image).symoff (table_of image).nsyms (length image) _ h.fine
-  where
-    within : (at count size : ℕ) (more : Option SymbolFault) → cond (nat_lt 0 count && nat_lt size (at + 16 * count)) (Some SymbolsOutside) more ≡ None → 16 * count ≤ size
-    within at count size more h = grind (arith, nat_tests)
+symbols_fit image h = grind (arith, nat_tests, h.fine)

@@ -1,10 +1,10 @@
 -- Orders of several parts, and the first of some candidates.
-use Rattle.std.proofs.Common.{◌≡◌, ◌≢◌, ◌⊎◌, inl, inr, zero, suc, Bool, true, false, List, [], ◌∷◌, Option, Some, None, Contains, arith, refl, ap, subst, sym, ◌∙◌}
+use Rattle.std.proofs.Common.{◌≡◌, ◌≢◌, ◌⊎◌, inl, inr, zero, suc, Bool, true, List, [], ◌∷◌, Option, Some, None, Contains, arith, refl, ap, subst, sym, ◌∙◌}
 use Rattle.std.specs.Ordering.{ordering_then, is_ne, is_lt}
 use Rattle.std.specs.declared.cmp.Ordering.{Ordering}
 use Rattle.std.specs.declared.cmp.Ordering.TheVariants.{Less}
 use Rattle.std.proofs.lemmas.Cmp.{upto}
-use Rattle.std.proofs.lemmas.Bool.{cond_both}
+use Rattle.std.proofs.lemmas.Bool.{cond_both, cases_Bool}
 use Rattle.macho_symbols.specs.Symbols.{Tuple}
 use Rattle.macho_symbols.specs.Nearest.{tuple_cmp, IsFirst}
 use Rattle.macho_symbols.proofs.Order.{UpTo, tuples_total, upto_itself, not_less, upto_other, upto_less}
@@ -50,7 +50,22 @@ first_of_both P Q (Some f) (Some g) h k =
 -- of the elements of a list that pass a test one is the first, or there is none
 pub first_passing : (passes : Tuple → Bool) (cs : List Tuple) → (found : Option Tuple) × IsFirstOrNone (λ c. Contains cs c × (passes c ≡ true)) found
 first_passing passes [] = (None, λ c h. omega (arith, h.0.1))
-first_passing passes (x ∷ xs) = by_test (passes x) refl (first_passing passes xs)
+first_passing passes (x ∷ xs) =
+    let rest = first_passing passes xs in
+    elim (cases_Bool (passes x)) [
+      | inl e ↦ (
+        first_of_two (Some x) rest.0,
+        first_of_same _ (λ c. Contains (x ∷ xs) c × (passes c ≡ true)) (first_of_two (Some x) rest.0)
+            (λ c h. elim h [ inl i ↦ ((0, omega arith, i.0), ap passes (sym i.0) ∙ e) | inr k ↦ later c k ]) head_or_rest
+            (first_of_both (λ c. (x ≡ c) × (passes x ≡ true)) (λ c. Contains xs c × (passes c ≡ true)) (Some x) rest.0
+            (record { member = (refl, e); first = λ c i. subst (λ y. tuple_cmp y x ≢ Less) i.0 (not_less x x (upto_itself x)) }) rest.1),
+      )
+      | inr e ↦ (
+        rest.0,
+        first_of_same (λ c. Contains xs c × (passes c ≡ true)) (λ c. Contains (x ∷ xs) c × (passes c ≡ true)) rest.0 later
+            (λ c h. elim (head_or_rest c h) [ inl i ↦ absurd (cc (i.1, e)) | inr k ↦ k ]) rest.1,
+      )
+    ]
   where
     later : (c : Tuple) → Contains xs c × (passes c ≡ true) → Contains (x ∷ xs) c × (passes c ≡ true)
     later c h = ((suc h.0.0, omega (arith, h.0.1), h.0.2), h.1)
@@ -58,18 +73,3 @@ first_passing passes (x ∷ xs) = by_test (passes x) refl (first_passing passes 
     head_or_rest : (c : Tuple) → Contains (x ∷ xs) c × (passes c ≡ true) → ((x ≡ c) × (passes x ≡ true)) ⊎ (Contains xs c × (passes c ≡ true))
     head_or_rest c ((zero, l, e), p) = inl (e, ap passes e ∙ p)
     head_or_rest c ((suc k, l, e), p) = inr ((k, omega (arith, l), e), p)
-
-    by_test : (t : Bool) → passes x ≡ t → (found : Option Tuple) × IsFirstOrNone (λ c. Contains xs c × (passes c ≡ true)) found
-        → (found : Option Tuple) × IsFirstOrNone (λ c. Contains (x ∷ xs) c × (passes c ≡ true)) found
-    by_test true e rest = (
-      first_of_two (Some x) rest.0,
-      first_of_same _ (λ c. Contains (x ∷ xs) c × (passes c ≡ true)) (first_of_two (Some x) rest.0)
-          (λ c h. elim h [ inl i ↦ ((0, omega arith, i.0), ap passes (sym i.0) ∙ e) | inr k ↦ later c k ]) head_or_rest
-          (first_of_both (λ c. (x ≡ c) × (passes x ≡ true)) (λ c. Contains xs c × (passes c ≡ true)) (Some x) rest.0
-          (record { member = (refl, e); first = λ c i. subst (λ y. tuple_cmp y x ≢ Less) i.0 (not_less x x (upto_itself x)) }) rest.1),
-    )
-    by_test false e rest = (
-      rest.0,
-      first_of_same (λ c. Contains xs c × (passes c ≡ true)) (λ c. Contains (x ∷ xs) c × (passes c ≡ true)) rest.0 later
-          (λ c h. elim (head_or_rest c h) [ inl i ↦ absurd (cc (i.1, e)) | inr k ↦ k ]) rest.1,
-    )

@@ -1,7 +1,6 @@
 -- Rows in order, cut at a section and an address.
 use Rattle.std.proofs.Common.{◌≡◌, ◌≢◌, ℕ, ◌<◌, ◌≤◌, ◌&&◌, ◌||◌, ◌==◌, true, false, nat_lt, List, length, sym, ap, ◌∙◌, ◌⊎◌, inl, inr, arith, slice_index_or, subst, Contains}
-use Rattle.std.specs.Ordering.{is_lt, ordering_then, nat_cmp}
-use Rattle.std.specs.declared.cmp.Ordering.{Ordering}
+use Rattle.std.specs.Ordering.{is_lt}
 use Rattle.std.specs.declared.cmp.Ordering.TheVariants.{Less}
 use Rattle.std.specs.List.Sorted.{IsPartitionedBy, IsPartitionPoint, IsSortedBy}
 use Rattle.std.specs.Cmp.{IsStrictWeakOrder}
@@ -41,10 +40,7 @@ above_number n a s v e h = grind (arith, nat_tests)
 
 -- a greater value comes first
 greater_first : (c d : Tuple) → c.value < d.value → tuple_cmp c d ≢ Less
-greater_first c d h = above d.value c.value _ h
-  where
-    above : (m n : ℕ) (o : Ordering) → n < m → ordering_then (nat_cmp m n) o ≢ Less
-    above m n o h e = grind (arith, nat_tests)
+greater_first c d h e = grind (arith, nat_tests)
 
 -- the row of the section and the value of a candidate
 record HasRow (strings : List ℕ) (rows : List Candidate) (c : Tuple) : Type 0 where
@@ -84,25 +80,24 @@ module _ (image : List ℕ) (rows : List Candidate) (are : AreRows image rows) w
     pub found_at_place : (e : Candidate) → index < length rows → (slice_index_or rows index e).sect ≡ number
         → IsFirst (λ c. Contains (candidates image) c × (c.sect ≡ number) × (c.value ≤ address)) (tuple_of (strings_of image) (slice_index_or rows index e))
     unfolding tuple_of
-    found_at_place e l s = record {
-      member = (
-        row_to image row (are.members row (Contains-get_or rows index e l)),
-        s,
-        not_above number address row.sect row.value s (point.1 index e (omega arith) l),
-      );
-      first = λ c h. let w = row_of c h.0 in elim (cases_lt index w.at) [
-        | inl k ↦ elim (are.falling index w.at e k w.within) [
-          | inl p ↦ absurd (omega (arith, p, w.sect e, h.1, s))
-          | inr p ↦ greater_first c (tuple_of (strings_of image) row) (omega (arith, p.1, w.value e))
-        ]
-        | inr k ↦
-            let same : w.at ≡ index = omega (arith, k, behind c w e h.1 h.2) in
-            subst (λ i. tuple_cmp c (tuple_of (strings_of image) (slice_index_or rows i e)) ≢ Less) same (w.first e)
-      ];
-    }
-      where
-        row : Candidate
-        row = slice_index_or rows index e
+    found_at_place e l s =
+        let row = slice_index_or rows index e in
+        record {
+          member = (
+            row_to image row (are.members row (Contains-get_or rows index e l)),
+            s,
+            not_above number address row.sect row.value s (point.1 index e (omega arith) l),
+          );
+          first = λ c h. let w = row_of c h.0 in elim (cases_lt index w.at) [
+            | inl k ↦ elim (are.falling index w.at e k w.within) [
+              | inl p ↦ absurd (omega (arith, p, w.sect e, h.1, s))
+              | inr p ↦ greater_first c (tuple_of (strings_of image) row) (omega (arith, p.1, w.value e))
+            ]
+            | inr k ↦
+                let same : w.at ≡ index = omega (arith, k, behind c w e h.1 h.2) in
+                subst (λ i. tuple_cmp c (tuple_of (strings_of image) (slice_index_or rows i e)) ≢ Less) same (w.first e)
+          ];
+        }
 
     pub none_at_end : length rows ≤ index → (c : Tuple) → Contains (candidates image) c × (c.sect ≡ number) × (c.value ≤ address) → ⊥
     none_at_end l c h =

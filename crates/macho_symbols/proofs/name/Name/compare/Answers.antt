@@ -1,7 +1,6 @@
-use Rattle.std.proofs.Common.{◌≡◌, ◌≢◌, ◌∙◌, ◌==◌, ◌<◌, ◌≤◌, ℕ, List, true, false, not, nat_eq, ap, sym, arith, take, drop, length, length-take, length-drop}
+use Rattle.std.proofs.Common.{◌≡◌, ◌≢◌, ◌∙◌, ◌==◌, ◌<◌, ◌≤◌, ℕ, List, true, false, not, nat_eq, ap, sym, arith, take, length, length-take, length-drop}
 use Rattle.std.specs.List.{before_first, position_or_len}
-use Rattle.std.specs.Ordering.{nat_cmp}
-use Rattle.std.specs.Cmp.Lexicographic.{slice_cmp, pointwise, bytes_decides}
+use Rattle.std.specs.Cmp.Lexicographic.{pointwise, bytes_decides}
 use Rattle.std.proofs.lemmas.Bool.{not-true, not-false}
 use Rattle.macho_symbols.proofs.Pieces.{pieces_differ, pieces_same, names_same}
 use Rattle.macho_symbols.proofs.name.Name.compare.Goals as goal
@@ -19,10 +18,15 @@ returns-then-ne c =
     let others = c.pieces.others.now in
     let differ : take size own ≢ take size others =
     λ e. apart _ _ (sym c.ne.ensures ∙ c.if-ne.true) (c.split_piece.ensures.piece ∙ e ∙ sym c.split_piece-in-pieces.ensures.piece) in
-    c.cmp.ensures
-    ∙ ap (λ xs. slice_cmp nat_cmp xs c.before_nul-then-ne.result.now) (c.before_nul.ensures ∙ ap (before_first (λ b. b == 0)) c.split_piece.ensures.piece)
-    ∙ ap (slice_cmp nat_cmp (before_first (λ b. b == 0) (take size own))) (c.before_nul-then-ne.ensures ∙ ap (before_first (λ b. b == 0)) c.split_piece-in-pieces.ensures.piece)
-    ∙ pieces_differ size own others differ ∙ c.pieces.invariant.same
+    cc (
+      pieces_differ size own others differ,
+      c.cmp.ensures,
+      c.before_nul.ensures,
+      c.before_nul-then-ne.ensures,
+      c.split_piece.ensures.piece,
+      c.split_piece-in-pieces.ensures.piece,
+      c.pieces.invariant.same,
+    )
 
 pub returns-then-before_nul-size : goal.returns-then-before_nul-size
 returns-then-before_nul-size c =
@@ -59,9 +63,7 @@ pieces-preserved c =
     let front = c.before_nul-in-pieces.ensures ∙ ap (before_first (λ b. b == 0)) c.split_piece.ensures.piece in
     let long : size ≤ length (before_first (λ b. b == 0) (take size own)) = omega (arith, c.if-before_nul-size.false, ap length front) in
     record {
-      same = ap (λ xs. slice_cmp nat_cmp (before_first (λ b. b == 0) xs) (before_first (λ b. b == 0) c.split_piece-in-pieces.result.1.now)) c.split_piece.ensures.rest
-          ∙ ap (λ ys. slice_cmp nat_cmp (before_first (λ b. b == 0) (drop size own)) (before_first (λ b. b == 0) ys)) c.split_piece-in-pieces.ensures.rest
-          ∙ pieces_same size own others same long ∙ c.pieces.invariant.same;
+      same = cc (pieces_same size own others same long, c.split_piece.ensures.rest, c.split_piece-in-pieces.ensures.rest, c.pieces.invariant.same);
       some = omega (arith, c.min-size.ensures, c.pieces.invariant.some);
       most = omega (arith, c.min-size.ensures);
     }
