@@ -1,17 +1,19 @@
 -- What is among a list, its values and its parts, lists with the same members, and a list put in order.
-use Rattle.std.proofs.Common.{◌≡◌, ◌↔◌, true, List, sym, ◌∙◌, ◌⊎◌, ◌+◌, zero, suc, Bool, false, cond, [], ◌∷◌, map, filter, refl, ap, inl, inr, arith, subst, add-one}
+use Rattle.std.proofs.Common.{◌≡◌, ◌↔◌, ◌<◌, true, List, sym, ◌∙◌, ◌⊎◌, ◌+◌, zero, suc, Bool, false, [], ◌∷◌, length, get_or, map, filter, refl, ap, inl, inr, arith, subst, add-one}
 use Rattle.std.specs.declared.cmp.Ordering.{Ordering}
 use Rattle.std.specs.Ordering.{eq_by_cmp, is_eq, is_lt, on, ordering_reverse}
 use Rattle.std.specs.Cmp.{IsTotalOrder, Equal-is, tied_itself}
 use Rattle.std.specs.List.{Contains, AllByRecursion, IsDistinct, flat_map}
 use Rattle.std.specs.FinSet.{FinSet, from_list, contains, IsAntisymmetric, contains-from_list}
+use Rattle.std.proofs.lemmas.Bool.{cond_both}
 use Rattle.std.proofs.lemmas.Cmp.{eq_by_cmp_equiv}
+use Rattle.std.proofs.lemmas.List.{length-map, get_or-map}
 use Rattle.std.proofs.lemmas.Map.Views.{list_any-from_Contains, Contains-from_any}
 use Rattle.join_core.specs.Listing.{listing}
 use Rattle.join_core.proofs.Listing.{any_listing}
 use Rattle.std.specs.declared.cmp.Ordering.TheVariants.{Less}
 use Rattle.std.specs.List.Sorted.{IsSorted, IsStrictlySortedBy}
-use Rattle.std.proofs.lemmas.List.Elements.{All-from_recursion, recursion_from_All, All-weaker, All-contains, All-contains_itself, All-filter, filter_passes, Contains-append_left, Contains-append_right, Contains-append_cases}
+use Rattle.std.proofs.lemmas.List.Elements.{All-from_recursion, recursion_from_All, All-weaker, All-contains, All-contains_itself, All-filter, filter_passes, Contains-get_or, Contains-append_left, Contains-append_right, Contains-append_cases}
 
 module _ {K : Type 0} {R : K → K → Ordering} (o : IsTotalOrder R) (same : IsAntisymmetric R) where
   one_key : (x y : K) → eq_by_cmp R x y ≡ true → x ≡ y
@@ -62,12 +64,10 @@ module _ {X : Type 0} where
   to_filter p [] a (k, lt, e) t = absurd (omega arith)
   to_filter p (x ∷ xs) a h t = elim (in_cons x xs a h) [
     | inl e ↦ rw (ap p e ∙ t) (subst (Contains (x ∷ filter p xs)) e (in_front x (filter p xs)))
-    | inr there ↦ behind (p x) (to_filter p xs a there t)
+    | inr there ↦
+        let more = to_filter p xs a there t in
+        cond_both (p x) (x ∷ filter p xs) (filter p xs) (λ ys. Contains ys a) (λ _. in_rest x (filter p xs) a more) (λ _. more)
   ]
-    where
-      behind : (b : Bool) → Contains (filter p xs) a → Contains (cond b (x ∷ filter p xs) (filter p xs)) a
-      behind true i = in_rest x (filter p xs) a i
-      behind false i = i
 
   -- what follows from a fact at each element follows along a list
   pub along : (P Q : X → Type 0) → ((x : X) → P x → Q x) → (xs : List X) → AllByRecursion P xs → AllByRecursion Q xs
@@ -103,17 +103,23 @@ module _ {X : Type 0} where
         less : (r s : Ordering) → s ≡ ordering_reverse r → is_lt s ≡ false → is_eq r ≡ false → r ≡ Less
         less r s e low untied = grind arith
 
+    above : (z a : X) (zs : List X) → AllByRecursion (λ w. R z w ≡ Less) zs → Contains zs a → R z a ≡ Less
+    above z a zs all there = All-contains (λ w. R z w ≡ Less) zs a (All-from_recursion (λ w. R z w ≡ Less) zs all) there
+
+    behind : (x y : X) (xs ys : List X) → x ≡ y → AllByRecursion (λ w. R x w ≡ Less) xs → ((a : X) → Contains (x ∷ xs) a → Contains (y ∷ ys) a) → (a : X) → Contains xs a → Contains ys a
+    behind x y xs ys e low to a h = elim (in_cons y ys a (to a (in_rest x xs a h))) [
+      | inl is ↦ absurd (cc (tied_itself o a, above x a xs low h))
+      | inr there ↦ there
+    ]
+
     -- two ascending lists with the same members are one
     pub one_with_members : (xs ys : List X) → IsStrictlySortedBy R xs → IsStrictlySortedBy R ys → ((a : X) → Contains xs a → Contains ys a) → ((a : X) → Contains ys a → Contains xs a) → xs ≡ ys
     unfolding IsStrictlySortedBy
     one_with_members [] [] up_xs up_ys to back = refl
     one_with_members [] (y ∷ ys) up_xs up_ys to back = let none = back y (in_front y ys) in absurd (omega arith)
     one_with_members (x ∷ xs) [] up_xs up_ys to back = let none = to x (in_front x xs) in absurd (omega arith)
-    one_with_members (x ∷ xs) (y ∷ ys) up_xs up_ys to back = λ i. head i ∷ one_with_members xs ys up_xs.1 up_ys.1 to_rest back_rest i
+    one_with_members (x ∷ xs) (y ∷ ys) up_xs up_ys to back = λ i. head i ∷ one_with_members xs ys up_xs.1 up_ys.1 (behind x y xs ys head up_xs.0 to) (behind y x ys xs (sym head) up_ys.0 back) i
       where
-        above : (z a : X) (zs : List X) → AllByRecursion (λ w. R z w ≡ Less) zs → Contains zs a → R z a ≡ Less
-        above z a zs all there = All-contains (λ w. R z w ≡ Less) zs a (All-from_recursion (λ w. R z w ≡ Less) zs all) there
-
         head : x ≡ y
         head = elim (in_cons y ys x (to x (in_front x xs))) [
           | inl e ↦ sym e
@@ -123,33 +129,16 @@ module _ {X : Type 0} where
           ]
         ]
 
-        to_rest : (a : X) → Contains xs a → Contains ys a
-        to_rest a h = elim (in_cons y ys a (to a (in_rest x xs a h))) [
-          | inl e ↦ absurd (cc (tied_itself o a, head, above x a xs up_xs.0 h))
-          | inr there ↦ there
-        ]
-
-        back_rest : (a : X) → Contains ys a → Contains xs a
-        back_rest a h = elim (in_cons x xs a (back a (in_rest y ys a h))) [
-          | inl e ↦ absurd (cc (tied_itself o a, head, above y a ys up_ys.0 h))
-          | inr there ↦ there
-        ]
-
 module _ {X Y : Type 0} where
   -- what is among the values of a function
   pub in_map : (f : X → Y) (xs : List X) (b : Y) → Contains (map f xs) b → (a : X) × Contains xs a × (b ≡ f a)
   in_map f [] b (k, lt, e) = absurd (omega arith)
-  in_map f (x ∷ xs) b h = elim (in_cons (f x) (map f xs) b h) [
-    | inl e ↦ (x, in_front x xs, sym e)
-    | inr there ↦ let one = in_map f xs b there in (one.0, in_rest x xs one.0 one.1, one.2)
-  ]
+  in_map f (x ∷ xs) b (k, lt, e) =
+      let within : k < length (x ∷ xs) = omega (arith, length-map (x ∷ xs) f) in
+      (get_or (x ∷ xs) k x, Contains-get_or (x ∷ xs) k x within, sym e ∙ get_or-map f (x ∷ xs) k x b within)
 
   pub to_map : (f : X → Y) (xs : List X) (a : X) → Contains xs a → Contains (map f xs) (f a)
-  to_map f [] a (k, lt, e) = absurd (omega arith)
-  to_map f (x ∷ xs) a h = elim (in_cons x xs a h) [
-    | inl e ↦ subst (λ y. Contains (f x ∷ map f xs) (f y)) e (in_front (f x) (map f xs))
-    | inr there ↦ in_rest (f x) (map f xs) (f a) (to_map f xs a there)
-  ]
+  to_map f xs a (k, lt, e) = (k, omega (arith, length-map xs f), get_or-map f xs k a (f a) lt ∙ ap f e)
 
   -- what is among the lists that a function gives
   pub in_flat_map : (f : X → List Y) (xs : List X) (b : Y) → Contains (flat_map f xs) b → (a : X) × Contains xs a × Contains (f a) b

@@ -39,7 +39,9 @@ begins_below zero x y h = refl
 begins_below (suc n) [] [] h = refl
 begins_below (suc n) [] (b ∷ bs) h = refl
 begins_below (suc n) (a ∷ ass) [] h = absurd cc
-begins_below (suc n) (a ∷ ass) (b ∷ bs) h = below (nat_cmp a b) (nat_cmp b a) (order ass bs) (order (take n bs) (take n ass)) (nat_cmp_total.antisymm b a) h (begins_below n ass bs)
+begins_below (suc n) (a ∷ ass) (b ∷ bs) h =
+    below (nat_cmp a b) (nat_cmp b a) (order ass bs) (order (take n bs) (take n ass)) (nat_cmp_total.antisymm b a) h
+    (begins_below n ass bs)
   where
     below : (p q r s : Ordering) → q ≡ ordering_reverse p → ordering_then p r ≡ Less → (r ≡ Less → is_lt s ≡ false) → is_lt (ordering_then q s) ≡ false
     below p q r s turned h rest = grind arith
@@ -79,7 +81,8 @@ zeros_least [] [] long zero_each = refl
 zeros_least [] (b ∷ bs) long zero_each = refl
 zeros_least (a ∷ ass) [] long zero_each = absurd (omega (arith, long))
 zeros_least (a ∷ ass) (b ∷ bs) long zero_each =
-    first (order ass bs) (and_left (a == 0) _ zero_each) (zeros_least ass bs (omega (arith, long)) (and_right (a == 0) _ zero_each))
+    first (order ass bs) (and_left (a == 0) _ zero_each)
+    (zeros_least ass bs (omega (arith, long)) (and_right (a == 0) _ zero_each))
   where
     first : (r : Ordering) → (a == 0) ≡ true → is_gt r ≡ false → is_gt (ordering_then (nat_cmp a b) r) ≡ false
     first r none rest = grind (arith, nat_tests)

@@ -24,7 +24,9 @@ module _ {K : Type 0} {R : K → K → Ordering} (o : IsTotalOrder R) (same : Is
   -- a key goes into either part of a union
   union_either : (s t : FinSet R) (k : K) → union (insert s k) t ≡ union s (insert t k)
   union_either s t k = same_set o same _ _ (λ q.
-      grind (arith, contains-union o (insert s k) t q, contains-insert o s k q, contains-union o s (insert t k) q, contains-insert o t k q))
+      let left = contains-union o (insert s k) t q in
+      let right = contains-union o s (insert t k) q in
+      grind (arith, left, right, contains-insert o s k q, contains-insert o t k q))
 
   -- putting in keys, one after another, gives the union with their set
   pub inserts_are_union : (s : FinSet R) (ks : List K) → fold insert s ks ≡ union s (from_list ks)

@@ -10,12 +10,11 @@ use Rattle.archive_core.specs.declared.faults.SliceFault.TheVariants.{Image, Sym
 use Rattle.archive_core.proofs.laws.one_slice_fault.Goals as goal
 
 module _ (image_some : (bytes : List ℕ) → IsImage bytes ⊎ ((f : ImageFault) × IsImageFault bytes f)) (image_one : (bytes : List ℕ) (f g : ImageFault) → IsImageFault bytes f → IsImageFault bytes g → f ≡ g) (image_none : (bytes : List ℕ) (f : ImageFault) → IsImage bytes → IsImageFault bytes f → ⊥) (symbols_some : (image : List ℕ) → HasSymbols image ⊎ ((f : SymbolFault) × IsSymbolFault image f)) (symbols_one : (image : List ℕ) (f g : SymbolFault) → IsSymbolFault image f → IsSymbolFault image g → f ≡ g) (symbols_none : (image : List ℕ) (f : SymbolFault) → HasSymbols image → IsSymbolFault image f → ⊥) where
-  with_symbols : (bytes : List ℕ) → IsImage bytes → HasSymbols bytes ⊎ ((f : SymbolFault) × IsSymbolFault bytes f) → IsValid bytes ⊎ ((f : SliceFault) × IsSliceFault bytes f)
-  with_symbols bytes image (inl symbols) = inl (record { image = image; symbols = symbols })
-  with_symbols bytes image (inr faulty) = inr (Symbols faulty.0, (image, faulty.1))
-
   some : (bytes : List ℕ) → IsImage bytes ⊎ ((f : ImageFault) × IsImageFault bytes f) → IsValid bytes ⊎ ((f : SliceFault) × IsSliceFault bytes f)
-  some bytes (inl image) = with_symbols bytes image (symbols_some bytes)
+  some bytes (inl image) = elim (symbols_some bytes) [
+    | inl symbols ↦ inl (record { image = image; symbols = symbols })
+    | inr faulty ↦ inr (Symbols faulty.0, (image, faulty.1))
+  ]
   some bytes (inr faulty) = inr (Image faulty.0, faulty.1)
 
   one : (bytes : List ℕ) (f g : SliceFault) → IsSliceFault bytes f → IsSliceFault bytes g → f ≡ g

@@ -1,8 +1,7 @@
-use Rattle.std.proofs.Common.{ℕ, List, [], ◌∷◌, ◌++◌, not, sym, ap, ◌∙◌}
+use Rattle.std.proofs.Common.{[], ◌∷◌, ◌++◌, not, sym, ap, ◌∙◌}
 use Rattle.std.specs.FinSet as set
 use Rattle.std.specs.FinSet.{from_list_push}
-use Rattle.std.specs.Ordering.{nat_cmp}
-use Rattle.std.specs.Cmp.Lexicographic.{slice_cmp, nat_list_cmp_total}
+use Rattle.std.specs.Cmp.Lexicographic.{nat_list_cmp_total}
 use Rattle.join_core.proofs.Place.{insert_present}
 use Rattle.archive_core.proofs.Made.{bytes_same}
 use Rattle.archive_core.proofs.Retired.{first_more, held_by, in_first, in_second, inserted, second_more}
@@ -22,8 +21,8 @@ returns-in_default-clause-first c =
 pub returns-then-at-len-clause-kept : goal.returns-then-at-len-clause-kept
 returns-then-at-len-clause-kept c =
     let keys = c.self.inside.others.keys in
-    second_more c.self.inside.ascending.items keys c.insert.new.self.keys c.args.retirement (inserted keys c.insert.new.self.keys c.args.retirement c.in_ok-insert.ensures.updates.0)
-    ∙ ap (λ (t : List (List ℕ)). set.insert (set.from_list {R = slice_cmp nat_cmp} t) c.args.retirement) c.self.view_is
+    let more = inserted keys c.insert.new.self.keys c.args.retirement c.in_ok-insert.ensures.updates.0 in
+    rw (← c.self.view_is) (second_more c.self.inside.ascending.items keys c.insert.new.self.keys c.args.retirement more)
 
 pub returns-then-at-len-clause-first : goal.returns-then-at-len-clause-first
 returns-then-at-len-clause-first c =
@@ -46,10 +45,9 @@ returns-then-contains-clause-first c =
 pub returns-clause-kept : goal.returns-clause-kept
 returns-clause-kept c =
     let items = c.self.inside.ascending.items in
-    let keys = c.self.inside.others.keys in
-    ap (λ (t : List (List ℕ)). set.from_list {R = slice_cmp nat_cmp} (t ++ keys)) c.in_ok-push.ensures.items
-    ∙ first_more items keys (items ++ c.args.retirement ∷ []) c.args.retirement (from_list_push nat_list_cmp_total bytes_same items c.args.retirement)
-    ∙ ap (λ (t : List (List ℕ)). set.insert (set.from_list {R = slice_cmp nat_cmp} t) c.args.retirement) c.self.view_is
+    let more = from_list_push nat_list_cmp_total bytes_same items c.args.retirement in
+    rw (c.in_ok-push.ensures.items, ← c.self.view_is)
+    (first_more items c.self.inside.others.keys (items ++ c.args.retirement ∷ []) c.args.retirement more)
 
 pub returns-clause-first : goal.returns-clause-first
 returns-clause-first c =
