@@ -4,10 +4,8 @@ use Rattle.std.proofs.lemmas.List.{get_or_append_left, drop-append-le, take-appe
 use Rattle.std.specs.Int.{w64, from_be_bytes}
 use Rattle.std.proofs.lemmas.Bool.Decides.{nat_tests}
 use Rattle.std.proofs.lemmas.Bool.{le-ltb, lt-ltb}
-use Rattle.archive_records.specs.declared.fault.RecordFaultKind.{RecordFaultKind}
 use Rattle.archive_records.specs.declared.fault.RecordFaultKind.TheVariants.{Truncated, BadTag, TooLarge}
 use Rattle.archive_records.specs.Layout.{head_length, admission_body, body_length, slice_length, largest_slice, framed, framed_behind}
-use Rattle.archive_records.specs.Reader.{seen_as}
 use Rattle.archive_records.specs.Kind.{admission_length}
 use Rattle.archive_records.specs.declared.format.Format.{Format}
 use Rattle.archive_records.specs.declared.format.Format.TheVariants.{Archive, OldArchive, Operations, Summary}
@@ -57,9 +55,6 @@ module _ (file : Format) where
       grind (arith, nat_tests)
 
   -- a part of a record that came
-
-  pub seen : (kind : RecordFaultKind) (bytes : List ℕ) → seen_as kind ≡ Truncated → framed file bytes ≡ Err Truncated → framed file bytes ≡ Err (seen_as kind)
-  seen kind bytes s e = rw s e
 
   module _ (bytes more grown : List ℕ) (head : ℕ) (grows : grown ≡ bytes ++ more) (le : 1 ≤ length bytes) (h : head_length file (get_or bytes 0 0) ≡ Some head) where
     pub tag_kept : head_length file (get_or grown 0 0) ≡ Some head

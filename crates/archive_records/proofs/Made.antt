@@ -1,5 +1,5 @@
 -- What was made of the records of a text that was read, and what the text says.
-use Rattle.std.proofs.Common.{◌≡◌, ℕ, List, [], ◌++◌, length, map, Option, Result, Ok, Err, refl, sym, ap, ◌∙◌, subst, arith, inl, inr}
+use Rattle.std.proofs.Common.{◌≡◌, ℕ, List, [], ◌++◌, length, Option, Result, Ok, Err, refl, sym, ap, ◌∙◌, subst, arith, inl, inr}
 use Rattle.std.proofs.Math.ListN.{length-map}
 use Rattle.std.specs.List.{concat}
 use Rattle.std.specs.Io.KnownBytes.{Consumes, IsAtEnd}
@@ -45,16 +45,13 @@ pub read_to : {T : Type 0} {Makes : List (List ℕ) → T → Type 0} {a b : Opt
 read_to m = record { format = m.format; kind_is = m.kind_is; records = m.records; few = m.few; taken = m.taken; ordered = m.ordered; apart = m.apart; makes = refl }
 
 module _ {T : Type 0} (Makes : List (List ℕ) → T → Type 0) (a b : Option (List ℕ)) (value : T) (end : IsAtEnd b) where
-  made_by : (rs ss : List (List ℕ)) → ss ≡ rs → Makes rs value → Makes ss value
-  made_by rs ss e m = subst (λ (xs : List (List ℕ)). Makes xs value) (sym e) m
-
   pub says : (file : TextKind) → IsGathered file Makes a b value → Says file Makes a b value
   says Archive_text m =
       let read = read_to m in
       record {
         meaning = set_of (taken_of m.format m.records);
         is = IsReadTo-content a b (set_of (taken_of m.format m.records)) read;
-        makes = made_by (taken_of m.format m.records) (listing (set_of (taken_of m.format m.records))) (taken_listing m.format m.kind_is m.records m.ordered) m.makes;
+        makes = subst (λ (xs : List (List ℕ)). Makes xs value) (sym (taken_listing m.format m.kind_is m.records m.ordered)) m.makes;
         said = read;
       }
   says Operations_text m =
@@ -64,7 +61,7 @@ module _ {T : Type 0} (Makes : List (List ℕ) → T → Type 0) (a b : Option (
       record {
         meaning = xs.0;
         is = xs.1;
-        makes = made_by m.records (map record_bytes xs.0) xs.2 (subst (λ (f : Format). Makes (taken_of f m.records) value) form m.makes);
+        makes = subst (λ (rs : List (List ℕ)). Makes rs value) (sym xs.2) (subst (λ (f : Format). Makes (taken_of f m.records) value) form m.makes);
         said = record {
           few = omega (arith, sym (length-map xs.0 record_bytes) ∙ ap length xs.2);
           taken = subst (λ (rs : List (List ℕ)). Consumes a b (text_of Operations_file rs)) (sym xs.2) (subst (λ (f : Format). Consumes a b (text_of f m.records)) form m.taken);
@@ -78,7 +75,7 @@ module _ {T : Type 0} (Makes : List (List ℕ) → T → Type 0) (a b : Option (
       record {
         meaning = set_of m.records;
         is = AreEntries-entries m.records ordered;
-        makes = made_by m.records (listing (set_of m.records)) (listing_ascending nat_list_cmp_total bytes_same m.records (sorted-entries [] m.records ordered).1) (subst (λ (f : Format). Makes (taken_of f m.records) value) form m.makes);
+        makes = subst (λ (xs : List (List ℕ)). Makes xs value) (sym (listing_ascending nat_list_cmp_total bytes_same m.records (sorted-entries [] m.records ordered).1)) (subst (λ (f : Format). Makes (taken_of f m.records) value) form m.makes);
         said = subst (IsReadTo Summary_text a b) (ap (λ (f : Format). set_of (taken_of f m.records)) form) (read_to m);
       }
 

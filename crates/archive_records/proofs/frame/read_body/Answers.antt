@@ -4,7 +4,7 @@ use Rattle.byte_device.proofs.Known.{Consumes-none}
 use Rattle.archive_records.specs.declared.fault.RecordFaultKind.{RecordFaultKind}
 use Rattle.archive_records.specs.declared.fault.RecordFaultKind.TheVariants.{Truncated}
 use Rattle.archive_records.specs.Layout.{body_length, framed, largest_slice}
-use Rattle.archive_records.proofs.Framed.{seen, framed-large, grown-body, grown-whole}
+use Rattle.archive_records.proofs.Framed.{framed-large, grown-body, grown-whole}
 use Rattle.archive_records.specs.declared.buffer.Buffer.{Buffer}
 use Rattle.archive_records.specs.Reader.{IsHead, bytes_so_far, seen_as}
 use Rattle.archive_records.specs.declared.format.Format.{Format}
@@ -33,7 +33,7 @@ last file (Ok u) more a b head n long within is grows h small came =
 last file (Err kind) more a b head n long within is grows h small came =
     let l : length (bytes_so_far a) ≡ head = length-bytes_so_far a long ∙ h.at_is in
     let k : length (bytes_so_far b) ≡ b.at = length-bytes_so_far b within in
-    seen file kind (bytes_so_far b) came.1 (grown-body file (bytes_so_far a) more (bytes_so_far b) head grows (omega (arith, h.long)) h.tag (omega arith) (omega arith) (omega (arith, h.at_is, came.0)))
+    rw came.1 (grown-body file (bytes_so_far a) more (bytes_so_far b) head grows (omega (arith, h.long)) h.tag (omega arith) (omega arith) (omega (arith, h.at_is, came.0)))
 
 pub returns-clause-framed : goal.returns-clause-framed
 returns-clause-framed g c =

@@ -1,6 +1,6 @@
 use Rattle.std.proofs.Common.{arith, sym}
 use Rattle.archive_records.proofs.Blamed.{blames_behind, failed, text_blames}
-use Rattle.archive_records.proofs.Framed.{seen, framed-empty, framed-bad, grown-head, tag_kept}
+use Rattle.archive_records.proofs.Framed.{framed-empty, framed-bad, grown-head, tag_kept}
 use Rattle.archive_records.specs.declared.fault.RecordFaultKind.TheVariants.{BadTag}
 use Rattle.archive_records.specs.Reader.{bytes_so_far}
 use Rattle.archive_records.proofs.Laid.{Fills-then, length-bytes_so_far}
@@ -12,7 +12,7 @@ returns-in_err-fill g c =
     let came = c.in_err-fill.ensures.came in
     rw (failed c.from_residual.result c.in_err-fill.field-0.0 c.from_residual.ensures.1) (record {
       fills = c.fill.ensures.fills;
-      head = seen c.args.file _ (bytes_so_far b) came.1 (framed-empty c.args.file (bytes_so_far b) (omega (arith, length-bytes_so_far b c.fill.ensures.fills.within, came.0, c.requires)));
+      head = rw came.1 (framed-empty c.args.file (bytes_so_far b) (omega (arith, length-bytes_so_far b c.fill.ensures.fills.within, came.0, c.requires)));
       reader = c.in_err-fill.ensures.reader;
     })
 
@@ -36,7 +36,7 @@ returns-in_err-fill-2 g c =
     let y = length-bytes_so_far d fills.within in
     rw (failed c.from_residual-in_err-fill-2.result c.in_err-fill-2.field-0.0 c.from_residual-in_err-fill-2.ensures.1) (record {
       fills = Fills-then c.fill.ensures.fills fills;
-      head = seen c.args.file _ (bytes_so_far d) came.1
+      head = rw came.1
           (grown-head c.args.file (bytes_so_far b) fills.more (bytes_so_far d) c.in-Some.head fills.grows (omega (arith, x)) (rw (← c.deref.ensures.value) (sym c.in-Some.ensures.value)) (omega (arith, x, y, came.0, c.requires)));
       reader = blames_behind g.R.Source.left g.R.Source.failures c.args.r.now c.fill.new.r c.fill-2.new.r c.in_ok-fill.ensures.reader _ c.in_err-fill-2.ensures.reader;
     })
