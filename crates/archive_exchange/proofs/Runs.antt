@@ -8,7 +8,7 @@ use Rattle.std.specs.Option.{IsSomeAnd}
 use Rattle.archive_core.specs.Content.{Operations, IsContent}
 use Rattle.archive_core.specs.Record.{IsRecord}
 use Rattle.archive_records.specs.Text.{written}
-use Rattle.exchange_model.specs.World.{Event, Take, Retire, Full, Ask, Reply, Deliver, Save, Stop, Outcome, site_of, outcome, start, state, outcomes}
+use Rattle.exchange_model.specs.World.{Event, Take, Retire, Full, Ask, Reply, Deliver, Save, Stop, site_of, outcome, start, state, outcomes}
 use Rattle.exchange_model.specs.Reached.{is_accepted, senders}
 use Rattle.exchange_model.specs.Issued.{issues, AreRecords}
 use Rattle.exchange_model.proofs.Between.{and_left}

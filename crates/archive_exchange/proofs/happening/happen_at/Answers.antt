@@ -2,7 +2,7 @@ use Rattle.archive_exchange.proofs.Recorded.{recorded_by, retire_ok, on_ok}
 use Rattle.archive_exchange.proofs.happening.happen_at.Goals as goal
 
 pub returns-in-Take-clause-recorded : goal.returns-in-Take-clause-recorded
-returns-in-Take-clause-recorded g c = on_ok _ c.take.result (λ seen. recorded_by c.args.event.now seen (λ s k d e. cc (c.in-Take.is, e)))
+returns-in-Take-clause-recorded g c = on_ok _ c.take.result (λ seen. recorded_by c.args.event.now seen (λ s k d e. cc))
 
 pub returns-in-Full-clause-recorded : goal.returns-in-Full-clause-recorded
 returns-in-Full-clause-recorded g c = on_ok _ c.full.result (λ seen. recorded_by c.args.event.now seen (λ s k d e. cc (c.in-Full.is, e)))
@@ -11,10 +11,10 @@ pub returns-in-Ask-clause-recorded : goal.returns-in-Ask-clause-recorded
 returns-in-Ask-clause-recorded g c = on_ok _ c.ask.result (λ seen. recorded_by c.args.event.now seen (λ s k d e. cc (c.in-Ask.is, e)))
 
 pub returns-in-Reply-clause-recorded : goal.returns-in-Reply-clause-recorded
-returns-in-Reply-clause-recorded g c = on_ok _ c.reply.result (λ seen. recorded_by c.args.event.now seen (λ s k d e. cc (c.in-Reply.is, e)))
+returns-in-Reply-clause-recorded g c = on_ok _ c.reply.result (λ seen. recorded_by c.args.event.now seen (λ s k d e. cc))
 
 pub returns-in-Deliver-clause-recorded : goal.returns-in-Deliver-clause-recorded
-returns-in-Deliver-clause-recorded g c = on_ok _ c.deliver.result (λ seen. recorded_by c.args.event.now seen (λ s k d e. cc (c.in-Deliver.is, e)))
+returns-in-Deliver-clause-recorded g c = on_ok _ c.deliver.result (λ seen. recorded_by c.args.event.now seen (λ s k d e. cc))
 
 pub returns-in-Save-clause-recorded : goal.returns-in-Save-clause-recorded
 returns-in-Save-clause-recorded g c = on_ok _ c.save.result (λ seen. recorded_by c.args.event.now seen (λ s k d e. cc (c.in-Save.is, e)))
