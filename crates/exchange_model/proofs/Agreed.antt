@@ -28,15 +28,16 @@ module _ {F : Type 0} (sites : ℕ) (events : List (Event F)) where
   idle_at n None h = (refl, refl)
   idle_at n (Some e) h = (refl, refl)
 
+  idle_here : (n i : ℕ) → (is_changing (slice_get events n) && i == site_or (slice_get events n)) ≡ false → is_of sites events i n ≡ true
+      → (is_stop (slice_get events n) ≡ false) × (given sites events (holding sites events) n (slice_get events n) ≡ set.empty)
+  idle_here n i h of_i = idle_at n (slice_get events n) (still _ _ _ of_i h)
+
   idle : (n i : ℕ) → (is_changing (slice_get events n) && i == site_or (slice_get events n)) ≡ false → holding sites events (suc n) i ≡ holding sites events n i
   idle n i h =
-      let both : is_of sites events i n ≡ true → (is_stop (slice_get events n) ≡ false) × (given sites events (holding sites events) n (slice_get events n) ≡ set.empty) =
-      λ of_i. idle_at n (slice_get events n) (still _ _ _ of_i h) in
-      let none : gift sites events n i ≡ set.empty = cond_both (is_of sites events i n) _ _ (λ g. g ≡ set.empty) (λ of_i. (both of_i).1) (λ _. refl) in
+      let none : gift sites events n i ≡ set.empty =
+      cond_both (is_of sites events i n) _ _ (λ g. g ≡ set.empty) (λ of_i. (idle_here n i h of_i).1) (λ _. refl) in
       held_on sites events (λ o. o ≡ holding sites events n i) n i
-      (λ stop.
-      let on : is_stop (slice_get events n) ≡ false = (both (and_left (is_of sites events i n) (is_stop (slice_get events n)) stop)).0 in
-      cc (and_right (is_of sites events i n) (is_stop (slice_get events n)) stop))
+      (λ stop. cc (and_right (is_of sites events i n) (is_stop (slice_get events n)) stop, (idle_here n i h (and_left (is_of sites events i n) (is_stop (slice_get events n)) stop)).0))
       (λ _. ap (joined (holding sites events n i)) none ∙ ap content_of (union_nothing (holding sites events n i)) ∙ holding_content sites events n i)
 
   idle_range : (n m i : ℕ) → n ≤ m → ((k : ℕ) → n ≤ k → k < m → (is_changing (slice_get events k) && i == site_or (slice_get events k)) ≡ false) → holding sites events m i ≡ holding sites events n i
