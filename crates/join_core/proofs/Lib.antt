@@ -1,5 +1,5 @@
 pub mod Bounds
-pub mod Subset
+pub mod Unions
 pub mod Members
 pub mod Place
 pub mod Listing

@@ -7,7 +7,7 @@ use Rattle.std.specs.List.{Contains, fold}
 use Rattle.std.specs.FinSet.{FinSet, from_list, insert, union, IsAntisymmetric, contains-from_list, contains-insert, contains-union, same_set}
 use Rattle.std.proofs.lemmas.Cmp.{eq_by_cmp_equiv}
 use Rattle.std.proofs.lemmas.Map.Views.{list_any-from_Contains, Contains-from_any}
-use Rattle.join_core.proofs.Subset.{union_empty}
+use Rattle.join_core.proofs.Unions.{union_empty}
 
 module _ {K : Type 0} {R : K → K → Ordering} (o : IsTotalOrder R) (same : IsAntisymmetric R) where
   -- keys that the order ties are one

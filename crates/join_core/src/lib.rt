@@ -8,8 +8,8 @@
 //! - [`laws`]: what follows for each type that joins, and for each finite set.
 //!
 //! Of the definitions, `specs/Bound` has least bounds. `specs/Listing` has finite sets as ascending
-//! lists, for contents that are finite sets; `proofs/` has their lemmas: inclusion and union
-//! (`Subset`), sets made of lists (`Members`), a key's place (`Place`, `Search`), the listing of a
+//! lists, for contents that are finite sets; `proofs/` has their lemmas: the union of two
+//! (`Unions`), sets made of lists (`Members`), a key's place (`Place`, `Search`), the listing of a
 //! set (`Listing`) and of a part of it (`Retain`), and two lists put together (`Merge`).
 #![tactic(auto)]
 

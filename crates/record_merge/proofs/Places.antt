@@ -11,7 +11,7 @@ use Rattle.std.specs.Cmp.Lexicographic.{nat_list_cmp_total}
 use Rattle.std.specs.Io.KnownBytes.{IsAtEnd, Appends}
 use Rattle.join_core.specs.Listing.{listing}
 use Rattle.byte_device.specs.Writes.{WritesFirst}
-use Rattle.join_core.proofs.Subset.{union_members}
+use Rattle.join_core.proofs.Unions.{union_members}
 use Rattle.join_core.proofs.Retain.{listing_retain}
 use Rattle.archive_core.specs.Record.{IsRecord}
 use Rattle.archive_core.specs.Content.{Operations, is_covered}

@@ -7,7 +7,7 @@ use Rattle.std.specs.FinSet as set
 use Rattle.std.specs.Cmp.Lexicographic.{nat_list_cmp_total}
 use Rattle.std.specs.Io.KnownBytes.{Appends}
 use Rattle.join_core.specs.Listing.{listing}
-use Rattle.join_core.proofs.Subset.{union_members}
+use Rattle.join_core.proofs.Unions.{union_members}
 use Rattle.byte_device.specs.Writes.{WritesFirst}
 use Rattle.archive_core.specs.Record.{IsRecord}
 use Rattle.archive_core.specs.Content.{Operations, IsContent, content_of}
