@@ -70,9 +70,6 @@ module _ {X : Type 0} where
       let long = simp length-append at (ap length (in_three f xs i j)) in
       (nil_from_length front (omega (arith, long, ap length same)), nil_from_length back (omega (arith, long, ap length same)))
 
-  pub no_shorter : (xs now ys : List X) (n : ℕ) → n ≤ length xs → now ≡ take n xs ++ ys → n ≤ length now
-  no_shorter xs now ys n within is = omega (arith, simp length-append at (ap length is), length-take-le n xs within)
-
   -- what a test drops from the end on, down to a place: one more element stays, or is dropped
   module _ (p : X → Bool) (xs now : List X) (n : ℕ) (x : X) (some : 0 < n) (within : n ≤ length xs) (is : now ≡ take n xs ++ filter p (drop n xs)) (there : x ≡ get_or now (n - 1) x) where
     next : n ≡ n - 1 + 1

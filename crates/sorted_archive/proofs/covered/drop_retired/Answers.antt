@@ -6,7 +6,7 @@ use Rattle.archive_core.specs.Content.{is_covered}
 use Rattle.archive_core.specs.Record.{record_bytes}
 use Rattle.archive_core.specs.declared.operations.Operation.{Operation}
 use Rattle.archive_core.specs.declared.operations.Operation.TheVariants.{Retire}
-use Rattle.sorted_archive.proofs.Falling.{no_shorter, stays, goes, written_back}
+use Rattle.sorted_archive.proofs.Falling.{stays, goes, written_back}
 use Rattle.sorted_archive.proofs.Put.{held_alone}
 use Rattle.sorted_archive.proofs.Uncovered.{left_by, front_left, back_left}
 use Rattle.sorted_archive.proofs.covered.drop_retired.Goals as goal
@@ -27,12 +27,6 @@ loop-index-init c =
       old = rw (c.deref.ensures.value, same) at c.range_of-start.ensures.within;
       items = same ∙ sym (ap (λ l. take (start + count) old ++ l) (rw (drop-drop count start old) at behind) ∙ take-append-drop (start + count) old);
     }
-
-pub index-requires : goal.index-requires
-index-requires c = omega (arith, no_shorter _ _ _ c.loop-index.index c.loop-index.invariant.old c.loop-index.invariant.items, c.loop-index.operations.ok.0)
-
-pub drop_at-requires : goal.drop_at-requires
-drop_at-requires c = omega (arith, no_shorter _ _ _ c.loop-index.index c.loop-index.invariant.old c.loop-index.invariant.items)
 
 pub loop-index-preserved-then-retires_operation : goal.loop-index-preserved-then-retires_operation
 loop-index-preserved-then-retires_operation c =

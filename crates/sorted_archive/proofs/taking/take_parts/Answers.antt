@@ -1,18 +1,12 @@
 use Rattle.std.proofs.Common.{map, arith, ap, ◌∙◌}
 use Rattle.std.proofs.Math.ListN.{length-map}
 use Rattle.std.proofs.lemmas.Result.{err_from_is_err_and}
-use Rattle.archive_core.specs.Content.{new_among, with_records}
+use Rattle.archive_core.specs.Content.{new_among}
 use Rattle.archive_core.specs.Record.{record_bytes}
 use Rattle.archive_core.proofs.Joined.{none_taken}
 use Rattle.archive_core.proofs.Taken.{new_within}
 use Rattle.sorted_archive.proofs.Parted.{admissions_in_part, retirements_in_part}
 use Rattle.sorted_archive.proofs.taking.take_parts.Goals as goal
-
-pub take_admissions-requires : goal.take_admissions-requires
-take_admissions-requires g c = (c.in_ok-parts.ensures (g.A.Join.content c.args.archive.now) c.len-before.ensures.content.itself).parts.admitted
-
-pub take_retirements-requires : goal.take_retirements-requires
-take_retirements-requires g c = (c.in_ok-parts.ensures (g.A.Join.content c.args.archive.now) c.len-before.ensures.content.itself).parts.retired
 
 pub returns-in_err-parts : goal.returns-in_err-parts
 returns-in_err-parts g c =
@@ -40,9 +34,3 @@ overflow_add-result g c =
     let most = new_within old (map record_bytes c.args.operations.items) in
     let behind = c.in_ok-retired.ensures.1 ∙ ap (λ p. new_among p (map record_bytes c.in_ok-parts.parts.retirements.items)) c.in_ok-admitted.ensures.0 in
     omega (arith, most, length-map c.args.operations.items record_bytes, is.counted, behind, c.in_ok-admitted.ensures.1, c.args.operations.ok.0, c.args.operations.ok.1, c.args.operations.small)
-
-pub returns : goal.returns
-returns g c =
-    let is = c.in_ok-parts.ensures (g.A.Join.content c.args.archive.now) c.len-before.ensures.content.itself in
-    let behind = c.in_ok-retired.ensures.1 ∙ ap (λ p. new_among p (map record_bytes c.in_ok-parts.parts.retirements.items)) c.in_ok-admitted.ensures.0 in
-    (c.in_ok-retired.ensures.0 ∙ ap (λ p. with_records p (map record_bytes c.in_ok-parts.parts.retirements.items)) c.in_ok-admitted.ensures.0 ∙ is.content, omega (arith, is.counted, behind, c.in_ok-admitted.ensures.1))

@@ -5,9 +5,6 @@ use Rattle.sorted_archive.proofs.Parted.{admission_passed, admission_put}
 use Rattle.archive_core.proofs.Entries.{covering_admission}
 use Rattle.sorted_archive.proofs.parting.Parts.admit.Goals as goal
 
-pub keep-requires : goal.keep-requires
-keep-requires c = rw (c.covers-covered.ensures.same, c.lend-lent.ensures) at c.facts-facts.ensures
-
 pub returns-then-covered : goal.returns-then-covered
 returns-then-covered c old all rest parting =
     let tells = rw c.lend-lent.ensures at c.covers-covered.ensures.covers in

@@ -1,10 +1,9 @@
 use Rattle.std.proofs.Common.{ap, map, subst, sym, ◌∙◌}
 use Rattle.std.specs.Cmp.Lexicographic.{nat_list_cmp_total}
-use Rattle.std.specs.List.{AllByRecursion}
 use Rattle.join_core.specs.Listing.{listing}
 use Rattle.join_core.proofs.Listing.{listing_ascending}
 use Rattle.archive_core.specs.Content.{IsContent}
-use Rattle.archive_core.specs.Record.{IsOperation, record_bytes}
+use Rattle.archive_core.specs.Record.{record_bytes}
 use Rattle.sorted_archive.proofs.Held.{bytes_same, content_of_held}
 use Rattle.sorted_archive.proofs.plain.PlainArchive.operations.Goals as goal
 
@@ -12,9 +11,6 @@ pub returns-clause-listed : goal.returns-clause-listed
 returns-clause-listed c =
     let items = c.self.inside.operations.items in
     ap (map record_bytes) c.deref.ensures.value ∙ sym (listing_ascending nat_list_cmp_total bytes_same (map record_bytes items) c.self.invariant.ascending) ∙ ap listing c.self.view_is
-
-pub returns-clause-are : goal.returns-clause-are
-returns-clause-are c = subst (AllByRecursion IsOperation) (sym c.deref.ensures.value) c.self.invariant.are
 
 pub returns-clause-content : goal.returns-clause-content
 returns-clause-content c = subst IsContent c.self.view_is (content_of_held c.self.inside.operations.items c.self.invariant)

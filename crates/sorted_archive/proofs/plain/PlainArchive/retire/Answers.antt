@@ -21,11 +21,9 @@ drop_retired-requires-clause-ascending c =
 pub invariant_of-self-in-Err : goal.invariant_of-self-in-Err
 invariant_of-self-in-Err c =
     let operations = c.self.inside.operations.items in
-    let one = c.retirement-retirement.ensures.operation in
-    let asked : IsPlaceFor (slice_cmp nat_cmp) (map record_bytes operations) (retirement_record c.args.key c.args.digest.0) c.in-Err.index =
-    subst (λ x. IsPlaceFor (slice_cmp nat_cmp) (map record_bytes operations) (record_bytes x) c.in-Err.index) c.retirement-retirement.ensures.retirement (rw (← c.deref.ensures.value) c.in-Err.ensures.found.absent) in
+    let absent = rw c.retirement-retirement.ensures.retirement at c.in-Err.ensures.found.absent in
     rw (c.drop_retired.ensures, c.in_ok-insert-in-Err.ensures.items, c.retirement-retirement.ensures.retirement)
-    (held_retirement operations c.in-Err.index (Retire c.args.key c.args.digest) c.self.invariant one refl asked).held
+    (held_retirement operations c.in-Err.index (Retire c.args.key c.args.digest) c.self.invariant c.retirement-retirement.ensures.operation refl (rw (← c.deref.ensures.value) absent)).held
 
 pub returns-in-Ok-clause-taken : goal.returns-in-Ok-clause-taken
 returns-in-Ok-clause-taken c =
@@ -45,10 +43,8 @@ pub returns-in_ok-insert-in-Err-clause-taken : goal.returns-in_ok-insert-in-Err-
 returns-in_ok-insert-in-Err-clause-taken c =
     let operations = c.self.inside.operations.items in
     let r = retirement_record c.args.key c.args.digest.0 in
-    let one = c.retirement-retirement.ensures.operation in
-    let asked : IsPlaceFor (slice_cmp nat_cmp) (map record_bytes operations) r c.in-Err.index =
-    subst (λ x. IsPlaceFor (slice_cmp nat_cmp) (map record_bytes operations) (record_bytes x) c.in-Err.index) c.retirement-retirement.ensures.retirement (rw (← c.deref.ensures.value) c.in-Err.ensures.found.absent) in
-    let all = held_retirement operations c.in-Err.index (Retire c.args.key c.args.digest) c.self.invariant one refl asked in
+    let absent = rw c.retirement-retirement.ensures.retirement at c.in-Err.ensures.found.absent in
+    let all = held_retirement operations c.in-Err.index (Retire c.args.key c.args.digest) c.self.invariant c.retirement-retirement.ensures.operation refl (rw (← c.deref.ensures.value) absent) in
     rw (c.drop_retired.ensures, c.in_ok-insert-in-Err.ensures.items, c.retirement-retirement.ensures.retirement)
     (all.is ∙ ap (λ s. with_record s r) c.self.view_is)
 

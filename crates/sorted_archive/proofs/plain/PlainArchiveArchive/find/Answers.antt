@@ -1,11 +1,9 @@
-use Rattle.std.proofs.Common.{◌≡◌, ◌++◌, map, filter, rules, sym, subst, ap, ◌∙◌}
+use Rattle.std.proofs.Common.{◌≡◌, map, rules, sym, subst, ◌∙◌}
 use Rattle.std.proofs.lemmas.Fn.{always_returns_same}
 use Rattle.std.proofs.lemmas.List.Sorted.{ranks_by}
 use Rattle.std.proofs.lemmas.Result.{IfOk-weaker}
 use Rattle.std.specs.Ordering.{is_lt}
 use Rattle.archive_core.specs.Find.{find_cmp, row_of, IsFinds}
-use Rattle.sorted_archive.specs.InnerRange.{is_under_uuid}
-use Rattle.sorted_archive.specs.declared.range.RecordKind.TheVariants.{Retirement, Admission}
 use Rattle.sorted_archive.proofs.Ranges.{two_runs}
 use Rattle.archive_core.proofs.Told.{find_total}
 use Rattle.sorted_archive.proofs.Scanned.{finds_sorted}
@@ -18,10 +16,8 @@ returns c =
     let operations = c.self.inside.operations.items in
     let hashed = c.sort_unstable_by.new.self.items in
     let sorted = c.sort_unstable_by.ensures.sorted (λ x y. is_lt (find_cmp x y)) (ranks_by find_total (λ x. x)) (always_returns_same _ _ _ (λ a r g called. (search rules, search rules))) in
-    let retirements = c.under_uuid-retirements.ensures ∙ ap (filter (is_under_uuid Retirement uuid)) c.deref.ensures.value in
-    let admissions = c.under_uuid-admissions.ensures ∙ ap (filter (is_under_uuid Admission uuid)) c.deref-2.ensures.value in
-    let first = c.in_ok-gather.ensures ∙ ap (λ l. l ++ c.under_uuid-retirements.result.now) c.new-hashed.ensures.items ∙ retirements in
-    let gathered = c.in_ok-gather-2.ensures ∙ (λ i. first i ++ admissions i) ∙ two_runs uuid operations c.self.invariant.ascending in
+    let held = rw (c.in_ok-gather.ensures, c.new-hashed.ensures.items, c.under_uuid-retirements.ensures, c.under_uuid-admissions.ensures, c.deref.ensures.value, c.deref-2.ensures.value) at c.in_ok-gather-2.ensures in
+    let gathered = held ∙ two_runs uuid operations c.self.invariant.ascending in
     let permuted = rw gathered at c.sort_unstable_by.ensures.permutation in
     let finds = finds_sorted o uuid operations hashed c.self.invariant c.self.view_is permuted sorted in
     IfOk-weaker c.rows_of.result (λ rows. rows.items ≡ map row_of hashed) (λ rows. IsFinds o uuid rows.items) (λ rows is. subst (IsFinds o uuid) (sym is) finds) (rw (c.deref-3.ensures.value) at c.rows_of.ensures)
