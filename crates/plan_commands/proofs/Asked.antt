@@ -1,8 +1,10 @@
 -- Archives and indexes that are handed on, and the query that they make.
-use Rattle.std.proofs.Common.{◌≡◌, ◌∙◌, ℕ, ◌<◌, ◌≤◌, suc, zero, List, [], ◌∷◌, ◌++◌, length, take, drop, Option, Result}
-use Rattle.std.proofs.Common.{Bool, true, false, Err, refl, ap, sym, subst, arith, length-append, true≢false}
+use Rattle.std.proofs.Common.{◌≡◌, ◌∙◌, ℕ, ◌<◌, ◌≤◌, suc, List, [], ◌∷◌, ◌++◌, length, take, drop, Option, Result}
+use Rattle.std.proofs.Common.{false, Err, refl, ap, sym, subst, arith, length-append}
 use Rattle.std.proofs.KnownBytes.{Appends-nil}
-use Rattle.std.proofs.lemmas.Bool.{lt-ltb, ltb-true}
+use Rattle.std.proofs.lemmas.Bool.{le-ltb, lt-ltb}
+use Rattle.std.proofs.lemmas.Bool.Decides.{nat_tests}
+use Rattle.std.proofs.Math.Seq.{drop-append_seam, take-append_seam}
 use Rattle.std.specs.Prelude.{◌==◌, nat_lt}
 use Rattle.command_ends.specs.Ends.{EndsReport, Query}
 use Rattle.command_ends.specs.Outputs.{Writer, writer}
@@ -14,48 +16,50 @@ use Rattle.command_ends.specs.Inputs.{Reader, reader, readers}
 use Rattle.indexed_queries.specs.Find.{find_together}
 use Rattle.indexed_queries.specs.Frames.{frames_at}
 use Rattle.indexed_queries.specs.Symbolicate.{symbolicate_at}
-use Rattle.plan_commands.specs.Asking.{extra_index, find_of, frames_of, no_archive, symbolicate_of, unless_more}
+use Rattle.plan_commands.specs.Asking.{find_of, frames_of, no_archive, symbolicate_of, unless_more}
 
 -- ---- inputs in two parts
 
--- the first part, between its states
-pub taken : {S : Type 0} (left : S → Option (List ℕ)) (failures : S → ℕ) (n : ℕ) (a b c d : List (Result S CannotOpen))
-    → length a ≡ n → length c ≡ length a
-    → take n (readers left failures (a ++ b) (c ++ d)) ≡ readers left failures a c
-taken left failures zero [] b [] d is as_many = refl
-taken left failures zero [] b (y ∷ c) d is as_many = absurd (omega arith)
-taken left failures zero (x ∷ a) b c d is as_many = absurd (omega arith)
-taken left failures (suc n) [] b c d is as_many = absurd (omega arith)
-taken left failures (suc n) (x ∷ a) b [] d is as_many = absurd (omega arith)
-taken left failures (suc n) (x ∷ a) b (y ∷ c) d is as_many =
-    ap (λ rest. reader left failures x y ∷ rest) (taken left failures n a b c d (omega arith) (omega arith))
+module _ {S : Type 0} (left : S → Option (List ℕ)) (failures : S → ℕ) where
+  -- there are as many as inputs
+  pub as_many_readers : (a c : List (Result S CannotOpen)) → length c ≡ length a
+      → length (readers left failures a c) ≡ length a
+  as_many_readers [] [] is = refl
+  as_many_readers [] (y ∷ c) is = absurd (omega arith)
+  as_many_readers (x ∷ a) [] is = absurd (omega arith)
+  as_many_readers (x ∷ a) (y ∷ c) is = ap suc (as_many_readers a c (omega arith))
 
--- the second part
-pub dropped : {S : Type 0} (left : S → Option (List ℕ)) (failures : S → ℕ) (n : ℕ)
-    (a b c d : List (Result S CannotOpen)) → length a ≡ n → length c ≡ length a
-    → drop n (readers left failures (a ++ b) (c ++ d)) ≡ readers left failures b d
-dropped left failures zero [] b [] d is as_many = refl
-dropped left failures zero [] b (y ∷ c) d is as_many = absurd (omega arith)
-dropped left failures zero (x ∷ a) b c d is as_many = absurd (omega arith)
-dropped left failures (suc n) [] b c d is as_many = absurd (omega arith)
-dropped left failures (suc n) (x ∷ a) b [] d is as_many = absurd (omega arith)
-dropped left failures (suc n) (x ∷ a) b (y ∷ c) d is as_many =
-    dropped left failures n a b c d (omega arith) (omega arith)
+  -- there is one where there is an input
+  pub some_read : (a c : List (Result S CannotOpen)) → length c ≡ length a → 0 < length a
+      → 0 < length (readers left failures a c)
+  some_read a c same some = omega (arith, as_many_readers a c same)
 
--- there are as many as inputs
-pub as_many_readers : {S : Type 0} (left : S → Option (List ℕ)) (failures : S → ℕ) (a c : List (Result S CannotOpen))
-    → length c ≡ length a → length (readers left failures a c) ≡ length a
-as_many_readers left failures [] [] is = refl
-as_many_readers left failures [] (y ∷ c) is = absurd (omega arith)
-as_many_readers left failures (x ∷ a) [] is = absurd (omega arith)
-as_many_readers left failures (x ∷ a) (y ∷ c) is = ap suc (as_many_readers left failures a c (omega arith))
+  joined : (a b c d : List (Result S CannotOpen)) → length c ≡ length a
+      → readers left failures (a ++ b) (c ++ d) ≡ readers left failures a c ++ readers left failures b d
+  joined [] b [] d is = refl
+  joined [] b (y ∷ c) d is = absurd (omega arith)
+  joined (x ∷ a) b [] d is = absurd (omega arith)
+  joined (x ∷ a) b (y ∷ c) d is = ap (λ rest. reader left failures x y ∷ rest) (joined a b c d (omega arith))
+
+  -- the first part, between its states
+  pub taken : (n : ℕ) (a b c d : List (Result S CannotOpen)) → length a ≡ n → length c ≡ length a
+      → take n (readers left failures (a ++ b) (c ++ d)) ≡ readers left failures a c
+  taken n a b c d is same =
+      rw (← is, ← as_many_readers a c same, joined a b c d same)
+      (take-append_seam (readers left failures a c) (readers left failures b d))
+
+  -- the second part
+  pub dropped : (n : ℕ) (a b c d : List (Result S CannotOpen)) → length a ≡ n → length c ≡ length a
+      → drop n (readers left failures (a ++ b) (c ++ d)) ≡ readers left failures b d
+  dropped n a b c d is same =
+      rw (← is, ← as_many_readers a c same, joined a b c d same)
+      (drop-append_seam (readers left failures a c) (readers left failures b d))
 
 -- ---- queries by indexes
 
 -- there is one
 pub not_none : {A : Type 0} (xs : List A) → false ≡ (length xs == 0) → 0 < length xs
-not_none [] is = absurd (true≢false (sym is))
-not_none (x ∷ xs) is = omega arith
+not_none xs is = grind (arith, nat_tests)
 
 pub symbolicate_by : {S : Type 0} (archives places indexes : List (Reader S)) (key : SliceKey) (load : Option ℕ)
     (addresses : List ℕ) → 0 < length indexes
@@ -95,20 +99,13 @@ refused_by : {W : Type 0} (held : W → Option (List ℕ)) (failures : W → ℕ
     (query : Query) (fault : CommandFault) → archives < indexes → fault ≡ no_archive archives
     → EndsReport (unless_more (nat_lt archives indexes) archives query) (writer held failures report report) (Err fault)
 refused_by held failures report archives indexes query fault more is =
-    subst (λ (e : CommandFault). EndsReport (unless_more (nat_lt archives indexes) archives query)
-    (writer held failures report report) (Err e)) (sym is)
-    (subst (λ (b : Bool). EndsReport (unless_more b archives query) (writer held failures report report)
-    (Err (no_archive archives))) (sym (lt-ltb archives indexes more)) ((refl, refl), (Appends-nil (held report), refl)))
+    rw (is, lt-ltb archives indexes more) ((refl, refl), (Appends-nil (held report), refl))
 
 -- no more than archives
 kept_by : (archives indexes : ℕ) (query : Query) (report : Writer) (result : Result Status CommandFault)
     → indexes ≤ archives → EndsReport query report result
     → EndsReport (unless_more (nat_lt archives indexes) archives query) report result
-kept_by archives indexes query report result few ends = by (nat_lt archives indexes) refl
-  where
-    by : (b : Bool) → nat_lt archives indexes ≡ b → EndsReport (unless_more b archives query) report result
-    by false is = ends
-    by true is = absurd (omega (arith, few, ltb-true archives indexes is))
+kept_by archives indexes query report result few ends = rw (le-ltb archives indexes few) ends
 
 -- of any query that is made of indexes and archives so
 module _ {S W : Type 0} (left whole : S → Option (List ℕ)) (failures place_failures : S → ℕ)
@@ -153,10 +150,5 @@ module _ {S W : Type 0} (left whole : S → Option (List ℕ)) (failures place_f
       let many = as_many_readers left failures (a ++ b) (c ++ d) long in
       let first = taken whole place_failures number a b c d (as_many ∙ sym numbered) same in
       let last = dropped left failures number a b c d (as_many ∙ sym numbered) same in
-      subst (λ (q : Query). EndsReport q report result) (sym by)
-      (kept_by (length (readers left failures (a ++ b) (c ++ d))) number _ report result
-      (omega (arith, many, numbered, as_many, length-append a b))
-      (subst (λ (p : List (Reader S)). EndsReport (make (readers left failures ix iy) p
-      (drop number (readers left failures (a ++ b) (c ++ d)))) report result) (sym first)
-      (subst (λ (o : List (Reader S)). EndsReport (make (readers left failures ix iy) (readers whole place_failures a c)
-      o) report result) (sym last) ends)))
+      rw by (kept_by (length (readers left failures (a ++ b) (c ++ d))) number _ report result
+      (omega (arith, many, numbered, as_many, length-append a b)) (rw (first, last) ends))

@@ -18,10 +18,14 @@ pub on_any : {X E P : Type 0} (r : Result X E) → P → OnOk r P
 on_any (Ok x) p = p
 on_any (Err e) p = tt
 
+both_on : {X E A : Type 0} (r : Result X E) (x y z : A) → OnOk r (x ≡ y) → OnOk r (y ≡ z) → OnOk r (x ≡ z)
+both_on (Ok r) x y z first then = first ∙ then
+both_on (Err e) x y z first then = tt
+
 -- the same command, as it is told
 told_as : {S D T : Type 0} (calls : Calls S D T) (line : Line) (report : Writer) (was : Result Status Failure) (noted : List Note) → IsCarriedOut calls line report was noted
     → (told : Result Status Failure) (notes : List Note) → told ≡ was → OnOk told (notes ≡ noted) → IsCarriedOut calls line report told notes
-told_as calls line report was noted is (Ok status) notes same alike = record {
+told_as calls line report was noted is told notes same alike = record {
   path = is.path;
   begun = is.begun;
   done = is.done;
@@ -35,28 +39,7 @@ told_as calls line report was noted is (Ok status) notes same alike = record {
   behind = is.behind;
   noted = is.noted;
   carried = is.carried;
-  notes_are = alike ∙ rw (← same) at is.notes_are;
-  outcome = is.outcome;
-  placed = is.placed;
-  removed = is.removed;
-  untouched = is.untouched;
-  told_is = same ∙ is.told_is;
-}
-told_as calls line report was noted is (Err failure) notes same alike = record {
-  path = is.path;
-  begun = is.begun;
-  done = is.done;
-  ended = is.ended;
-  path_is = is.path_is;
-  begun_is = is.begun_is;
-  begun_unfailed = is.begun_unfailed;
-  nothing_placed = is.nothing_placed;
-  asked = is.asked;
-  before = is.before;
-  behind = is.behind;
-  noted = is.noted;
-  carried = is.carried;
-  notes_are = tt;
+  notes_are = both_on told notes noted is.noted alike (rw same is.notes_are);
   outcome = is.outcome;
   placed = is.placed;
   removed = is.removed;

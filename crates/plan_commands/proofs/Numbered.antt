@@ -15,30 +15,12 @@ use Rattle.command_line.specs.declared.commands.Role.{Role}
 use Rattle.command_line.specs.declared.commands.Role.TheVariants as roles
 use Rattle.plan_commands.specs.Hints.{path_at}
 use Rattle.plan_commands.specs.Numbers.{number_at, numbers_by, numbers_from, numbers_of_kind}
-use Rattle.plan_commands.proofs.Numbers.{from_found, from_past, text_past, under_next, under_none}
-
-none_some : {X : Type 0} (x : X) → None ≡ Some x → ⊥
-none_some x e = cc
-
-same_some : (m n : ℕ) → Some m ≡ Some n → n ≡ m
-same_some m n e = cc
+use Rattle.plan_commands.proofs.Numbers.{from_found, beyond, from_past}
 
 front_same : (ts more mine : List Text) (k : ℕ) → k < length ts → slice_get (ts ++ more) k ≡ slice_get (ts ++ mine) k
-front_same [] more mine k under = absurd (under_none k under)
+front_same [] more mine k under = absurd (omega arith)
 front_same (t ∷ ts) more mine zero under = refl
-front_same (t ∷ ts) more mine (suc k) under = front_same ts more mine k (under_next k (length ts) under)
-
-beyond : (l j : ℕ) → l ≤ l + j
-beyond l j = omega arith
-
-back : (l j : ℕ) → (l + j) - l ≡ j
-back l j = omega arith
-
-further : (p l j : ℕ) → (p + l) + j ≡ p + (l + j)
-further p l j = omega arith
-
-from_none : (j : ℕ) → 0 + j ≡ j
-from_none j = omega arith
+front_same (t ∷ ts) more mine (suc k) under = front_same ts more mine k (omega arith)
 
 -- from this number on these are the inputs
 abbrev Stands : List Text → ℕ → List Text → Type 0
@@ -46,8 +28,10 @@ Stands all p inputs = (j : ℕ) → slice_get all (p + j) ≡ slice_get inputs j
 
 stands_next : (all ts more : List Text) (p : ℕ) → Stands all p (ts ++ more) → Stands all (p + length ts) more
 stands_next all ts more p stands = λ j.
-    ap (slice_get all) (further p (length ts) j) ∙ stands (length ts + j)
-    ∙ text_past ts more (length ts + j) (beyond (length ts) j) ∙ ap (slice_get more) (back (length ts) j)
+    let further : (p + length ts) + j ≡ p + (length ts + j) = omega arith in
+    let back : (length ts + j) - length ts ≡ j = omega arith in
+    ap (slice_get all) further ∙ stands (length ts + j) ∙ beyond ts more (length ts + j) (omega arith)
+    ∙ ap (slice_get more) back
 
 -- Of these numbers the one here leads to the path here.
 abbrev Leads : List Text → ℕ → List ℕ → List Text → Type 0
@@ -62,10 +46,10 @@ one all ts more mine numbers p n stands leads = λ k is. by_case k is (slice_get
         ⊎ ((length ts ≤ k) × (slice_get ts k ≡ None))
         → slice_get all n ≡ slice_get (ts ++ mine) k
     by_case k is (inl within) =
-        ap (slice_get all) (same_some (p + k) n (sym (from_found p ts numbers k within.1) ∙ is))
-        ∙ stands k ∙ front_same ts more mine k within.1
+        let same : n ≡ p + k = cc (from_found p ts numbers k within.1) in
+        ap (slice_get all) same ∙ stands k ∙ front_same ts more mine k within.1
     by_case k is (inr past) =
-        leads (k - length ts) (sym (from_past p ts numbers k past.0) ∙ is) ∙ sym (text_past ts mine k past.0)
+        leads (k - length ts) (sym (from_past p ts numbers k past.0) ∙ is) ∙ sym (beyond ts mine k past.0)
 
 of_kind : (b : Bool) (all ts more mine : List Text) (numbers : List ℕ) (p n : ℕ) → Stands all p (ts ++ more)
     → Leads all n numbers mine
@@ -87,8 +71,8 @@ of_role kind (roles.Says form) all ts more mine numbers p n stands leads = leads
 by_kind : (kind : Kind) (all : List Text) (n : ℕ) (rest : List Argument) (vs : List Values) (p : ℕ)
     → Stands all p (texts_by reads rest vs)
     → Leads all n (numbers_by kind p rest vs) (texts_by (reads_kind kind) rest vs)
-by_kind kind all n [] vs p stands = λ k is. absurd (none_some n is)
-by_kind kind all n (a ∷ rest) [] p stands = λ k is. absurd (none_some n is)
+by_kind kind all n [] vs p stands = λ k is. cc
+by_kind kind all n (a ∷ rest) [] p stands = λ k is. cc
 by_kind kind all n (a ∷ rest) (v ∷ vs) p stands =
     of_role kind a.role all (texts_of v) (texts_by reads rest vs) (texts_by (reads_kind kind) rest vs)
     (λ q. numbers_by kind q rest vs) p n stands (λ q there. by_kind kind all n rest vs q there)
@@ -97,7 +81,7 @@ in_line : (kind : Kind) (line : Line) (n : ℕ)
     → Leads (inputs_of line) n (numbers_of_kind kind line) (inputs_of_kind kind line)
 in_line kind line n =
     by_kind kind (inputs_of line) n (arguments_named line.name) line.values 0
-    (λ j. ap (slice_get (inputs_of line)) (from_none j))
+    (λ j. let same : 0 + j ≡ j = omega arith in ap (slice_get (inputs_of line)) same)
 
 -- the input of the number of a place has its path
 pub numbered : (line : Line) (place : Place) (n : ℕ) → number_at line place ≡ Some n

@@ -11,7 +11,7 @@ use Rattle.std.specs.Io.KnownBytes.{Appends}
 use Rattle.clap.specs.Words.{Text}
 use Rattle.archive_files.specs.Turns.{AreFirstAsked}
 use Rattle.archive_files.specs.FileCalls.{FileCall, bytes_in}
-use Rattle.archive_files.specs.OutFiles.{Stage, Untouched, Through, Drafted, Refused, Removed, Settled}
+use Rattle.archive_files.specs.OutFiles.{Stage}
 use Rattle.archive_files.specs.OutFiles.{draft_account, has_calls, is_settled, placed_account, placing_calls}
 use Rattle.archive_files.specs.Placing.{IsPath, IsPlaced, IsRemoved, account, place, took_nothing}
 use Rattle.archive_files.specs.declared.placed.Placed.{Placed}
@@ -44,19 +44,12 @@ some_known (Some p) xs none = let h = ap length none in grind (arith, h)
 pub settled_of : (settled : Bool) (path : Option (List ℕ)) (calls : List FileCall)
     → Some (draft_account settled path calls) ≡ Some [] → settled ≡ true
 settled_of true path calls none = refl
-settled_of false path calls none = absurd (some_known path (bytes_in calls) (some_inj none))
-  where
-    some_inj : {x y : List ℕ} → Some x ≡ Some y → x ≡ y
-    some_inj e = cc
+settled_of false path calls none =
+    let same : place path ++ bytes_in calls ≡ [] = cc in absurd (some_known path (bytes_in calls) same)
 
 -- what was put in place has no calls left
 pub settled_without_calls : (stage : Stage) → is_settled stage ≡ true → has_calls stage ≡ false
-settled_without_calls Untouched settled = cc
-settled_without_calls Through settled = cc
-settled_without_calls (Drafted d t) settled = cc
-settled_without_calls (Refused f) settled = cc
-settled_without_calls Removed settled = cc
-settled_without_calls Settled settled = refl
+settled_without_calls stage settled = grind arith
 
 -- a draft that took bytes has its path, and the bytes were written
 pub draft_took : (settled : Bool) (p q : Option (List ℕ)) (calls : List FileCall) (bytes : List ℕ)
@@ -80,10 +73,7 @@ placed_there p (Some there) text took =
 -- and else nothing is there
 pub nothing_there : (placed : Option Placed) → placed_account placed ≡ None → placing_calls placed ≡ []
 nothing_there None none = refl
-nothing_there (Some there) none = absurd (not_none none)
-  where
-    not_none : {xs : List ℕ} → Some xs ≡ None → ⊥
-    not_none e = cc
+nothing_there (Some there) none = cc
 
 -- no bytes and no failure
 pub nothing_taken : (bytes : List ℕ) (failures : ℕ) → bytes ≡ [] → failures ≡ 0 → took_nothing bytes failures ≡ true
@@ -93,24 +83,17 @@ nothing_taken bytes failures none unfailed = rw (none, unfailed) refl
 pub path_from : {T E : Type 0} (r : Result T E) (a b : Option Text) (xs ys others same : List Text) (path : Option Text)
     → a ≡ b → xs ≡ ys → OnOk r (IsPath a xs others same path) → OnOk r (IsPath b ys others same path)
 path_from r a b xs ys others same path asked inputs is =
-    subst (λ o. OnOk r (IsPath o ys others same path)) asked
-    (subst (λ i. OnOk r (IsPath a i others same path)) inputs is)
+    rw (← asked, ← inputs) is
 
 -- without a path nothing was called
 pub called_nowhere : (path : Option (List ℕ)) (calls : List FileCall) → path ≡ None → ∥ IsRemoved path calls ∥₁ → calls ≡ []
 called_nowhere path [] none removed = refl
 called_nowhere path (call ∷ calls) none removed = absurd (not_there removed by_case)
   where
-    none_some : (p : List ℕ) → path ≡ Some p → ⊥
-    none_some p is = let e = sym none ∙ is in cc
-
-    some_call : call ∷ calls ≡ [] → ⊥
-    some_call e = cc
-
     by_case : IsRemoved path (call ∷ calls) → ⊥
-    by_case (inl empty) = some_call empty
-    by_case (inr (inl drafted)) = none_some drafted.0 drafted.1
-    by_case (inr (inr through)) = none_some through.0 through.1
+    by_case (inl empty) = cc
+    by_case (inr (inl drafted)) = cc drafted.1
+    by_case (inr (inr through)) = cc through.1
 
 -- no input was made yet
 pub none_asked : (asked paths : List Text) → AreFirstAsked asked asked paths

@@ -31,21 +31,6 @@ use Rattle.plan_commands.specs.Files.{IsNotPut, IsOutcome}
 abbrev pub Counts : Result Status CommandFault → ℕ → Type 0
 Counts r k = (n : ℕ) → r ≡ Err (Output n) → n ≡ k
 
-ok_counts : (status : Status) (k : ℕ) → Counts (Ok status) k
-ok_counts status k n h = cc
-
-input_counts : (at : Place) (why : Why) (k : ℕ) → Counts (Err (Input at why)) k
-input_counts at why k n h = cc
-
-output_counts : (m k : ℕ) → m ≡ k → Counts (Err (Output m)) k
-output_counts m k e n h = cc
-
-report_counts : (m k : ℕ) → Counts (Err (Report m)) k
-report_counts m k n h = cc
-
-memory_counts : (k : ℕ) → Counts (Err OutOfMemory) k
-memory_counts k n h = cc
-
 -- nothing is in place, and the draft took these bytes
 not_put : {D T : Type 0} (out : Outs D T) (r : Result Status CommandFault) (bytes : List ℕ)
     → Appends (out.held out.old.draft) (out.held out.new.draft) bytes
@@ -63,9 +48,9 @@ failed out text m (inl f) =
     let first = f.0.0 in
     let lt = first.within in
     let count : m ≡ length (take m text) = sym (length-take-le m text (omega (arith, lt))) in
-    not_put out (Err (Output m)) (take m text) first.gained f.1.0 (output_counts m (length (take m text)) count)
+    not_put out (Err (Output m)) (take m text) first.gained f.1.0 (λ n h. cc)
 failed out text m (inr f) =
-    not_put out (Err (Output m)) text f.1.took.0 f.1.kept (output_counts m (length text) f.0)
+    not_put out (Err (Output m)) text f.1.took.0 f.1.kept (λ n h. cc f.0)
 
 published : {D T : Type 0} (out : Outs D T) (report : Writer) (text told : List ℕ) (r : Result Status CommandFault)
     → Publishes (out_of out) report text told r → IsOutcome out r
@@ -74,18 +59,18 @@ published out report text told (Err (Input at why)) p = absurd p
 published out report text told (Err (Output m)) p = failed out text m p.0
 published out report text told (Err (Report m)) p = inl (text, p.0)
 published out report text told (Err OutOfMemory) p = elim p.0 [
-  | inl kept ↦ not_put out (Err OutOfMemory) [] kept.0 p.1.0 (memory_counts 0)
-  | inr whole ↦ not_put out (Err OutOfMemory) text whole.0 p.1.0 (memory_counts (length text))
+  | inl kept ↦ not_put out (Err OutOfMemory) [] kept.0 p.1.0 (λ n h. cc)
+  | inr whole ↦ not_put out (Err OutOfMemory) text whole.0 p.1.0 (λ n h. cc)
 ]
 
 ended : {D T : Type 0} (command : Command) (out : Outs D T) (report : Writer) (r : Result Status CommandFault)
     → Ends command (out_of out) report r → IsOutcome out r
 ended command out report (Ok status) e = published out report e.1.text e.1.told (Ok status) e.1.published
-ended command out report (Err (Input at why)) e = kept_out out (Err (Input at why)) e.1 (input_counts at why 0)
+ended command out report (Err (Input at why)) e = kept_out out (Err (Input at why)) e.1 (λ n h. cc)
 ended command out report (Err (Output m)) e = published out report e.1.text e.1.told (Err (Output m)) e.1.published
 ended command out report (Err (Report m)) e = published out report e.1.text e.1.told (Err (Report m)) e.1.published
 ended command out report (Err OutOfMemory) e = elim e.1 [
-  | inl kept ↦ kept_out out (Err OutOfMemory) kept.0 (memory_counts 0)
+  | inl kept ↦ kept_out out (Err OutOfMemory) kept.0 (λ n h. cc)
   | inr c ↦ published out report c.text c.told (Err OutOfMemory) c.published
 ]
 
@@ -100,10 +85,10 @@ unchanged {D = D} {T = T} out r same count =
 queried : {D T : Type 0} (query : Query) (out : Outs D T) (report : Writer) (r : Result Status CommandFault)
     → EndsQuery query out report r → IsOutcome out r
 queried query out report (Ok status) e = inr e.1
-queried query out report (Err (Input at why)) e = unchanged out (Err (Input at why)) e.1 (input_counts at why 0)
+queried query out report (Err (Input at why)) e = unchanged out (Err (Input at why)) e.1 (λ n h. cc)
 queried query out report (Err (Output m)) e = absurd e.0
 queried query out report (Err (Report m)) e = inr e.1
-queried query out report (Err OutOfMemory) e = unchanged out (Err OutOfMemory) e.1 (memory_counts 0)
+queried query out report (Err OutOfMemory) e = unchanged out (Err OutOfMemory) e.1 (λ n h. cc)
 
 -- ---- what is written as it is read
 
@@ -111,14 +96,14 @@ streamed : {D T : Type 0} (command : Streamed) (out : Outs D T) (report : Writer
     → EndsStreamed command (out_of out) report r → IsOutcome out r
 streamed command out report (Ok status) e = published out report e.1.text e.1.told (Ok status) e.1.published
 streamed command out report (Err (Input at why)) e =
-    not_put out (Err (Input at why)) e.bytes e.took e.nothing_placed.0 (input_counts at why (length e.bytes))
+    not_put out (Err (Input at why)) e.bytes e.took e.nothing_placed.0 (λ n h. cc)
 streamed command out report (Err (Output n)) e = elim e [
-  | inl s ↦ not_put out (Err (Output n)) s.bytes s.took s.nothing_placed.0 (output_counts n (length s.bytes) (s.count n refl))
+  | inl s ↦ not_put out (Err (Output n)) s.bytes s.took s.nothing_placed.0 (λ m h. cc (s.count n refl))
   | inr c ↦ published out report c.1.text c.1.told (Err (Output n)) c.1.published
 ]
 streamed command out report (Err (Report n)) e = published out report e.1.text e.1.told (Err (Report n)) e.1.published
 streamed command out report (Err OutOfMemory) e = elim e [
-  | inl s ↦ not_put out (Err OutOfMemory) s.bytes s.took s.nothing_placed.0 (memory_counts (length s.bytes))
+  | inl s ↦ not_put out (Err OutOfMemory) s.bytes s.took s.nothing_placed.0 (λ n h. cc)
   | inr c ↦ published out report c.1.text c.1.told (Err OutOfMemory) c.1.published
 ]
 
@@ -138,9 +123,9 @@ module _ {S D T : Type 0} (told : Told S) (line : Line) (behind : List (Result S
       → IsOutcome out (Err (fault_at u place why))
   by_fault None place why o = o
   by_fault (Some (unopened.Refused refused)) place why o =
-      not_put out (Err (Input place NotOpened)) o.bytes o.took o.kept (input_counts place NotOpened (length o.bytes))
+      not_put out (Err (Input place NotOpened)) o.bytes o.took o.kept (λ n h. cc)
   by_fault (Some unopened.OutOfMemory) place why o =
-      not_put out (Err OutOfMemory) o.bytes o.took o.kept (memory_counts (length o.bytes))
+      not_put out (Err OutOfMemory) o.bytes o.took o.kept (λ n h. cc)
 
   told_outcome : (ended result : Result Status CommandFault) → Tells told line behind ended result → IsOutcome out ended
       → IsOutcome out result

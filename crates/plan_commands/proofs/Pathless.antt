@@ -1,5 +1,5 @@
 -- An output that has no path.
-use Rattle.std.proofs.Common.{◌≡◌, ◌∙◌, ℕ, List, [], Some, None, Result, Ok, Err, refl, sym, ap, subst, inl, inr}
+use Rattle.std.proofs.Common.{◌≡◌, List, [], None, Result, Ok, Err, refl, sym, ap, subst, inl, inr}
 use Rattle.std.proofs.KnownBytes.{Appends-nil}
 use Rattle.std.specs.Io.KnownBytes.{Appends}
 use Rattle.command_line.specs.Lines.{Line}
@@ -27,11 +27,8 @@ module _ {S D T : Type 0} (calls : Calls S D T) (line : Line) (report : Writer) 
   abbrev out : Outs D T
   out = outs_in calls is.begun is.done
 
-  no_path : (p : List ℕ) → is.path ≡ Some p → ⊥
-  no_path p there = let e = sym none ∙ there in cc
-
   put : IsPut out → calls.called ≡ []
-  put (inl there) = let at = is.placed there.0 there.1 in absurd (no_path at.0 at.1)
+  put (inl there) = cc (none, (is.placed there.0 there.1).1)
   put (inr same) = is.untouched (kept_same out same)
 
   not_put : (r : Result Status CommandFault) → is.ended ≡ r → IsNotPut out r → calls.called ≡ []

@@ -38,18 +38,15 @@ pub no_plan : (words : List Text) (fault : LineFault) (told said : Writer) (stat
     → IsRefused words told said status ⊎ IsHelped words told said status ⊎ WantsMemory told said status
 no_plan words OutOfMemory told said status is memory help version refusal telling = inr (inr is)
 no_plan words (Refused text) told said status is memory help version refusal telling = inl (record {
-  no_plan = λ accepted ordered. not_wanting (memory accepted ordered);
+  no_plan = λ accepted ordered. cc (memory accepted ordered);
   no_help = help;
   no_version = version;
   text = text;
   accepted = telling;
   refuses = is;
 })
-  where
-    not_wanting : Refused text ≡ OutOfMemory → ⊥
-    not_wanting h = cc
 no_plan words (Help text) told said status is memory help version refusal telling = inr (inl (record {
-  no_plan = λ accepted ordered. not_wanting (memory accepted ordered);
+  no_plan = λ accepted ordered. cc (memory accepted ordered);
   asked = refusal;
   text = string_bytes text;
   whole = is.0;
@@ -57,9 +54,6 @@ no_plan words (Help text) told said status is memory help version refusal tellin
   nothing_said = is.2;
   status_is = is.3;
 }))
-  where
-    not_wanting : Help text ≡ OutOfMemory → ⊥
-    not_wanting h = cc
 
 -- nothing was called for an OUT that is as it was
 pub none_called : (placed : Option Placed) (calls : List FileCall) → placed ≡ None → calls ≡ []

@@ -1,15 +1,15 @@
-use Rattle.std.proofs.Common.{◌<◌, arith, length, refl}
-use Rattle.command_ends.specs.Inputs.{reader, readers}
+use Rattle.std.proofs.Common.{arith, length, refl}
+use Rattle.command_ends.specs.Inputs.{reader}
 use Rattle.indexed_queries.specs.Frames.{frames_at}
-use Rattle.plan_commands.proofs.Asked.{as_many_readers, few_kept, more_refused, not_none, frames_by}
+use Rattle.plan_commands.proofs.Asked.{few_kept, more_refused, not_none, some_read, frames_by}
 use Rattle.plan_commands.proofs.asking.frames.Goals as goal
 
 pub returns-then-indexes-archives : goal.returns-then-indexes-archives
 returns-then-indexes-archives g c =
     let left = g.S.Source.left in
     let failures = g.S.Source.failures in
-    let some : 0 < length (readers left failures c.args.indexes.now c.args.indexes.now) =
-    omega (arith, as_many_readers left failures c.args.indexes.now c.args.indexes.now refl, c.if-indexes-archives.true) in
+    let some = some_read left failures c.args.indexes.now c.args.indexes.now refl
+    (omega (arith, c.if-indexes-archives.true)) in
     more_refused left g.S.Placed.whole failures g.S.Placed.failures g.P.Sink.held g.P.Sink.failures
     (frames_at (reader left failures c.args.crash.now c.args.crash.now)) c.args.archives.now
     c.args.indexes.now _ _ _ (length c.args.archives.now) refl c.if-indexes-archives.true c.no_archive.ensures
@@ -19,13 +19,8 @@ pub returns : goal.returns
 returns g c =
     let left = g.S.Source.left in
     let failures = g.S.Source.failures in
-    let some : 0 < length (readers left failures c.args.indexes.now c.run_frames_at.new.indexes) =
-    omega (
-      arith,
-      as_many_readers left failures c.args.indexes.now c.run_frames_at.new.indexes
-          c.run_frames_at.auto.indexes,
-      not_none c.args.indexes.now c.if-is_empty.ensures,
-    ) in
+    let some = some_read left failures c.args.indexes.now c.run_frames_at.new.indexes c.run_frames_at.auto.indexes
+    (not_none c.args.indexes.now c.if-is_empty.ensures) in
     rw (c.split_at_mut-archives.ensures.value)
     (few_kept left g.S.Placed.whole failures g.S.Placed.failures g.P.Sink.held g.P.Sink.failures
     (frames_at (reader left failures c.args.crash.now c.run_frames_at.new.crash))
