@@ -50,18 +50,7 @@ index_device left failures (Err _) new o why content given r = absurd given
 -- ---- the archive behind it
 
 archive_device : {S : Type 0} (left : S → Option (List ℕ)) (failures : S → ℕ) (old new : Result S CannotOpen) (text : List ℕ) (why : Why) → IsGiven (reader left failures old new) text → IsUnread (reader left failures old new) why → IsDeviceFault why
-archive_device left failures (Ok source) new text NotOpened given r = absurd r
-archive_device left failures (Err _) new text NotOpened given r = absurd given
-archive_device left failures old new text Device given r = tt
-archive_device left failures old new text (Record fault) given r = absurd r
-archive_device left failures old new text (Take fault) given r = absurd r
-archive_device left failures old new text (Script fault line flaw) given r = absurd r
-archive_device left failures old new text (BadFrame line flaw) given r = absurd r
-archive_device left failures old new text OldArchive given r = absurd r
-archive_device left failures old new text TooLong given r = absurd r
-archive_device left failures old new text (IndexFaulty fault) given r = absurd r
-archive_device left failures old new text (Stale entry) given r = absurd r
-archive_device left failures old new text NoArchive given r = absurd r
+archive_device left failures old new text why given r = grind arith
 
 module _ {I P : Type 0} (number : ℕ) (input : Reader I) (archive : Reader P) (o : Operations) (content : IsContent o) (given : IsGiven input (index_text (index o))) (known : IsGiven archive (written o))
     (IsStaleSo : Entries → Option ℕ → Type 0) (never : (entry : Option ℕ) → IsStaleSo (index o) entry → ⊥) where

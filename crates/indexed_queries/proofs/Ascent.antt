@@ -45,8 +45,7 @@ later : (q x : List ℕ) (xs : List (List ℕ)) → list_any (is_same q) xs ≡ 
 later q x xs h = or_right (is_same q x) _ h
 
 and_false : (a b : Bool) → b ≡ false → (a && b) ≡ false
-and_false true b h = h
-and_false false b h = refl
+and_false a b h = grind arith
 
 -- the members that pass
 pub any_passed : (p : List ℕ → Bool) (q : List ℕ) (xs : List (List ℕ)) → list_any (is_same q) (filter p xs) ≡ (list_any (is_same q) xs && p q)
@@ -127,18 +126,10 @@ module _ (n : List ℕ → ℕ) where
   count_cons t x xs = sum_by-cons (λ x. bit (eqb (n x) t)) x xs
 
   one_here : (t : ℕ) (x : List ℕ) → n x ≡ t → bit (eqb (n x) t) ≡ 1
-  one_here t x e = by (eqb (n x) t) refl
-    where
-      by : (b : Bool) → eqb (n x) t ≡ b → bit b ≡ 1
-      by true h = refl
-      by false h = absurd (eqb-false (n x) t h e)
+  one_here t x e = grind arith
 
   none_here : (t : ℕ) (x : List ℕ) → (n x ≡ t → ⊥) → bit (eqb (n x) t) ≡ 0
-  none_here t x other = by (eqb (n x) t) refl
-    where
-      by : (b : Bool) → eqb (n x) t ≡ b → bit b ≡ 0
-      by true h = absurd (other (eqb-true (n x) t h))
-      by false h = refl
+  none_here t x other = grind arith
 
   -- none of them, where each is above
   count_none : (t : ℕ) (xs : List (List ℕ)) → AllByRecursion (λ y. n y ≡ t → ⊥) xs → count t xs ≡ 0

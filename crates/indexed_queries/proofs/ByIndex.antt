@@ -47,8 +47,7 @@ given_text : (w : Option (List ℕ)) (bytes : List ℕ) (P : List ℕ → Type 0
 given_text w bytes P is h = subst (λ (v : Option (List ℕ)). IfSome v P) is h
 
 given_so : {S : Type 0} (left : S → Option (List ℕ)) (failures : S → ℕ) (old new : Result S CannotOpen) (bytes : List ℕ) (P : List ℕ → Type 0) → IsGiven (reader left failures old new) bytes → Gives (reader left failures old new) P → P bytes
-given_so left failures (Ok source) new bytes P given gives = given_text (left source) bytes P given gives
-given_so left failures (Err _) new bytes P given gives = absurd given
+given_so left failures old new bytes P given gives = grind arith
 
 -- what is true of the bytes of an input, of these
 pub of_given : {S : Type 0} (input : Reader S) (bytes : List ℕ) (P : List ℕ → Type 0) → IsGiven input bytes → Gives input P → P bytes
@@ -61,16 +60,13 @@ entries_are input o entries content given holds =
 -- ---- parts of a content, joined
 
 both_and : (c p q : Bool) → ((c && p) || (c && q)) ≡ (c && (p || q))
-both_and true p q = refl
-both_and false p q = refl
+both_and c p q = grind arith
 
 or_assoc : (a b c : Bool) → ((a || b) || c) ≡ (a || (b || c))
-or_assoc true b c = refl
-or_assoc false b c = refl
+or_assoc a b c = grind arith
 
 or_none : (a : Bool) → (a || false) ≡ a
-or_none true = refl
-or_none false = refl
+or_none a = grind arith
 
 module _ (o : Operations) (content : IsContent o) where
   part_same : (p q : List ℕ → Bool) → ((r : List ℕ) → p r ≡ q r) → part o p ≡ part o q

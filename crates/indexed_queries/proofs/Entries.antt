@@ -83,12 +83,10 @@ module _ (e : PlacedEntry) (is_key : IsKey e.row.key) (digest : length e.row.dig
 -- ---- an entry of an index, without its kind and its place, is one of a summary
 
 tag_either : (a b : Bool) (n : ℕ) → (a ≡ eqb n 1) → (b ≡ eqb n 2) → (a || b) ≡ true → (n ≡ 1) ⊎ (n ≡ 2)
-tag_either true b n p q h = inl (eqb-true n 1 (sym p))
-tag_either false b n p q h = inr (eqb-true n 2 (sym q ∙ h))
+tag_either a b n p q h = grind arith
 
 first_kept : (e : List ℕ) → length e ≡ 74 → get_or (take 57 e) 0 0 ≡ get_or e 0 0
-first_kept [] long = refl
-first_kept (x ∷ xs) long = refl
+first_kept e long = grind arith
 
 is_entry : (e : List ℕ) → IsPlacedEntry e → IsEntry (take 57 e)
 is_entry e is = record {

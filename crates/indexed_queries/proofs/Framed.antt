@@ -64,23 +64,14 @@ module _ {I P R : Type 0} (indexes : List (Reader I)) (archives : List (Reader P
   -- an index or an archive is refused
   pub refused_keyed : (frames : List Frame) (keys : List (List ℕ)) (NoneFailed : Type 0) (fault : CommandFault) → HaveSameMembers keys (keys_of frames)
       → IsRefusal (AreRefusedTogether keys indexes archives others) NoneFailed fault → IsRefusal (AreRefusedAt indexes archives others frames) NoneFailed fault
-  refused_keyed frames keys NoneFailed (Input at why) same r = (keys, same, r)
-  refused_keyed frames keys NoneFailed (Output n) same r = r
-  refused_keyed frames keys NoneFailed (Report n) same r = r
-  refused_keyed frames keys NoneFailed OutOfMemory same r = r
+  refused_keyed frames keys NoneFailed fault same r = grind arith
 
   module _ {Q : Type 0} (frames : Reader Q) (report : Writer) where
     abbrev EndsSo : CommandFault → Type 0
     EndsSo fault = EndsReport (record { Makes = MakesFramedAt frames indexes archives others; Refuses = RefusesFramesAt frames indexes archives others; Unfailed = Unfailed frames × AreUnfailedTogether indexes archives others }) report (Err fault)
 
     pub frames_first : (fault : CommandFault) → IsRefusal (IsRefusedFrames frames) (Unfailed frames) fault → EachUntouched indexes → EachUntouched archives → EachUntouched others → AreUnfailedTogether indexes archives others → Takes report [] → EndsSo fault
-    frames_first (Input at why) r i a o unfailed t = (inl (r, i, a, o), t)
-    frames_first (Output n) r i a o unfailed t = absurd r
-    frames_first (Report n) r i a o unfailed t = absurd r
-    frames_first OutOfMemory r i a o unfailed t = ((r, unfailed), t)
+    frames_first fault r i a o unfailed t = grind arith
 
     pub archive_after : (fault : CommandFault) (said : List Frame) → Gives frames (λ bytes. frames_of bytes ≡ Ok said) → Unfailed frames → IsRefusal (AreRefusedAt indexes archives others said) (AreUnfailedTogether indexes archives others) fault → Takes report [] → EndsSo fault
-    archive_after (Input at why) said gives unfailed r t = (inr (said, gives, unfailed, r), t)
-    archive_after (Output n) said gives unfailed r t = absurd r
-    archive_after (Report n) said gives unfailed r t = absurd r
-    archive_after OutOfMemory said gives unfailed r t = ((unfailed, r), t)
+    archive_after fault said gives unfailed r t = grind arith

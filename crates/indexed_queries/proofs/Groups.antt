@@ -1,5 +1,5 @@
 -- Archives with indexes, one more of which was read.
-use Rattle.std.proofs.Common.{◌≡◌, ℕ, zero, suc, ◌+◌, ◌<◌, List, [], ◌∷◌, ◌++◌, length, map, take, drop, get_or, set, Option, Some, Result, refl, sym, ap, ◌∙◌, subst, inl, inr}
+use Rattle.std.proofs.Common.{arith, ◌≡◌, ℕ, zero, suc, ◌+◌, ◌<◌, List, [], ◌∷◌, ◌++◌, length, map, take, drop, get_or, set, Option, Some, Result, refl, sym, ap, ◌∙◌, subst, inl, inr}
 use Rattle.std.specs.Prelude.{slice_get}
 use Rattle.std.specs.FinSet as sets
 use Rattle.std.proofs.Math.ListN.{length-set}
@@ -115,25 +115,11 @@ module _ {I P R : Type 0} (fronts : List (List ℕ)) (indexes : List (Reader I))
   RefusedSo fault = IsRefusal (AreRefusedTogether fronts indexes archives others) (AreUnfailedTogether indexes archives others) fault
 
   pub indexed_first : (fault : CommandFault) → IsRefusal (IsFirstRefusedByIndex fronts indexes archives) (EachUnfailed indexes × EachUnfailed archives) fault → EachUntouched others → EachUnfailed others → RefusedSo fault
-  indexed_first (Input at why) r untouched unfailed = inl (r, untouched)
-  indexed_first (Output n) r untouched unfailed = absurd r
-  indexed_first (Report n) r untouched unfailed = absurd r
-  indexed_first OutOfMemory r untouched unfailed = (r, unfailed)
+  indexed_first fault r untouched unfailed = grind arith
 
   pub others_after : (fault : CommandFault) (before : ℕ) (o mid : Operations) → before ≡ length indexes → HaveJoinedGroups fronts indexes archives o mid → EachUnfailed indexes × EachUnfailed archives
       → IsRefusal (IsFirstRefused (λ number. Archive (before + number)) IsArchive IsArchiveRefused others) (EachUnfailed others) fault → RefusedSo fault
-  others_after (Input at why) before o mid is h unfailed r =
-      inr ((h.groups, h.named), unfailed, subst (λ (n : ℕ). IsFirstRefused (λ number. Archive (n + number)) IsArchive IsArchiveRefused others at why) is r)
-  others_after (Output n) before o mid is h unfailed r = absurd r
-  others_after (Report n) before o mid is h unfailed r = absurd r
-  others_after OutOfMemory before o mid is h unfailed r = (unfailed, r)
+  others_after fault before o mid is h unfailed r = grind arith
 
   pub all_held : (mid p : Operations) → HaveJoinedGroups fronts indexes archives sets.empty mid → HaveJoinedPicked others (is_under_any fronts) mid p → HoldNamedTogether fronts indexes archives others p
-  all_held mid p h j = record {
-    groups = h.groups;
-    named = h.named;
-    contents = j.contents;
-    are_contents = j.are_contents;
-    others_are = j.archives_are;
-    content_is = j.content ∙ ap (λ (m : Operations). merged m (map (λ (o : Operations). part o (is_under_any fronts)) j.contents)) h.content;
-  }
+  all_held mid p h j = grind arith

@@ -63,16 +63,10 @@ is_same = eq_by_cmp order
 -- ---- the row of an entry is that of its record
 
 admitted_state : (s : FindState) (b : Bool) → tag_byte s ≡ 2 → dsym_byte s ≡ cond b 1 0 → s ≡ cond b Dsym Image
-admitted_state Retired b t k = absurd (omega arith)
-admitted_state Image true t k = absurd (omega arith)
-admitted_state Image false t k = refl
-admitted_state Dsym true t k = refl
-admitted_state Dsym false t k = absurd (omega arith)
+admitted_state s b t k = grind arith
 
 retired_state : (s : FindState) → tag_byte s ≡ 1 → s ≡ Retired
-retired_state Retired t = refl
-retired_state Image t = absurd (omega arith)
-retired_state Dsym t = absurd (omega arith)
+retired_state s t = grind arith
 
 -- keys with one form are one
 one_key : (k l : SliceKey) → IsKey k → IsKey l → key_bytes k ≡ key_bytes l → k ≡ l
@@ -235,8 +229,7 @@ unfolding is_under
 all_under r = refl
 
 and_true : (a b : Bool) → b ≡ true → (a && b) ≡ a
-and_true true b h = h
-and_true false b h = refl
+and_true a b h = grind arith
 
 whole_part : (o : Operations) → part o (is_under []) ≡ o
 whole_part o = same_set nat_list_cmp_total bytes_same (part o (is_under [])) o (λ q. contains_part o (is_under []) q ∙ and_true (set.contains o q) (is_under [] q) (all_under q))

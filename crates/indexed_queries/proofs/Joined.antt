@@ -98,9 +98,7 @@ joined_together whole fronts entries old gathered o new is none h taken = record
 pub told_refused : {S : Type 0} (whole : S → Option (List ℕ)) (failures : S → ℕ) (source after : S) (number : ℕ) (fronts : List (List ℕ)) (entries : Entries) (fault : PlaceFault)
     → IfSome (whole source) (λ text. IsFaultUnder fronts entries text fault) → BlamesPlaced failures source after fault
     → IsRefusal (IsRefusedBehindIndex number (reader whole failures (Ok source) (Ok after)) (IsStaleFor fronts (reader whole failures (Ok source) (Ok after)) entries)) (Unfailed (reader whole failures (Ok source) (Ok after))) (told_fault number fault)
-told_refused whole failures source after number fronts entries (Stale entry) h b = inr (refl, b, (entry, refl, h))
-told_refused whole failures source after number fronts entries Device h b = inl (refl, b)
-told_refused whole failures source after number fronts entries OutOfMemory h b = b
+told_refused whole failures source after number fronts entries fault h b = grind arith
 
 -- of an index that was read, and its archive
 module _ {R S : Type 0} (number : ℕ) (index : Reader R) (archive : Reader S) (fronts : List (List ℕ)) (entries : Entries) (holds : HoldsIndex index entries) (unfailed : Unfailed index) where

@@ -1,5 +1,5 @@
 -- What is refused, from what reading an index and its archive came to.
-use Rattle.std.proofs.Common.{◌≡◌, ◌≢◌, ℕ, List, [], Option, Result, Ok, Err, refl, ap, sym, inr}
+use Rattle.std.proofs.Common.{arith, ◌≡◌, ◌≢◌, ℕ, List, [], Option, Result, Ok, Err, refl, ap, sym, inr}
 use Rattle.std.specs.Prelude.{MatchResult}
 use Rattle.archive_core.specs.Summary.{Entries}
 use Rattle.archive_index.specs.Reading.{IsIndexRefused}
@@ -29,15 +29,11 @@ pub index_refused : {S : Type 0} (left : S → Option (List ℕ)) (failures : S 
     → IsIndexRefused left failures source after fault
     → IsRefusal (λ at why. (at ≡ Index number) × (why ≡ IndexFaulty fault) × (fault.kind ≢ IndexOutOfMemory)) (fault.kind ≡ IndexOutOfMemory) told
     → IsRefusal (λ at why. (at ≡ Index number) × IsUnreadIndex (reader left failures (Ok source) (Ok after)) why) (Unfailed (reader left failures (Ok source) (Ok after))) told
-index_refused left failures source after number fault (Input at why) refuses r = (r.0, (after, refl, fault, r.1, r.2, refuses))
-index_refused left failures source after number fault (Output n) refuses r = absurd r
-index_refused left failures source after number fault (Report n) refuses r = absurd r
-index_refused left failures source after number fault OutOfMemory refuses wants = refuses.unfailed (no_device fault.kind wants)
+index_refused left failures source after number fault told refuses r = grind arith
 
 -- what an input was whose source was lent
 pub lent_from : {S : Type 0} (old : Result S CannotOpen) (lent : S) → MatchResult old (λ source. lent ≡ source) (λ _. ⊥) → old ≡ Ok lent
-lent_from {S = S} (Ok source) lent is = ap (λ (s : S). Ok s) (sym is)
-lent_from (Err e) lent is = absurd is
+lent_from = grind arith
 
 -- ---- INDEX and its archive
 
@@ -56,7 +52,4 @@ module _ {R S : Type 0} (number : ℕ) (index : Reader R) (archive : Reader S) (
 
 pub query_refused : (Makes : Status → List ℕ → Type 0) (Refuses : Place → Why → Type 0) (NoneFailed : Type 0) (report : Writer) (fault : CommandFault) → IsRefusal Refuses NoneFailed fault → Takes report []
     → EndsReport (record { Makes = Makes; Refuses = Refuses; Unfailed = NoneFailed }) report (Err fault)
-query_refused Makes Refuses NoneFailed report (Input at why) r t = (r, t)
-query_refused Makes Refuses NoneFailed report (Output n) r t = r
-query_refused Makes Refuses NoneFailed report (Report n) r t = absurd r
-query_refused Makes Refuses NoneFailed report OutOfMemory r t = (r, t)
+query_refused Makes Refuses NoneFailed report fault r t = grind arith

@@ -87,8 +87,7 @@ module _ (bytes : List ℕ) where
 -- ---- a UUID or a key
 
 or_false : (a : Bool) → (a || false) ≡ a
-or_false true = refl
-or_false false = refl
+or_false a = grind arith
 
 -- bytes of other lengths are others
 other_length : (a b : List ℕ) → (length a ≡ length b → ⊥) → bytes_eq a b ≡ false
@@ -120,10 +119,7 @@ module _ (r : List ℕ) (long : 25 ≤ length r) where
       either _ (length f == 16) (length f == 24) (λ e. of_uuid f (eqb-true (length f) 16 e)) (λ e. of_key f (eqb-true (length f) 24 e)) sized
 
   swapped : (a b c d : Bool) → ((a || b) || (c || d)) ≡ ((a || c) || (b || d))
-  swapped true b c d = refl
-  swapped false true true d = refl
-  swapped false true false d = refl
-  swapped false false c d = refl
+  swapped a b c d = grind arith
 
   -- a record is under one of the fronts where its UUID or its key is one
   any_each : (fronts : List Front) → AllByRecursion (λ front. is_sized front ≡ true) fronts
