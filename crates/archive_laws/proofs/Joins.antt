@@ -7,7 +7,7 @@ use Rattle.archive_records.specs.Text.{IsArchiveOf, written}
 use Rattle.command_ends.specs.declared.faults.Place.{Place}
 use Rattle.command_ends.specs.declared.faults.Why.{Why}
 use Rattle.command_ends.specs.Archives.{AreRefused, HoldTogether, merged}
-use Rattle.command_ends.specs.Inputs.{Reader, HoldsArchive, HoldsContent, IsDeviceFault, IsGiven, IsGivenArchive, IsRefusedArchive}
+use Rattle.command_ends.specs.Inputs.{Reader, HoldsArchive, HoldsContent, IsDeviceFault, IsGiven, IsGivenArchive}
 use Rattle.archive_updates.specs.Merge.{merge}
 use Rattle.archive_laws.specs.Joins.{IsGivenJoin}
 use Rattle.archive_laws.proofs.Accepted.{merge_refused}
@@ -100,10 +100,3 @@ alone_held {S = S} archive IsTrue = (
     is_true = held.is_true;
   },
 )
-
-pub alone_refused : {R S : Type 0} (archive : Reader R) (place : Place) (why : Why) → AreRefused {S = S} archive [] place why ↔ IsRefusedArchive 0 archive place why
-alone_refused {S = S} archive place why = (to, λ refused. inl (refused, tt))
-  where
-    to : AreRefused {S = S} archive [] place why → IsRefusedArchive 0 archive place why
-    to (inl refused) = refused.0
-    to (inr refused) = let nowhere = refused.2.input_is in cc

@@ -19,9 +19,6 @@ made_same o p same = ap content_of (same_set nat_list_cmp_total bytes_same o p (
 pub returns-clause-same_operations : goal.returns-clause-same_operations
 returns-clause-same_operations g c = λ sites others events later i j same. made_same (reached sites events i) (reached others later j) same
 
-pub returns-clause-same_content : goal.returns-clause-same_content
-returns-clause-same_content g c = c.same_reached.ensures
-
 pub returns-clause-same_bytes : goal.returns-clause-same_bytes
 returns-clause-same_bytes g c = λ sites others events later i j same records.
     let held = c.same_reached.ensures sites others events later i j same in
@@ -33,9 +30,3 @@ pub returns-clause-same_answers : goal.returns-clause-same_answers
 returns-clause-same_answers g c = λ sites others events later i j same key asked answer.
     let held = c.same_reached.ensures sites others events later i j same in
     (subst (λ (o : Operations). IsAnswer o key asked answer) held, subst (λ (o : Operations). IsAnswer o key asked answer) (sym held))
-
-pub returns-clause-some_answer : goal.returns-clause-some_answer
-returns-clause-some_answer g c = c.one_answer.ensures.some
-
-pub returns-clause-one_answer : goal.returns-clause-one_answer
-returns-clause-one_answer g c = c.one_answer.ensures.one
