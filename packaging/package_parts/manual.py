@@ -153,7 +153,8 @@ def page(name, about, usages, made, edition):
         *"\n.br\n".join(used).split("\n"),
         *made,
         ".SH SEE ALSO",
-        others + r"; README.md, CHANGELOG.md, COMMANDS.md, FILES.md and OPERATING.md in \fBshare/doc/symarch\fR",
+        others + r"; README.md, CHANGELOG.md, and in docs COMMANDS, FILES, OPERATING and GLOSSARY, all in "
+        r"\fBshare/doc/symarch\fR",
     ]
     # A heading begins a paragraph.
     kept = [it for it, before in zip(lines, ["", *lines]) if it != ".PP" or not before.startswith((".SH", ".SS"))]
