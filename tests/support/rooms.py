@@ -4,7 +4,7 @@ import pathlib
 import shutil
 import subprocess
 
-from .cases import same, symarch
+from .cases import ProgramCase, same, symarch
 from .made_images import image, join_of
 
 keep = os.environ.get("KEEP") or str(pathlib.Path(__file__).resolve().parents[2] / "tools" / "symarch-keep")
@@ -110,3 +110,13 @@ class Room:
         """What has a name that begins with that of the archive, but for what stays beside it."""
         names = (name for name in os.listdir(self.path) if name.startswith("site.sym."))
         return sorted(name for name in names if name not in [f"site.sym.{ending}" for ending in BESIDE])
+
+
+class RoomCase(ProgramCase):
+    """Cases over symarch-keep, each in a room of its own."""
+
+    room: Room
+
+    def setUp(self) -> None:
+        super().setUp()
+        self.room = Room(self.folder)
