@@ -22,6 +22,7 @@ import sys
 from .keeping import adding, checking, exchanging, folding, repairing, retiring, stating
 from .keeping.screen import Failed, Screen, shown
 from .keeping.stopping import Stopped, answer_signals, end_by_signal, ignore_signals
+from .version import PrintVersion
 
 WORDS = {
     "add": adding,
@@ -45,6 +46,7 @@ class Parser(argparse.ArgumentParser):
 def parse(words):
     shape = {"formatter_class": argparse.RawDescriptionHelpFormatter, "allow_abbrev": False}
     parser = Parser("symarch-keep", description=__doc__, **shape)
+    parser.add_argument("--version", action=PrintVersion, nargs=0, help="print the version and exit")
     commands = parser.add_subparsers(metavar="WORD", required=True)
     for name, module in WORDS.items():
         its = commands.add_parser(name, help=module.ABOUT, usage=module.USAGE, description=module.__doc__, **shape)

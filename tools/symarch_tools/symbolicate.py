@@ -99,7 +99,7 @@ from .reports.faults import Failure, Status
 from .reports.images import hyphenated
 from .reports.report import Count, Report
 from .reports.streams import note, output, say
-from .version import version
+from .version import PrintVersion
 
 NAME = "symbolicate-report"
 USAGE = f"{NAME} [--missing | [--text] [--demangle] [--out FOLDER]] REPORT... ARCHIVE..."
@@ -140,15 +140,6 @@ class Once(argparse.Action):
         if getattr(namespace, self.dest) not in (None, False):
             parser.error(f"{option} stands twice")
         setattr(namespace, self.dest, True if self.nargs == 0 else value)
-
-
-class PrintVersion(argparse.Action):
-    """Prints the version in the place of all else."""
-
-    def __call__(self, parser: argparse.ArgumentParser, *_: object) -> None:
-        output().write(f"{NAME} {version()}\n".encode())
-        output().flush()
-        parser.exit()
 
 
 def parser_of_words() -> Parser:
@@ -397,7 +388,7 @@ def stop(number: int, _frame: object) -> NoReturn:
 
 
 def main(words: Optional[Sequence[str]] = None) -> int:
-    """Carries out the words. A signal ends the tool as it would have, unless it is ignored, after its files are gone."""
+    """Carries out the words. A signal ends the tool, unless it is ignored, once its files are removed."""
     try:
         answered = [number for number in SIGNALS if signal.getsignal(number) != signal.SIG_IGN]
         for number in answered:

@@ -2,6 +2,7 @@
 last one that of the next: between releases a package is `NEXT~gitDATE.COMMIT`, which comes before NEXT."""
 from __future__ import annotations
 
+import argparse
 import os
 import pathlib
 import re
@@ -84,3 +85,11 @@ def version() -> str:
         return edition_of(here.parents[2]).version
     except (OSError, Unversioned):
         return "of no release"
+
+
+class PrintVersion(argparse.Action):
+    """Prints the name of a tool and the version, in the place of all else."""
+
+    def __call__(self, parser: argparse.ArgumentParser, *_: object) -> None:
+        print(f"{parser.prog} {version()}", flush=True)
+        parser.exit()

@@ -20,8 +20,8 @@ MOST_KNOWN = 20_000
 # The number of no image.
 NO_IMAGE = -1
 # What a frame is, as bits of a byte, of which there is one for each frame of a report: one with a return address, one
-# that had a name, one whose offset cannot be asked for; in the trees of
-# MetricKit one that is no root, and one that has others below it; and one of a function that was inlined.
+# that had a name, one whose offset cannot be asked for; in the trees of MetricKit one that is no root, and one that has
+# others below it; and one of a function that was inlined.
 IS_RETURN, HAD_NAME, CANNOT_BE_ASKED, IS_BELOW, HAS_BELOW, IS_INLINED = 1, 2, 4, 8, 16, 32
 
 
