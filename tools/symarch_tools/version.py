@@ -7,6 +7,7 @@ import os
 import pathlib
 import re
 import subprocess
+import sys
 from typing import NamedTuple, Optional
 
 # What a package has in the place of a repository, beside this.
@@ -91,5 +92,8 @@ class PrintVersion(argparse.Action):
     """Prints the name of a tool and the version, in the place of all else."""
 
     def __call__(self, parser: argparse.ArgumentParser, *_: object) -> None:
-        print(f"{parser.prog} {version()}", flush=True)
+        try:
+            os.write(sys.stdout.fileno(), f"{parser.prog} {version()}\n".encode())
+        except (AttributeError, OSError) as error:
+            parser.exit(2, f"{parser.prog}: {error}\n")
         parser.exit()
