@@ -3,8 +3,10 @@ import json
 import os
 import re
 import shutil
+import signal
 import subprocess
 import sys
+import time
 from pathlib import Path
 
 from .support.program import TOP, call, symarch
@@ -488,3 +490,55 @@ class Calls(ReportCase):
                 came = self.report(CRASHES / "arm64.crash", "shipped", environment={"SYMARCH": program})
                 line = f"symbolicate-report: SYMARCH names {program}, which does not answer as symarch does"
                 self.assertEqual((came.status, came.out, came.error_lines[-1]), (126, b"", line))
+
+
+# Runs the tool, and gives it a signal before it imports a module.
+INTERRUPTED = """
+import os, runpy, signal, sys
+
+class Finder:
+    @staticmethod
+    def find_spec(name, path=None, target=None):
+        if name == module:
+            os.kill(os.getpid(), signal.SIGINT)
+
+module, *sys.argv = sys.argv[1:]
+sys.meta_path.insert(0, Finder)
+sys.path[0] = os.path.dirname(sys.argv[0])
+runpy.run_path(sys.argv[0], run_name="__main__")
+"""
+
+
+class Signals(ReportCase):
+    """A signal ends the tool without a traceback, and leaves no file."""
+
+    def test_ctrl_c_while_it_begins(self) -> None:
+        for module in ("subprocess", "tempfile"):
+            with self.subTest(module):
+                words = [sys.executable, "-BIS", "-c", INTERRUPTED, module, TOOL, CRASHES / "arm64.crash", "shipped"]
+                came = call(words, cwd=self.archives, environment={"SYMARCH": symarch})
+                self.assertEqual((came.status, came.errors), (-signal.SIGINT, b""))
+
+    def test_while_the_program_runs(self) -> None:
+        """What the tool wrote for the program is removed, and the program ends."""
+        begun, temporary = self.folder / "begun", self.folder / "temporary"
+        temporary.mkdir()
+        program = self.script("slow", f'echo $$ >"{begun}"; exec sleep 60')
+        environment = {**os.environ, "SYMARCH": program, "TMPDIR": str(temporary)}
+        words = [sys.executable, "-B", TOOL, CRASHES / "arm64.crash", self.archives / "shipped"]
+        for number in (signal.SIGINT, signal.SIGTERM, signal.SIGHUP):
+            with self.subTest(number), subprocess.Popen(words, env=environment, stderr=subprocess.PIPE) as run:
+                while not (begun.exists() and begun.read_text()):
+                    time.sleep(0.01)
+                run.send_signal(number)
+                self.assertEqual((run.communicate(timeout=30)[1], run.returncode), (b"", -number))
+                self.assertEqual(list(temporary.iterdir()), [])
+                self.assertRaises(ProcessLookupError, os.kill, int(begun.read_text()), 0)
+                begun.unlink()
+
+    def test_an_ignored_signal(self) -> None:
+        before = ["sh", "-c", 'trap "" INT; exec "$0" "$@"']
+        program = self.script("interrupted", 'kill -INT $PPID; exec "$symarch" "$@"')
+        came = self.report(CRASHES / "arm64.crash", "shipped", before=before, environment={"SYMARCH": program})
+        self.assertEqual(came.status, 0, came.errors)
+        self.is_printed(came, "crash")
