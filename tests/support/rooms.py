@@ -9,7 +9,7 @@ from .made_images import image, join_of
 
 keep = os.environ.get("KEEP") or str(pathlib.Path(__file__).resolve().parents[2] / "tools" / "symarch-keep")
 # What stays beside an archive.
-BESIDE = ("lock", "log", "idx", "idx.sum", "today", "today.idx", "today.idx.sum", "asked")
+BESIDE = ("lock", "log", "idx", "idx.sum", "today", "today.idx", "today.idx.sum", "asked", "site", "lost")
 
 
 def today_of(archive):
