@@ -24,6 +24,7 @@ from typing import NoReturn, Optional, Sequence
 from .keeping import adding, checking, exchanging, folding, repairing, retiring, stating
 from .keeping.screen import Failed, Screen, system_text
 from .keeping.stopping import STOPPING, Stopped
+from .version import PrintVersion
 
 WORDS = {
     "add": adding,
@@ -47,6 +48,7 @@ class Parser(argparse.ArgumentParser):
 def parse(words: Sequence[str]) -> argparse.Namespace:
     shape = argparse.RawDescriptionHelpFormatter
     parser = Parser("symarch-keep", description=__doc__, formatter_class=shape, allow_abbrev=False)
+    parser.add_argument("--version", action=PrintVersion, nargs=0, help="print the version and exit")
     commands = parser.add_subparsers(metavar="WORD", required=True)
     for name, module in WORDS.items():
         its = commands.add_parser(
