@@ -3,7 +3,7 @@ begin with two spaces."""
 import re
 from . import formats as F
 from .hints import second_line
-from .formats import (Content, Fault, MergeFault, Refused, Reader, Source, addr, admission, answering, answer_lines,
+from .formats import (Content, Fault, MergeFault, Refused, Source, admission, answering, answer_lines,
                       arch_word, address_word, copy_unnamed, covering, digest_word, find_lines, find_rows, index_text,
                       key_of, key_text, merge_streams, name_lines, parts_of_file, read_archive, read_frames, read_ops,
                       read_script, read_summary, retirement, run_world, sha, slice_of, summary_text, uuid_word)

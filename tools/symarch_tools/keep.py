@@ -1,7 +1,7 @@
 """Keeps an archive of symarch: puts images and dSYMs into it, exchanges with other sites, checks and repairs it.
 
-The program is the one that SYMARCH names; else the one that ./symarch built beside this tool; else `symarch` in PATH.
-None is built here.
+The program is the one that SYMARCH names; else the one that ./symarch built, or that was installed with this tool; else
+`symarch` in PATH. None is built here: if SYMARCH names the script ./symarch, the program that it built is called.
 
 What comes in goes into ARCHIVE.today, a small archive beside ARCHIVE, and `fold` joins it into ARCHIVE. What a site has
 is what both have together: `symbolicate-report` asks both, and so does `symarch frames FRAMES ARCHIVE.today ARCHIVE`.

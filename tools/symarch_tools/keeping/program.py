@@ -2,17 +2,15 @@
 import contextlib
 import os
 import re
-import shutil
 import subprocess
 from typing import Callable, Dict, Iterable, Optional, Sequence, Union
 
+from ..program import candidates, named
 from .contents import END, LENGTH, MAGIC, MAGICS
 from .screen import Failed, SliceRefused, shown, write
 from .slices import Slice
 from .stopping import Later
 
-BUILT = os.path.join("crates", "symarch", "out", "symarch")
-TOP = os.path.join(os.path.dirname(os.path.realpath(__file__)), "..", "..", "..")
 # By what the program gets the files that this tool has open, also those whose paths are no UTF-8.
 DESCRIPTORS = "/dev/fd"
 Word = Union[str, bytes]
@@ -27,7 +25,7 @@ class Program:
     """The program symarch."""
 
     def __init__(self) -> None:
-        self.path = found_program()
+        self.path = answering_program()
         if not os.path.exists(os.path.join(DESCRIPTORS, "0")):
             raise Failed(f"there is no {DESCRIPTORS}, by which the program gets its files: /proc is not mounted")
 
@@ -78,21 +76,15 @@ class Program:
             return self.run(words, folder=folder, open_files=(file.fileno(),), names={words[1]: shown(path)})
 
 
-def found_program() -> str:
-    """The path of the program that SYMARCH names, else of the one that was built beside this tool, else of `symarch` in
-    PATH."""
-    named = os.environ.get("SYMARCH")
-    for word in [named] if named else [os.path.join(TOP, BUILT), "symarch"]:
-        path = os.path.abspath(shutil.which(word) or os.devnull)
-        beside = os.path.dirname(os.path.realpath(path))
-        if os.path.exists(os.path.join(beside, "packaging", "build-program")):
-            # The script ./symarch would begin a build.
-            path = os.path.join(beside, BUILT)
+def answering_program() -> str:
+    """The first program that answers as symarch does."""
+    for path in candidates():
         with contextlib.suppress(OSError), Later():
             words, nothing = [path, "--version"], subprocess.DEVNULL
             if subprocess.run(words, stdin=nothing, capture_output=True, check=False).stdout[:8] == b"symarch ":
                 return path
-    which = f"SYMARCH is {shown(named)}, which is no" if named else "there is no"
+    word = named()
+    which = f"SYMARCH is {shown(word)}, which is no" if word else "there is no"
     raise Failed(f"{which} program symarch; `./symarch --version` in its sources builds one", 126)
 
 
