@@ -85,29 +85,29 @@ class Admit(CrashCase):
         self.has_bytes("out", RETIRED)
 
     def test_a_source_file(self) -> None:
-        self.refused(
+        self.expect_refusal(
             "admit shipped.sym out crash/spool-1 crash/spool.c", "file 1", "Unrecognised", "crash/spool.c"
         )
         self.is_absent("out")
 
     def test_a_static_library(self) -> None:
         self.file("library.a", b"!<arch>\n")
-        self.refused("admit empty.sym out library.a", "file 0", "Unrecognised", "library.a")
+        self.expect_refusal("admit empty.sym out library.a", "file 0", "Unrecognised", "library.a")
         self.is_absent("out")
 
     def test_a_32_bit_image(self) -> None:
         self.file("thin", thirty_two_bit())
-        self.refused("admit empty.sym out thin", "file 0", "Unrecognised", "thin")
+        self.expect_refusal("admit empty.sym out thin", "file 0", "Unrecognised", "thin")
         self.is_absent("out")
 
     def test_an_image_without_a_uuid(self) -> None:
         self.file("no-uuid", without_uuid(EXECUTE))
-        self.refused("admit empty.sym out no-uuid", "file 0", "Slice(0, Image(NoUuid))", "no-uuid")
+        self.expect_refusal("admit empty.sym out no-uuid", "file 0", "Slice(0, Image(NoUuid))", "no-uuid")
         self.is_absent("out")
 
     def test_a_file_of_which_one_slice_is_none(self) -> None:
         self.file("half", universal([image(1), without_uuid(EXECUTE)]))
-        self.refused("admit empty.sym out half", "file 0", "Slice(1, Image(NoUuid))", "half")
+        self.expect_refusal("admit empty.sym out half", "file 0", "Slice(1, Image(NoUuid))", "half")
         self.is_absent("out")
 
     def test_a_32_bit_slice_is_skipped(self) -> None:
@@ -318,7 +318,7 @@ class Frames(CrashCase):
         )
 
     def test_a_report_in_the_place_of_frames(self) -> None:
-        self.refused(
+        self.expect_refusal(
             "frames crash/arm64.crash both.sym",
             "frames",
             "BadFrame at line 1",
@@ -351,12 +351,12 @@ class Merge(CrashCase):
 
     def test_a_source_file(self) -> None:
         self.file("out", SHIPPED)
-        self.refused("merge shipped.sym out crash/spool.c", "archive 1", "BadMagic at 0", "crash/spool.c")
+        self.expect_refusal("merge shipped.sym out crash/spool.c", "archive 1", "BadMagic at 0", "crash/spool.c")
         self.has_bytes("out", SHIPPED)
 
     def test_an_archive_that_turns_out_to_be_cut(self) -> None:
         self.file("cut.sym", LINKED[:-1])
-        self.refused("merge shipped.sym out cut.sym", "archive 1", "Truncated at 45279", "cut.sym")
+        self.expect_refusal("merge shipped.sym out cut.sym", "archive 1", "Truncated at 45279", "cut.sym")
         self.is_absent("out")
         self.assertEqual(list(self.folder.glob(".symarch-*")), [])
 
@@ -391,14 +391,14 @@ class Out(CrashCase):
         self.file("out", BOTH)
         for words, lost in (("migrate shipped.sym out", 4), ("new out", 8)):
             hint = f"out, there, and has {lost} records that the new archive neither has nor retires"
-            self.refused(words, "output", "cannot replace", hint)
+            self.expect_refusal(words, "output", "cannot replace", hint)
         self.has_bytes("out", BOTH)
 
     def test_an_image(self) -> None:
         image = (crash.CRASH / "spool-1").read_bytes()
         self.file("out", image)
         hint = "out, there, and neither empty nor one of symarch's files"
-        self.refused("admit empty.sym out crash/spool-1.dSYM", "output", "cannot replace", hint)
+        self.expect_refusal("admit empty.sym out crash/spool-1.dSYM", "output", "cannot replace", hint)
         self.has_bytes("out", image)
 
     def test_a_limit_on_the_size_of_files(self) -> None:
@@ -423,5 +423,5 @@ class Out(CrashCase):
             "merge input.sym link.sym linked.sym",
             "apply input.sym second.sym linked.ops",
         ):
-            self.refused(words, "output", "cannot create", f"{words.split()[2]}, the file of an input")
+            self.expect_refusal(words, "output", "cannot create", f"{words.split()[2]}, the file of an input")
         self.has_bytes("input.sym", SHIPPED)

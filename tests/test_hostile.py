@@ -75,7 +75,7 @@ class Limits(HostileCase):
             self.refuses(words, "archive 0", "one.sym", "cannot open", hint, **few(3))
         self.does(f"find one.sym {UUID}", 1, **few(4))
         self.refuses("merge one.sym out {}", "archive 1", "empty.sym", "cannot open", hint, **few(4))
-        self.refused("merge one.sym out empty.sym", "output", "cannot create", f"out{hint}", **few(5))
+        self.expect_refusal("merge one.sym out empty.sym", "output", "cannot create", f"out{hint}", **few(5))
         self.keeps_out()
         self.does("merge one.sym out empty.sym", 1, ONE, **few(6))
 

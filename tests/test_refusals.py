@@ -247,7 +247,7 @@ class Outputs(PlacesCase):
         self.file("kept.sym", ONE)
         hint = ", there, and has 1 record that the new archive neither has nor retires"
         self.refuses_out("kept.sym", "cannot replace", hint, ["new"])
-        self.refused("merge empty.sym kept.sym empty.sym", "output", "cannot replace", f"kept.sym{hint}")
+        self.expect_refusal("merge empty.sym kept.sym empty.sym", "output", "cannot replace", f"kept.sym{hint}")
         self.has_bytes("kept.sym", ONE)
 
     def test_a_damaged_archive(self) -> None:
@@ -266,7 +266,7 @@ class Outputs(PlacesCase):
                 f"merge empty.sym {path} empty.sym one.sym",
                 f"delta one.sym empty.sum {path}",
             ):
-                self.refused(words, "output", "cannot create", f"{path}, {OF_AN_INPUT}")
+                self.expect_refusal(words, "output", "cannot create", f"{path}, {OF_AN_INPUT}")
         self.has_bytes("one.sym", ONE)
 
 
@@ -274,15 +274,15 @@ class Quoted(PlacesCase):
     """A path with a character that a terminal obeys is quoted, and takes one line. Another one stands as it is."""
 
     def shows(self, path: str, shown: str) -> None:
-        self.refused(["list", path], "archive 0", "cannot open", f"{shown}: {ENOENT}")
-        self.refused(["admit", "empty.sym", "out", path], "file 0", "cannot open", f"{shown}: {ENOENT}")
+        self.expect_refusal(["list", path], "archive 0", "cannot open", f"{shown}: {ENOENT}")
+        self.expect_refusal(["admit", "empty.sym", "out", path], "file 0", "cannot open", f"{shown}: {ENOENT}")
         (self.folder / path).mkdir()
-        self.refused(["rehearse", path], "script", "Device", f"{shown}: {EISDIR}")
+        self.expect_refusal(["rehearse", path], "script", "Device", f"{shown}: {EISDIR}")
         (self.folder / path).rmdir()
         self.file(path, IMAGE)
         words = ["merge", "empty.sym", "out", path]
-        self.refused(words, "archive 1", "BadMagic at 0", f"{shown}, {A_MACHO_FILE}")
-        self.refused(["migrate", "one.sym", path], "output", "cannot replace", f"{shown}, {FOREIGN}")
+        self.expect_refusal(words, "archive 1", "BadMagic at 0", f"{shown}, {A_MACHO_FILE}")
+        self.expect_refusal(["migrate", "one.sym", path], "output", "cannot replace", f"{shown}, {FOREIGN}")
 
     def test_obeyed(self) -> None:
         self.shows("two\nlines", '"two\\nlines"')

@@ -129,23 +129,23 @@ class Refused(VersionCase):
 
     def test_a_count_without_the_retired_slices(self) -> None:
         self.file("counted.sym", OLD[:-1] + b"\x01")
-        self.refused("migrate counted.sym out", "archive 0", "BadCount at 154", "counted.sym")
+        self.expect_refusal("migrate counted.sym out", "archive 0", "BadCount at 154", "counted.sym")
         self.is_absent("out")
-        self.refused("migrate counted.sym two.sym", "archive 0", "BadCount at 154", "counted.sym")
+        self.expect_refusal("migrate counted.sym two.sym", "archive 0", "BadCount at 154", "counted.sym")
         self.has_bytes("two.sym", TWO)
 
     def test_a_cut_archive(self) -> None:
         self.file("cut.sym", OLD[:100])
-        self.refused("migrate cut.sym out", "archive 0", "Truncated at 65", "cut.sym")
+        self.expect_refusal("migrate cut.sym out", "archive 0", "Truncated at 65", "cut.sym")
         self.is_absent("out")
 
     def test_a_retired_slice_in_version_2(self) -> None:
         self.assertEqual(records_in(OLD)[0], retirement(SLICE))
         self.file("covered.sym", b"MSYMARC2" + OLD[8:])
-        self.refused("migrate covered.sym out", "archive 0", "Covered at 65", "covered.sym")
+        self.expect_refusal("migrate covered.sym out", "archive 0", "Covered at 65", "covered.sym")
         self.is_absent("out")
 
     def test_a_version_that_is_none(self) -> None:
         self.file("third.sym", b"MSYMARC3" + OLD[8:])
-        self.refused("migrate third.sym out", "archive 0", "BadMagic at 0", "third.sym")
+        self.expect_refusal("migrate third.sym out", "archive 0", "BadMagic at 0", "third.sym")
         self.is_absent("out")

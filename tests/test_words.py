@@ -68,12 +68,14 @@ class Help(PlacesCase):
             self.prints_help(words, "symarch admit <IN> <OUT> <FILE>...", "  -h, --help  Print help")
 
     def test_version(self) -> None:
-        """The number is the newest of CHANGELOG.md."""
+        """The number is that of the last release of CHANGELOG.md, or of the next one above it."""
         changes = (TOP / "CHANGELOG.md").read_text(encoding="utf-8")
-        newest = re.search(r"^### ([0-9][0-9.]*),", changes, re.M)
-        assert newest is not None
+        found = re.findall(r"^### ([0-9.]+), (not released|[0-9-]+)$", changes, re.M)
+        numbers = [it[0] for it in found[: 2 if found[0][1] == "not released" else 1]]
         for words in ("--version", "-V"):
-            self.expect(words, prints=f"symarch {newest[1]}")
+            came = self.call(words)
+            self.assertEqual((came.status, came.error_lines), (0, []))
+            self.assertIn(came.lines, [[f"symarch {it}"] for it in numbers])
 
     def test_unheard(self) -> None:
         """Nothing tells that what is asked for could not be printed."""
@@ -96,7 +98,7 @@ class Status(PlacesCase):
         self.expect(f"symbolicate one.sym {KEY} 0", prints="0x0000000000000000 -", status=1)
 
     def test_2(self) -> None:
-        self.refused(f"find nowhere {UUID}", "archive 0", "cannot open", f"nowhere: {ENOENT}")
+        self.expect_refusal(f"find nowhere {UUID}", "archive 0", "cannot open", f"nowhere: {ENOENT}")
 
     def test_3(self) -> None:
         self.expect(
@@ -304,7 +306,7 @@ class EachWord(PlacesCase):
             self.expect(["name", "one.sym", "--", word], status=1)
 
     def test_an_empty_word(self) -> None:
-        self.refused(["list", ""], "archive 0", "cannot open", f": {ENOENT}")
+        self.expect_refusal(["list", ""], "archive 0", "cannot open", f": {ENOENT}")
 
 
 def unprinted(number: int) -> List[str]:

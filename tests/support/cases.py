@@ -134,7 +134,7 @@ class ProgramCase(FolderCase):
         wanted = (status, came.lines if prints is None else text_lines(prints), text_lines(tells))
         self.assertEqual((came.status, came.lines, came.error_lines), wanted, f"of {words!r}")
 
-    def refused(self, words: Words, where: str, fault: str, hint: str, **how: Any) -> None:
+    def expect_refusal(self, words: Words, where: str, fault: str, hint: str, **how: Any) -> None:
         """Fails where a command is not refused so: nothing is printed, and standard error has the fault at an input or
         at OUT, and the line for people, which names its path and what is known of it."""
         tells = [f"symarch: {where}: {fault}", f"  {where} is {hint}"]

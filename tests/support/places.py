@@ -102,7 +102,7 @@ class PlacesCase(ProgramCase):
     def refuses(self, words: str, where: str, path: str, fault: str, hint: str = "", **how: Any) -> None:
         """Fails where a command does not refuse the file of a path so, or does not leave OUT as it was. The path stands
         for `{}` in the words."""
-        self.refused([it.format(path) for it in words.split(" ")], where, fault, f"{path}{hint}", **how)
+        self.expect_refusal([it.format(path) for it in words.split(" ")], where, fault, f"{path}{hint}", **how)
         self.keeps_out()
 
     def refuses_archive(
@@ -146,4 +146,4 @@ class PlacesCase(ProgramCase):
         """Fails where a command that writes does not refuse OUT so."""
         for command in commands:
             words = [it.format(path) for it in WRITING[command].split(" ")]
-            self.refused(words, "output", fault, f"{path}{hint}", **how)
+            self.expect_refusal(words, "output", fault, f"{path}{hint}", **how)
