@@ -8,7 +8,7 @@ import shutil
 import signal
 import subprocess
 import time
-from typing import Dict, List, Tuple
+from typing import Callable, Dict, List, Tuple
 
 from .support.cases import Without, is_done, powerless_over
 from .support.made_images import EMPTY, archive, image, index_of, retirement, slice_words
@@ -125,7 +125,7 @@ class Vouched(LossCase):
         self.index_by_hand()
         self.word("exchange", west.folder, "east", status=4)
         west.exchange()
-        self.assertEqual(west.bytes(), EMPTY)
+        self.assertEqual(west.has(), EMPTY)
 
     def test_a_damaged_index_is_made_anew_if_the_archive_is_as_it_was(self) -> None:
         good = kept_index(self.room.archive)
@@ -561,13 +561,9 @@ class Reports(LossCase):
         path = today_of(self.room.archive)
         path.unlink()
         self.assertEqual(self.report()[0], 0)
-        for make in (
-            path.mkdir,
-            lambda: path.symlink_to(path.name),
-            lambda: path.symlink_to("nowhere"),
-            lambda: path.write_bytes(b"text that is none"),
-            lambda: path.write_bytes(b""),
-        ):
+        makers: List[Callable[[], object]] = [path.mkdir, lambda: path.symlink_to("nowhere")]
+        makers += [lambda: path.symlink_to(path.name), lambda: path.write_bytes(b"text"), lambda: path.write_bytes(b"")]
+        for make in makers:
             make()
             self.refused()
             if path.is_dir():
