@@ -87,7 +87,6 @@ from __future__ import annotations
 
 import argparse
 import os
-import signal
 import sys
 import tempfile
 from typing import Any, Dict, Iterable, List, NoReturn, Optional, Sequence, Tuple
@@ -99,6 +98,7 @@ from .reports.faults import Failure, Status
 from .reports.images import hyphenated
 from .reports.report import Count, Report
 from .reports.streams import note, output, say
+from .signals import Stopped, signals
 from .version import PrintVersion
 
 NAME = "symbolicate-report"
@@ -106,15 +106,6 @@ USAGE = f"{NAME} [--missing | [--text] [--demangle] [--out FOLDER]] REPORT... AR
 MAGICS = (b"MSYMARC1", b"MSYMARC2")
 # How long an archive without records is.
 EMPTY_SIZE = 17
-SIGNALS = (signal.SIGHUP, signal.SIGINT, signal.SIGTERM)
-
-
-class Stopped(BaseException):
-    """A signal that ends the tool."""
-
-    def __init__(self, number: int) -> None:
-        super().__init__(number)
-        self.number = number
 
 
 # ---- words
@@ -381,23 +372,12 @@ def carry_out_words(words: Sequence[str]) -> int:
     return Status.REFUSED
 
 
-def stop(number: int, _frame: object) -> NoReturn:
-    for one in SIGNALS:
-        signal.signal(one, signal.SIG_IGN)
-    raise Stopped(number)
-
-
 def main(words: Optional[Sequence[str]] = None) -> int:
     """Carries out the words. A signal ends the tool, unless it is ignored, once its files are removed."""
     try:
-        answered = [number for number in SIGNALS if signal.getsignal(number) != signal.SIG_IGN]
-        for number in answered:
-            signal.signal(number, stop)
+        signals.answer()
         status = carry_out_words(sys.argv[1:] if words is None else words)
-        for number in answered:
-            signal.signal(number, signal.SIG_DFL)
+        signals.leave()
         return status
     except Stopped as stopped:
-        signal.signal(stopped.number, signal.SIG_DFL)
-        signal.raise_signal(stopped.number)
-        return 128 + stopped.number
+        return signals.end(stopped)

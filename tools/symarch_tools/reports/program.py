@@ -1,12 +1,14 @@
 """The program, which is called by `frames`."""
 from __future__ import annotations
 
+import contextlib
 import re
 import subprocess
 import tempfile
 from typing import IO, List, NamedTuple, Optional, Sequence, Tuple
 
 from ..program import found_program, named
+from ..signals import signals
 from .answers import Answers
 from .faults import Failure, Status
 
@@ -62,13 +64,12 @@ class Program:
         archives = [path for path, _ in indexed] + list(plain)
         with tempfile.NamedTemporaryFile(prefix="symbolicate-report.") as asked, tempfile.TemporaryFile() as errors:
             write_questions(asked, answers)
-            run = self.start([self.path, "frames", asked.name, *options, *archives], errors)
-            with run:
-                try:
-                    is_answered = take(answers, run)
-                except BaseException:
-                    run.kill()
-                    raise
+            with contextlib.ExitStack() as ends:
+                # A program that has begun is ended before the file that it reads is removed.
+                with signals.later():
+                    run = ends.enter_context(self.start([self.path, "frames", asked.name, *options, *archives], errors))
+                    ends.push(lambda failed, *_: run.kill() if failed else None)
+                is_answered = take(answers, run)
             errors.seek(0)
             return Reply(errors.read(MOST_SAID), run.returncode, is_answered)
 
