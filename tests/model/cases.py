@@ -1,12 +1,12 @@
 """The language of crates/acceptance/data/cases, carried out by the model. Blocks: a line, and the lines after it that
 begin with two spaces."""
 import re
-import formats as F
-from hints import second_line
-from formats import (Content, Fault, MergeFault, Refused, Reader, Source, addr, admission, answering, answer_lines,
-                     arch_word, address_word, copy_unnamed, covering, digest_word, find_lines, find_rows, index_text,
-                     key_of, key_text, merge_streams, name_lines, parts_of_file, read_archive, read_frames, read_ops,
-                     read_script, read_summary, retirement, run_world, sha, slice_of, summary_text, uuid_word)
+from . import formats as F
+from .hints import second_line
+from .formats import (Content, Fault, MergeFault, Refused, Source, admission, answering, answer_lines,
+                      arch_word, address_word, copy_unnamed, covering, digest_word, find_lines, find_rows, index_text,
+                      key_of, key_text, merge_streams, name_lines, parts_of_file, read_archive, read_frames, read_ops,
+                      read_script, read_summary, retirement, run_world, sha, slice_of, summary_text, uuid_word)
 
 INF = 1 << 62
 

@@ -72,8 +72,8 @@ that the index vouches for:
 An archive without an index answers by itself, and nothing vouches for its bytes.
 
 The program is called by `frames`, once for all reports unless a slice changed. It is the one that the environment
-variable SYMARCH names; else the one that ./symarch built, or that was installed with this tool. Nothing is built here:
-if SYMARCH names the script ./symarch, the program that it built is called.
+variable SYMARCH names; else the one that ./symarch built, or that was installed with this tool; else `symarch` in PATH.
+None is built here: if SYMARCH names the script ./symarch, the program that it built is called.
 
 This tool needs two to four times the size of a large report as memory, and room for 60 bytes for each different offset
 in a folder for temporary files, as TMPDIR names it. The program needs about 200 bytes for each different offset in an

@@ -2,14 +2,12 @@
 from __future__ import annotations
 
 import contextlib
-import os
-import pathlib
 import re
-import shutil
 import subprocess
 import tempfile
 from typing import IO, List, NamedTuple, Optional, Sequence, Tuple
 
+from ..program import found_program, named
 from ..signals import signals
 from .answers import Answers
 from .faults import Failure, Status
@@ -22,8 +20,6 @@ MOST_SAID = 100_000
 # What it says of an index; and of an entry of one at whose place the archive has something else.
 OF_AN_INDEX = re.compile(rb"symarch: index ([0-9]{1,9}): ([^\n]*)")
 AT_ENTRY = re.compile("Stale at entry ([0-9]{1,18})")
-# What a program begins with that runs by itself. A script might begin a build.
-ELF = b"\x7fELF"
 
 
 class IndexFault(NamedTuple):
@@ -56,10 +52,10 @@ class Reply(NamedTuple):
 
 
 class Program:
-    """The program: the one that SYMARCH names, or else the one that was built here, or installed with this tool."""
+    """The program."""
 
     def __init__(self) -> None:
-        self.path, self.named = program()
+        self.path, self.named = found_program(), named()
 
     def frames(self, indexed: Sequence[Tuple[str, str]], plain: Sequence[str], answers: Sequence[Answers]) -> Reply:
         """Asks archives with their indexes and archives without. The questions are in a file of their own: a standard
@@ -129,30 +125,3 @@ def write_questions(file: IO[bytes], answers: Sequence[Answers]) -> None:
                 lines = []
     file.write("".join(lines).encode())
     file.flush()
-
-
-def program() -> Tuple[str, Optional[str]]:
-    """The program, and what SYMARCH says if it names it. The script ./symarch is never called, since it might begin a
-    build: the program that it built is."""
-    named = os.environ.get("SYMARCH")
-    if named:
-        script = pathlib.Path(shutil.which(named) or named).resolve()
-        is_script = script.name == "symarch" and (script.parent / "packaging" / "build-program").exists()
-        return str(built_in(script.parent)) if is_script else named, named
-    top = pathlib.Path(__file__).resolve().parents[3]
-    for path in (built_in(top), top / "bin" / "symarch", top.parent / "bin" / "symarch"):
-        if is_program(path):
-            return str(path), None
-    return str(built_in(top)), None
-
-
-def built_in(top: pathlib.Path) -> pathlib.Path:
-    return top / "crates" / "symarch" / "out" / "symarch"
-
-
-def is_program(path: pathlib.Path) -> bool:
-    try:
-        with path.open("rb") as file:
-            return file.read(len(ELF)) == ELF
-    except OSError:
-        return False
