@@ -380,4 +380,7 @@ def main(words: Optional[Sequence[str]] = None) -> int:
         signals.leave()
         return status
     except Stopped as stopped:
-        return signals.end(stopped)
+        number = stopped.number
+    # The exception is gone after this, and with it what it met.
+    signals.end()
+    return 128 + number
