@@ -10,7 +10,7 @@ import time
 from pathlib import Path
 
 from .support.program import TOP, call, symarch
-from .support.reports import CRASHES, DYLD, FIXTURES, FORMS, KERNEL, SPOOL, SPOOL_2, SPOOL_X86_64, TOOL, ReportCase
+from .support.reports import CRASHES, DYLD, FIXTURES, KERNEL, SPOOL, SPOOL_2, SPOOL_X86_64, TOOL, ReportCase
 from .support.reports import named, source
 
 ARM64, X86_64 = f"spool {SPOOL} arm64", f"spool {SPOOL_X86_64}"
@@ -26,7 +26,8 @@ class Forms(ReportCase):
     """Each form of report, with one answer for each frame of the archive."""
 
     def test_crash_for_arm64(self) -> None:
-        self.prints([CRASHES / "arm64.crash", "shipped"], "crash", "4 of 4 frames named, 0 named before, 0 not named", BY_DSYM)
+        counts = "4 of 4 frames named, 0 named before, 0 not named"
+        self.prints([CRASHES / "arm64.crash", "shipped"], "crash", counts, BY_DSYM)
 
     def test_crash_for_x86_64(self) -> None:
         counts = "4 of 5 frames named, 1 named before, 0 not named"
@@ -137,7 +138,8 @@ class Conflicts(ReportCase):
     """Slices of one key: what they answer alike is one answer, and what they do not stands below the frame."""
 
     def test_slices_that_answer_alike(self) -> None:
-        self.prints([CRASHES / "arm64.crash", "alike"], "crash", "4 of 4 frames named, 0 named before, 0 not named", WITHOUT)
+        counts = "4 of 4 frames named, 0 named before, 0 not named"
+        self.prints([CRASHES / "arm64.crash", "alike"], "crash", counts, WITHOUT)
 
     def test_sample_of_slices_that_answer_alike(self) -> None:
         counts = "13 of 16 frames named, 1 named before, 2 not named", UNLISTED
@@ -425,7 +427,8 @@ class Calls(ReportCase):
 
     def test_nothing_below_proc_or_dev_is_named(self) -> None:
         """Where /proc is not mounted, a standard input has no path."""
-        self.report(CRASHES / "arm64.crash", "shipped", environment={"SYMARCH": self.script("telling", 'echo "$*" >words')})
+        program = self.script("telling", 'echo "$*" >words')
+        self.report(CRASHES / "arm64.crash", "shipped", environment={"SYMARCH": program})
         words = (self.folder / "words").read_text().split()
         self.assertEqual([word for word in words if word.startswith(("/dev/", "/proc/"))], [])
 

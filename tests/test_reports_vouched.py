@@ -8,7 +8,7 @@ from typing import List, Optional
 
 from .support.cases import powerless_over
 from .support.made_images import records_in
-from .support.program import TOP, call, symarch
+from .support.program import TOP, Word, call, symarch
 from .support.reports import CRASHES, DYLD, FIXTURES, KERNEL, SPOOL, SPOOL_2, ReportCase, named, source
 from .support.rooms import change
 
@@ -45,7 +45,9 @@ class VouchedCase(ReportCase):
             if record[1:25] == key and (record[45:49] == MH_DSYM) == of_dsym:
                 change(path, at - 1)
 
-    def says(self, *lines: str, words: Optional[List[object]] = None, status: int = 2, printed: Optional[bytes] = None) -> None:
+    def says(
+        self, *lines: str, words: Optional[List[Word]] = None, status: int = 2, printed: Optional[bytes] = None
+    ) -> None:
         """Fails where other lines stand on standard error, in which paths have no folder; where the status is another
         one, or something else is printed than the report as it stands."""
         came = self.report(*(words or [CRASHES / "arm64.crash", "site.sym"]))
@@ -206,7 +208,7 @@ class OtherArchives(VouchedCase):
         self.is_not_asked(f"site.sym.idx is not read: Truncated at {index.stat().st_size - 8}")
 
     def test_an_index_of_which_a_byte_changed(self) -> None:
-        """symarch-keep has its SHA-256. Without that the dSYM would be under another UUID, and the image would answer."""
+        """symarch-keep has its SHA-256. By the index alone the dSYM would have another UUID, and the image answer."""
         kept = self.folder / "kept.sym"
         files = [CRASHES / "spool-1", CRASHES / "spool-1.dSYM"]
         self.assertEqual(call([KEEP, "add", kept, *files], environment={"SYMARCH": symarch}).status, 0)

@@ -86,7 +86,7 @@ def make_archives(folder: pathlib.Path) -> None:
 
 
 class ReportCase(ProgramCase):
-    """Cases over symbolicate-report, which runs in the folder of the case. The archives are made once for all of them."""
+    """Cases over symbolicate-report, which runs in the folder of the case. The archives are made once for them all."""
 
     archives: pathlib.Path
 
@@ -97,7 +97,9 @@ class ReportCase(ProgramCase):
         cls.addClassCleanup(remove, cls.archives)
         make_archives(cls.archives)
 
-    def report(self, *words: Word, before: Sequence[Word] = (), environment: Mapping[str, str] = {}, **how: Any) -> Ended:
+    def report(
+        self, *words: Word, before: Sequence[Word] = (), environment: Mapping[str, str] = {}, **how: Any
+    ) -> Ended:
         """What comes of the tool with these words. A word that is the name of an archive is its path."""
         whole = [self.archives / word if (self.archives / str(word)).is_file() else word for word in words]
         python = [sys.executable, "-B", TOOL]
