@@ -66,7 +66,8 @@ class Program:
                 moved(len(slices))
         if process.returncode not in (0, 1):
             places = {**in_folder(words, folder), **(names or {})}
-            raise fault(os.fsdecode(words[0]), said.decode(errors="replace").strip(), process.returncode, slices, places)
+            told = said.decode(errors="replace").strip()
+            raise fault(os.fsdecode(words[0]), told, process.returncode, slices, places)
         return printed or b""
 
     def run_over(self, path: bytes, command: str, *more: str, folder: Optional[bytes] = None) -> bytes:
