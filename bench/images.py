@@ -18,8 +18,8 @@ IN_EACH = b"_symbol_in_each"
 
 
 def image(number: int, length: int = IMAGE_SIZE) -> bytes:
-    """An image of 30,000 functions that follow one another in one section, and bytes behind them up to its length. The name
-    of the first is in each image, and each other one in this image alone."""
+    """An image of 30,000 functions that follow one another in one section, and bytes behind them up to its length. The
+    name of the first is in each image, and each other one in this image alone."""
     size = SYMBOLS * FUNCTION
     own = (b"_symbol%02d_%05d" % (number, place) for place in range(1, SYMBOLS))
     names = b"\0" + b"".join(name + b"\0" for name in (IN_EACH, *own))

@@ -94,10 +94,12 @@ def beside_aim(what, value, aim):
 
 
 def compare(name, words, inputs, most_time, most_memory):
-    """Runs a command, whose OUT is the word behind IN, and sha256sum on its inputs in turn, and prints their medians."""
+    """Runs a command, whose OUT is the word behind IN, and sha256sum on its inputs in turn, and prints their
+    medians."""
     (seconds, peak), (digest, _) = medians(words, ["sha256sum", *inputs], out=words[3])
     size = sum(path.stat().st_size for path in inputs)
-    print(f"{name}: {words[1]} {seconds:.2f} s, sha256sum {digest:.2f} s,", beside_aim("ratio", seconds / digest, most_time))
+    times = f"{words[1]} {seconds:.2f} s, sha256sum {digest:.2f} s,"
+    print(f"{name}: {times}", beside_aim("ratio", seconds / digest, most_time))
     print(f"{name}: peak memory {peak / MEGABYTE:.0f} MB,", beside_aim("over the inputs", peak / size, most_memory))
 
 
@@ -107,9 +109,10 @@ def rt(words, at):
 
 def build(name, crates, kit, words):
     """The program of bench/NAME over these crates, those that they stand on and libraries of the kit, proved and built
-    where there is none or a source is newer, and then run on the words. It is built by `rt run`, which has LLVM optimise
-    it: under `rt try` checks make it hundreds of times as slow. It stands over copies of the crates in a folder of its
-    own, since `rt ci` refuses a second crates.txt below the repository, and an .rt file that is no crate's."""
+    where there is none or a source is newer, and then run on the words. It is built by `rt run`, which has LLVM
+    optimise it: under `rt try` checks make it hundreds of times as slow. It stands over copies of the crates in a
+    folder of its own, since `rt ci` refuses a second crates.txt below the repository, and an .rt file that is no
+    crate's."""
     listed = CrateList()
     crates = listed.with_below(crates)
     program, source = folder / name, top / "bench" / name / "main.rattle"

@@ -1,5 +1,6 @@
 """Python that mypy and pyflakes find nothing in, by pyproject.toml, and lines of 120 columns at most."""
 import pathlib
+import re
 import shutil
 import unittest
 from typing import List
@@ -43,6 +44,12 @@ class Lint(unittest.TestCase):
 
     def test_pyflakes(self) -> None:
         self.says_nothing("pyflakes3", *map(str, sources()))
+
+    def test_version(self) -> None:
+        """The version of pyproject.toml is that of the last release in CHANGELOG.md."""
+        last = re.search(r"^### ([0-9.]+), [0-9-]+$", (TOP / "CHANGELOG.md").read_text(encoding="utf-8"), re.M)
+        said = re.search(r'^version = "(.*)"$', (TOP / "pyproject.toml").read_text(encoding="utf-8"), re.M)
+        self.assertEqual(said and said[1], last and last[1])
 
     def test_columns(self) -> None:
         wide = [

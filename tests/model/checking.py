@@ -1,5 +1,5 @@
-"""The cases of `acceptance` beside what the model computes. Texts of the command line, calls on images alone and numbers
-of refused growths are left as they stand."""
+"""The cases of `acceptance` beside what the model computes. Texts of the command line, calls on images alone and
+numbers of refused growths are left as they stand."""
 from typing import List, NamedTuple
 
 from ..support.program import TOP

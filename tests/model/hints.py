@@ -1,4 +1,5 @@
-"""The second line of a fault, told a second time: which file it was, what the system says of it, and what it looks like."""
+"""The second line of a fault, told a second time: which file it was, what the system says of it, and what it looks
+like."""
 from . import formats as F
 
 NO_FILE = ": No such file or directory (os error 2)"

@@ -2,6 +2,7 @@
 
 - program           where the program symarch is
 - version           the version of both tools
+- signals           the signals that end a tool
 - keep              symarch-keep: its words
 - keeping           what its words do
 - symbolicate       symbolicate-report: its words

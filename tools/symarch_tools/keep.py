@@ -23,7 +23,7 @@ from typing import NoReturn, Optional, Sequence
 
 from .keeping import adding, checking, exchanging, folding, repairing, retiring, stating
 from .keeping.screen import Failed, Screen, system_text
-from .keeping.stopping import STOPPING, Stopped
+from .signals import Stopped, signals
 from .version import PrintVersion
 
 WORDS = {
@@ -93,12 +93,11 @@ def main(given: Optional[Sequence[str]] = None) -> int:
     words = parse(sys.argv[1:] if given is None else given)
     status = 4
     try:
-        STOPPING.answer_signals()
+        signals.answer()
         status = carry_out(words)
-        STOPPING.ignore_signals()
+        signals.ignore()
     except Stopped:
         # The exception is gone after this, and with it what it met.
         pass
-    if STOPPING.number:
-        STOPPING.end_by_signal()
+    signals.end()
     return status

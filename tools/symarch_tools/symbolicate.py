@@ -95,7 +95,6 @@ from .reports.answers import Origin
 from .reports.archives import TODAY, ArchiveFile, Archives, beside
 from .reports.demangling import demangled
 from .reports.faults import Failure, Status
-from .reports.images import hyphenated
 from .reports.report import Count, Report
 from .reports.streams import note, output, say
 from .signals import Stopped, signals
@@ -234,8 +233,8 @@ def read(paths: Iterable[str], is_text: bool) -> Tuple[List[Report], int]:
 def print_missing(reports: Iterable[Report]) -> None:
     """Prints the UUID of each image for which no dSYM answers."""
     lacking = [image for report in reports for image in report.images.with_frames()]
-    uuids = [hyphenated(image.uuid) for image in lacking if image.origin in (Origin.IMAGE, Origin.ABSENT)]
-    output().write("".join(uuid + "\n" for uuid in dict.fromkeys(uuids)).encode())
+    uuids = [image.uuid for image in lacking if image.origin in (Origin.IMAGE, Origin.ABSENT)]
+    output().write("".join(f"{it}\n" for it in dict.fromkeys(uuids)).encode())
     output().flush()
 
 
@@ -380,4 +379,7 @@ def main(words: Optional[Sequence[str]] = None) -> int:
         signals.leave()
         return status
     except Stopped as stopped:
-        return signals.end(stopped)
+        number = stopped.number
+    # The exception is gone after this, and with it what it met.
+    signals.end()
+    return 128 + number

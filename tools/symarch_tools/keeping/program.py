@@ -6,10 +6,10 @@ import subprocess
 from typing import Callable, Dict, Iterable, Optional, Sequence, Union
 
 from ..program import candidates, named
+from ..signals import signals
 from .contents import END, LENGTH, MAGIC, MAGICS
 from .screen import Failed, SliceRefused, shown, write
 from .slices import Slice
-from .stopping import Later
 
 # By what the program gets the files that this tool has open, also those whose paths are no UTF-8.
 DESCRIPTORS = "/dev/fd"
@@ -43,7 +43,7 @@ class Program:
         with contextlib.ExitStack() as ends:
             # A signal waits until what ends the program is on the stack: one that goes on writes into a folder that is
             # being removed.
-            with Later():
+            with signals.later():
                 process = subprocess.Popen(
                     [self.path, *words],
                     bufsize=0,
@@ -61,12 +61,13 @@ class Program:
             printed, said = None, b""
             while printed is None:
                 # What is raised within would leave its lock.
-                with contextlib.suppress(subprocess.TimeoutExpired), Later():
+                with contextlib.suppress(subprocess.TimeoutExpired), signals.later():
                     printed, said = process.communicate(timeout=0.2)
                 moved(len(slices))
         if process.returncode not in (0, 1):
             places = {**in_folder(words, folder), **(names or {})}
-            raise fault(os.fsdecode(words[0]), said.decode(errors="replace").strip(), process.returncode, slices, places)
+            told = said.decode(errors="replace").strip()
+            raise fault(os.fsdecode(words[0]), told, process.returncode, slices, places)
         return printed or b""
 
     def run_over(self, path: bytes, command: str, *more: str, folder: Optional[bytes] = None) -> bytes:
@@ -79,7 +80,7 @@ class Program:
 def answering_program() -> str:
     """The first program that answers as symarch does."""
     for path in candidates():
-        with contextlib.suppress(OSError), Later():
+        with contextlib.suppress(OSError), signals.later():
             words, nothing = [path, "--version"], subprocess.DEVNULL
             if subprocess.run(words, stdin=nothing, capture_output=True, check=False).stdout[:8] == b"symarch ":
                 return path

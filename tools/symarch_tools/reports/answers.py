@@ -4,11 +4,12 @@ from __future__ import annotations
 import bisect
 import enum
 import re
+import uuid
 from array import array
 from typing import Dict, Iterator, List, Optional, Tuple
 
-# A UUID as 32 hex digits, and an architecture.
-Key = Tuple[str, str]
+# A UUID and an architecture.
+Key = Tuple[uuid.UUID, str]
 # The name of a function, and the offset in it.
 Symbol = Tuple[str, int]
 
@@ -56,8 +57,8 @@ class Answers:
     def questions(self) -> Iterator[str]:
         """The lines for the program. Offsets are addresses of an image that was loaded at 0. One at least is asked for,
         by which the archive says whether it has the image."""
-        uuid, arch = self.key
-        return (f"{uuid} {arch} 0x0 {offset:#x}\n" for offset in self.offsets)
+        number, arch = self.key
+        return (f"{number.hex} {arch} 0x0 {offset:#x}\n" for offset in self.offsets)
 
     def at(self, offset: int) -> Dict[str, Optional[Symbol]]:
         """By the digest of each slice, which is empty if one answers, its name and offset, or None."""

@@ -9,7 +9,7 @@ from typing import Dict, Iterable, List, Sequence, Set, Tuple
 from ..keeping.contents import KEY
 from .answers import Answers, Key, Names, Origin
 from .faults import Failure, Status
-from .images import Image, hyphenated, unique
+from .images import Image, unique
 from .kept import IndexFile, Kept, changed_keys, is_damaged, key_in
 from .program import IndexFault, Program
 from .streams import note, say
@@ -101,7 +101,7 @@ class Archives:
             if one.key in changed:
                 uuid, arch = one.key
                 why = "changed since it came in: run symarch-keep check"
-                note(f"{hyphenated(uuid)} {arch} {why} {changed[one.key].kept}")
+                note(f"{uuid} {arch} {why} {changed[one.key].kept}")
                 one.origin = Origin.CHANGED
         left = [one for one in answers if one.key not in changed]
         if len(left) == len(answers):

@@ -1,9 +1,11 @@
 """The images of a report, and the frames that lie in them."""
 from __future__ import annotations
 
+import enum
 import heapq
 import itertools
 import re
+import uuid
 from array import array
 from typing import Dict, Hashable, List, Mapping, Optional, Sequence, Tuple, TypeVar
 
@@ -12,30 +14,48 @@ from .answers import Answers, Origin, Symbol
 # The architectures that a report may name, and what reports call the processors that run them.
 ARCHITECTURES = ("x86_64", "x86_64h", "arm64", "arm64e")
 PROCESSORS = {"X86-64": "x86_64", "ARM-64": "arm64", "ARM64": "arm64"}
-UUID = re.compile("[0-9a-f]{32}")
+DIGITS = re.compile("[0-9a-f]{32}")
 # So many offsets are sorted at once.
 MOST_SORTED = 200_000
 # The answers of so many frames are kept.
 MOST_KNOWN = 20_000
 # The number of no image.
 NO_IMAGE = -1
-# What a frame is, as bits of a byte, of which there is one for each frame of a report: one with a return address, one
-# that had a name, one whose offset cannot be asked for; in the trees of MetricKit one that is no root, and one that has
-# others below it; and one of a function that was inlined.
-IS_RETURN, HAD_NAME, CANNOT_BE_ASKED, IS_BELOW, HAS_BELOW, IS_INLINED = 1, 2, 4, 8, 16, 32
+
+
+class Kind(enum.IntFlag):
+    """What a frame is, as bits of a byte, of which there is one for each frame of a report."""
+
+    # Its address is a return address.
+    IS_RETURN = enum.auto()
+    # The report had a name for it.
+    HAD_NAME = enum.auto()
+    # Its offset cannot be asked for.
+    CANNOT_BE_ASKED = enum.auto()
+    # In the trees of MetricKit: it is no root, and it has others below it.
+    IS_BELOW = enum.auto()
+    HAS_BELOW = enum.auto()
+    # Its function was inlined.
+    IS_INLINED = enum.auto()
+
+
+# As plain numbers: an operation on a flag takes ten times as long, and a report may have a million frames.
+IS_RETURN, HAD_NAME, CANNOT_BE_ASKED, IS_BELOW, HAS_BELOW, IS_INLINED = map(int, Kind)
 
 
 class Image:
     """An image of a report, and what its frames ask for: offsets from where it was loaded, and the answers to them."""
 
-    def __init__(self, uuid: str, arch: Optional[str], name: Optional[str], processor: Optional[str]) -> None:
-        self.uuid, self.arch, self.name, self.processor = uuid, arch, name, processor
+    def __init__(
+        self, number: uuid.UUID, arch: Optional[str], name: Optional[str], processor: Optional[str]
+    ) -> None:
+        self.uuid, self.arch, self.name, self.processor = number, arch, name, processor
         self.has_frames, self.origin = False, Origin.ABSENT
         self.asked: array[int] = array("Q")
         self.answers: Optional[Answers] = None
 
     def label(self) -> str:
-        return " ".join(filter(None, [self.name, hyphenated(self.uuid), self.arch]))
+        return " ".join(filter(None, [self.name, str(self.uuid), self.arch]))
 
     def architectures(self) -> Sequence[str]:
         """Those under which the archive is asked for the image."""
@@ -50,10 +70,6 @@ class Image:
     def symbols(self, asked: int) -> Dict[str, Optional[Symbol]]:
         """By the digest of each slice that answers a name and an offset, or None where it has no symbol."""
         return self.answers.at(asked) if self.answers else {}
-
-
-def hyphenated(uuid: str) -> str:
-    return "-".join([uuid[:8], uuid[8:12], uuid[12:16], uuid[16:20], uuid[20:]])
 
 
 def unique(offsets: array[int]) -> array[int]:
@@ -73,15 +89,17 @@ class Images:
         self.listed: List[Image] = []
         self.numbers: Dict[Tuple[str, Optional[str]], int] = {}
 
-    def number(self, uuid: object, arch: object, name: object, processor: Optional[str] = None) -> int:
-        """NO_IMAGE where there is no UUID. Reports write one of zeros for what lies in no image."""
-        digits = str(uuid).replace("-", "").lower()
-        if not UUID.fullmatch(digits) or not digits.strip("0"):
+    def number(self, told: object, arch: object, name: object, processor: Optional[str] = None) -> int:
+        """The number of the image of a UUID; NO_IMAGE where there is none. Reports write one of zeros for what lies in
+        no image."""
+        digits = str(told).replace("-", "").lower()
+        if not DIGITS.fullmatch(digits) or not digits.strip("0"):
             return NO_IMAGE
         key = digits, arch if isinstance(arch, str) else None
         if key not in self.numbers:
             self.numbers[key] = len(self.listed)
-            self.listed.append(Image(*key, name if isinstance(name, str) else None, processor))
+            name = name if isinstance(name, str) else None
+            self.listed.append(Image(uuid.UUID(digits), key[1], name, processor))
         return self.numbers[key]
 
     def with_frames(self) -> List[Image]:

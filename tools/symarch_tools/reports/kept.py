@@ -5,6 +5,7 @@ from __future__ import annotations
 import hashlib
 import os
 import stat
+import uuid
 from typing import BinaryIO, Dict, Iterable, Iterator, List, NamedTuple, Optional, Set
 
 from ..keeping.contents import ADMISSION, DIGEST, KEY, MAGIC, RETIREMENT, Malformed, arch_in, digest_in, numbers_of
@@ -17,12 +18,12 @@ CHUNK = 1 << 20
 
 def key_bytes(key: Key) -> bytes:
     """A key as records have it."""
-    uuid, arch = key
-    return bytes.fromhex(uuid) + numbers_of(arch)
+    number, arch = key
+    return number.bytes + numbers_of(arch)
 
 
 def key_in(data: bytes) -> Key:
-    return data[:16].hex(), arch_in(data[16:KEY])
+    return uuid.UUID(bytes=data[:16]), arch_in(data[16:KEY])
 
 
 class Slice(NamedTuple):

@@ -1,9 +1,10 @@
 """Reports as JSON, as people read them: what happened, the threads with names and offsets, and the images."""
 from __future__ import annotations
 
+import uuid
 from typing import Any, Dict, Iterable, Iterator, List, Optional, Sequence, Tuple, Union
 
-from .images import IS_INLINED, hyphenated
+from .images import IS_INLINED
 from .json_report import Calls, JsonReport, Stack
 from .json_walk import MOST_FLAT, NESTED, SPACE, Node, loaded
 from .readable_header import header_lines, labelled, of, state_lines
@@ -63,7 +64,7 @@ class ReadableReport:
     def __init__(self, document: JsonReport, header: Dict[str, Any]) -> None:
         self.document, self.header = document, header
         self.data, self.frames, self.end = document.data, document.frames, document.end
-        self.bases: Dict[str, Tuple[int, Optional[str]]] = {}
+        self.bases: Dict[uuid.UUID, Tuple[int, Optional[str]]] = {}
 
     def pieces(self) -> Iterator[bytes]:
         """The bytes of the report."""
@@ -173,15 +174,15 @@ class ReadableReport:
             base, name = base_of(listed), name_of(listed)
             size, arch, path = (of(listed, one) for one in ("size", "arch", "path"))
             end = f"0x{base + size - 1:x}" if base is not None and type(size) is int and size > 0 else "???"
-            uuid = listed[0] if isinstance(listed, list) and listed else of(listed, "uuid")
-            yield image_line(base, end, f"{name or '???'}{f' {arch}' if arch else ''}", uuid, path)
-        for uuid, (base, name) in self.bases.items():
-            yield image_line(base, "???", name or "???", hyphenated(uuid), None)
+            told = listed[0] if isinstance(listed, list) and listed else of(listed, "uuid")
+            yield image_line(base, end, f"{name or '???'}{f' {arch}' if arch else ''}", told, path)
+        for number, (base, name) in self.bases.items():
+            yield image_line(base, "???", name or "???", number, None)
 
 
-def image_line(base: Optional[int], end: str, name: str, uuid: object, path: object) -> str:
+def image_line(base: Optional[int], end: str, name: str, told: object, path: object) -> str:
     begin = "0x0" if base is None else f"0x{base:x}"
-    return f"{begin:>18} - {end:>18} {name} <{uuid}> {path or ''}".rstrip()
+    return f"{begin:>18} - {end:>18} {name} <{told}> {path or ''}".rstrip()
 
 
 def base_of(listed: Any) -> Optional[int]:
