@@ -1,12 +1,12 @@
 """The language of crates/acceptance/data/cases, carried out by the model. Blocks: a line, and the lines after it that
 begin with two spaces."""
 import re
-import formats as F
-from hints import second_line
-from formats import (Content, Fault, MergeFault, Refused, Reader, Source, addr, admission, answering, answer_lines,
-                     arch_word, address_word, copy_unnamed, covering, digest_word, find_lines, find_rows, index_text,
-                     key_of, key_text, merge_streams, name_lines, parts_of_file, read_archive, read_frames, read_ops,
-                     read_script, read_summary, retirement, run_world, sha, slice_of, summary_text, uuid_word)
+from . import formats as F
+from .hints import second_line
+from .formats import (Content, Fault, MergeFault, Refused, Source, admission, answering, answer_lines,
+                      arch_word, address_word, copy_unnamed, covering, digest_word, find_lines, find_rows, index_text,
+                      key_of, key_text, merge_streams, name_lines, parts_of_file, read_archive, read_frames, read_ops,
+                      read_script, read_summary, retirement, run_world, sha, slice_of, summary_text, uuid_word)
 
 INF = 1 << 62
 
@@ -125,7 +125,8 @@ def text_line(b):
 
 # ---------------------------------------------------------------- plans
 
-ONE = {"new": "out", "find": "archive uuid", "list": "archive", "name": "archive name", "summary": "archive out", "index": "archive out",
+ONE = {"new": "out", "find": "archive uuid", "list": "archive", "name": "archive name", "summary": "archive out",
+       "index": "archive out",
        "delta": "archive summary out", "rehearse": "script", "retire": "in out uuid arch digest",
        "apply": "in out ops", "admit": "in out file*", "merge": "in out file*", "migrate": "in out",
        "symbolicate": "archive uuid arch address*", "frames": "frames archives*"}
@@ -192,7 +193,8 @@ def plan(words):
         p["address"] = [address_word(a) for a in p["address"]]
         if None in p["address"]:
             raise Copy
-    if "out" in p and p["out"] in [p[k] for k in ("in", "archive", "summary", "ops") if k in p] + p.get("file", []) + indexes:
+    inputs = [p[k] for k in ("in", "archive", "summary", "ops") if k in p] + p.get("file", []) + indexes
+    if "out" in p and p["out"] in inputs:
         raise Copy
     return p
 
@@ -889,7 +891,8 @@ CALLS = {"front": call_front, "whole": call_whole, "operations": call_operations
          "absorb": call_absorb, "site": call_site, "merge-streams": call_merge_streams, "world": call_world,
          "heaps": call_heaps, "pairs": call_pairs}
 # Calls over images, streams and memory, in which no archive stands.
-COPIED = {"asked", "kind", "fat", "image", "check", "nearest", "named", "reading", "writing", "room", "room-of-bytes", "plan"}
+COPIED = {"asked", "kind", "fat", "image", "check", "nearest", "named", "reading", "writing", "room", "room-of-bytes",
+          "plan"}
 
 
 # ---------------------------------------------------------------- tellings

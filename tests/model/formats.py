@@ -1,7 +1,7 @@
 """The formats and the content of archives, told a second time, as a check: nothing here is taken from the program.
 
-V is the version (1 or 2) of the content and of the archive texts that are written. Texts of versions up to V are read: of
-version 1 with V 2 what their retirements cover is dropped."""
+V is the version (1 or 2) of the content and of the archive texts that are written. Texts of versions up to V are read:
+of version 1 with V 2 what their retirements cover is dropped."""
 import hashlib
 import struct
 from bisect import bisect_right
@@ -490,7 +490,9 @@ def index_fault(rest, entries):
         return "Truncated"
     if rest[0] == 3:
         end = b"\x03" + struct.pack(">Q", len(entries))
-        return "Truncated" if len(rest) < 9 else "BadCount" if rest[:9] != end else "Trailing" if len(rest) > 9 else None
+        if len(rest) < 9:
+            return "Truncated"
+        return "BadCount" if rest[:9] != end else "Trailing" if len(rest) > 9 else None
     if rest[0] not in (1, 2):
         return "BadTag"
     if len(rest) < 74:

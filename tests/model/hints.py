@@ -1,5 +1,6 @@
-"""The second line of a fault, told a second time: which file it was, what the system says of it, and what it looks like."""
-import formats as F
+"""The second line of a fault, told a second time: which file it was, what the system says of it, and what it looks
+like."""
+from . import formats as F
 
 NO_FILE = ": No such file or directory (os error 2)"
 NO_SPACE = ": No space left on device (os error 28)"

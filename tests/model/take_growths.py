@@ -1,4 +1,5 @@
-"""take_growths.py CAME [--write]: takes the numbers of refused growths over from what the program `acceptance` printed.
+"""python3 -B -m tests.model.take_growths [--write] CAME takes the numbers of refused growths over from what the program
+`acceptance` printed.
 
 CAME is what `rt run` printed in crates/acceptance: of each line that came otherwise the subject and the case, the line,
 and what had to come and what came, each from the first one on that differs. Every other difference is printed, and has
@@ -64,4 +65,5 @@ def main():
         print("written")
 
 
-main()
+if __name__ == "__main__":
+    main()
