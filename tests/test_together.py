@@ -75,7 +75,7 @@ class TogetherCase(ProgramCase):
         """Words of commands that take an archive after their name, and what stands after it."""
         for number in range(5):
             yield "find", [key_of(number)]
-            load = dice.choice(([], ["--load", "2000"]))
+            load: List[str] = dice.choice([[], ["--load", "2000"]])
             base = 0x2000 if load else TEXT
             addresses = [f"{base + offset:x}" for offset in (0, 8, 20, 0x200)]
             yield "symbolicate", [key_of(number), dice.choice(list(WORDS.values())[:3]), *load, *addresses]
