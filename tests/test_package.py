@@ -299,7 +299,7 @@ class Versions(FolderCase):
     def repository(self, changes: str, is_committed: bool = True) -> None:
         self.file("CHANGELOG.md", f"# Changes\n\n## The program\n\n{changes}")
         if is_committed:
-            for words in (["init", "-q"], ["add", "."], ["commit", "-qm", "changes", "--date=2026-11-27T23:30:00-0300"]):
+            for words in (["init", "-q"], ["add", "."], ["commit", "-qm", "changes"]):
                 self.git(*words)
 
     def git(self, *words: str) -> str:

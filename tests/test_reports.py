@@ -8,6 +8,7 @@ import subprocess
 import sys
 import time
 from pathlib import Path
+from typing import Any, List, Sequence, Tuple
 
 from .support.program import TOP, call, symarch
 from .support.reports import CRASHES, DYLD, FIXTURES, KERNEL, SPOOL, SPOOL_2, SPOOL_X86_64, TOOL, ReportCase
@@ -238,7 +239,7 @@ class Absent(ReportCase):
         self.lists(["--missing", CRASHES / "arm64.crash", "image"], SPOOL)
         self.lists(["--missing", CRASHES / "arm64.ips", "image"], SPOOL, DYLD)
 
-    def lists(self, words: list, *uuids: str) -> None:
+    def lists(self, words: List[Any], *uuids: str) -> None:
         came = self.report(*words)
         self.assertEqual((came.status, came.lines, came.error_lines), (0, list(uuids), []))
 
@@ -246,7 +247,7 @@ class Absent(ReportCase):
 class Origins(ReportCase):
     """What is said of each image: whether its dSYM answered."""
 
-    def says(self, *archives: object, origin: str) -> None:
+    def says(self, *archives: Any, origin: str) -> None:
         """Fails where something else is said of the image of a crash."""
         came = self.report(CRASHES / "arm64.crash", *archives)
         self.assertEqual(came.error_lines[-1].partition("; ")[2], f"{origin}: {ARM64}" if origin else "")
@@ -356,7 +357,7 @@ class Refused(ReportCase):
 
     def test_words(self) -> None:
         path, out = CRASHES / "arm64.crash", self.folder / "x"
-        for words, why in (
+        refused: Sequence[Tuple[List[Any], str]] = (
             ([], "there is no report before the archive"),
             ([path], "there is no report before the archive"),
             (["--out", out, path], "there is no report before the archive"),
@@ -368,7 +369,8 @@ class Refused(ReportCase):
             (["--out"], "argument --out: expected one argument"),
             (["--unknown", path, "shipped"], "unrecognized arguments: --unknown"),
             ([path, path, "shipped"], "several reports are written by --out FOLDER"),
-        ):
+        )
+        for words, why in refused:
             self.is_refused(words, USAGE, self.unread(why), status=3)
 
     def test_words_after_two_hyphens(self) -> None:
@@ -387,7 +389,9 @@ class Refused(ReportCase):
 
     def test_nothing_can_be_written(self) -> None:
         crash = CRASHES / "arm64.crash"
-        for words in (["--help"], ["--version"], [crash, "shipped"], ["--missing", FIXTURES / "mac.crash", "shipped"]):
+        missing = ["--missing", FIXTURES / "mac.crash", "shipped"]
+        several: List[List[Any]] = [["--help"], ["--version"], [crash, "shipped"], missing]
+        for words in several:
             with self.subTest(words), open("/dev/full", "wb") as full:
                 came = self.report(*words, stdout=full)
                 self.assertEqual((came.status, len(came.error_lines)), (2, 1), came.errors)
@@ -450,7 +454,8 @@ class Calls(ReportCase):
         """Where there is no program the script beside the tools is not called, which would build one."""
         shutil.copytree(TOP / "tools", self.folder / "tools")
         self.script("symarch", f"echo built >>{self.folder}/built")
-        words = [sys.executable, "-B", "tools/symbolicate-report", CRASHES / "arm64.crash", self.archives / "shipped"]
+        words: List[Any] = [sys.executable, "-B", "tools/symbolicate-report", CRASHES / "arm64.crash"]
+        words.append(self.archives / "shipped")
         came = call(words, cwd=self.folder, environment={"SYMARCH": ""})
         why = "SYMARCH may name one, and in the repository ./symarch --version builds it"
         lines = [f"symbolicate-report: there is no program crates/symarch/out/symarch: {why}"]
@@ -518,7 +523,8 @@ class Signals(ReportCase):
     def test_ctrl_c_while_it_begins(self) -> None:
         for module in ("subprocess", "tempfile"):
             with self.subTest(module):
-                words = [sys.executable, "-BIS", "-c", INTERRUPTED, module, TOOL, CRASHES / "arm64.crash", "shipped"]
+                words: List[Any] = [sys.executable, "-BIS", "-c", INTERRUPTED, module, TOOL]
+                words += [CRASHES / "arm64.crash", "shipped"]
                 came = call(words, cwd=self.archives, environment={"SYMARCH": symarch})
                 self.assertEqual((came.status, came.errors), (-signal.SIGINT, b""))
 
@@ -528,7 +534,7 @@ class Signals(ReportCase):
         temporary.mkdir()
         program = self.script("slow", f'echo $$ >"{begun}"; exec sleep 60')
         environment = {**os.environ, "SYMARCH": program, "TMPDIR": str(temporary)}
-        words = [sys.executable, "-B", TOOL, CRASHES / "arm64.crash", self.archives / "shipped"]
+        words: List[Any] = [sys.executable, "-B", TOOL, CRASHES / "arm64.crash", self.archives / "shipped"]
         for number in (signal.SIGINT, signal.SIGTERM, signal.SIGHUP):
             with self.subTest(number), subprocess.Popen(words, env=environment, stderr=subprocess.PIPE) as run:
                 while not (begun.exists() and begun.read_text()):

@@ -4,11 +4,11 @@ import re
 import shutil
 import struct
 from pathlib import Path
-from typing import List, Optional
+from typing import Any, List, Optional
 
 from .support.cases import powerless_over
 from .support.made_images import records_in
-from .support.program import TOP, Word, call, symarch
+from .support.program import TOP, call, symarch
 from .support.reports import CRASHES, DYLD, FIXTURES, KERNEL, SPOOL, SPOOL_2, ReportCase, named, source
 from .support.rooms import change
 
@@ -46,7 +46,7 @@ class VouchedCase(ReportCase):
                 change(path, at - 1)
 
     def says(
-        self, *lines: str, words: Optional[List[Word]] = None, status: int = 2, printed: Optional[bytes] = None
+        self, *lines: str, words: Optional[List[Any]] = None, status: int = 2, printed: Optional[bytes] = None
     ) -> None:
         """Fails where other lines stand on standard error, in which paths have no folder; where the status is another
         one, or something else is printed than the report as it stands."""
@@ -215,7 +215,7 @@ class OtherArchives(VouchedCase):
         self.assertEqual(call([KEEP, "fold", kept], environment={"SYMARCH": symarch}).status, 0)
         words = [CRASHES / "arm64.crash", "kept.sym"]
         self.says(ALL_NAMED, words=words, status=0, printed=named("crash"))
-        change(f"{kept}.idx", 8 + 74 * 2 + 9)
+        change(Path(f"{kept}.idx"), 8 + 74 * 2 + 9)
         self.is_not_asked("kept.sym.idx is damaged", "kept.sym")
 
 
@@ -224,8 +224,7 @@ class WhatCameLately(VouchedCase):
 
     def test_one_that_is_no_archive(self) -> None:
         self.file("site.sym.today", "no archive\n")
-        words = [CRASHES / "arm64.crash", "site.sym"]
-        came = self.report(*words)
+        came = self.report(CRASHES / "arm64.crash", "site.sym")
         self.assertEqual((came.status, came.out), (2, b""))
         self.assertEqual(came.error_lines[0].partition(": ")[2].partition(": ")[2], "BadMagic at 0")
         self.assertIn("site.sym.today", came.error_lines[1])

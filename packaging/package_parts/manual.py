@@ -167,7 +167,8 @@ def page(name: str, about: str, usages: Sequence[str], made: Sequence[str], edit
         *"\n.br\n".join(used).split("\n"),
         *made,
         ".SH SEE ALSO",
-        others + r"; README.md, CHANGELOG.md, COMMANDS.md, FILES.md, GLOSSARY.md and OPERATING.md in \fBshare/doc/symarch\fR",
+        others + r"; README.md, CHANGELOG.md, and COMMANDS.md, FILES.md, GLOSSARY.md and OPERATING.md below docs, in"
+        r" \fBshare/doc/symarch\fR",
     ]
     # A heading begins a paragraph.
     kept = [it for it, before in zip(lines, ["", *lines]) if it != ".PP" or not before.startswith((".SH", ".SS"))]

@@ -29,8 +29,8 @@ ZSH = {"tar": "share/zsh/site-functions", "deb": "share/zsh/vendor-completions"}
 
 
 def ran(*words: Word, **how: Any) -> "subprocess.CompletedProcess[str]":
-    streams = {"stdin": subprocess.DEVNULL, "stdout": subprocess.PIPE, "stderr": subprocess.PIPE}
-    return subprocess.run(words, errors="replace", text=True, check=False, **{**streams, **how})
+    how = {"stdin": subprocess.DEVNULL, "stdout": subprocess.PIPE, "stderr": subprocess.PIPE, **how}
+    return subprocess.run(words, errors="replace", text=True, check=False, **how)
 
 
 def said(*words: Word, **how: Any) -> str:

@@ -98,14 +98,14 @@ class ReportCase(ProgramCase):
         make_archives(cls.archives)
 
     def report(
-        self, *words: Word, before: Sequence[Word] = (), environment: Mapping[str, str] = {}, **how: Any
+        self, *words: Any, before: Sequence[str] = (), environment: Mapping[str, str] = {}, **how: Any
     ) -> Ended:
         """What comes of the tool with these words. A word that is the name of an archive is its path."""
-        whole = [self.archives / word if (self.archives / str(word)).is_file() else word for word in words]
-        python = [sys.executable, "-B", TOOL]
-        return call([*before, *python, *whole], cwd=self.folder, environment={"SYMARCH": symarch, **environment}, **how)
+        whole = [self.archives / word if (self.archives / word).is_file() else word for word in words]
+        environment = {"SYMARCH": symarch, **environment}
+        return call([*before, sys.executable, "-B", TOOL, *whole], cwd=self.folder, environment=environment, **how)
 
-    def prints(self, words: Sequence[Word], wanted: Union[bytes, str], *counts: str, status: int = 0) -> None:
+    def prints(self, words: Sequence[Any], wanted: Union[bytes, str], *counts: str, status: int = 0) -> None:
         """Fails where something else is printed than these bytes, or than a file of expected/reports has; where the
         last line does not say this and no more is said; or where the status is another one."""
         came = self.report(*words)
@@ -113,7 +113,7 @@ class ReportCase(ProgramCase):
         self.is_printed(came, wanted)
 
     def is_printed(self, came: Ended, wanted: Union[bytes, str]) -> None:
-        """Fails where something else was printed. Bytes that are no UTF-8 stand in what differs as `\\xff`."""
+        """Fails where something else was printed. """
         expected = wanted if isinstance(wanted, bytes) else named(wanted)
         if came.out != expected:
             self.assertEqual(*(text.decode(errors="backslashreplace") for text in (came.out, expected)))
@@ -125,12 +125,12 @@ class ReportCase(ProgramCase):
             lines = [line.replace(f"{folder}/", "") for line in lines]
         return lines
 
-    def is_refused(self, words: Sequence[Word], *said: str, status: int = 2) -> None:
+    def is_refused(self, words: Sequence[Any], *said: str, status: int = 2) -> None:
         """Fails where something is printed, or something else is said."""
         came = self.report(*words)
         self.assertEqual((came.status, came.out, self.shortened(came)), (status, b"", list(said)), f"of {words}")
 
-    def written(self, paths: Sequence[pathlib.Path], archive: str, *words: Word) -> Tuple[Dict[str, bytes], Ended]:
+    def written(self, paths: Sequence[pathlib.Path], archive: Any, *words: Any) -> Tuple[Dict[str, bytes], Ended]:
         """What --out writes of several reports, by its name, and what came of the call."""
         out = pathlib.Path(tempfile.mkdtemp(prefix="out-", dir=self.folder)) / "made"
         came = self.report("--out", out, *words, *paths, archive)
