@@ -65,19 +65,19 @@ class Limits(HostileCase):
             self.keeps_out()
 
     def test_few_open_files(self) -> None:
-        """The program has its standard streams, and opens three files."""
+        """The program has three, and three of its own."""
         hint = f": {said(errno.EMFILE)}"
 
         def few(number: int) -> Dict[str, Any]:
             return {"preexec_fn": limited(resource.RLIMIT_NOFILE, number)}
 
         for words in (f"find {{}} {UUID}", "merge {} out empty.sym"):
-            self.refuses(words, "archive 0", "one.sym", "cannot open", hint, **few(3))
-        self.does(f"find one.sym {UUID}", 1, **few(4))
-        self.refuses("merge one.sym out {}", "archive 1", "empty.sym", "cannot open", hint, **few(4))
-        self.expect_refusal("merge one.sym out empty.sym", "output", "cannot create", f"out{hint}", **few(5))
+            self.refuses(words, "archive 0", "one.sym", "cannot open", hint, **few(6))
+        self.does(f"find one.sym {UUID}", 1, **few(7))
+        self.refuses("merge one.sym out {}", "archive 1", "empty.sym", "cannot open", hint, **few(7))
+        self.expect_refusal("merge one.sym out empty.sym", "output", "cannot create", f"out{hint}", **few(8))
         self.keeps_out()
-        self.does("merge one.sym out empty.sym", 1, ONE, **few(6))
+        self.does("merge one.sym out empty.sym", 1, ONE, **few(10))
 
     def fed(self, content: bytes, count: int) -> None:
         """Writes the first bytes of a content into the pipe when somebody reads it."""

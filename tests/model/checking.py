@@ -3,7 +3,7 @@ numbers of refused growths are left as they stand."""
 from typing import List, NamedTuple
 
 from ..support.program import TOP
-from . import cases, formats
+from . import cases
 
 DATA = TOP / "crates" / "acceptance" / "data"
 
@@ -38,12 +38,12 @@ def subjects() -> List[str]:
 def check(word: str) -> Checked:
     """Holds a subject, or a case of it, SUBJECT/CASE, against the model. The cases above it are carried out. Raises
     `cases.Bad` if there is no such case."""
-    formats.set_version(2)
     subject, _, asked = word.partition("/")
     by_name = cases.cases_of(cases.text_of(DATA, subject))
     if len(by_name) == 1 or (asked and asked not in by_name):
         raise cases.Bad("no such case")
-    bench, differences, told, left = cases.Bench(), [], 0, 0
+    bench, told, left = cases.Bench(), 0, 0
+    differences: List[Difference] = []
     for name, lines in by_name.items():
         for line, stands in lines:
             try:

@@ -11,7 +11,7 @@ ARM64, ARM64E, ARM64_32 = (0x0100000C, 0), (0x0100000C, 0x80000002), (0x0200000C
 # What is printed of an architecture; the high byte of the cpusubtype does not count.
 WORDS: Dict[Tuple[int, ...], str] = {
     **{X86_64: "x86_64", X86_64H: "x86_64h"},
-    **{ARM64: "arm64", ARM64E: "arm64e", ARM64_32: "cpu:0200000c/00000001"},
+    **{ARM64: "arm64", (0x0100000C, 2): "arm64e", ARM64_32: "cpu:0200000c/00000001"},
 }
 OBJECT, EXECUTE, DYLIB = 1, 2, 6
 UUID_COMMAND = 0x1B
@@ -162,7 +162,9 @@ def digest_of(made: bytes) -> str:
 
 def slice_text(made: bytes) -> str:
     """UUID, ARCH and DIGEST of an image, as they are printed."""
-    return f"{uuid.UUID(bytes=uuid_of(made))} {WORDS[struct.unpack_from('<II', made, 4)]} {digest_of(made)}"
+    cputype, cpusubtype = struct.unpack_from("<II", made, 4)
+    arch = WORDS[cputype, cpusubtype & 0xFFFFFF]
+    return f"{uuid.UUID(bytes=uuid_of(made))} {arch} {digest_of(made)}"
 
 
 def line(word: str, made: bytes, path: str) -> str:

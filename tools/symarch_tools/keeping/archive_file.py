@@ -102,9 +102,10 @@ class ArchiveFile:
     def following(self) -> Optional[Index]:
         """The index that FILE.idx.next is, where the file is the one of which that was made; else None."""
         index = self.kept_index(NEXT_INDEX)
-        if index and self.exists() and note_of(index.text, self.path) in self.notes() and index.size() == self.size():
-            return index
-        return None
+        if not index or not self.exists() or index.size() != self.size():
+            return None
+        # The last note is of the new file. One that was mended has the same index as before.
+        return index if self.notes()[-1:] == [note_of(index.text, self.path)] else None
 
     def known(self) -> Tuple[Optional[Index], bool]:
         """The index that the last word left, or None; and whether the file is the one that it is of."""
@@ -140,7 +141,8 @@ class ArchiveFile:
         path = shown(self.beside(INDEX))
         if os.path.exists(self.beside(INDEX)):
             return f"{path} is not as symarch-keep wrote it"
-        return f"{path} is lost" if self.notes() else None
+        # What was killed before the file was put in place leaves the sum of its index alone.
+        return f"{path} is lost" if self.notes() and self.exists() else None
 
     def vouch(self, made: Index, screen: Screen) -> None:
         """Fails if the index by the bytes of the file, which were read, has other digests than the last word left, and
