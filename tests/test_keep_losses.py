@@ -11,7 +11,7 @@ import time
 from typing import Callable, Dict, List, Optional, Tuple
 
 from .support.cases import Without, is_done, powerless_over
-from .support.kills import Left
+from .support.kills import Left, interrupted
 from .support.made_images import EMPTY, archive, image, index_of, retirement, slice_words
 from .support.program import TOP, call, symarch
 from .support.rooms import RoomCase, change, keep, kept_index, today_of
@@ -478,17 +478,6 @@ class Names(LossCase):
         self.refused(self.other)
 
 
-# Python reads this before the tool. It sends SIGINT as the tool begins to read its modules.
-SENDS_SIGINT = """import os, signal, sys
-class Finder:
-    @staticmethod
-    def find_spec(name, *_):
-        if name == "argparse":
-            os.kill(os.getpid(), signal.SIGINT)
-sys.meta_path.insert(0, Finder)
-"""
-
-
 class Faults(LossCase):
     """Each fault names what is at fault."""
 
@@ -540,11 +529,8 @@ class Faults(LossCase):
         self.assertEqual((came.status, came.error_lines), (4, [f"symarch-keep: {told}; the archive is as it was"]))
 
     def test_a_signal_while_the_modules_are_read(self) -> None:
-        self.room.file("before/sitecustomize.py", SENDS_SIGINT.encode())
-        environment = {"PYTHONPATH": str(self.folder / "before")}
-        with self.room.start("status", self.room.archive, environment=environment) as process:
-            out, errors = process.communicate()
-        self.assertEqual((process.returncode, out, errors), (-signal.SIGINT, b"", b""))
+        came = call(interrupted("argparse", keep, "status", str(self.room.archive)), environment={"SYMARCH": symarch})
+        self.assertEqual(came, (-signal.SIGINT, b"", b""))
 
 
 class Reports(LossCase):

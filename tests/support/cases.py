@@ -2,7 +2,7 @@
 
     class New(ProgramCase):
         def test_an_empty_archive(self) -> None:
-            self.expect(["new", "out"], prints=["archive: 0 records, 17 bytes"])
+            self.expect("new out", prints="archive: 0 records, 17 bytes")
             self.has_bytes("out", EMPTY)
 
 `python3 -B -m unittest tests.test_words.New.test_an_empty_archive` runs this case alone. The program is the one that
@@ -14,13 +14,28 @@ import pathlib
 import subprocess
 import sys
 import tempfile
+import textwrap
 import unittest
-from typing import Any, Callable, Iterable, Iterator, List, Sequence, Tuple, Union
+from typing import Any, Callable, Iterable, Iterator, List, Optional, Sequence, Tuple, Union
 
 from .program import NOT_ROOT, TOP, Ended, Word, call, is_done, symarch
 
 __all__ = ["TOP", "FolderCase", "ProgramCase", "Without", "Wrong", "digest_of", "is_done", "pieces_in"]
 __all__ += ["powerless_over", "same", "symarch", "try_all"]
+
+
+# The words of a command, in a list or with spaces between them; the lines of a text, in a list or as they stand, where
+# the space before all of them does not count.
+Words = Union[str, Sequence[Word]]
+Text = Union[str, Sequence[str]]
+
+
+def words_of(words: Words) -> Sequence[Word]:
+    return words.split(" ") if isinstance(words, str) else words
+
+
+def text_lines(text: Text) -> List[str]:
+    return textwrap.dedent(text).strip("\n").splitlines() if isinstance(text, str) else list(text)
 
 
 class Wrong(AssertionError):
@@ -111,12 +126,19 @@ class ProgramCase(FolderCase):
         return call([*before, symarch, *words], cwd=self.folder, **how)
 
     def expect(
-        self, words: Sequence[Word], prints: Sequence[str] = (), tells: Sequence[str] = (), status: int = 0, **how: Any
+        self, words: Words, prints: Optional[Text] = "", tells: Text = "", status: int = 0, **how: Any
     ) -> None:
-        """Fails where the program ends with another status, or prints other lines, or others on standard error."""
-        came = self.call(*words, **how)
-        wanted = (status, list(prints), list(tells))
-        self.assertEqual((came.status, came.lines, came.error_lines), wanted, f"of {words}")
+        """Fails where the program ends with another status, or prints other lines, or others on standard error. None as
+        what it prints is anything."""
+        came = self.call(*words_of(words), **how)
+        wanted = (status, came.lines if prints is None else text_lines(prints), text_lines(tells))
+        self.assertEqual((came.status, came.lines, came.error_lines), wanted, f"of {words!r}")
+
+    def expect_refusal(self, words: Words, where: str, fault: str, hint: str, **how: Any) -> None:
+        """Fails where a command is not refused so: nothing is printed, and standard error has the fault at an input or
+        at OUT, and the line for people, which names its path and what is known of it."""
+        tells = [f"symarch: {where}: {fault}", f"  {where} is {hint}"]
+        self.expect(words, tells=tells, status=2, **how)
 
 
 # ---- the cases of tests/old: how one is tried, and the last line over all of them

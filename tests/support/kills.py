@@ -34,6 +34,27 @@ sys.path[0] = os.path.dirname(sys.argv[0])
 runpy.run_path(sys.argv[0], run_name="__main__")
 """
 
+# Gives a tool SIGINT before it imports a module.
+INTERRUPTER = """
+import os, runpy, signal, sys
+
+class Finder:
+    @staticmethod
+    def find_spec(name, path=None, target=None):
+        if name == module:
+            os.kill(os.getpid(), signal.SIGINT)
+
+module, *sys.argv = sys.argv[1:]
+sys.meta_path.insert(0, Finder)
+sys.path[0] = os.path.dirname(sys.argv[0])
+runpy.run_path(sys.argv[0], run_name="__main__")
+"""
+
+
+def interrupted(module: str, tool: str, *words: str) -> List[str]:
+    """What runs a tool with these words that gets SIGINT before it imports a module, which nothing imports sooner."""
+    return [sys.executable, "-BIS", "-c", INTERRUPTER, module, tool, *words]
+
 
 def running(session: int) -> Iterator[str]:
     """The processes of a session that have not ended."""

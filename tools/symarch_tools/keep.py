@@ -1,7 +1,7 @@
 """Keeps an archive of symarch: puts images and dSYMs into it, exchanges with other sites, checks and repairs it.
 
-The program is the one that SYMARCH names; else the one that ./symarch built beside this tool; else `symarch` in PATH.
-None is built here.
+The program is the one that SYMARCH names; else the one that ./symarch built, or that was installed with this tool; else
+`symarch` in PATH. None is built here: if SYMARCH names the script ./symarch, the program that it built is called.
 
 What comes in goes into ARCHIVE.today, a small archive beside ARCHIVE, and `fold` joins it into ARCHIVE. What a site has
 is what both have together: `symbolicate-report` asks both, and so does `symarch frames FRAMES ARCHIVE.today ARCHIVE`.
@@ -23,7 +23,8 @@ from typing import NoReturn, Optional, Sequence
 
 from .keeping import adding, checking, exchanging, folding, repairing, retiring, stating
 from .keeping.screen import Failed, Screen, system_text
-from .keeping.stopping import STOPPING, Stopped
+from .signals import Stopped, signals
+from .version import PrintVersion
 
 WORDS = {
     "add": adding,
@@ -47,6 +48,7 @@ class Parser(argparse.ArgumentParser):
 def parse(words: Sequence[str]) -> argparse.Namespace:
     shape = argparse.RawDescriptionHelpFormatter
     parser = Parser("symarch-keep", description=__doc__, formatter_class=shape, allow_abbrev=False)
+    parser.add_argument("--version", action=PrintVersion, nargs=0, help="print the version and exit")
     commands = parser.add_subparsers(metavar="WORD", required=True)
     for name, module in WORDS.items():
         its = commands.add_parser(
@@ -91,12 +93,11 @@ def main(given: Optional[Sequence[str]] = None) -> int:
     words = parse(sys.argv[1:] if given is None else given)
     status = 4
     try:
-        STOPPING.answer_signals()
+        signals.answer()
         status = carry_out(words)
-        STOPPING.ignore_signals()
+        signals.ignore()
     except Stopped:
         # The exception is gone after this, and with it what it met.
         pass
-    if STOPPING.number:
-        STOPPING.end_by_signal()
+    signals.end()
     return status

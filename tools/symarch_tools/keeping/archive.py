@@ -13,6 +13,7 @@ import stat
 import tempfile
 from typing import Iterator, List, Optional, Sequence, Tuple
 
+from ..signals import signals
 from . import upgrading
 from .archive_file import INDEX, INDEX_SUM, NEXT_INDEX, ArchiveFile
 from .archive_file import note_of, size_of, sync_folder, write_synced
@@ -24,7 +25,6 @@ from .losing import LOST, Lost, counted, lost_lines
 from .program import DESCRIPTORS, Program
 from .screen import Failed, Screen, shown
 from .slices import Slice
-from .stopping import STOPPING, Later
 
 TODAY, ASKED = b".today", b".asked"
 # What a kill may leave; rooms are folders in which a word works.
@@ -62,7 +62,7 @@ class Archive:
         self.lock.take(screen)
         if self.writes:
             # A signal may come as a folder is made, or as it is removed.
-            STOPPING.at_end.append(self.remove_rooms)
+            signals.at_end.append(self.remove_rooms)
             self.remove_rooms()
             self.go_on(screen)
         self.lost = Lost(self.beside(LOST))
@@ -70,8 +70,8 @@ class Archive:
             screen.fail(f"{shown(self.lost.path)}: {self.lost.fault}, so what is lost is not known")
 
     def release_lock(self) -> None:
-        if self.remove_rooms in STOPPING.at_end:
-            STOPPING.at_end.remove(self.remove_rooms)
+        if self.remove_rooms in signals.at_end:
+            signals.at_end.remove(self.remove_rooms)
         self.lock.release()
 
     def rooms(self) -> List[bytes]:
@@ -88,7 +88,7 @@ class Archive:
         try:
             yield tempfile.mkdtemp(prefix=self.name + ROOM, dir=self.folder)
         finally:
-            with Later():
+            with signals.later():
                 self.rooms_made -= 1
                 if self.rooms_made == 0:
                     self.remove_rooms()
@@ -295,7 +295,7 @@ class Archive:
     def replace(self, room: bytes, file: ArchiveFile, index: Index, lines: Sequence[str], screen: Screen) -> None:
         """Gives the new file of a room, which is synced, the name of a file, and what it may have of the archive's
         owner and rights. Syncs the name. A signal waits until that is done."""
-        with Later():
+        with signals.later():
             self.put_in_place(os.path.join(room, b"new"), room, file, index, lines)
             file.index, file.content = index, index.content()
             self.finish(file, screen)

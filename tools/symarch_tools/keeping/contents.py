@@ -188,9 +188,7 @@ def arch_of(numbers: Tuple[int, int]) -> str:
 
 def words_of(entry: bytes) -> str:
     """UUID, ARCH and DIGEST of a slice."""
-    name, digits = entry[:16].hex(), entry[KEY:].hex()
-    hyphenated = f"{name[:8]}-{name[8:12]}-{name[12:16]}-{name[16:20]}-{name[20:]}"
-    return f"{hyphenated} {arch_in(entry[16:KEY])} {digits}"
+    return f"{uuid.UUID(bytes=entry[:16])} {arch_in(entry[16:KEY])} {entry[KEY:].hex()}"
 
 
 @functools.lru_cache(maxsize=None)

@@ -33,8 +33,8 @@ Status:
   2    some answer or question was refused, some file of FOLDER not read, written or removed, a slice changed, something
        is lost, or some line not printed or kept; the rest is done
   3    the words have another form
-  4    ARCHIVE could not be read or written, there is no FOLDER, NAME is another site's, or memory ran out: ARCHIVE is as
-       it was
+  4    ARCHIVE could not be read or written, there is no FOLDER, NAME is another site's, or memory ran out: ARCHIVE is
+       as it was
   126  there is no program"""
 import argparse
 import os

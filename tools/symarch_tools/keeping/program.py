@@ -2,17 +2,15 @@
 import contextlib
 import os
 import re
-import shutil
 import subprocess
 from typing import Callable, Dict, Iterable, Optional, Sequence, Union
 
+from ..program import candidates, named
+from ..signals import signals
 from .contents import END, LENGTH, MAGIC, MAGICS
 from .screen import Failed, SliceRefused, shown, write
 from .slices import Slice
-from .stopping import Later
 
-BUILT = os.path.join("crates", "symarch", "out", "symarch")
-TOP = os.path.join(os.path.dirname(os.path.realpath(__file__)), "..", "..", "..")
 # By what the program gets the files that this tool has open, also those whose paths are no UTF-8.
 DESCRIPTORS = "/dev/fd"
 Word = Union[str, bytes]
@@ -27,7 +25,7 @@ class Program:
     """The program symarch."""
 
     def __init__(self) -> None:
-        self.path = found_program()
+        self.path = answering_program()
         if not os.path.exists(os.path.join(DESCRIPTORS, "0")):
             raise Failed(f"there is no {DESCRIPTORS}, by which the program gets its files: /proc is not mounted")
 
@@ -45,7 +43,7 @@ class Program:
         with contextlib.ExitStack() as ends:
             # A signal waits until what ends the program is on the stack: one that goes on writes into a folder that is
             # being removed.
-            with Later():
+            with signals.later():
                 process = subprocess.Popen(
                     [self.path, *words],
                     bufsize=0,
@@ -63,12 +61,13 @@ class Program:
             printed, said = None, b""
             while printed is None:
                 # What is raised within would leave its lock.
-                with contextlib.suppress(subprocess.TimeoutExpired), Later():
+                with contextlib.suppress(subprocess.TimeoutExpired), signals.later():
                     printed, said = process.communicate(timeout=0.2)
                 moved(len(slices))
         if process.returncode not in (0, 1):
             places = {**in_folder(words, folder), **(names or {})}
-            raise fault(os.fsdecode(words[0]), said.decode(errors="replace").strip(), process.returncode, slices, places)
+            told = said.decode(errors="replace").strip()
+            raise fault(os.fsdecode(words[0]), told, process.returncode, slices, places)
         return printed or b""
 
     def run_over(self, path: bytes, command: str, *more: str, folder: Optional[bytes] = None) -> bytes:
@@ -78,21 +77,15 @@ class Program:
             return self.run(words, folder=folder, open_files=(file.fileno(),), names={words[1]: shown(path)})
 
 
-def found_program() -> str:
-    """The path of the program that SYMARCH names, else of the one that was built beside this tool, else of `symarch` in
-    PATH."""
-    named = os.environ.get("SYMARCH")
-    for word in [named] if named else [os.path.join(TOP, BUILT), "symarch"]:
-        path = os.path.abspath(shutil.which(word) or os.devnull)
-        beside = os.path.dirname(os.path.realpath(path))
-        if os.path.exists(os.path.join(beside, "packaging", "build-program")):
-            # The script ./symarch would begin a build.
-            path = os.path.join(beside, BUILT)
-        with contextlib.suppress(OSError), Later():
+def answering_program() -> str:
+    """The first program that answers as symarch does."""
+    for path in candidates():
+        with contextlib.suppress(OSError), signals.later():
             words, nothing = [path, "--version"], subprocess.DEVNULL
             if subprocess.run(words, stdin=nothing, capture_output=True, check=False).stdout[:8] == b"symarch ":
                 return path
-    which = f"SYMARCH is {shown(named)}, which is no" if named else "there is no"
+    word = named()
+    which = f"SYMARCH is {shown(word)}, which is no" if word else "there is no"
     raise Failed(f"{which} program symarch; `./symarch --version` in its sources builds one", 126)
 
 
