@@ -8,9 +8,10 @@ import shutil
 import signal
 import subprocess
 import time
-from typing import Callable, Dict, List, Tuple
+from typing import Callable, Dict, List, Optional, Tuple
 
 from .support.cases import Without, is_done, powerless_over
+from .support.kills import Left, interrupted
 from .support.made_images import EMPTY, archive, image, index_of, retirement, slice_words
 from .support.program import TOP, call, symarch
 from .support.rooms import RoomCase, change, keep, kept_index, today_of
@@ -65,7 +66,7 @@ class LossCase(RoomCase):
         self.word("fold")
         self.room.file("new", image(9))
 
-    def word(self, word: str, *more: object, status: int = 0, **how: object) -> Tuple[List[str], List[str]]:
+    def word(self, word: str, *more: object, status: Optional[int] = 0, **how: object) -> Tuple[List[str], List[str]]:
         """What a word over the site prints on standard output and on standard error."""
         out, errors = self.room.call(word, self.room.archive, *more, status=status, **how)
         return out, errors
@@ -380,6 +381,16 @@ class Lost(LossCase):
             self.assertEqual(self.word("check")[0], [])
             self.assertEqual(self.room.left(), [])
 
+    def test_killed_as_it_notes_what_is_lost(self) -> None:
+        """Whichever step a kill comes before, the loss is named after it."""
+        self.room.archive.write_bytes(archive(self.made[1:], retired=self.retired))
+        lost = [f"lost {words_of(self.made[0])}"]
+        with Left(self.room, "fold", self.room.archive, status=2) as left:
+            for step in left.each():
+                self.assertEqual(self.word("check", status=2)[0], lost, step)
+                self.word("fold", status=None)
+                self.assertEqual(self.word("check", status=2)[0], lost, step)
+
     def test_a_slice_that_is_retired_is_not_lost(self) -> None:
         self.room.archive.write_bytes(archive(self.made[1:], retired=self.retired))
         self.word("fold", status=2)
@@ -467,17 +478,6 @@ class Names(LossCase):
         self.refused(self.other)
 
 
-# Python reads this before the tool. It sends SIGINT as the tool begins to read its modules.
-SENDS_SIGINT = """import os, signal, sys
-class Finder:
-    @staticmethod
-    def find_spec(name, *_):
-        if name == "argparse":
-            os.kill(os.getpid(), signal.SIGINT)
-sys.meta_path.insert(0, Finder)
-"""
-
-
 class Faults(LossCase):
     """Each fault names what is at fault."""
 
@@ -529,11 +529,8 @@ class Faults(LossCase):
         self.assertEqual((came.status, came.error_lines), (4, [f"symarch-keep: {told}; the archive is as it was"]))
 
     def test_a_signal_while_the_modules_are_read(self) -> None:
-        self.room.file("before/sitecustomize.py", SENDS_SIGINT.encode())
-        environment = {"PYTHONPATH": str(self.folder / "before")}
-        with self.room.start("status", self.room.archive, environment=environment) as process:
-            out, errors = process.communicate()
-        self.assertEqual((process.returncode, out, errors), (-signal.SIGINT, b"", b""))
+        came = call(interrupted("argparse", keep, "status", str(self.room.archive)), environment={"SYMARCH": symarch})
+        self.assertEqual(came, (-signal.SIGINT, b"", b""))
 
 
 class Reports(LossCase):

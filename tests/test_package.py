@@ -98,7 +98,9 @@ def commands_in(text: str) -> List[str]:
 
 
 def options_in(text: str) -> List[str]:
-    return sorted(set(re.findall(r"(?<![\w`-])--[a-z][a-z-]*", text)) | {"--help"})
+    """The options that a help lists at its end."""
+    listed = re.split(r"^[Oo]ptions:\n", text, flags=re.M)[-1]
+    return sorted(set(re.findall(r"^ +(?:-\w, )?(--[a-z][a-z-]*)", listed, re.M)))
 
 
 def command(folder: Path, environment: Dict[str, str], name: str, does: str) -> Path:
@@ -416,10 +418,8 @@ class Words(PackageCase):
         for name in NAMES:
             with self.subTest(name):
                 options = self.completed(name, "--")
-                self.assertEqual(sorted(options), sorted(it for it in options if it in help_of(name)))
                 self.assertIn("--help", options)
-        found = options_in(help_of("symbolicate-report").partition("\noptions:\n")[2])
-        self.assertEqual(sorted(self.completed("symbolicate-report", "--")), found)
+                self.assertEqual(sorted(options), options_in(help_of(name)))
 
     def test_completion_of_places(self) -> None:
         """Paths, architectures, commands to be helped with, and else nothing."""
@@ -540,6 +540,8 @@ def command_lines() -> List[str]:
     return [it for block in re.findall(r"^```sh\n(.*?)^```", readme(), re.M | re.S) for it in block.splitlines()]
 
 
+# The root has no command umount.
+UNMOUNT = """python3 -c 'import ctypes; ctypes.CDLL(None).umount2(b"/proc", 2)'; test ! -e /proc/self"""
 WHAT_IS_THERE = "for it in rt symarch man; do command -v $it || echo no $it; done; ls -d /opt /work || true"
 
 
@@ -644,7 +646,7 @@ class InRoot(PackageCase):
 
     def test_without_proc(self) -> None:
         """A report is named where /proc is not mounted."""
-        printed = self.said("umount -l /proc\n/usr/bin/symbolicate-report report.crash builds.sym")
+        printed = self.said(f"{UNMOUNT}\n/usr/bin/symbolicate-report report.crash builds.sym")
         self.assertIn("_copy_body + 12", printed)
 
     def test_installed(self) -> None:

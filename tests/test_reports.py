@@ -10,6 +10,7 @@ import time
 from pathlib import Path
 from typing import Any, List, Sequence, Tuple
 
+from .support.kills import interrupted
 from .support.program import TOP, call, symarch
 from .support.reports import CRASHES, DYLD, FIXTURES, KERNEL, SPOOL, SPOOL_2, SPOOL_X86_64, TOOL, ReportCase
 from .support.reports import named, source
@@ -500,31 +501,13 @@ class Calls(ReportCase):
                 self.assertEqual((came.status, came.out, came.error_lines[-1]), (126, b"", line))
 
 
-# Runs the tool, and gives it a signal before it imports a module.
-INTERRUPTED = """
-import os, runpy, signal, sys
-
-class Finder:
-    @staticmethod
-    def find_spec(name, path=None, target=None):
-        if name == module:
-            os.kill(os.getpid(), signal.SIGINT)
-
-module, *sys.argv = sys.argv[1:]
-sys.meta_path.insert(0, Finder)
-sys.path[0] = os.path.dirname(sys.argv[0])
-runpy.run_path(sys.argv[0], run_name="__main__")
-"""
-
-
 class Signals(ReportCase):
     """A signal ends the tool without a traceback, and leaves no file."""
 
     def test_ctrl_c_while_it_begins(self) -> None:
         for module in ("subprocess", "tempfile"):
             with self.subTest(module):
-                words: List[Any] = [sys.executable, "-BIS", "-c", INTERRUPTED, module, TOOL]
-                words += [CRASHES / "arm64.crash", "shipped"]
+                words = interrupted(module, TOOL, str(CRASHES / "arm64.crash"), "shipped")
                 came = call(words, cwd=self.archives, environment={"SYMARCH": symarch})
                 self.assertEqual((came.status, came.errors), (-signal.SIGINT, b""))
 

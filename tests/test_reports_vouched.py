@@ -169,21 +169,28 @@ class ChangedSlices(VouchedCase):
 class OtherArchives(VouchedCase):
     """Archives that were written since their index was, and indexes that are damaged."""
 
+    since = "site.sym was written since site.sym.idx was, which does not vouch for it: run symarch-keep check site.sym"
+    since += ", and if that ends with 0 symarch-keep fold site.sym, which indexes it anew"
+
     def is_not_asked(self, why: str, archive: str = "site.sym") -> None:
         """Nothing is printed, since nothing vouches for a name, and the word that finds out more is named."""
         line = f"symbolicate-report: {why}: run symarch-keep check {archive}"
         self.is_refused([CRASHES / "arm64.crash", archive], line)
 
     def test_an_archive_that_was_written_since(self) -> None:
+        """What is said of it helps."""
         shutil.copy(self.archives / "both", self.site)
-        self.is_not_asked("site.sym was written since site.sym.idx was, which does not vouch for it")
+        self.is_refused([CRASHES / "arm64.crash", "site.sym"], f"symbolicate-report: {self.since}")
+        for word in ("check", "fold"):
+            came = call([KEEP, word, self.site], environment={"SYMARCH": symarch})
+            self.assertEqual(came.status, 0, came.errors)
+        self.says(ALL_NAMED, status=0, printed=named("crash"))
 
     def test_one_of_two_archives(self) -> None:
         """It may retire what the other one has."""
         shutil.copy(self.archives / "both", self.site)
-        line = "site.sym was written since site.sym.idx was, which does not vouch for it"
         words = [CRASHES / "arm64.crash", "shipped", "site.sym"]
-        self.is_refused(words, f"symbolicate-report: {line}: run symarch-keep check site.sym")
+        self.is_refused(words, f"symbolicate-report: {self.since}")
 
     def test_a_word_that_puts_an_archive_in_place_now(self) -> None:
         """Its index stands there already, under another name."""

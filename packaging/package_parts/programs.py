@@ -184,9 +184,8 @@ def tool_of(path: pathlib.Path, name: str) -> Program:
     text = said([path, "--help"])
     options, usages = options_in(text), usages_in(text, name)
     forms, helps = commands_of_tool(path, name, text)
-    if not forms:
-        forms = [form_of(it, names_in(usages), "", []) for it in usages]
-        helps = [listed_options(options)]
+    forms = forms or [form_of(it, names_in(usages), "", []) for it in usages]
+    helps.append(listed_options(options))
     first, _, rest = prose_in(text, name).partition("\n\n")
     about, _, more = " ".join(first.split()).partition(". ")
     prose = "\n\n".join(filter(None, [more, rest, *helps]))

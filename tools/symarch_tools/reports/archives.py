@@ -36,8 +36,8 @@ class ArchiveFile:
             if is_damaged(self.index, beside(path, SUMS)):
                 self.refuse(f"{self.index} is damaged")
 
-    def refuse(self, why: str) -> None:
-        raise Failure(f"{why}: run symarch-keep check {self.kept}", Status.REFUSED)
+    def refuse(self, why: str, more: str = "") -> None:
+        raise Failure(f"{why}: run symarch-keep check {self.kept}{more}", Status.REFUSED)
 
     def take_other_index(self) -> None:
         """Takes another index, since the archive has not the length that this one says."""
@@ -46,7 +46,8 @@ class ArchiveFile:
             if os.path.exists(other):
                 self.index = other
                 return
-        self.refuse(f"{self.path} was written since {beside(self.path, INDEX)} was, which does not vouch for it")
+        why = f"{self.path} was written since {beside(self.path, INDEX)} was, which does not vouch for it"
+        self.refuse(why, f", and if that ends with 0 symarch-keep fold {self.kept}, which indexes it anew")
 
     def key_of(self, entry: int) -> Key:
         with IndexFile(self.index) as rows:
