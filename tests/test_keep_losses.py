@@ -1,6 +1,6 @@
-"""What symarch-keep does where an archive, its index or a site is not what it was: no index with other digests takes the
-place of one, `check` changes nothing and says what is wrong, what is lost is looked for until it is back, and a name is
-one site's. What has to be in an archive is made by tests.support, from docs/FILES.md."""
+"""What symarch-keep does where an archive, its index or a site is not what it was: no index with other digests takes
+the place of one, `check` changes nothing and says what is wrong, what is lost is looked for until it is back, and a
+name is one site's. What has to be in an archive is made by tests.support, from docs/FILES.md."""
 import os
 import pathlib
 import re
@@ -87,7 +87,8 @@ class LossCase(RoomCase):
 class Vouched(LossCase):
     """No index takes the place of one with other digests, unless its SHA-256 says that it is the same."""
 
-    WRITING = (["add", "new"], ["fold"], ["exchange", "shared", "east"], ["retire", *slice_words(image(0, more=b"0" * 50))])
+    RETIRE = ["retire", *slice_words(image(0, more=b"0" * 50))]
+    WRITING = (["add", "new"], ["fold"], ["exchange", "shared", "east"], RETIRE)
 
     def refused(self, words: List[str], told: str) -> None:
         """A word ends with 4, says this, and leaves each file as it was."""

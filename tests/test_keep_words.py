@@ -1,5 +1,5 @@
-"""`retire`, `status` and dry runs of symarch-keep; each word that writes on a full disk, and where files may have no more
-bytes; and the command lines of docs/OPERATING.md. What has to be in an archive is made by tests.support, from
+"""`retire`, `status` and dry runs of symarch-keep; each word that writes on a full disk, and where files may have no
+more bytes; and the command lines of docs/OPERATING.md. What has to be in an archive is made by tests.support, from
 docs/FILES.md."""
 import os
 import pathlib
@@ -361,11 +361,13 @@ class Operating(RoomCase):
         same("words", sorted(called), sorted(listed))
 
     def test_each_example_names_what_it_retires(self) -> None:
-        """No line retires what happens to stand there: what is retired are the slices of the file that is taken back."""
+        """No line retires what happens to stand there: what is retired are the slices of the file that it says."""
         retiring = [one for one in self.lines() if " retire " in one]
-        self.assertEqual([one for one in retiring if not re.search(r" [0-9a-f-]{36} [a-z0-9_]+ [0-9a-f]{64}$", one)], [])
+        for one in retiring:
+            self.assertRegex(one, " [0-9a-f-]{36} [a-z0-9_]+ [0-9a-f]{64}$")
         self.carry_out("symarch-keep add builds.sym dSYMs")
-        added = [one.split(" ")[1:4] for one in self.carry_out("symarch-keep add builds.sym dSYMs/spool-2").splitlines()]
+        known = self.carry_out("symarch-keep add builds.sym dSYMs/spool-2").splitlines()
+        added = [one.split(" ")[1:4] for one in known]
         for one in retiring:
             self.carry_out(one)
         listed = self.carry_out("symarch list builds.sym.today").splitlines()

@@ -117,6 +117,8 @@ def command(folder: Path, environment: Dict[str, str], name: str, does: str) -> 
 class Contents(PackageCase):
     """What is made, and what is in it."""
 
+    seconds = 8
+
     def test_names(self) -> None:
         packages = sorted(self.made.names.values())
         wanted = [*packages, "SHA256SUMS"]
@@ -250,6 +252,8 @@ class Contents(PackageCase):
 class Unpacked(PackageCase):
     """The tools of a package that is unpacked anywhere."""
 
+    seconds = 6
+
     @classmethod
     def setUpClass(cls) -> None:
         super().setUpClass()
@@ -349,6 +353,8 @@ def anchors_in(text: str) -> Set[str]:
 
 class Words(PackageCase):
     """Manual pages and completion."""
+
+    seconds = 6
 
     def test_forms_of_text(self) -> None:
         self.assertEqual(manual.body(TEXT), ROFF.strip("\n").split("\n"))
@@ -484,6 +490,8 @@ class Words(PackageCase):
 class Refusals(FolderCase):
     """Words with which nothing is made, and the beginning of what is said."""
 
+    seconds = 5
+
     def setUp(self) -> None:
         super().setUp()
         if not os.access(symarch, os.X_OK):
@@ -549,6 +557,8 @@ WHAT_IS_THERE = "for it in rt symarch man; do command -v $it || echo no $it; don
 
 class InRoot(PackageCase):
     """The packages in a fresh root, after the first three command lines of README."""
+
+    seconds = 15
 
     root: ClassVar[str]
     # What came of looking around before, and of the three lines.

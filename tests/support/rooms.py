@@ -13,10 +13,9 @@ from .made_images import image, join_of
 from .program import TOP
 
 
-
 def compiled() -> str:
-    """The path of symarch-keep in a copy of the tools whose modules are compiled, so that each call begins sooner. It is
-    removed at the end; the processes of the runner share it."""
+    """The path of symarch-keep in a copy of the tools whose modules are compiled, so that each call begins sooner. It
+    is removed at the end; the processes of the runner share it."""
     folder = pathlib.Path(tempfile.mkdtemp(prefix="tools-"))
     atexit.register(shutil.rmtree, folder, True)
     folder.chmod(0o755)
