@@ -331,9 +331,9 @@ class Killed(RoomCase):
                     same("left", self.room.left(), [])
 
 
-# Python reads this before the tool. Once the tool made its folder and called a function of C, it sends SIGTERM at a
-# call or at a return from C, as a signal comes. (At the return of a function it would skip what that does in the end.)
-SENDS_SIGTERM = """import os, signal, sys
+# Runs the tool. Once that made its folder and called a function of C, it sends SIGTERM at a call or at a return from C,
+# as a signal comes. (At the return of a function it would skip what that does in the end.)
+SENDS_SIGTERM = """import os, runpy, signal, sys
 left, made, begun = int(os.environ["MOMENT"]), False, False
 def count(_, event, function):
     global left, made, begun
@@ -343,7 +343,9 @@ def count(_, event, function):
     if left < 0:
         sys.setprofile(None)
         os.kill(os.getpid(), signal.SIGTERM)
+sys.argv = sys.argv[1:]
 sys.setprofile(count)
+runpy.run_path(sys.argv[0], run_name="__main__")
 """
 
 
@@ -405,15 +407,14 @@ class Stopped(RoomCase):
         """SIGTERM at twenty moments in a row after its folder was made, after a program was begun, and as the folder is
         removed, ends the tool and the program, and leaves nothing."""
         self.room.file("many/one", image(1))
-        self.room.file("before/sitecustomize.py", SENDS_SIGTERM.encode())
-        before = {"PYTHONPATH": str(self.folder / "before")}
+        before = [sys.executable, "-BIS", "-c", SENDS_SIGTERM]
         first = self.room.program('[ "$1" != --version ] && exec sleep 5\nexec "$symarch" "$@"', "first")
         merge = self.room.program('[ "$1" = merge ] && exec sleep 5\nexec "$symarch" "$@"', "merge")
         for called, program in (("mkdir", first), ("fork_exec", first), ("listdir", merge)):
             for moment in range(20):
                 self.room.begin_anew(archive([image(100)]))
-                environment = {"CALLED": called, "MOMENT": str(moment), **before, **program}
-                how: Dict[str, Any] = {"environment": environment, "start_new_session": True}
+                environment = {"CALLED": called, "MOMENT": str(moment), **program}
+                how: Dict[str, Any] = {"environment": environment, "before": before, "start_new_session": True}
                 with self.room.start("add", self.room.archive, "many", **how) as process:
                     process.communicate(timeout=60)
                 where = f"{moment} moments after {called}"

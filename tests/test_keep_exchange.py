@@ -1,5 +1,5 @@
-"""Sites that exchange by symarch-keep over folders: in any order, with kills, halves of files and restores from backups,
-until all have the same bytes. What has to be in an archive is made by tests.support, from docs/FILES.md."""
+"""Sites that exchange by symarch-keep over folders: in any order, with kills, halves of files and restores from
+backups, until all have the same bytes. What has to be in an archive is made by tests.support, from docs/FILES.md."""
 import hashlib
 import os
 import pathlib

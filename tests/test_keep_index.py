@@ -1,6 +1,6 @@
-"""What symarch-keep knows by the index that it keeps beside each archive: `check` and `repair`, archives that were cut or
-replaced by hand, and sites that kept sums before. What has to be in an archive and in its index is made by tests.support,
-from docs/FILES.md."""
+"""What symarch-keep knows by the index that it keeps beside each archive: `check` and `repair`, archives that were cut
+or replaced by hand, and sites that kept sums before. What has to be in an archive and in its index is made by
+tests.support, from docs/FILES.md."""
 import hashlib
 import os
 import pathlib
@@ -64,21 +64,25 @@ class IndexCase(RoomCase):
 
 
 class ChangedBytes(IndexCase):
-    """`check` finds the bytes that changed at random places, and names what they are of, and where that stands; `repair`
-    mends them."""
+    """`check` finds the bytes that changed at random places, and names what they are of, and where that stands;
+    `repair` mends them."""
 
     seconds = 40
 
     def setUp(self) -> None:
         super().setUp()
         self.dice = random.Random(100)
-        images = [image(number, more=bytes(self.dice.choices(range(256), k=self.dice.randrange(400)))) for number in range(12)]
+        lengths = [self.dice.randrange(400) for _ in range(12)]
+        images = [image(number, more=self.noise(length)) for number, length in enumerate(lengths)]
         images += [image(12, more=bytes([number]) * 50) for number in range(3)]
         retired = [image(number) for number in range(50, 56)]
         self.good, self.layout = archive(images, retired=retired), Layout(self.room.archive, images, retired)
         self.room.archive.write_bytes(self.good)
         self.room.file("good.sym", archive(images + [image(99)]))
         self.room.index()
+
+    def noise(self, length: int) -> bytes:
+        return bytes(self.dice.choices(range(256), k=length))
 
     def found_and_mended(self, count: int) -> None:
         """So many bytes, in one archive."""

@@ -1,6 +1,6 @@
-"""What symarch-keep does where an archive, its index or a site is not what it was: no index with other digests takes the
-place of one, `check` changes nothing and says what is wrong, what is lost is looked for until it is back, and a name is
-one site's. What has to be in an archive is made by tests.support, from docs/FILES.md."""
+"""What symarch-keep does where an archive, its index or a site is not what it was: no index with other digests takes
+the place of one, `check` changes nothing and says what is wrong, what is lost is looked for until it is back, and a
+name is one site's. What has to be in an archive is made by tests.support, from docs/FILES.md."""
 import os
 import pathlib
 import re
@@ -8,10 +8,10 @@ import shutil
 import signal
 import subprocess
 import time
-from typing import Callable, Dict, List, Tuple
+from typing import Callable, Dict, List, Optional, Tuple
 
 from .support.cases import Without, is_done, powerless_over
-from .support.kills import interrupted
+from .support.kills import Left, interrupted
 from .support.made_images import EMPTY, archive, image, index_of, retirement, slice_words
 from .support.program import TOP, call, symarch
 from .support.rooms import RoomCase, change, keep, kept_index, today_of
@@ -66,7 +66,7 @@ class LossCase(RoomCase):
         self.word("fold")
         self.room.file("new", image(9))
 
-    def word(self, word: str, *more: object, status: int = 0, **how: object) -> Tuple[List[str], List[str]]:
+    def word(self, word: str, *more: object, status: Optional[int] = 0, **how: object) -> Tuple[List[str], List[str]]:
         """What a word over the site prints on standard output and on standard error."""
         out, errors = self.room.call(word, self.room.archive, *more, status=status, **how)
         return out, errors
@@ -87,7 +87,8 @@ class LossCase(RoomCase):
 class Vouched(LossCase):
     """No index takes the place of one with other digests, unless its SHA-256 says that it is the same."""
 
-    WRITING = (["add", "new"], ["fold"], ["exchange", "shared", "east"], ["retire", *slice_words(image(0, more=b"0" * 50))])
+    RETIRE = ["retire", *slice_words(image(0, more=b"0" * 50))]
+    WRITING = (["add", "new"], ["fold"], ["exchange", "shared", "east"], RETIRE)
 
     def refused(self, words: List[str], told: str) -> None:
         """A word ends with 4, says this, and leaves each file as it was."""
@@ -380,6 +381,16 @@ class Lost(LossCase):
             self.word("add", "back")
             self.assertEqual(self.word("check")[0], [])
             self.assertEqual(self.room.left(), [])
+
+    def test_killed_as_it_notes_what_is_lost(self) -> None:
+        """Whichever step a kill comes before, the loss is named after it."""
+        self.room.archive.write_bytes(archive(self.made[1:], retired=self.retired))
+        lost = [f"lost {words_of(self.made[0])}"]
+        with Left(self.room, "fold", self.room.archive, status=2) as left:
+            for step in left.each():
+                self.assertEqual(self.word("check", status=2)[0], lost, step)
+                self.word("fold", status=None)
+                self.assertEqual(self.word("check", status=2)[0], lost, step)
 
     def test_a_slice_that_is_retired_is_not_lost(self) -> None:
         self.room.archive.write_bytes(archive(self.made[1:], retired=self.retired))

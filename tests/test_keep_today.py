@@ -1,5 +1,5 @@
-"""What symarch-keep does with ARCHIVE.today, into which goes what comes in, and `fold`, which joins it into ARCHIVE. What
-has to be in an archive is made by tests.support, from docs/FILES.md."""
+"""What symarch-keep does with ARCHIVE.today, into which goes what comes in, and `fold`, which joins it into ARCHIVE.
+What has to be in an archive is made by tests.support, from docs/FILES.md."""
 import os
 import pathlib
 import random
@@ -123,7 +123,8 @@ class Today(TodayCase):
         for is_folded in (False, True):
             counts = {"images": 41, "companions": 1, "retirements": 1, "conflicts": 1}
             counts.update({"bytes": self.room.archive.stat().st_size, "today": len(EMPTY) if is_folded else today})
-            same("lines", self.room.call("status", self.room.archive)[0], [f"{name} {it}" for name, it in counts.items()])
+            lines = [f"{name} {count}" for name, count in counts.items()]
+            same("lines", self.room.call("status", self.room.archive)[0], lines)
             self.room.call("fold", self.room.archive)
         # The same slices in both, as where somebody copied them.
         today_of(self.room.archive).write_bytes(archive(more, retired=self.made[1:2]))

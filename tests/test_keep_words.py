@@ -1,5 +1,5 @@
-"""`retire`, `status` and dry runs of symarch-keep; each word that writes on a full disk, and where files may have no more
-bytes; and the command lines of docs/OPERATING.md. What has to be in an archive is made by tests.support, from
+"""`retire`, `status` and dry runs of symarch-keep; each word that writes on a full disk, and where files may have no
+more bytes; and the command lines of docs/OPERATING.md. What has to be in an archive is made by tests.support, from
 docs/FILES.md."""
 import os
 import pathlib
@@ -8,16 +8,16 @@ import resource
 import shutil
 import signal
 import subprocess
-from typing import Iterator, List, NamedTuple, Tuple
+from typing import List, NamedTuple, Tuple
 
 from .support.cases import Without, digest_of, is_done, pieces_in, same
 from .support.made_images import EMPTY, archive, image, line, slice_words
 from .support.program import TOP, call, symarch
-from .support.rooms import RoomCase, today_of
+from .support.rooms import RoomCase, keep, today_of
 from .support.sites import DATE, Site, bring_back, state_of
 
 DSYM = 10
-TOOLS = TOP / "tools"
+TOOLS = pathlib.Path(keep).parent
 
 
 def words_of(made: bytes) -> str:
@@ -146,28 +146,11 @@ class FullWord(NamedTuple):
     known: Tuple[bytes, ...] = ()
 
 
-def full_words(made: List[bytes]) -> Iterator[FullWord]:
-    """Each word that writes, at a site of the first three images. The fourth one stands in a file, and the others in a
-    folder: the lines of these take more than a page of the log."""
-    old, more, joined = archive(made[:3]), archive(made[3:4]), archive(made[:4])
-    yield FullWord(["add", "0003"], [(old, EMPTY), (old, more)], 1)
-    yield FullWord(["add", "many"], [(joined, EMPTY), (joined, archive(made[4:]))], len(made) - 4)
-    # What came in before is more than a tenth, so this one folds.
-    yield FullWord(["add", "many"], [(old, more), (archive(made), more), (archive(made), EMPTY)], len(made) - 4)
-    yield FullWord(["fold"], [(old, more), (joined, more), (joined, EMPTY)])
-    yield FullWord(["retire", *slice_words(made[0])], [(old, EMPTY), (old, archive([], retired=made[:1]))], 1)
-    bad, bad_more = old[:-40] + b"x" + old[-39:], more[:-40] + b"x" + more[-39:]
-    yield FullWord(["repair", "good.sym"], [(bad, bad_more), (old, bad_more), (old, more)], 2, (old, more))
-    yield FullWord(["exchange", "disk/shared", "east"], [(old, EMPTY), (old, more)], 1)
-    # Of an archive that came by another way the index is made.
-    yield FullWord(["status", "--accept"], [(joined, EMPTY)], 0, (old, EMPTY))
-
-
-class FullDisk(RoomCase):
+class FullDiskCase(RoomCase):
     """On a full disk each word leaves both archives as they were, or as one of its steps leaves them, and does the rest
     where there is room. One page more is free each time, until it is done at once: so the disk is full at each step."""
 
-    seconds = 60
+    seconds = 20
 
     def setUp(self) -> None:
         super().setUp()
@@ -180,6 +163,8 @@ class FullDisk(RoomCase):
         self.addCleanup(lambda: subprocess.run(["umount", self.disk], check=True))
         self.room.archive = self.disk / "site.sym"
         self.files = self.room.archive, today_of(self.room.archive)
+        # A site of the first three images. The fourth one stands in a file, and the others in a folder.
+        self.old, self.more, self.joined = archive(self.made[:3]), archive(self.made[3:4]), archive(self.made[:4])
 
     def words(self, word: FullWord) -> List[object]:
         command, *more = word.words
@@ -233,18 +218,64 @@ class FullDisk(RoomCase):
         parts = [path.name for path in (self.disk / "shared").iterdir() if digest_of(pieces_in(path)) not in path.name]
         same("files of the folder that are not whole", parts, [])
 
-    def test_each_word(self) -> None:
-        for word in full_words(self.made):
-            west = self.begin(word)
-            state = state_of(self.disk)
-            for pages in range(100):
-                bring_back(self.disk, state)
-                if self.on_full_disk(word, pages) == 0:
-                    break
-            same(f"whether {word.words[0]} met a full disk, and room", 0 < pages < 99, True)
-            if word.words[0] == "exchange":
-                west.exchange()
-                same("archive of west", west.has(), archive(self.made[:4]))
+    def tried(self, word: FullWord) -> Site:
+        """A word with more and more room."""
+        west = self.begin(word)
+        state = state_of(self.disk)
+        for pages in range(100):
+            bring_back(self.disk, state)
+            if self.on_full_disk(word, pages) == 0:
+                break
+        same(f"whether {word.words[0]} met a full disk, and room", 0 < pages < 99, True)
+        return west
+
+
+class FullDiskOfAdd(FullDiskCase):
+    """`add` of one file, and of a folder of which the lines take more than a page of the log."""
+
+    def test_of_a_file(self) -> None:
+        self.tried(FullWord(["add", "0003"], [(self.old, EMPTY), (self.old, self.more)], 1))
+
+    def test_of_a_folder(self) -> None:
+        states = [(self.joined, EMPTY), (self.joined, archive(self.made[4:]))]
+        self.tried(FullWord(["add", "many"], states, len(self.made) - 4))
+
+
+class FullDiskOfFold(FullDiskCase):
+    """`fold`, and an `add` that folds, since what came in before is more than a tenth."""
+
+    def test_by_an_add(self) -> None:
+        every = archive(self.made)
+        states = [(self.old, self.more), (every, self.more), (every, EMPTY)]
+        self.tried(FullWord(["add", "many"], states, len(self.made) - 4))
+
+    def test_fold(self) -> None:
+        self.tried(FullWord(["fold"], [(self.old, self.more), (self.joined, self.more), (self.joined, EMPTY)]))
+
+
+class FullDiskOfRepair(FullDiskCase):
+    """`repair` of both archives, and a word that makes the index of an archive that came by another way."""
+
+    def test_repair(self) -> None:
+        bad, bad_more = (text[:-40] + b"x" + text[-39:] for text in (self.old, self.more))
+        states = [(bad, bad_more), (self.old, bad_more), (self.old, self.more)]
+        self.tried(FullWord(["repair", "good.sym"], states, 2, (self.old, self.more)))
+
+    def test_an_index(self) -> None:
+        self.tried(FullWord(["status", "--accept"], [(self.joined, EMPTY)], 0, (self.old, EMPTY)))
+
+
+class FullDiskOfExchange(FullDiskCase):
+    """`retire`, and `exchange`, which brings a slice and a question to another site."""
+
+    def test_retire(self) -> None:
+        states = [(self.old, EMPTY), (self.old, archive([], retired=self.made[:1]))]
+        self.tried(FullWord(["retire", *slice_words(self.made[0])], states, 1))
+
+    def test_exchange(self) -> None:
+        west = self.tried(FullWord(["exchange", "disk/shared", "east"], [(self.old, EMPTY), (self.old, self.more)], 1))
+        west.exchange()
+        same("archive of west", west.has(), archive(self.made[:4]))
 
 
 def fill(path: pathlib.Path, pages: int) -> None:
@@ -330,11 +361,13 @@ class Operating(RoomCase):
         same("words", sorted(called), sorted(listed))
 
     def test_each_example_names_what_it_retires(self) -> None:
-        """No line retires what happens to stand there: what is retired are the slices of the file that is taken back."""
+        """No line retires what happens to stand there: what is retired are the slices of the file that it says."""
         retiring = [one for one in self.lines() if " retire " in one]
-        self.assertEqual([one for one in retiring if not re.search(r" [0-9a-f-]{36} [a-z0-9_]+ [0-9a-f]{64}$", one)], [])
+        for one in retiring:
+            self.assertRegex(one, " [0-9a-f-]{36} [a-z0-9_]+ [0-9a-f]{64}$")
         self.carry_out("symarch-keep add builds.sym dSYMs")
-        added = [one.split(" ")[1:4] for one in self.carry_out("symarch-keep add builds.sym dSYMs/spool-2").splitlines()]
+        known = self.carry_out("symarch-keep add builds.sym dSYMs/spool-2").splitlines()
+        added = [one.split(" ")[1:4] for one in known]
         for one in retiring:
             self.carry_out(one)
         listed = self.carry_out("symarch list builds.sym.today").splitlines()

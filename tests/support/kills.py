@@ -131,14 +131,14 @@ runpy.run_path(sys.argv[0], run_name="__main__")
 class Left:
     """The states that a kill of a tool may leave in a room, each of them once, and the one at its end."""
 
-    def __init__(self, room: Room, *words: Any) -> None:
+    def __init__(self, room: Room, *words: Any, status: int = 0) -> None:
         self.room = room
         self.folder = pathlib.Path(tempfile.mkdtemp(prefix="states-", dir=room.path.parent))
         before = [sys.executable, "-B", "-c", KEEPER]
         environment = {"ROOM": str(room.path), "STATES": str(self.folder)}
         with room.start(*words, before=before, environment=environment) as process:
             out, errors = process.communicate()
-        same(f"status: {errors.decode()}", process.returncode, 0)
+        same(f"status: {errors.decode()}", process.returncode, status)
         self.steps = sorted(self.folder.iterdir())
         if len(self.steps) < 5:
             raise Wrong(f"{words[0]} has {len(self.steps)} steps")

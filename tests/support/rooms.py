@@ -1,14 +1,31 @@
 """A folder in which a case calls symarch-keep."""
+import atexit
+import compileall
 import os
 import pathlib
 import shutil
 import subprocess
+import tempfile
 from typing import Any, Dict, Iterable, List, Mapping, Optional, Sequence, Tuple, Union
 
 from .cases import ProgramCase, Wrong, same, symarch
 from .made_images import image, join_of
+from .program import TOP
 
-keep = os.environ.get("KEEP") or str(pathlib.Path(__file__).resolve().parents[2] / "tools" / "symarch-keep")
+
+def compiled() -> str:
+    """The path of symarch-keep in a copy of the tools whose modules are compiled, so that each call begins sooner. It
+    is removed at the end; the processes of the runner share it."""
+    folder = pathlib.Path(tempfile.mkdtemp(prefix="tools-"))
+    atexit.register(shutil.rmtree, folder, True)
+    folder.chmod(0o755)
+    shutil.copytree(TOP / "tools", folder / "tools", ignore=shutil.ignore_patterns("__pycache__"))
+    compileall.compile_dir(folder, quiet=2)
+    return os.environ.setdefault("KEEP", str(folder / "tools" / "symarch-keep"))
+
+
+# The tool that the environment variable KEEP names, or else that of this tree.
+keep = os.environ.get("KEEP") or compiled()
 # What stays beside an archive.
 BESIDE = ("lock", "log", "idx", "idx.sum", "today", "today.idx", "today.idx.sum", "asked", "site", "lost")
 
