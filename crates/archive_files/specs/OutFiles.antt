@@ -1,12 +1,14 @@
 -- OUT: how far it is, and what is known of it.
-use Rattle.std.specs.Prelude.{◌≡◌, ℕ, Bool, true, false, List, [], Option, Some, None, Result, IsErr, string_bytes}
+use Rattle.std.specs.Prelude.{◌≡◌, ◌≢◌, ℕ, Bool, true, false, List, [], Option, Some, None, Result, IsErr, string_bytes}
 use Rattle.std.specs.Io.KnownBytes.{WriteAppends}
 use Rattle.archive_files.specs.FileCalls.{FileCall, bytes_in}
-use Rattle.archive_files.specs.Placing.{IsDrafted, IsRemoved, IsWrittenThrough, account}
+use Rattle.archive_files.specs.Placing.{IsDrafted, IsRemoved, IsTargetOf, IsWritable, IsWrittenThrough, account}
 use Rattle.archive_files.specs.declared.out_file.OutState.{OutState}
 use Rattle.archive_files.specs.declared.out_file.OutState.TheVariants as state
 use Rattle.archive_files.specs.declared.placed.Placed.{Placed}
 use Rattle.archive_files.specs.declared.replaceable.OutFault.{OutFault}
+use Rattle.archive_files.specs.declared.ways.Way.{Way}
+use Rattle.archive_files.specs.declared.ways.Way.TheVariants as way
 
 -- how far OUT is
 pub data Stage : Type 0 where
@@ -35,6 +37,11 @@ WritesTo contents (state.Drafted old) (state.Drafted new) result bytes =
 WritesTo contents (state.Through old) _ result bytes = ⊥
 WritesTo contents (state.Drafted old) _ result bytes = ⊥
 WritesTo contents _ _ result bytes = IsErr result
+
+-- The same of a file that may be begun with these bytes.
+abbrev pub WritesBegun : {T E : Type 0} → (T → Option (List ℕ)) → OutState T → OutState T → Result ℕ E → List ℕ → Type 0
+WritesBegun {T = T} contents old new result bytes =
+    (begun : OutState T) × (stage_of old ≢ Untouched → begun ≡ old) × WritesTo contents begun new result bytes
 
 -- it takes bytes
 abbrev pub takes_bytes : Stage → Bool
@@ -81,11 +88,16 @@ fault_of (Refused fault) = Some fault
 fault_of Removed = None
 fault_of Settled = None
 
+-- OUT is written so, of whose path the system said this
+abbrev pub IsWayTo : List ℕ → Way → List FileCall → Type 0
+IsWayTo path way.Through looks = IsWritable path looks
+IsWayTo path (way.Beside target access) looks = IsTargetOf path (string_bytes target) looks
+
 -- what was called for OUT so far, which has this path, if it has one
 abbrev pub IsSoFar : Option (List ℕ) → Stage → List FileCall → Type 0
 IsSoFar path Untouched calls = calls ≡ []
 IsSoFar path Through calls = (p : List ℕ) × (path ≡ Some p) × (text : List ℕ) × IsWrittenThrough p text calls
-IsSoFar path (Drafted draft target) calls = (p : List ℕ) × (path ≡ Some p) × IsDrafted draft target calls
+IsSoFar path (Drafted draft target) calls = (p : List ℕ) × (path ≡ Some p) × IsDrafted p draft target calls
 IsSoFar path (Refused fault) calls = IsRemoved path calls
 IsSoFar path Removed calls = IsRemoved path calls
 IsSoFar path Settled calls = calls ≡ []

@@ -8,7 +8,8 @@ ghost use Rattle.archive_files.specs.Placing.{IsBeside, draft_name, folder_of};
 
 use crate::file_calls::FileCalls;
 use crate::losses::test_losses;
-use crate::replaceable::{Access, Obstacle, OutFault, Replaces};
+use crate::replaceable::{Obstacle, OutFault, Replaces};
+use crate::ways::Access;
 use memory::NoMemory;
 use std::alloc::Global;
 use std::fs::{self, OpenFile, OpenOptions, Permissions};
@@ -75,7 +76,8 @@ pub fn create_draft<F: Files>(
     target: String,
     access: Option<Access>,
 ) -> Result<Draft<F::File>, OutFault>
-    ensures { IfOk result (λ draft. IsBeside (string_bytes draft.path) (string_bytes draft.target)) }
+    ensures target { IfOk result (λ draft. draft.target ≡ target) }
+    ensures beside { IfOk result (λ draft. IsBeside (string_bytes draft.path) (string_bytes target)) }
 {
     'names: for number in 0..MOST_NAMES {
         let path = draft_path(alloc, &target, process, number)?;

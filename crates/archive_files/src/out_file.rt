@@ -1,17 +1,19 @@
 //! OUT, whose draft is created with its first bytes, and put in place when it is whole. What the files hold is in no
 //! contract; what was called of the system is.
 
-ghost use Rattle.std.specs.Prelude.{◌≡◌, ◌⊎◌, ◌≤◌, ◌<◌, ℕ, List, Option, None, Some, IfSome, IfOk, IsSome, OnErr, OnOk};
+ghost use Rattle.std.specs.Prelude.{◌≡◌, ◌≢◌, ◌⊎◌, ◌≤◌, ◌<◌, ◌-◌, ◌^◌, ℕ, List, Option, None, Some, IfSome, IfOk, IsSome, OnErr, OnOk};
 ghost use Rattle.std.specs.Prelude.{length, true, false, [], option_map, string_bytes};
-ghost use Rattle.archive_files.specs.FileCalls.{bytes_in};
-ghost use Rattle.archive_files.specs.OutFiles.{IsSoFar, Settled, Untouched, WritesTo, draft_account, fault_of};
+ghost use Rattle.archive_files.specs.FileCalls.{are_looks, bytes_in};
+ghost use Rattle.archive_files.specs.OutFiles.{IsSoFar, Settled, Untouched, WritesBegun, WritesTo};
+ghost use Rattle.archive_files.specs.OutFiles.{draft_account, fault_of};
 ghost use Rattle.archive_files.specs.OutFiles.{has_calls, is_drafted, is_settled, stage_of, takes_bytes};
 ghost use Rattle.archive_files.specs.Placing.{HandsOn, IsRemoved, took_nothing};
 
 use crate::drafts::{Draft, create_draft, put_draft, remove_draft};
 use crate::file_calls::FileCalls;
 use crate::placed::Placed;
-use crate::replaceable::{Obstacle, OutFault, Replaces, Way, way_to};
+use crate::replaceable::{Obstacle, OutFault, Replaces};
+use crate::ways::{Way, way_to};
 use byte_device::{Failed, Sink};
 use std::alloc::Global;
 use std::io::{self, Write};
@@ -60,6 +62,7 @@ enum OutState<T> {
 }
 
 /// What bytes go to first, where OUT has this path.
+#[tactic(auto, using(crate::proofs::Placings::begun_through, crate::proofs::Placings::begun_drafted, crate::proofs::Placings::looks_bytes,))]
 fn begun<F: Files>(
     alloc: Global,
     files: &F,
@@ -71,9 +74,9 @@ fn begun<F: Files>(
         (λ state. IsSoFar (Some path.now) (stage_of state) calls.new.entries) }
     ensures bytes { calls.old.entries ≡ [] → bytes_in calls.new.entries ≡ [] }
     ensures begun { IfOk result (λ state. has_calls (stage_of state) ≡ true) }
-    ensures refused { OnErr result (calls.new.entries ≡ calls.old.entries) }
+    ensures refused { calls.old.entries ≡ [] → OnErr result (are_looks calls.new.entries ≡ true) }
 {
-    match way_to(alloc, files, path)? {
+    match way_to(alloc, files, path, calls)? {
         Way::Through => {
             let file = match fs::create(files, path) {
                 Ok(file) => file,
@@ -128,6 +131,7 @@ fn begin<F: Files>(
     ensures empty { (has_calls (stage_of state.old) ≡ false → calls.old.entries ≡ [])
         → has_calls (stage_of state.new) ≡ false → calls.new.entries ≡ [] }
     ensures settled { is_settled (stage_of state.new) ≡ is_settled (stage_of state.old) }
+    ensures same { stage_of state.old ≢ Untouched → state.new ≡ state.old }
 {
     if let OutState::Untouched = state {
         *state = first_state(alloc, files, process, path, calls);
@@ -333,6 +337,10 @@ impl<'a, F: Files> Sink for OutFile<'a, F> {
             (Some (draft_account (is_settled (stage_of self.new.state)) (option_map string_bytes self.new.path)
             self.new.calls.entries)) result bytes.now }
         ensures count { CountsFailure self.old.failures self.new.failures result }
+
+        // The bytes that it is given are what is written.
+        ensures written { 0 < length bytes.now → self.old.failures ≢ 2 ^ 64 - 1
+            → WritesBegun ⟦<F::File as Write>⟧.contents self.old.state self.new.state result bytes.now }
 
         // No bytes begin nothing, and what was not begun or not put in place stays so.
         ensures path { self.new.path ≡ self.old.path }
