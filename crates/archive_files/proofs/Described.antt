@@ -1,9 +1,9 @@
 -- The paths of descriptors.
-use Rattle.std.proofs.Common.{◌≡◌, ◌∙◌, List, ◌++◌, ℕ, append_assoc, ap, drop, inr, refl, sym, take}
+use Rattle.std.proofs.Common.{◌≡◌, ◌∙◌, List, ◌++◌, ℕ, append_assoc, ap, drop, inr, sym}
 use Rattle.std.proofs.lemmas.List.{take-append-drop}
 use Rattle.std.specs.Prelude.{codes}
 use Rattle.std.specs.Str.Pattern.{FindsText, FindsTextPrefix, SplitsAroundMatch, StripsPrefix}
-use Rattle.archive_files.specs.Placing.{IsDescriptor, IsNumber, IsNumbered, IsProcess}
+use Rattle.archive_files.specs.Placing.{IsDescriptor, IsNumber, IsProcess}
 
 -- what is behind the text at the front
 behind_text : (text s rest : List ℕ) → StripsPrefix (FindsTextPrefix text) s rest → s ≡ text ++ rest

@@ -7,15 +7,16 @@ use Rattle.std.proofs.lemmas.Grind.{not_there}
 use Rattle.std.proofs.lemmas.List.Folds.{concat-append}
 use Rattle.std.specs.List.{concat}
 use Rattle.archive_files.specs.FileCalls.{FileCall, Creates, Opens, Writes, Syncs, Renames, SyncsFolder, Removes}
-use Rattle.archive_files.specs.FileCalls.{FindsFile, FindsNoLink, FindsNothing, FindsOther, Leads}
+use Rattle.archive_files.specs.FileCalls.{Covers, FindsFile, FindsNoArchive, FindsNoLink, FindsNothing, FindsOther, Leads, Loses}
 use Rattle.archive_files.specs.FileCalls.{are_looks, bytes_in, drafting, placing, writing}
 use Rattle.archive_files.specs.OutFiles.{IsSoFar, Stage, Untouched, Through, Drafted, Refused, Removed, Settled}
 use Rattle.archive_files.specs.OutFiles.{WritesTo, draft_account, has_calls, is_drafted, is_settled, takes_bytes}
 use Rattle.archive_files.specs.declared.out_file.OutState.{OutState}
 use Rattle.archive_files.specs.declared.out_file.OutState.TheVariants as state
-use Rattle.archive_files.specs.Placing.{HandsOn, IsBeside, IsDrafted, IsPlaced, IsTargetOf, IsWritable}
-use Rattle.archive_files.specs.Placing.{IsWrittenThrough, account, folder_of}
-use Rattle.archive_files.specs.Placing.{place, took_nothing}
+use Rattle.archive_files.specs.Placing.{HandsOn, IsBeside, IsDrafted, IsPlaced, IsTargetOf, IsTested, IsWritable}
+use Rattle.archive_files.specs.Placing.{IsWrittenThrough, account, folder_of, number_of, place, took_nothing}
+use Rattle.archive_files.specs.declared.replaceable.Replaces.{Replaces}
+use Rattle.archive_files.specs.declared.replaceable.Replaces.TheVariants.{OwnFiles, ArchivesBelow}
 
 -- the bytes of some calls and of others behind them
 pub bytes_append : (xs ys : List FileCall) → bytes_in (xs ++ ys) ≡ bytes_in xs ++ bytes_in ys
@@ -25,6 +26,9 @@ bytes_append (FindsOther p ∷ xs) ys = bytes_append xs ys
 bytes_append (FindsNothing p ∷ xs) ys = bytes_append xs ys
 bytes_append (FindsNoLink p ∷ xs) ys = bytes_append xs ys
 bytes_append (Leads p q ∷ xs) ys = bytes_append xs ys
+bytes_append (FindsNoArchive p ∷ xs) ys = bytes_append xs ys
+bytes_append (Covers p q ∷ xs) ys = bytes_append xs ys
+bytes_append (Loses p q ∷ xs) ys = bytes_append xs ys
 bytes_append (Creates p ∷ xs) ys = bytes_append xs ys
 bytes_append (Opens p ∷ xs) ys = bytes_append xs ys
 bytes_append (Writes b ∷ xs) ys = ap (λ t. b ++ t) (bytes_append xs ys) ∙ sym (append_assoc b (bytes_in xs) (bytes_in ys))
@@ -45,6 +49,9 @@ looks_bytes (FindsOther p ∷ looks) are = looks_bytes looks are
 looks_bytes (FindsNothing p ∷ looks) are = looks_bytes looks are
 looks_bytes (FindsNoLink p ∷ looks) are = looks_bytes looks are
 looks_bytes (Leads p q ∷ looks) are = looks_bytes looks are
+looks_bytes (FindsNoArchive p ∷ looks) are = looks_bytes looks are
+looks_bytes (Covers p q ∷ looks) are = looks_bytes looks are
+looks_bytes (Loses p q ∷ looks) are = looks_bytes looks are
 looks_bytes (Creates p ∷ looks) are = cc
 looks_bytes (Opens p ∷ looks) are = cc
 looks_bytes (Writes b ∷ looks) are = cc
@@ -137,8 +144,9 @@ more_so_far path Settled calls bytes takes so = absurd (never takes)
     never h = cc
 
 -- what went through is at the path
-pub hands_on_through : (path : Option (List ℕ)) (calls : List FileCall) → IsSoFar path Through calls → HandsOn path calls
-hands_on_through path calls so =
+pub hands_on_through : (path : Option (List ℕ)) (replaces : Replaces) (calls : List FileCall)
+    → IsSoFar path Through calls → HandsOn path replaces calls
+hands_on_through path replaces calls so =
     let w : IsWrittenThrough so.0 so.2 calls = so.3 in (
       so.0,
       so.1,
@@ -153,15 +161,24 @@ hands_on_through path calls so =
       }),
     )
 
+pub tested_looks : (replaces : Replaces) (draft target : List ℕ) (tests : List FileCall)
+    → IsTested replaces draft target tests → are_looks tests ≡ true
+tested_looks OwnFiles draft target tests is = ap are_looks is
+tested_looks ArchivesBelow draft target tests (inl none) = ap are_looks none
+tested_looks ArchivesBelow draft target tests (inr covers) = ap are_looks covers
+
 -- and so is what was drafted and put in place
-pub hands_on_draft : (path : Option (List ℕ)) (draft target : List ℕ) (calls new : List FileCall)
-    → IsSoFar path (Drafted draft target) calls → new ≡ calls ++ placing draft target (folder_of target)
-    → HandsOn path new
-hands_on_draft path draft target calls new so is =
+pub hands_on_draft : (path : Option (List ℕ)) (replaces : Replaces) (draft target : List ℕ) (calls new : List FileCall)
+    → IsSoFar path (Drafted draft target) calls
+    → (tests : List FileCall) × IsTested replaces draft target tests
+    × (new ≡ calls ++ tests ++ placing draft target (folder_of target))
+    → HandsOn path replaces new
+hands_on_draft path replaces draft target calls new so put =
     let d : IsDrafted so.0 draft target calls = so.2 in
+    let tests = put.0 in
     let last = placing draft target (folder_of target) in
-    let calls_are : new ≡ d.looks ++ drafting draft d.pieces ++ last =
-    is ∙ ap (λ cs. cs ++ last) d.calls_are in (
+    let calls_are : new ≡ d.looks ++ drafting draft d.pieces ++ tests ++ last =
+    put.2 ∙ ap (λ cs. cs ++ tests ++ last) d.calls_are in (
       so.0,
       so.1,
       inl (record {
@@ -171,19 +188,37 @@ hands_on_draft path draft target calls new so is =
         pieces = d.pieces;
         target_is = d.target_is;
         beside = d.beside;
+        tests = tests;
+        tested = put.1;
         whole = sym (ap bytes_in calls_are
-            ∙ bytes_same (d.looks ++ drafting draft d.pieces) last refl
+            ∙ bytes_same (d.looks ++ drafting draft d.pieces ++ tests) last refl
+            ∙ bytes_same (d.looks ++ drafting draft d.pieces) tests
+            (looks_bytes tests (tested_looks replaces draft target tests put.1))
             ∙ bytes_behind d.looks (drafting draft d.pieces) (target_looks so.0 target d.looks d.target_is)
             ∙ bytes_written d.pieces);
         calls_are = calls_are;
       }),
     )
 
--- a draft that was removed has the same bytes
+-- a draft that was put in place has the same bytes
+pub placed_bytes : (replaces : Replaces) (draft target folder : List ℕ) (calls new : List FileCall)
+    → (tests : List FileCall) × IsTested replaces draft target tests × (new ≡ calls ++ tests ++ placing draft target folder)
+    → bytes_in new ≡ bytes_in calls
+placed_bytes replaces draft target folder calls new put =
+    ap bytes_in put.2 ∙ bytes_same (calls ++ put.0) (placing draft target folder) refl
+    ∙ bytes_same calls put.0 (looks_bytes put.0 (tested_looks replaces draft target put.0 put.1))
+
+-- and so has one that was removed
 pub removed_bytes : (draft : List ℕ) (calls new : List FileCall)
-    → (new ≡ calls ++ Removes draft ∷ []) ⊎ (new ≡ calls ++ Syncs ∷ Removes draft ∷ []) → bytes_in new ≡ bytes_in calls
-removed_bytes draft calls new (inl removed) = ap bytes_in removed ∙ bytes_same calls (Removes draft ∷ []) refl
-removed_bytes draft calls new (inr synced) = ap bytes_in synced ∙ bytes_same calls (Syncs ∷ Removes draft ∷ []) refl
+    → (tests : List FileCall) × (are_looks tests ≡ true)
+    × ((new ≡ calls ++ tests ++ Removes draft ∷ []) ⊎ (new ≡ calls ++ tests ++ Syncs ∷ Removes draft ∷ []))
+    → bytes_in new ≡ bytes_in calls
+removed_bytes draft calls new (tests, are, inl removed) =
+    ap bytes_in removed ∙ bytes_same (calls ++ tests) (Removes draft ∷ []) refl
+    ∙ bytes_same calls tests (looks_bytes tests are)
+removed_bytes draft calls new (tests, are, inr synced) =
+    ap bytes_in synced ∙ bytes_same (calls ++ tests) (Syncs ∷ Removes draft ∷ []) refl
+    ∙ bytes_same calls tests (looks_bytes tests are)
 
 -- ---- states
 
@@ -242,31 +277,31 @@ kept_first path old calls after failures so first bytes (inr is) none =
     is ∙ first (ap (λ b. took_nothing b failures) (sym bytes) ∙ none)
 
 -- what is handed on is at the path that there is
-pub placed_at : (path : Option (List ℕ)) (p : List ℕ) (calls : List FileCall) → path ≡ Some p → HandsOn path calls
-    → IsPlaced p (bytes_in calls) calls
-placed_at path p calls is hands =
-    subst (λ q. IsPlaced q (bytes_in calls) calls) (some_inj (sym hands.1 ∙ is)) hands.2
+pub placed_at : (path : Option (List ℕ)) (replaces : Replaces) (p : List ℕ) (calls : List FileCall) → path ≡ Some p
+    → HandsOn path replaces calls → IsPlaced p replaces (bytes_in calls) calls
+placed_at path replaces p calls is hands =
+    subst (λ q. IsPlaced q replaces (bytes_in calls) calls) (some_inj (sym hands.1 ∙ is)) hands.2
   where
     some_inj : {q r : List ℕ} → Some q ≡ Some r → q ≡ r
     some_inj e = cc
 
-pub none_handed_on : (calls : List FileCall) → HandsOn None calls → ⊥
-none_handed_on calls hands = let e = hands.1 in cc
+pub none_handed_on : (replaces : Replaces) (calls : List FileCall) → HandsOn None replaces calls → ⊥
+none_handed_on replaces calls hands = let e = hands.1 in cc
 
 -- ---- what OUT takes
 
 -- it took more bytes
-pub more_account : (path : Option (List ℕ)) (old new : Stage) (calls begun after : List FileCall) (bytes : List ℕ)
+pub more_account : (path : Option (List ℕ)) (replaces : Replaces) (old new : Stage) (calls begun after : List FileCall) (bytes : List ℕ)
     → is_settled new ≡ is_settled old → takes_bytes new ≡ true → bytes_in begun ≡ bytes_in calls
     → after ≡ begun ++ Writes bytes ∷ []
-    → draft_account (is_settled new) path after ≡ draft_account (is_settled old) path calls ++ bytes
-more_account path old new calls begun after bytes settled takes same is =
+    → draft_account (is_settled new) path replaces after ≡ draft_account (is_settled old) path replaces calls ++ bytes
+more_account path replaces old new calls begun after bytes settled takes same is =
     let unsettled : is_settled new ≡ false = takes_unsettled new takes in
-    ap (λ s. draft_account s path after) unsettled
-    ∙ ap (account path) (ap bytes_in is ∙ bytes_append begun (Writes bytes ∷ [])
+    ap (λ s. draft_account s path replaces after) unsettled
+    ∙ ap (account path replaces) (ap bytes_in is ∙ bytes_append begun (Writes bytes ∷ [])
     ∙ ap (λ b. bytes_in begun ++ b) (append-nil bytes) ∙ ap (λ b. b ++ bytes) same)
-    ∙ sym (append_assoc (place path) (bytes_in calls) bytes)
-    ∙ ap (λ s. draft_account s path calls ++ bytes) (sym (sym settled ∙ unsettled))
+    ∙ sym (append_assoc (place path) (number_of replaces ∷ bytes_in calls) bytes)
+    ∙ ap (λ s. draft_account s path replaces calls ++ bytes) (sym (sym settled ∙ unsettled))
 
 -- it has taken something then
 pub took_some : (calls after : List FileCall) (bytes : List ℕ) (n failures : ℕ) → after ≡ calls ++ Writes (take n bytes) ∷ []

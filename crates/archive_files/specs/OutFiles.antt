@@ -7,6 +7,7 @@ use Rattle.archive_files.specs.declared.out_file.OutState.{OutState}
 use Rattle.archive_files.specs.declared.out_file.OutState.TheVariants as state
 use Rattle.archive_files.specs.declared.placed.Placed.{Placed}
 use Rattle.archive_files.specs.declared.replaceable.OutFault.{OutFault}
+use Rattle.archive_files.specs.declared.replaceable.Replaces.{Replaces}
 use Rattle.archive_files.specs.declared.ways.Way.{Way}
 use Rattle.archive_files.specs.declared.ways.Way.TheVariants as way
 
@@ -103,14 +104,16 @@ IsSoFar path Removed calls = IsRemoved path calls
 IsSoFar path Settled calls = calls ≡ []
 
 -- What is known of OUT's draft: the same; and nothing of one that was put in place.
-abbrev pub draft_account : Bool → Option (List ℕ) → List FileCall → List ℕ
-draft_account true path calls = []
-draft_account false path calls = account path (bytes_in calls)
+abbrev pub draft_account : Bool → Option (List ℕ) → Replaces → List FileCall → List ℕ
+draft_account true path replaces calls = []
+draft_account false path replaces calls = account path replaces (bytes_in calls)
 
--- What is known of what was put in place: its path, and the bytes that were written for it.
+-- What is known of what was put in place: its path, which files could be replaced there, and the bytes that were
+-- written for it.
 abbrev pub placed_account : Option Placed → Option (List ℕ)
 placed_account None = None
-placed_account (Some placed) = Some (account (Some (string_bytes placed.path)) (bytes_in placed.calls.entries))
+placed_account (Some placed) =
+    Some (account (Some (string_bytes placed.path)) placed.replaces (bytes_in placed.calls.entries))
 
 -- what was called for it
 abbrev pub placing_calls : Option Placed → List FileCall

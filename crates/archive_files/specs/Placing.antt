@@ -4,8 +4,11 @@ use Rattle.std.specs.Prelude.{All, Contains, codes, if◌then◌else◌, length,
 use Rattle.std.specs.Fmt.{decimal}
 use Rattle.std.specs.List.{concat}
 use Rattle.std.specs.Path.{path_parent, path_with_file_name}
-use Rattle.archive_files.specs.FileCalls.{FileCall, FindsFile, FindsNoLink, FindsNothing, FindsOther, Leads, Removes}
-use Rattle.archive_files.specs.FileCalls.{Syncs, are_looks, bytes_in, drafting, placing, writing}
+use Rattle.archive_files.specs.FileCalls.{Covers, FileCall, FindsFile, FindsNoArchive, FindsNoLink, FindsNothing}
+use Rattle.archive_files.specs.FileCalls.{FindsOther, Leads, Removes, Syncs, are_looks, bytes_in, drafting, placing}
+use Rattle.archive_files.specs.FileCalls.{writing}
+use Rattle.archive_files.specs.declared.replaceable.Replaces.{Replaces}
+use Rattle.archive_files.specs.declared.replaceable.Replaces.TheVariants.{OwnFiles, ArchivesBelow}
 
 -- ---- paths
 
@@ -59,16 +62,25 @@ IsTargetOf path target looks =
 abbrev pub IsWritable : List ℕ → List FileCall → Type 0
 IsWritable path looks = (looks ≡ FindsOther path ∷ []) ⊎ ((looks ≡ []) × IsDescriptor path)
 
--- Pieces of the text went to a draft beside the target of a path, and the draft was put in the place of that.
-pub record IsReplaced (path text : List ℕ) (calls : List FileCall) : Type 0 where
+-- The draft may take the place of what is at the target: each of symarch's own files may be replaced; or else what is
+-- there is no archive, or one of which the draft has or covers each record.
+abbrev pub IsTested : Replaces → List ℕ → List ℕ → List FileCall → Type 0
+IsTested OwnFiles draft target tests = tests ≡ []
+IsTested ArchivesBelow draft target tests = (tests ≡ FindsNoArchive target ∷ []) ⊎ (tests ≡ Covers draft target ∷ [])
+
+-- Pieces of the text went to a draft beside the target of a path, and the draft, which may replace what is there, was
+-- put in its place.
+pub record IsReplaced (path : List ℕ) (replaces : Replaces) (text : List ℕ) (calls : List FileCall) : Type 0 where
   pub draft : List ℕ
   pub target : List ℕ
   pub looks : List FileCall
   pub pieces : List (List ℕ)
   pub target_is : IsTargetOf path target looks
   pub beside : IsBeside draft target
+  pub tests : List FileCall
+  pub tested : IsTested replaces draft target tests
   pub whole : concat pieces ≡ text
-  pub calls_are : calls ≡ looks ++ drafting draft pieces ++ placing draft target (folder_of target)
+  pub calls_are : calls ≡ looks ++ drafting draft pieces ++ tests ++ placing draft target (folder_of target)
 
 -- Pieces of the text went to what is at the path, which is no regular file, or a descriptor.
 pub record IsWrittenThrough (path text : List ℕ) (calls : List FileCall) : Type 0 where
@@ -79,8 +91,8 @@ pub record IsWrittenThrough (path text : List ℕ) (calls : List FileCall) : Typ
   pub calls_are : calls ≡ looks ++ writing path pieces
 
 -- The text is at the path: it was put in the place of what was there, or went to what is there.
-abbrev pub IsPlaced : List ℕ → List ℕ → List FileCall → Type 0
-IsPlaced path text calls = IsReplaced path text calls ⊎ IsWrittenThrough path text calls
+abbrev pub IsPlaced : List ℕ → Replaces → List ℕ → List FileCall → Type 0
+IsPlaced path replaces text calls = IsReplaced path replaces text calls ⊎ IsWrittenThrough path text calls
 
 -- Pieces of a text went to a draft beside the target of a path.
 pub record IsDrafted (path draft target : List ℕ) (calls : List FileCall) : Type 0 where
@@ -90,13 +102,16 @@ pub record IsDrafted (path draft target : List ℕ) (calls : List FileCall) : Ty
   pub beside : IsBeside draft target
   pub calls_are : calls ≡ looks ++ drafting draft pieces
 
--- They did, and the draft, which may have been synced before, was removed.
+-- They did, and the draft, which may have been compared and synced before, was removed.
 pub record IsDraftRemoved (path : List ℕ) (calls : List FileCall) : Type 0 where
   pub draft : List ℕ
   pub target : List ℕ
   pub drafted : List FileCall
   pub is_drafted : IsDrafted path draft target drafted
-  pub calls_are : (calls ≡ drafted ++ Removes draft ∷ []) ⊎ (calls ≡ drafted ++ Syncs ∷ Removes draft ∷ [])
+  pub tests : List FileCall
+  pub are_tests : are_looks tests ≡ true
+  pub calls_are : (calls ≡ drafted ++ tests ++ Removes draft ∷ [])
+      ⊎ (calls ≡ drafted ++ tests ++ Syncs ∷ Removes draft ∷ [])
 
 -- Nothing was called for OUT; or it has this path, and the system was only asked; or it had a draft, which was removed;
 -- or, at this path, it is no regular file, and bytes went to it.
@@ -107,8 +122,8 @@ IsRemoved path calls =
     ⊎ ((p : List ℕ) × (path ≡ Some p) × (text : List ℕ) × IsWrittenThrough p text calls)
 
 -- OUT has a path, at which the bytes of these calls are
-abbrev pub HandsOn : Option (List ℕ) → List FileCall → Type 0
-HandsOn path calls = (p : List ℕ) × (path ≡ Some p) × IsPlaced p (bytes_in calls) calls
+abbrev pub HandsOn : Option (List ℕ) → Replaces → List FileCall → Type 0
+HandsOn path replaces calls = (p : List ℕ) × (path ≡ Some p) × IsPlaced p replaces (bytes_in calls) calls
 
 -- ---- what is known
 
@@ -128,7 +143,12 @@ abbrev pub place : Option (List ℕ) → List ℕ
 place None = 0 ∷ []
 place (Some path) = suc (length path) ∷ path
 
--- What is known of OUT: its path, and the bytes that were written for it. A text that it takes stands behind what was
--- known, so that the path stays with it.
-abbrev pub account : Option (List ℕ) → List ℕ → List ℕ
-account path bytes = place path ++ bytes
+-- a number for which files may be replaced
+abbrev pub number_of : Replaces → ℕ
+number_of OwnFiles = 0
+number_of ArchivesBelow = 1
+
+-- What is known of OUT: its path, which files may be replaced there, and the bytes that were written for it. A text
+-- that it takes stands behind what was known, so that the path and the rule stay with it.
+abbrev pub account : Option (List ℕ) → Replaces → List ℕ → List ℕ
+account path replaces bytes = place path ++ (number_of replaces ∷ bytes)

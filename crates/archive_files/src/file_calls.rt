@@ -4,7 +4,7 @@
 ghost use Rattle.std.specs.Prelude.{◌≡◌, List, [], ◌∷◌, ◌++◌};
 ghost use Rattle.std.specs.Borrow.{ftrue};
 ghost use Rattle.archive_files.specs.FileCalls.{FileCall, Creates, Opens, Removes, Renames, Syncs, SyncsFolder, Writes};
-ghost use Rattle.archive_files.specs.FileCalls.{FindsNoLink, FindsNothing, Leads, found};
+ghost use Rattle.archive_files.specs.FileCalls.{FindsNoArchive, FindsNoLink, FindsNothing, Leads, compared, found};
 ghost use Rattle.archive_files.specs.FileCalls.{call_of};
 
 use std::fs::Metadata;
@@ -116,5 +116,23 @@ impl FileCalls {
         ensures { self.new.entries ≡ self.old.entries ++ Leads path.now target.now ∷ [] }
     {
         self.note(&[11], path.as_bytes(), target.as_bytes());
+    }
+
+    /// What is at a path begins as no archive.
+    pub fn finds_no_archive(&mut self, path: &str)
+        ensures { self.new.entries ≡ self.old.entries ++ FindsNoArchive path.now ∷ [] }
+    {
+        self.note(&[12], path.as_bytes(), &[]);
+    }
+
+    /// A draft neither has nor covers so many records of the archive at a path.
+    pub fn compares(&mut self, draft: &str, target: &str, lost: u64)
+        ensures { self.new.entries ≡ self.old.entries ++ compared draft.now target.now lost ∷ [] }
+    {
+        if lost == 0 {
+            self.note(&[13], draft.as_bytes(), target.as_bytes());
+        } else {
+            self.note(&[14], draft.as_bytes(), target.as_bytes());
+        }
     }
 }

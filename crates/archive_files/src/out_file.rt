@@ -7,6 +7,7 @@ ghost use Rattle.archive_files.specs.FileCalls.{are_looks, bytes_in};
 ghost use Rattle.archive_files.specs.OutFiles.{IsSoFar, Settled, Untouched, WritesBegun, WritesTo};
 ghost use Rattle.archive_files.specs.OutFiles.{draft_account, fault_of};
 ghost use Rattle.archive_files.specs.OutFiles.{has_calls, is_drafted, is_settled, stage_of, takes_bytes};
+ghost use Rattle.archive_files.specs.declared.replaceable.Replaces.TheVariants.{OwnFiles};
 ghost use Rattle.archive_files.specs.Placing.{HandsOn, IsRemoved, took_nothing};
 
 use crate::drafts::{Draft, create_draft, put_draft, remove_draft};
@@ -164,7 +165,7 @@ fn finish<F: Files>(
     calls: &mut FileCalls,
 ) -> bool
     ensures placed { result ≡ true → (path : Option (List ℕ)) → IsSoFar path (stage_of state.old) calls.old.entries
-        → HandsOn path calls.new.entries }
+        → HandsOn path replaces calls.new.entries }
     ensures settled { result ≡ true → stage_of state.new ≡ Settled }
     ensures was_open { result ≡ true → is_settled (stage_of state.old) ≡ false }
     ensures refused { result ≡ false → (path : Option (List ℕ)) → IsSoFar path (stage_of state.old) calls.old.entries
@@ -213,6 +214,7 @@ impl<'a, F: Files> OutFile<'a, F> {
     /// A file without a path, which is never begun. Drafts are named for this process.
     pub fn new(alloc: Global, files: &'a F, process: u32) -> Self
         ensures path { result.path ≡ None }
+        ensures replaces { result.replaces ≡ OwnFiles }
         ensures untouched { stage_of result.state ≡ Untouched }
         ensures unfailed { result.failures ≡ 0 }
         ensures calls { result.calls.entries ≡ [] }
@@ -230,15 +232,27 @@ impl<'a, F: Files> OutFile<'a, F> {
         }
     }
 
-    /// Takes a path, and which files that are there may be replaced.
-    pub fn take_path(&mut self, path: String, replaces: Replaces)
+    /// Takes a path.
+    pub fn take_path(&mut self, path: String)
         requires { stage_of self.old.state ≡ Untouched }
         ensures path { self.new.path ≡ Some path }
+        ensures replaces { self.new.replaces ≡ self.old.replaces }
         ensures state { self.new.state ≡ self.old.state }
         ensures failures { self.new.failures ≡ self.old.failures }
         ensures calls { self.new.calls ≡ self.old.calls }
     {
         self.path = Some(path);
+    }
+
+    /// Takes which files that are at its path may be replaced.
+    pub fn take_rule(&mut self, replaces: Replaces)
+        requires { stage_of self.old.state ≡ Untouched }
+        ensures path { self.new.path ≡ self.old.path }
+        ensures replaces { self.new.replaces ≡ replaces }
+        ensures state { self.new.state ≡ self.old.state }
+        ensures failures { self.new.failures ≡ self.old.failures }
+        ensures calls { self.new.calls ≡ self.old.calls }
+    {
         self.replaces = replaces;
     }
 
@@ -280,11 +294,12 @@ impl<'a, F: Files> OutFile<'a, F> {
     pub fn settle(&mut self) -> Option<Placed>
         ensures placed { IfSome result (λ placed.
             (Some (string_bytes placed.path) ≡ option_map string_bytes self.old.path)
+            × (placed.replaces ≡ self.old.replaces)
             × (bytes_in placed.calls.entries ≡ bytes_in self.old.calls.entries)
             × (is_settled (stage_of self.old.state) ≡ false)) }
         ensures settled { IsSome result → stage_of self.new.state ≡ Settled }
         ensures kept { result ≡ None
-            → (self.new.path ≡ self.old.path)
+            → (self.new.path ≡ self.old.path) × (self.new.replaces ≡ self.old.replaces)
             × (bytes_in self.new.calls.entries ≡ bytes_in self.old.calls.entries)
             × (is_settled (stage_of self.new.state) ≡ is_settled (stage_of self.old.state)) }
         ensures failures { self.new.failures ≡ self.old.failures }
@@ -300,7 +315,11 @@ impl<'a, F: Files> OutFile<'a, F> {
         }
         let calls = mem::replace(&mut self.calls, FileCalls::new());
         match mem::replace(&mut self.path, None) {
-            Some(path) => Some(Placed { path, calls }),
+            Some(path) => Some(Placed {
+                path,
+                replaces: self.replaces,
+                calls,
+            }),
             None => unreachable!(),
         }
     }
@@ -309,6 +328,7 @@ impl<'a, F: Files> OutFile<'a, F> {
     pub fn discard(&mut self)
         ensures removed { ∥ IsRemoved (option_map string_bytes self.new.path) self.new.calls.entries ∥₁ }
         ensures path { self.new.path ≡ self.old.path }
+        ensures replaces { self.new.replaces ≡ self.old.replaces }
         ensures bytes { bytes_in self.new.calls.entries ≡ bytes_in self.old.calls.entries }
         ensures failures { self.new.failures ≡ self.old.failures }
         ensures settled { is_settled (stage_of self.new.state) ≡ is_settled (stage_of self.old.state) }
@@ -324,7 +344,7 @@ impl<'a, F: Files> Sink for OutFile<'a, F> {
     ghost use Rattle.byte_device.specs.Devices.{CountsFailure};
 
     ghost held = { λ s. Some (draft_account (is_settled (stage_of s.state)) (option_map string_bytes s.path)
-        s.calls.entries) };
+        s.replaces s.calls.entries) };
 
     ghost failures = { λ s. s.failures };
 
@@ -333,9 +353,9 @@ impl<'a, F: Files> Sink for OutFile<'a, F> {
         ensures some { 0 < length bytes.now → IfOk result (λ n. 0 < n) }
         ensures bytes { WriteAppends
             (Some (draft_account (is_settled (stage_of self.old.state)) (option_map string_bytes self.old.path)
-            self.old.calls.entries))
+            self.old.replaces self.old.calls.entries))
             (Some (draft_account (is_settled (stage_of self.new.state)) (option_map string_bytes self.new.path)
-            self.new.calls.entries)) result bytes.now }
+            self.new.replaces self.new.calls.entries)) result bytes.now }
         ensures count { CountsFailure self.old.failures self.new.failures result }
 
         // The bytes that it is given are what is written.
@@ -344,6 +364,7 @@ impl<'a, F: Files> Sink for OutFile<'a, F> {
 
         // No bytes begin nothing, and what was not begun or not put in place stays so.
         ensures path { self.new.path ≡ self.old.path }
+        ensures replaces { self.new.replaces ≡ self.old.replaces }
         ensures empty { bytes.now ≡ [] → self.new.state ≡ self.old.state }
         ensures taken { IfOk result (λ n. 0 < n → takes_bytes (stage_of self.new.state) ≡ true) }
     {

@@ -34,7 +34,7 @@ invariant_of-self-in_default g c =
 pub returns-in-Ok-clause-bytes : goal.returns-in-Ok-clause-bytes
 returns-in-Ok-clause-bytes g c =
     let old = c.args.self.now in
-    more_account (option_map string_bytes old.path) (stage_of old.state) (stage_of c.write.new.state)
+    more_account (option_map string_bytes old.path) old.replaces (stage_of old.state) (stage_of c.write.new.state)
     old.calls.entries c.begin.new.calls.entries _ (take c.in-Ok.n c.args.bytes.now)
     (ap is_settled c.write.ensures.stage ∙ c.begin.ensures.settled) c.in-Ok.ensures.takes
     (c.begin.ensures.bytes old.empty) c.writes.ensures
