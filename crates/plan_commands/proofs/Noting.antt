@@ -27,10 +27,12 @@ told_as : {S D T : Type 0} (calls : Calls S D T) (line : Line) (report : Writer)
     → (told : Result Status Failure) (notes : List Note) → told ≡ was → OnOk told (notes ≡ noted) → IsCarriedOut calls line report told notes
 told_as calls line report was noted is told notes same alike = record {
   path = is.path;
+  replaces = is.replaces;
   begun = is.begun;
   done = is.done;
   ended = is.ended;
   path_is = is.path_is;
+  rule = is.rule;
   begun_is = is.begun_is;
   begun_unfailed = is.begun_unfailed;
   nothing_placed = is.nothing_placed;
