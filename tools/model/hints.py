@@ -27,10 +27,11 @@ def look_of(there):
 
 # ---------------------------------------------------------------- faulty lines
 
+DECIMAL = "a decimal number without leading zeros, at most 4294967295"
 FORMS = {"UUID": "32 hex digits, with or without hyphens", "DIGEST": "64 hex digits", "BYTES": "pairs of hex digits",
          "ARCH": "x86_64, x86_64h, arm64, arm64e or cpu:CCCCCCCC/00SSSSSS",
          "ADDRESS": "1 to 16 hex digits, with or without 0x", "LOAD": "- or 1 to 16 hex digits, with or without 0x",
-         "SITE": "a decimal number without leading zeros", "MESSAGE": "a decimal number without leading zeros"}
+         "SITE": DECIMAL, "MESSAGE": DECIMAL}
 READS = {"UUID": F.uuid_word, "DIGEST": F.digest_word, "ARCH": F.arch_word, "ADDRESS": F.address_word,
          "LOAD": lambda field: 0 if field == "-" else F.address_word(field), "SITE": F.decimal, "MESSAGE": F.decimal,
          "BYTES": lambda field: bytes.fromhex(field) if F.is_hex(field) and len(field) % 2 == 0 and field else None}
@@ -117,8 +118,10 @@ def what_is_wrong(place, text, folder, word, obstacle):
         return NO_FILE
     if text == "OldArchive":
         return ", an archive of version 1, which `migrate` takes"
-    if text.startswith("Stale"):
+    if text == "Stale":
         return ", not of this archive, of which `index` writes a new one"
+    if text.startswith("Stale at entry"):
+        return ", of an archive in which a slice changed since it came in: run `symarch-keep check` first"
     if place in ("frames", "script"):
         return faulty_line(text, folder.bytes(word[1:]))
     look = look_of(folder.bytes(word[1:]))

@@ -11,6 +11,7 @@
 //!   of the commands say in the words of their user;
 //! - [`joins_laws`]: of several archives, asked as their join;
 //! - [`outcome_laws`]: what a command makes of accepted inputs is one OUT and one report;
+//! - [`new_laws`]: what `new` makes is the least archive;
 //! - [`out_laws`]: what a crash leaves at OUT's path.
 #![tactic(auto)]
 
@@ -26,6 +27,7 @@ pub mod list_laws;
 pub mod merge_laws;
 pub mod migrate_laws;
 pub mod name_laws;
+pub mod new_laws;
 pub mod out_laws;
 pub mod outcome_laws;
 pub mod rehearse_laws;

@@ -148,7 +148,7 @@ impl Display for Note {
         match self {
             Note::SameFile => f.write_str("the file of an input"),
             Note::OldVersion => f.write_str("an archive of version 1, which `migrate` takes"),
-            Note::Stale => f.write_str("older than its archive, of which `index` writes a new one"),
+            Note::Stale => f.write_str("not of this archive, of which `index` writes a new one"),
             Note::Changed => f.write_str(
                 "of an archive in which a slice changed since it came in: run `symarch-keep check` first",
             ),
