@@ -1,8 +1,8 @@
 //! OUT, whose draft is created with its first bytes, and put in place when it is whole. What the files hold is in no
 //! contract; what was called of the system is.
 
-ghost use Rattle.std.specs.Prelude.{◌≡◌, ◌≢◌, ◌⊎◌, ◌≤◌, ◌<◌, ◌-◌, ◌^◌, ℕ, List, Option, None, Some, IfSome, IfOk, IsSome, OnErr, OnOk};
-ghost use Rattle.std.specs.Prelude.{length, true, false, [], option_map, string_bytes};
+ghost use Rattle.std.specs.Prelude.{◌≡◌, ◌≢◌, ◌⊎◌, ◌≤◌, ◌<◌, ◌-◌, ◌^◌, ℕ, List, Option, None, Some, IfSome, IfOk};
+ghost use Rattle.std.specs.Prelude.{IsSome, OnErr, OnOk, length, true, false, [], option_map, string_bytes};
 ghost use Rattle.archive_files.specs.FileCalls.{are_looks, bytes_in};
 ghost use Rattle.archive_files.specs.OutFiles.{IsSoFar, Settled, Untouched, WritesBegun, WritesTo};
 ghost use Rattle.archive_files.specs.OutFiles.{draft_account, fault_of};
@@ -63,7 +63,7 @@ enum OutState<T> {
 }
 
 /// What bytes go to first, where OUT has this path.
-#[tactic(auto, using(crate::proofs::Placings::begun_through, crate::proofs::Placings::begun_drafted, crate::proofs::Placings::looks_bytes,))]
+#[tactic(auto, using(crate::proofs::Placings::begun_drafted, crate::proofs::Placings::looks_bytes))]
 fn begun<F: Files>(
     alloc: Global,
     files: &F,

@@ -96,8 +96,8 @@ fn led_to<F: Files>(
 
 /// How OUT is written that has this path.
 ///
-/// What is no regular file is written to, and so is a descriptor, which others may hold. A symbolic link is followed; one
-/// that leads to nothing is refused.
+/// What is no regular file is written to, and so is a descriptor, which others may hold. A symbolic link is followed;
+/// one that leads to nothing is refused.
 pub fn way_to<F: Files>(
     alloc: Global,
     files: &F,

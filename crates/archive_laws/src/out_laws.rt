@@ -6,9 +6,9 @@ ghost use Rattle.archive_files.specs.Placing.{IsDescriptor, IsDraftRemoved, IsRe
 ghost use Rattle.archive_files.specs.declared.replaceable.Replaces.{Replaces};
 ghost use Rattle.archive_laws.specs.Crashes.{MayBeAt, replay};
 
-/// A text is put in the place of what OUT's path leads to: a crash behind any of the calls leaves what was there, or the
-/// whole text; and behind the last one the text. That place is the path itself, or the system said that the path leads
-/// there.
+/// A text is put in the place of what OUT's path leads to: a crash behind any of the calls leaves what was there, or
+/// the whole text; and behind the last one the text. That place is the path itself, or the system said that the path
+/// leads there.
 pub fn whole_or_as_before()
     ensures any_moment { (path text : List ℕ) (replaces : Replaces) (calls : List FileCall)
         (before left : Option (List ℕ)) (done : ℕ) (is : IsReplaced path replaces text calls)

@@ -108,9 +108,9 @@ IsRuleOf line replaces = (plan : Plan) × (plan_view plan ≡ line) × (replaces
 
 -- The command of a line ended over files of which nothing is known, and this is told of it; where it ended well, these
 -- are its notes. Inputs were made for its paths, each once and in the order of the words, and for no other. OUT has the
--- path of the line, unless an input's file is there, and replaces what the plan of the line says. Where a text was put in place, the calls for OUT are those by
--- which it was put at that path; where none was, those by which nothing is left, with the bytes that the draft took;
--- and where the draft took none and did not fail there are none.
+-- path of the line, unless an input's file is there, and replaces what the plan of the line says. Where a text was put
+-- in place, the calls for OUT are those by which it was put at that path; where none was, those by which nothing is
+-- left, with the bytes that the draft took; and where the draft took none and did not fail there are none.
 pub record IsCarriedOut {S D T : Type 0} (calls : Calls S D T) (line : Line) (report : Writer)
     (told : Result Status Failure) (notes : List Note) : Type 0 where
   pub path : Option Text

@@ -1,6 +1,7 @@
 //! A line, carried out over files of the system.
 
-ghost use Rattle.std.specs.Prelude.{◌≡◌, ◌≢◌, ◌++◌, [], Err, IfOk, MatchResult, None, Ok, OnOk, option_map, string_bytes};
+ghost use Rattle.std.specs.Prelude.{◌≡◌, ◌≢◌, ◌++◌, [], Err, IfOk, MatchResult, None, Ok, OnOk};
+ghost use Rattle.std.specs.Prelude.{option_map, string_bytes};
 ghost use Rattle.command_ends.specs.Outputs.{writer};
 ghost use Rattle.archive_files.specs.AtTurns.{told as told_of, told_by};
 ghost use Rattle.archive_files.specs.Fresh.{AreFresh};

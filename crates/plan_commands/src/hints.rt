@@ -1,5 +1,5 @@
-//! What helps a person with a failure: which file it was, what the system said, and what a refused file looks like. Of it
-//! contracts say what it is of, the path, the faulty line, and what is noted of a stale index.
+//! What helps a person with a failure: which file it was, what the system said, and what a refused file looks like. Of
+//! it contracts say what it is of, the path, the faulty line, and what is noted of a stale index.
 
 ghost use Rattle.std.specs.Prelude.{◌≡◌, ℕ, codes, IfSome, None, Option, Some};
 ghost use Rattle.command_ends.specs.declared.failures.Failure.TheVariants.{Command};
