@@ -5,6 +5,7 @@ import errno
 import os
 import stat
 import subprocess
+import tempfile
 from pathlib import Path
 from typing import List
 
@@ -327,7 +328,7 @@ class NoRegularFile(OutCase):
             same("first bytes", COMMANDS["merge"][1].startswith(reader.communicate()[0]), True)
 
     def test_descriptors(self) -> None:
-        """What begins with /dev/ or /proc/ is written to; if it is a regular file, that stays the one which is open."""
+        """It is written to; if it is a regular file, that stays the one which is open."""
         for name, (words, text) in COMMANDS.items():
             status, printed, told = self.run_program(words, out="/dev/stdout")
             same(f"{name}: text and report", (status, printed[: len(text)], told), (0, text, ""))
@@ -341,3 +342,12 @@ class NoRegularFile(OutCase):
                 path_of_it = f"/proc/self/fd/{file.fileno()}"
                 same(name, self.run_program(words, path_of_it, pass_fds=[file.fileno()])[0::2], (0, ""))
             same(f"{name}: /proc", (path.stat().st_ino, path.read_bytes(), self.drafts()), (before, text, []))
+
+    def test_regular_files_by_devices(self) -> None:
+        """A regular file stays what it is below /dev/shm, and by a path through /dev, as anywhere else."""
+        with tempfile.TemporaryDirectory(dir="/dev/shm") as shared:
+            there = str(self.put("there", OTHER_FILES[0]))[1:]
+            for path in (Path(shared, "out"), Path("/dev/fd/..", *[".."] * 8, there)):
+                path.write_bytes(SLICES[0])
+                for words, _ in COMMANDS.values():
+                    self.keeps(words, CANNOT_REPLACE, FOREIGN, out=path)

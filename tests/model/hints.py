@@ -39,6 +39,8 @@ def look_of(there: bytes) -> Optional[str]:
 
 # ---- faulty lines
 
+DECIMAL = "a decimal number without leading zeros, at most 4294967295"
+
 
 def is_bytes(field: str) -> bool:
     return is_hex(field) and len(field) % 2 == 0 and field != ""
@@ -52,8 +54,8 @@ FORMS: Dict[str, Tuple[str, Callable[[str], bool]]] = {
     "ARCH": ("x86_64, x86_64h, arm64, arm64e or cpu:CCCCCCCC/00SSSSSS", lambda it: arch_word(it) is not None),
     "ADDRESS": ("1 to 16 hex digits, with or without 0x", lambda it: address_word(it) is not None),
     "LOAD": ("- or 1 to 16 hex digits, with or without 0x", lambda it: it == "-" or address_word(it) is not None),
-    "SITE": ("a decimal number without leading zeros", lambda it: decimal(it) is not None),
-    "MESSAGE": ("a decimal number without leading zeros", lambda it: decimal(it) is not None),
+    "SITE": (DECIMAL, lambda it: decimal(it) is not None),
+    "MESSAGE": (DECIMAL, lambda it: decimal(it) is not None),
 }
 FRAME = "UUID ARCH LOAD ADDRESS"
 EVENTS = {
@@ -140,8 +142,10 @@ def what_is_wrong(place: str, text: str, there: Optional[bytes], obstacle: Optio
         return NO_FILE
     if text == "OldArchive":
         return ", an archive of version 1, which `migrate` takes"
-    if text.startswith("Stale"):
+    if text == "Stale":
         return ", not of this archive, of which `index` writes a new one"
+    if text.startswith("Stale at entry"):
+        return ", of an archive in which a slice changed since it came in: run `symarch-keep check` first"
     if place in ("frames", "script"):
         return faulty_line(text, there)
     look = look_of(there)

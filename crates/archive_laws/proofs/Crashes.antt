@@ -1,12 +1,17 @@
 -- The draft behind each of the calls.
-use Rattle.std.proofs.Common.{◌≡◌, ◌≢◌, ◌⊎◌, ℕ, zero, suc, true, false, List, [], ◌∷◌, ◌++◌, take, map, fold, length, Option, Some, refl, sym, ap, ◌∙◌, inl, inr, subst, append_assoc, arith}
+use Rattle.std.proofs.Common.{◌≡◌, ◌≢◌, ◌⊎◌, ℕ, Contains, zero, suc, true, false, List, [], ◌∷◌, ◌++◌, take, map, fold, length, Option, Some, refl, sym, ap, ◌∙◌, inl, inr, subst, append_assoc, arith}
 use Rattle.std.specs.List.{concat}
 use Rattle.std.specs.Str.{bytes_eq}
-use Rattle.std.proofs.lemmas.Bool.{false_from_ne_true, or_right}
+use Rattle.std.proofs.lemmas.Bool.{and_parts, false_from_ne_true, or_right}
 use Rattle.std.proofs.lemmas.List.{append-nil, take_all}
 use Rattle.std.proofs.lemmas.Slice.Eq.{bytes_eq-Decides}
-use Rattle.archive_files.specs.FileCalls.{FileCall, Creates, Writes, Syncs, Removes, drafting, placing}
-use Rattle.archive_files.specs.Placing.{IsDraftRemoved, IsDrafted, IsReplaced, folder_of}
+use Rattle.archive_files.specs.FileCalls.{FileCall, Creates, Opens, Writes, Syncs, Renames, SyncsFolder, Removes}
+use Rattle.archive_files.specs.FileCalls.{FindsFile, FindsOther, FindsNothing, FindsNoLink, Leads, FindsNoArchive}
+use Rattle.archive_files.specs.FileCalls.{Covers, Loses, are_looks, drafting, is_look, placing, writing}
+use Rattle.archive_files.specs.Placing.{IsDescriptor, IsDraftRemoved, IsDrafted, IsReplaced, IsTargetOf, IsTested}
+use Rattle.archive_files.specs.Placing.{IsWritable, IsWrittenThrough, folder_of}
+use Rattle.archive_files.specs.declared.replaceable.Replaces.{Replaces}
+use Rattle.archive_files.specs.declared.replaceable.Replaces.TheVariants.{OwnFiles, ArchivesBelow}
 use Rattle.archive_laws.specs.Crashes.{DraftState, MayBeAt, Old, New, Torn, Touched, behind, no_draft, replay}
 
 -- Where it was renamed it has the whole text, and that is on the disk; the target itself was not touched.
@@ -23,9 +28,51 @@ unrenamed text d still un = record { synced = λ yes. cc; bytes = λ yes. cc; un
 abbrev IsStill : DraftState → Type 0
 IsStill d = (d.renamed ≡ false) × (d.touched ≡ false)
 
-module _ (draft target folder : List ℕ) (other : draft ≢ target) where
+-- ---- calls that only ask
+
+asks : (target : List ℕ) (d : DraftState) (call : FileCall) → is_look call ≡ true → behind target d call ≡ d
+asks target d (FindsFile p) look = refl
+asks target d (FindsOther p) look = refl
+asks target d (FindsNothing p) look = refl
+asks target d (FindsNoLink p) look = refl
+asks target d (Leads p q) look = refl
+asks target d (FindsNoArchive p) look = refl
+asks target d (Covers p q) look = refl
+asks target d (Loses p q) look = refl
+asks target d (Creates p) look = cc
+asks target d (Opens p) look = cc
+asks target d (Writes b) look = cc
+asks target d Syncs look = cc
+asks target d (Renames p q) look = cc
+asks target d (SyncsFolder p) look = cc
+asks target d (Removes p) look = cc
+
+-- what holds behind any of some calls holds behind any of them where calls that only ask come first
+behind_looks : (target : List ℕ) (P : DraftState → Type 0) (looks rest : List FileCall) (n : ℕ) (d : DraftState)
+    → are_looks looks ≡ true → ((m : ℕ) → P (fold (behind target) d (take m rest)))
+    → P (fold (behind target) d (take n (looks ++ rest)))
+behind_looks target P [] rest n d are holds = holds n
+behind_looks target P (look ∷ looks) rest zero d are holds = holds zero
+behind_looks target P (look ∷ looks) rest (suc n) d are holds =
+    let parts = and_parts (is_look look) (are_looks looks) are in
+    subst (λ e. P (fold (behind target) e (take n (looks ++ rest)))) (sym (asks target d look parts.0))
+    (behind_looks target P looks rest n d parts.1 holds)
+
+-- and they change nothing
+fold_looks : (target : List ℕ) (looks rest : List FileCall) (d : DraftState) → are_looks looks ≡ true
+    → fold (behind target) d (looks ++ rest) ≡ fold (behind target) d rest
+fold_looks target [] rest d are = refl
+fold_looks target (look ∷ looks) rest d are =
+    let parts = and_parts (is_look look) (are_looks looks) are in
+    ap (λ e. fold (behind target) e (looks ++ rest)) (asks target d look parts.0)
+    ∙ fold_looks target looks rest d parts.1
+
+module _ (draft target folder : List ℕ) (other : draft ≢ target) (tests : List FileCall) (are : are_looks tests ≡ true) where
+  abbrev placed : List FileCall
+  placed = placing draft target folder
+
   abbrev last : List FileCall
-  last = placing draft target folder
+  last = tests ++ placed
 
   -- two paths
   apart : bytes_eq draft target ≡ false
@@ -35,13 +82,17 @@ module _ (draft target folder : List ℕ) (other : draft ≢ target) where
   begun = behind target no_draft (Creates draft)
 
   -- behind some of the last three
+  three : (text : List ℕ) (d : DraftState) (n : ℕ) → IsStill d → d.bytes ≡ text
+      → IsWhole text (fold (behind target) d (take n placed))
+  three text d zero still is = unrenamed text d still.0 still.1
+  three text d (suc zero) still is = unrenamed text _ still.0 still.1
+  three text d (suc (suc zero)) still is = record { synced = λ _. refl; bytes = λ _. is; untouched = still.1 }
+  three text d (suc (suc (suc zero))) still is = record { synced = λ _. refl; bytes = λ _. is; untouched = still.1 }
+  three text d (suc (suc (suc (suc n)))) still is = record { synced = λ _. refl; bytes = λ _. is; untouched = still.1 }
+
   ends : (text : List ℕ) (d : DraftState) (n : ℕ) → IsStill d → d.bytes ≡ text
       → IsWhole text (fold (behind target) d (take n last))
-  ends text d zero still is = unrenamed text d still.0 still.1
-  ends text d (suc zero) still is = unrenamed text _ still.0 still.1
-  ends text d (suc (suc zero)) still is = record { synced = λ _. refl; bytes = λ _. is; untouched = still.1 }
-  ends text d (suc (suc (suc zero))) still is = record { synced = λ _. refl; bytes = λ _. is; untouched = still.1 }
-  ends text d (suc (suc (suc (suc n)))) still is = record { synced = λ _. refl; bytes = λ _. is; untouched = still.1 }
+  ends text d n still is = behind_looks target (IsWhole text) tests placed n d are (λ m. three text d m still is)
 
   -- behind some of them all
   each : (text : List ℕ) (pieces : List (List ℕ)) (d : DraftState) (n : ℕ) → IsStill d → d.bytes ++ concat pieces ≡ text
@@ -58,7 +109,7 @@ module _ (draft target folder : List ℕ) (other : draft ≢ target) where
 
   -- behind all of them the renaming is on the disk
   all : (pieces : List (List ℕ)) (d : DraftState) → (fold (behind target) d (map Writes pieces ++ last)).kept ≡ true
-  all [] d = or_right d.renamed (bytes_eq target target) ((bytes_eq-Decides target target).1 refl)
+  all [] d = ap (λ e. e.kept) (fold_looks target tests placed d are) ∙ or_right d.renamed (bytes_eq target target) ((bytes_eq-Decides target target).1 refl)
   all (piece ∷ pieces) d = all pieces (behind target d (Writes piece))
 
   at_end : (pieces : List (List ℕ)) → (replay target (drafting draft pieces ++ last)).kept ≡ true
@@ -115,35 +166,105 @@ leaves_it before _ d still (Touched touched left) = cc still.1
 
 -- ---- behind some of the calls, and behind all
 
-whole_at : (text : List ℕ) (calls : List FileCall) (done : ℕ) (is : IsReplaced text calls)
-    → IsWhole text (replay is.target (take done calls))
-whole_at text calls done is =
-    rw (← is.whole, is.calls_are) (prefix is.draft is.target (folder_of is.target) is.beside.apart is.pieces done)
+target_asks : (path target : List ℕ) (looks : List FileCall) → IsTargetOf path target looks → are_looks looks ≡ true
+target_asks path target looks (inl none) = ap are_looks none.1
+target_asks path target looks (inr (inl file)) = ap are_looks file.1
+target_asks path target looks (inr (inr link)) = ap are_looks link
 
-pub any_moment : (text : List ℕ) (calls : List FileCall) (before left : Option (List ℕ)) (done : ℕ)
-    (is : IsReplaced text calls) → MayBeAt before (replay is.target (take done calls)) left
-    → (left ≡ before) ⊎ (left ≡ Some text)
-any_moment text calls before left done is may = leaves text before left _ (whole_at text calls done is) may
+tests_ask : (replaces : Replaces) (draft target : List ℕ) (tests : List FileCall) → IsTested replaces draft target tests
+    → are_looks tests ≡ true
+tests_ask OwnFiles draft target tests is = ap are_looks is
+tests_ask ArchivesBelow draft target tests (inl none) = ap are_looks none
+tests_ask ArchivesBelow draft target tests (inr covers) = ap are_looks covers
 
-pub at_the_end : (text : List ℕ) (calls : List FileCall) (before left : Option (List ℕ)) (is : IsReplaced text calls)
-    → MayBeAt before (replay is.target calls) left → left ≡ Some text
-at_the_end text calls before left is may =
-    leaves_text text before left _
-    (subst (λ cs. IsWhole text (replay is.target cs)) (take_all (length calls) calls (omega arith))
-    (whole_at text calls (length calls) is))
-    (ap (λ cs. (replay is.target cs).kept) is.calls_are
-    ∙ at_end is.draft is.target (folder_of is.target) is.beside.apart is.pieces) may
+-- the calls from the first that does more than ask
+flat : (looks drafted tests rest calls : List FileCall) → calls ≡ looks ++ drafted ++ tests ++ rest
+    → calls ≡ looks ++ (drafted ++ (tests ++ rest))
+flat looks drafted tests rest calls is =
+    is ∙ append_assoc (looks ++ drafted) tests rest ∙ append_assoc looks drafted (tests ++ rest)
 
-still_at : (calls : List FileCall) (done : ℕ) (is : IsDraftRemoved calls) → IsStill (replay is.target (take done calls))
-still_at calls done is =
-    let d : IsDrafted is.draft is.target is.drafted = is.is_drafted in
+flat_removed : (looks drafted tests rest before calls : List FileCall) → before ≡ looks ++ drafted
+    → calls ≡ before ++ tests ++ rest → calls ≡ looks ++ (drafted ++ (tests ++ rest))
+flat_removed looks drafted tests rest before calls first is =
+    flat looks drafted tests rest calls (is ∙ ap (λ cs. cs ++ tests ++ rest) first)
+
+module _ (path text : List ℕ) (replaces : Replaces) (calls : List FileCall) (is : IsReplaced path replaces text calls) where
+  abbrev end : List FileCall
+  end = placing is.draft is.target (folder_of is.target)
+
+  asking : are_looks is.tests ≡ true
+  asking = tests_ask replaces is.draft is.target is.tests is.tested
+
+  are_flat : calls ≡ is.looks ++ (drafting is.draft is.pieces ++ (is.tests ++ end))
+  are_flat = flat is.looks (drafting is.draft is.pieces) is.tests end calls is.calls_are
+
+  whole_at : (done : ℕ) → IsWhole text (replay is.target (take done calls))
+  whole_at done =
+      subst (λ cs. IsWhole text (replay is.target (take done cs))) (sym are_flat)
+      (subst (λ t. IsWhole t (replay is.target (take done (is.looks ++ (drafting is.draft is.pieces ++ (is.tests ++ end))))))
+      is.whole
+      (behind_looks is.target (IsWhole (concat is.pieces)) is.looks (drafting is.draft is.pieces ++ (is.tests ++ end)) done
+      no_draft (target_asks path is.target is.looks is.target_is)
+      (λ m. prefix is.draft is.target (folder_of is.target) is.beside.apart is.tests asking is.pieces m)))
+
+  pub any_moment : (before left : Option (List ℕ)) (done : ℕ) → MayBeAt before (replay is.target (take done calls)) left
+      → (left ≡ before) ⊎ (left ≡ Some text)
+  any_moment before left done may = leaves text before left _ (whole_at done) may
+
+  pub at_the_end : (before left : Option (List ℕ)) → MayBeAt before (replay is.target calls) left → left ≡ Some text
+  at_the_end before left may =
+      leaves_text text before left _
+      (subst (λ cs. IsWhole text (replay is.target cs)) (take_all (length calls) calls (omega arith))
+      (whole_at (length calls)))
+      (ap (λ cs. (replay is.target cs).kept) are_flat
+      ∙ ap (λ d. d.kept) (fold_looks is.target is.looks (drafting is.draft is.pieces ++ (is.tests ++ end)) no_draft
+      (target_asks path is.target is.looks is.target_is))
+      ∙ at_end is.draft is.target (folder_of is.target) is.beside.apart is.tests asking is.pieces) may
+
+  pub place_is : (is.target ≡ path) ⊎ Contains calls (Leads path is.target)
+  place_is = by_case is.target_is
+    where
+      by_case : IsTargetOf path is.target is.looks → (is.target ≡ path) ⊎ Contains calls (Leads path is.target)
+      by_case (inl none) = inl none.0
+      by_case (inr (inl file)) = inl file.0
+      by_case (inr (inr link)) =
+          inr (subst (λ cs. Contains cs (Leads path is.target))
+          (sym (are_flat ∙ ap (λ looks. looks ++ (drafting is.draft is.pieces ++ (is.tests ++ end))) link))
+          (1, grind arith, refl))
+
+removed_at : (path : List ℕ) (calls : List FileCall) (done : ℕ) (is : IsDraftRemoved path calls)
+    → IsStill (replay is.target (take done calls))
+removed_at path calls done is =
+    let d : IsDrafted path is.draft is.target is.drafted = is.is_drafted in
+    let drafted = drafting is.draft d.pieces in
+    let asks_first = target_asks path is.target d.looks d.target_is in
+    let still : (rest : List FileCall)
+    → ((e : DraftState) (n : ℕ) → IsStill e → IsStill (fold (behind is.target) e (take n rest)))
+    → calls ≡ is.drafted ++ is.tests ++ rest → IsStill (replay is.target (take done calls)) =
+    λ rest stays are.
+    subst (λ cs. IsStill (replay is.target (take done cs)))
+    (sym (flat_removed d.looks drafted is.tests rest is.drafted calls d.calls_are are))
+    (behind_looks is.target IsStill d.looks (drafted ++ (is.tests ++ rest)) done no_draft asks_first
+    (λ m. unplaced is.draft is.target [] d.beside.apart [] refl (is.tests ++ rest)
+    (λ e n before. behind_looks is.target IsStill is.tests rest n e is.are_tests (λ k. stays e k before)) d.pieces m)) in
     elim is.calls_are [
-      | inl removed ↦ rw (removed, d.calls_are) (unplaced is.draft is.target [] d.beside.apart (Removes is.draft ∷ [])
-          (ends_removed is.draft is.target [] d.beside.apart) d.pieces done)
-      | inr synced ↦ rw (synced, d.calls_are) (unplaced is.draft is.target [] d.beside.apart (Syncs ∷ Removes is.draft ∷ [])
-          (ends_synced is.draft is.target [] d.beside.apart) d.pieces done)
+      | inl removed ↦ still (Removes is.draft ∷ [])
+          (ends_removed is.draft is.target [] d.beside.apart [] refl) removed
+      | inr synced ↦ still (Syncs ∷ Removes is.draft ∷ [])
+          (ends_synced is.draft is.target [] d.beside.apart [] refl) synced
     ]
 
-pub removed_leaves : (calls : List FileCall) (before left : Option (List ℕ)) (done : ℕ) (is : IsDraftRemoved calls)
-    → MayBeAt before (replay is.target (take done calls)) left → left ≡ before
-removed_leaves calls before left done is may = leaves_it before left _ (still_at calls done is) may
+pub removed_leaves : (path : List ℕ) (calls : List FileCall) (before left : Option (List ℕ)) (done : ℕ)
+    (is : IsDraftRemoved path calls) → MayBeAt before (replay is.target (take done calls)) left → left ≡ before
+removed_leaves path calls before left done is may = leaves_it before left _ (removed_at path calls done is) may
+
+-- what was written to is no regular file, as the system said, or a descriptor
+pub no_file : (path text : List ℕ) (calls : List FileCall) (is : IsWrittenThrough path text calls)
+    → Contains calls (FindsOther path) ⊎ IsDescriptor path
+no_file path text calls is = by_case is.writable
+  where
+    by_case : IsWritable path is.looks → Contains calls (FindsOther path) ⊎ IsDescriptor path
+    by_case (inl other) =
+        inl (subst (λ cs. Contains cs (FindsOther path))
+        (sym (is.calls_are ∙ ap (λ looks. looks ++ writing path is.pieces) other)) (0, grind arith, refl))
+    by_case (inr descriptor) = inr descriptor.1

@@ -1,4 +1,5 @@
 pub mod Given
+pub mod Nothing
 pub mod Answerers
 pub mod Parts
 pub mod Coverings

@@ -1,26 +1,38 @@
 //! What a crash leaves at the path of an output, whatever call it is stopped behind. Each law speaks of the calls that
 //! a command makes for its output.
-ghost use Rattle.std.specs.Prelude.{◌≡◌, ◌⊎◌, ℕ, List, Option, Some, take};
-ghost use Rattle.archive_files.specs.FileCalls.{FileCall};
-ghost use Rattle.archive_files.specs.Placing.{IsDraftRemoved, IsReplaced};
+ghost use Rattle.std.specs.Prelude.{◌≡◌, ◌⊎◌, ℕ, Contains, List, Option, Some, take};
+ghost use Rattle.archive_files.specs.FileCalls.{FileCall, FindsOther, Leads};
+ghost use Rattle.archive_files.specs.Placing.{IsDescriptor, IsDraftRemoved, IsReplaced, IsWrittenThrough};
+ghost use Rattle.archive_files.specs.declared.replaceable.Replaces.{Replaces};
 ghost use Rattle.archive_laws.specs.Crashes.{MayBeAt, replay};
 
-/// A text is put in the place of what is at a path: a crash behind any of the calls leaves what was there, or the whole
-/// text; and behind the last one the text.
+/// A text is put in the place of what OUT's path leads to: a crash behind any of the calls leaves what was there, or
+/// the whole text; and behind the last one the text. That place is the path itself, or the system said that the path
+/// leads there.
 pub fn whole_or_as_before()
-    ensures any_moment { (text : List ℕ) (calls : List FileCall) (before left : Option (List ℕ)) (done : ℕ)
-        (is : IsReplaced text calls)
+    ensures any_moment { (path text : List ℕ) (replaces : Replaces) (calls : List FileCall)
+        (before left : Option (List ℕ)) (done : ℕ) (is : IsReplaced path replaces text calls)
         → MayBeAt before (replay is.target (take done calls)) left
         → (left ≡ before) ⊎ (left ≡ Some text) }
-    ensures at_the_end { (text : List ℕ) (calls : List FileCall) (before left : Option (List ℕ))
-        (is : IsReplaced text calls)
+    ensures at_the_end { (path text : List ℕ) (replaces : Replaces) (calls : List FileCall)
+        (before left : Option (List ℕ)) (is : IsReplaced path replaces text calls)
         → MayBeAt before (replay is.target calls) left
         → left ≡ Some text }
+    ensures place { (path text : List ℕ) (replaces : Replaces) (calls : List FileCall)
+        (is : IsReplaced path replaces text calls)
+        → (is.target ≡ path) ⊎ Contains calls (Leads path is.target) }
 {}
 
-/// A draft is removed: a crash behind any of the calls leaves what was at the path.
+/// A draft is removed: a crash behind any of the calls leaves what was at the place of OUT's path.
 pub fn removed_leaves_it()
-    ensures { (calls : List FileCall) (before left : Option (List ℕ)) (done : ℕ) (is : IsDraftRemoved calls)
+    ensures { (path : List ℕ) (calls : List FileCall) (before left : Option (List ℕ)) (done : ℕ)
+        (is : IsDraftRemoved path calls)
         → MayBeAt before (replay is.target (take done calls)) left
         → left ≡ before }
+{}
+
+/// A regular file is not written to: bytes that go to no draft go to what the system said is none, or to a descriptor.
+pub fn never_written_through()
+    ensures { (path text : List ℕ) (calls : List FileCall) (is : IsWrittenThrough path text calls)
+        → Contains calls (FindsOther path) ⊎ IsDescriptor path }
 {}

@@ -1,3 +1,4 @@
+pub mod Helping
 pub mod Turned
 pub mod OutPlaces
 pub mod Pathless

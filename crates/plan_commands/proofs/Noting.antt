@@ -27,10 +27,12 @@ told_as : {S D T : Type 0} (calls : Calls S D T) (line : Line) (report : Writer)
     → (told : Result Status Failure) (notes : List Note) → told ≡ was → OnOk told (notes ≡ noted) → IsCarriedOut calls line report told notes
 told_as calls line report was noted is told notes same alike = record {
   path = is.path;
+  replaces = is.replaces;
   begun = is.begun;
   done = is.done;
   ended = is.ended;
   path_is = is.path_is;
+  rule = is.rule;
   begun_is = is.begun_is;
   begun_unfailed = is.begun_unfailed;
   nothing_placed = is.nothing_placed;
@@ -58,7 +60,7 @@ module _ {S D T V : Type 0} (items : V → List Note) (calls : Calls S D T) (lin
   told_done report fault ended noted (Err failure) told is = inr (told_as calls line report (command_fault_of fault ended) noted is (Err failure) [] told tt)
 
   pub ran : (words : List Text) (told said : Writer) (status : ℕ) → error_kinds words ≡ [] → Some line ≡ line_of words → (r : Result (Status × V) Failure) → Done told r
-      → MatchResult r (λ both. SaysNotes said (items both.1)) (λ failure. SaysFailure said failure)
+      → MatchResult r (λ both. SaysNotes said (items both.1)) (λ failure. SaysFailure said line failure)
       → MatchResult r (λ both. status ≡ status_of (Ok both.0)) (λ failure. status ≡ status_of (Err failure)) → Ran calls words told said status
   ran words told said status accepted line_is (Ok both) carried says status_is = record {
     line = line;

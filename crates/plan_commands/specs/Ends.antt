@@ -30,7 +30,7 @@ pub record Ran {S D T : Type 0} (calls : Calls S D T) (words : List Text) (told 
   pub accepted : error_kinds words ≡ []
   pub line_is : Some line ≡ line_of words
   pub carried : IsDone calls line told ended notes
-  pub says : SaysEnd said ended notes
+  pub says : SaysEnd said line ended notes
   pub status_is : status ≡ status_of ended
 
 -- the words are not accepted, or a value has not its form, or OUT is an input

@@ -1,5 +1,5 @@
 -- Which file a failure is of, and which of its lines.
-use Rattle.std.specs.Prelude.{Option, Some, None, option_map, slice_get, Result, Ok, Err, ⊤}
+use Rattle.std.specs.Prelude.{ℕ, List, [], codes, Option, Some, None, option_map, slice_get, Result, Ok, Err, ⊤}
 use Rattle.clap.specs.Words.{Text}
 use Rattle.command_ends.specs.declared.failures.Failure.{Failure}
 use Rattle.command_ends.specs.declared.failures.Failure.TheVariants.{Command, CannotCreate, CannotReplace}
@@ -12,10 +12,15 @@ use Rattle.command_ends.specs.declared.faults.Why.{Why}
 use Rattle.command_ends.specs.declared.faults.Why.TheVariants.{CannotOpen, Device, Record, Take}
 use Rattle.command_ends.specs.declared.faults.Why.TheVariants.{Script as ScriptFaulty, BadFrame, OldArchive, TooLong}
 use Rattle.command_ends.specs.declared.faults.Why.TheVariants.{Index as IndexFaulty, NoArchive, Stale}
+use Rattle.command_ends.specs.FaultTexts.{place_text}
 use Rattle.command_line.specs.Lines.{Line, inputs_of_kind, out_of}
 use Rattle.command_line.specs.declared.commands.Kind.TheVariants as kinds
 use Rattle.plan_commands.specs.declared.flaws.FaultyLine.{FaultyLine}
 use Rattle.plan_commands.specs.declared.flaws.Flaw.TheVariants as flaw
+use Rattle.plan_commands.specs.declared.hints.Note.{Note as Noted}
+use Rattle.plan_commands.specs.declared.hints.Note.TheVariants as noted
+use Rattle.plan_commands.specs.declared.hints.Subject.{Subject}
+use Rattle.plan_commands.specs.declared.hints.Subject.TheVariants as subject
 
 -- the path of the input that is reported by this place: the one of that number among those of its kind
 abbrev pub path_at : Line → Place → Option Text
@@ -35,6 +40,25 @@ file_of line (Command (Report n)) = None
 file_of line (Command OutOfMemory) = None
 file_of line (CannotCreate _) = out_of line
 file_of line CannotReplace = out_of line
+
+-- what a failure is of, as it is said
+abbrev pub subject_of : Failure → List ℕ
+subject_of (Command (Input place why)) = place_text place
+subject_of (Command (Output n)) = codes "output"
+subject_of (Command (Report n)) = codes "report"
+subject_of (Command OutOfMemory) = []
+subject_of (CannotCreate _) = codes "output"
+subject_of CannotReplace = codes "output"
+
+abbrev pub subject_text : Subject → List ℕ
+subject_text (subject.Input place) = place_text place
+subject_text subject.Output = codes "output"
+
+-- what is noted of an index that is refused for this: a stale one is written anew, but where the archive has the length
+-- that the index has, what changed in it is found first
+abbrev pub stale_note : Option ℕ → Noted
+stale_note None = noted.Stale
+stale_note (Some entry) = noted.Changed
 
 -- the line for which an input is refused, with what is wrong with it, where more is known of that
 abbrev pub faulty_line : Why → Option FaultyLine

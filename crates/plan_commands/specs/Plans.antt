@@ -1,6 +1,6 @@
 -- What a line asks for, by name, and how its command ends.
 use Rattle.std.specs.Prelude.{◌≡◌, ℕ, ◌+◌, Bool, true, false, List, [], ◌∷◌, length, map, take, drop, string_bytes}
-use Rattle.std.specs.Prelude.{Option, Some, None, option_map, Result}
+use Rattle.std.specs.Prelude.{option_map, Result}
 use Rattle.std.specs.FinSet as set
 use Rattle.command_line.specs.Arguments.{archs, digests, numbers, one, perhaps, several, text, texts, uuids}
 use Rattle.command_line.specs.Lines.{Line, line_with}

@@ -1,6 +1,7 @@
 //! A line, carried out over files of the system.
 
-ghost use Rattle.std.specs.Prelude.{◌≡◌, ◌++◌, [], Err, IfOk, MatchResult, None, Ok, OnOk, option_map, string_bytes};
+ghost use Rattle.std.specs.Prelude.{◌≡◌, ◌≢◌, ◌++◌, [], Err, IfOk, MatchResult, None, Ok, OnOk};
+ghost use Rattle.std.specs.Prelude.{option_map, string_bytes};
 ghost use Rattle.command_ends.specs.Outputs.{writer};
 ghost use Rattle.archive_files.specs.AtTurns.{told as told_of, told_by};
 ghost use Rattle.archive_files.specs.Fresh.{AreFresh};
@@ -9,7 +10,7 @@ ghost use Rattle.archive_files.specs.Placing.{IsPath};
 ghost use Rattle.archive_files.specs.Turns.{AreFirstAsked, AreWaiting};
 ghost use Rattle.command_line.specs.Lines.{inputs_of, out_of};
 ghost use Rattle.command_line.specs.LineView.{line_view};
-ghost use Rattle.plan_commands.specs.Files.{IsDone, calls_of, command_fault_of, out_failure};
+ghost use Rattle.plan_commands.specs.Files.{IsDone, IsRuleOf, calls_of, command_fault_of, out_failure};
 
 use crate::execute_on;
 use crate::hints::Seen;
@@ -33,6 +34,8 @@ fn begin<F: Files>(files: &mut SystemFiles<'_, F>, line: &Line) -> Result<(), No
     ensures asked { files.new.asked.entries ≡ files.old.asked.entries }
     ensures path { OnOk result (IsPath (out_of (line_view line.now)) (inputs_of (line_view line.now))
         files.new.others.entries files.new.same.entries (option_map string_bytes files.new.out.draft.path)) }
+    ensures rule { OnOk result (out_of (line_view line.now) ≢ None
+        → IsRuleOf (line_view line.now) files.new.out.draft.replaces) }
     ensures untouched { stage_of files.new.out.draft.state ≡ Untouched }
     ensures unfailed { files.new.out.draft.failures ≡ 0 }
     ensures calls { files.new.out.draft.calls.entries ≡ [] }

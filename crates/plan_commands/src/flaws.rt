@@ -83,7 +83,7 @@ fn write_script_flaw<W: fmt::Write>(flaw: ScriptFlaw, f: &mut fmt::Formatter<W>)
 }
 
 /// The form of a number in a script.
-const DECIMAL: &str = "a decimal number without leading zeros";
+const DECIMAL: &str = "a decimal number without leading zeros, at most 4294967295";
 
 /// A field that has not this form.
 fn write_invalid<W: fmt::Write>(field: &str, form: &str, f: &mut fmt::Formatter<W>) -> fmt::Result {

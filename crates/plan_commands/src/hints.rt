@@ -1,11 +1,15 @@
-//! What helps a person with a failure: which file it was, what the system said, and what a refused file looks like. It
-//! stands in a line of its own after that of the failure, which programs read. Of it contracts say the path and the
-//! faulty line alone.
+//! What helps a person with a failure: which file it was, what the system said, and what a refused file looks like. Of
+//! it contracts say what it is of, the path, the faulty line, and what is noted of a stale index.
 
-ghost use Rattle.std.specs.Prelude.{◌≡◌, IfSome, None, Some};
+ghost use Rattle.std.specs.Prelude.{◌≡◌, ℕ, codes, IfSome, None, Option, Some};
+ghost use Rattle.command_ends.specs.declared.failures.Failure.TheVariants.{Command};
+ghost use Rattle.command_ends.specs.declared.faults.CommandFault.TheVariants.{Input};
+ghost use Rattle.command_ends.specs.declared.faults.Place.{Place};
+ghost use Rattle.command_ends.specs.declared.faults.Why.TheVariants.{Stale};
 ghost use Rattle.command_line.specs.LineView.{line_view};
 ghost use Rattle.command_line.specs.Lines.{out_of};
 ghost use Rattle.plan_commands.specs.Hints.{IsOfInput, IsOfNoFile, IsOfOut, faulty_line_of, file_of};
+ghost use Rattle.plan_commands.specs.Hints.{stale_note, subject_of, subject_text};
 
 use crate::flaws::FaultyLine;
 use crate::looks::Look;
@@ -95,15 +99,21 @@ impl Seen {
 
 /// What a failure is of.
 #[derive(Clone, Copy)]
-enum Subject {
+pub(crate) enum Subject {
     Input(Place),
     Output,
 }
 
+#[tactic(auto, unfolding(crate::specs::Hints::subject_text))]
 impl Display for Subject {
+    ghost use Rattle.std.specs.Prelude.{Some};
+    ghost use Rattle.plan_commands.specs.Hints.{subject_text};
+
+    ghost output = { λ subject. Some (subject_text subject) };
+
     fn fmt<W: fmt::Write>(&self, f: &mut fmt::Formatter<W>) -> fmt::Result {
         match self {
-            Subject::Input(place) => Display::fmt(place, f),
+            Subject::Input(place) => write!(f, "{place}"),
             Subject::Output => f.write_str("output"),
         }
     }
@@ -118,6 +128,7 @@ enum Note {
     Loses(u64),
     OldVersion,
     Stale,
+    Changed,
 }
 
 impl Note {
@@ -138,6 +149,9 @@ impl Display for Note {
             Note::SameFile => f.write_str("the file of an input"),
             Note::OldVersion => f.write_str("an archive of version 1, which `migrate` takes"),
             Note::Stale => f.write_str("not of this archive, of which `index` writes a new one"),
+            Note::Changed => f.write_str(
+                "of an archive in which a slice changed since it came in: run `symarch-keep check` first",
+            ),
             Note::Foreign => f.write_str("there, and neither empty nor one of symarch's files"),
             Note::Damaged => f.write_str("there, and an archive that is damaged"),
             Note::Loses(1) => {
@@ -175,10 +189,13 @@ fn look_of(why: Why, look: Option<Look>) -> Option<Look> {
 }
 
 /// What is noted of an input that is refused for this.
-fn note_of(why: Why) -> Option<Note> {
+fn note_of(why: Why) -> Option<Note>
+    ensures { (entry : Option ℕ) → why ≡ Stale entry → result ≡ Some (stale_note entry) }
+{
     match why {
         Why::OldArchive => Some(Note::OldVersion),
-        Why::Stale(_) => Some(Note::Stale),
+        Why::Stale(None) => Some(Note::Stale),
+        Why::Stale(Some(_)) => Some(Note::Changed),
         _ => None,
     }
 }
@@ -186,7 +203,10 @@ fn note_of(why: Why) -> Option<Note> {
 /// The line that helps with this failure of a line, if there is one.
 pub fn help_with<'p>(line: &'p Line, failure: &Failure, seen: Seen) -> Option<Hint<'p>>
     ensures path { IfSome result (λ hint. Some hint.path.now ≡ file_of (line_view line.now) failure.now) }
+    ensures subject { IfSome result (λ hint. subject_text hint.subject ≡ subject_of failure.now) }
     ensures faulty { IfSome result (λ hint. hint.faulty ≡ faulty_line_of failure.now) }
+    ensures stale { (place : Place) (entry : Option ℕ) → failure.now ≡ Command (Input place (Stale entry))
+        → IfSome result (λ hint. hint.note ≡ Some (stale_note entry)) }
 {
     match failure {
         Failure::Command(CommandFault::Input(place, why)) => {
@@ -212,6 +232,7 @@ pub fn help_with<'p>(line: &'p Line, failure: &Failure, seen: Seen) -> Option<Hi
 /// A line of OUT. What is noted of it is said where the system said nothing.
 fn out_hint<'p>(line: &'p Line, note: Option<Note>, seen: Seen) -> Option<Hint<'p>>
     ensures path { IfSome result (λ hint. Some hint.path.now ≡ out_of (line_view line.now)) }
+    ensures subject { IfSome result (λ hint. subject_text hint.subject ≡ codes "output") }
     ensures faulty { IfSome result (λ hint. hint.faulty ≡ None) }
 {
     Some(Hint {
@@ -223,19 +244,25 @@ fn out_hint<'p>(line: &'p Line, note: Option<Note>, seen: Seen) -> Option<Hint<'
     })
 }
 
-/// A path as it is shown: one that has a character which a terminal obeys is quoted, with that escaped.
-fn write_path<W: fmt::Write>(path: &str, f: &mut fmt::Formatter<W>) -> fmt::Result {
-    if path.chars().any(char::is_control) {
-        write!(f, "{path:?}")
-    } else {
-        f.write_str(path)
+impl Hint<'_> {
+    /// What the failure is of.
+    pub(crate) fn subject(&self) -> Subject
+        ensures { result ≡ self.now.subject }
+    {
+        self.subject
+    }
+
+    /// The path of that file.
+    pub(crate) fn path(&self) -> &str
+        ensures { result.now ≡ self.now.path.now }
+    {
+        self.path
     }
 }
 
+/// What is known of the file.
 impl Display for Hint<'_> {
     fn fmt<W: fmt::Write>(&self, f: &mut fmt::Formatter<W>) -> fmt::Result {
-        write!(f, "  {} is ", self.subject)?;
-        write_path(self.path, f)?;
         if let Some(note) = self.note {
             write!(f, ", {note}")?;
         }

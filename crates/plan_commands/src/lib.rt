@@ -8,6 +8,7 @@
 //! - `looks`: what a file that is refused looks like;
 //! - `flaws`: the faulty line of an input, in words;
 //! - `hints`: what helps a person with a failure;
+//! - `help_lines`: the line in which that is said;
 //! - `files`: a line over files of the system;
 //! - `said`: what is said on standard error;
 //! - `runs`: the words of a command line, carried out over files of the system;
@@ -18,6 +19,7 @@ mod asking;
 mod disks;
 mod files;
 mod flaws;
+mod help_lines;
 mod hints;
 mod laws;
 mod looks;
@@ -28,4 +30,5 @@ mod said;
 
 pub use disks::execute_on;
 pub use plans::Plan;
-pub use runs::{run, say_report};
+pub use runs::run;
+pub use said::say_report;

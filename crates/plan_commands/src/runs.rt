@@ -1,11 +1,11 @@
 //! The program over its words, the files of the system, its report and standard error.
 
-ghost use Rattle.std.specs.Prelude.{◌≡◌, ◌≢◌, [], Err, List, MatchResult, None, Ok, map, string_bytes, ℕ};
+ghost use Rattle.std.specs.Prelude.{◌≡◌, ◌≢◌, Err, MatchResult, Ok, map, string_bytes};
 ghost use Rattle.std.specs.IoError.{error_kind};
-ghost use Rattle.std.specs.Io.KnownBytes.{Appends};
-ghost use Rattle.command_ends.specs.Outputs.{Takes, writer};
+ghost use Rattle.command_ends.specs.Outputs.{writer};
 ghost use Rattle.archive_files.specs.AtTurns.{told_by};
 ghost use Rattle.archive_files.specs.Fresh.{AreFresh};
+ghost use Rattle.command_line.specs.LineView.{line_view};
 ghost use Rattle.plan_commands.specs.Files.{calls_of};
 ghost use Rattle.command_ends.specs.Statuses.{status_of};
 ghost use Rattle.plan_commands.specs.Ends.{EndsLine, EndsWords, IsIdle, IsUnreadable, WantsMemory};
@@ -13,7 +13,7 @@ ghost use Rattle.plan_commands.specs.Said.{SaysFailure, SaysNotes, behind_error,
 
 use crate::files::execute;
 use crate::hints::{Seen, help_with};
-use crate::said::{FailureLine, RefusedLine, say, say_more, say_notes, say_wanting};
+use crate::said::{FailureLine, RefusedLine, say, say_help, say_notes, say_wanting};
 use archive_files::{Disk, OpenedFile, OutFile, OutPath, PlacedFile, SystemDisk, SystemFiles};
 use archive_updates::Note;
 use byte_device::{Sink, Source, push_all};
@@ -22,7 +22,6 @@ use command_line::{Line, LineFault, read_line};
 use memory::Heap;
 use placed_bytes::Placed;
 use std::alloc::Global;
-use std::fmt::{self, Display, Write};
 use std::io::{self, BufReader, ErrorKind};
 use std::rt::Files;
 
@@ -101,7 +100,7 @@ fn end<E: Sink>(
 ) -> u8
     ensures says { MatchResult ended
         (λ both. SaysNotes (writer E.held E.failures errors.old errors.new) both.1.items)
-        (λ failure. SaysFailure (writer E.held E.failures errors.old errors.new) failure) }
+        (λ failure. SaysFailure (writer E.held E.failures errors.old errors.new) (line_view line.now) failure) }
     ensures status { MatchResult ended
         (λ both. result ≡ status_of (Ok both.0))
         (λ failure. result ≡ status_of (Err failure)) }
@@ -120,13 +119,13 @@ fn end<E: Sink>(
 
 /// Says why a line failed, and after it what helps a person.
 fn say_failure<E: Sink>(alloc: Global, line: &Line, failure: Failure, seen: Seen, errors: &mut E)
-    ensures { SaysFailure (writer E.held E.failures errors.old errors.new) failure }
+    ensures { SaysFailure (writer E.held E.failures errors.old errors.new) (line_view line.now) failure }
 {
     if !say(alloc, &FailureLine(failure), errors) {
         return;
     }
     if let Some(hint) = help_with(line, &failure, seen) {
-        say_more(alloc, &hint, errors);
+        say_help(alloc, &hint, errors);
     }
 }
 
@@ -204,25 +203,5 @@ fn refuse_words<P: Sink, E: Sink>(
             errors,
         );
         BAD_LINE
-    }
-}
-
-/// Why the report failed.
-#[derive(Clone, Copy)]
-struct ReportHint(io::Error);
-
-impl Display for ReportHint {
-    fn fmt<W: fmt::Write>(&self, f: &mut fmt::Formatter<W>) -> fmt::Result {
-        write!(f, "  report is standard output: {}", self.0)
-    }
-}
-
-/// Says why the report failed, if that is known, after the line of that failure.
-pub fn say_report<E: Sink>(alloc: Global, reason: Option<io::Error>, errors: &mut E)
-    ensures unknown { reason ≡ None → Takes (writer E.held E.failures errors.old errors.new) [] }
-    ensures known { (more : List ℕ) × Appends (E.held errors.old) (E.held errors.new) more }
-{
-    if let Some(reason) = reason {
-        say_more(alloc, &ReportHint(reason), errors);
     }
 }

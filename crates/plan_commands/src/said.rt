@@ -1,17 +1,21 @@
 //! What is said on standard error.
 
-ghost use Rattle.std.specs.Prelude.{◌≡◌, IfOk, IfSome, List, string_bytes, ℕ};
-ghost use Rattle.std.specs.Io.KnownBytes.{Appends};
-ghost use Rattle.command_ends.specs.Outputs.{writer};
+ghost use Rattle.std.specs.Prelude.{◌≡◌, [], IfOk, IfSome, None, Some, string_bytes};
+ghost use Rattle.command_ends.specs.Outputs.{Takes, writer};
+ghost use Rattle.command_line.specs.Lines.{Line};
 ghost use Rattle.report_text.specs.Report.{line};
-ghost use Rattle.plan_commands.specs.Said.{IsPushed, IsSaid, SaysNotes, SaysWanting, note_lines};
+ghost use Rattle.plan_commands.specs.Hints.{file_of, subject_of, subject_text};
+ghost use Rattle.plan_commands.specs.Said.{IsPushed, IsSaid, SaysHelp, SaysNotes, SaysReport, SaysWanting, note_lines};
 
+use crate::help_lines::{help_line, report_line};
+use crate::hints::Hint;
 use archive_updates::Note;
 use byte_device::{Sink, push_all};
 use command_ends::Failure;
 use memory::NoMemory;
 use std::alloc::Global;
 use std::fmt::{self, Display, Write};
+use std::io;
 
 /// The line of a failure.
 #[derive(Clone, Copy)]
@@ -89,13 +93,29 @@ pub fn say<E: Sink, T: Display>(alloc: Global, told: &T, errors: &mut E) -> bool
     }
 }
 
-/// Says a line after another, where there is memory for it.
-pub fn say_more<E: Sink, T: Display>(alloc: Global, told: &T, errors: &mut E)
-    ensures { (more : List ℕ) × Appends (E.held errors.old) (E.held errors.new) more }
+/// Says the line that helps with a failure of this line, where there is memory for it.
+pub fn say_help<E: Sink>(alloc: Global, hint: &Hint<'_>, errors: &mut E)
+    ensures { (asked : Line) (failure : Failure) → Some hint.now.path.now ≡ file_of asked failure
+        → subject_text hint.now.subject ≡ subject_of failure
+        → SaysHelp (writer E.held E.failures errors.old errors.new) asked failure }
 {
-    if let Ok(whole) = line_of(alloc, told) {
-        push_whole(errors, whole.as_bytes());
+    if let Ok(help) = help_line(alloc, hint) {
+        push_whole(errors, help.as_bytes());
     }
+}
+
+/// Says why the report failed, if that is known, after the line of that failure.
+pub fn say_report<E: Sink>(alloc: Global, reason: Option<io::Error>, errors: &mut E)
+    ensures unknown { reason ≡ None → Takes (writer E.held E.failures errors.old errors.new) [] }
+    ensures known { IfSome reason (λ _. SaysReport (writer E.held E.failures errors.old errors.new)) }
+{
+    let Some(reason) = reason else {
+        return;
+    };
+    match report_line(alloc, reason) {
+        Ok(line) => push_whole(errors, line.as_bytes()),
+        Err(NoMemory) => push_whole(errors, b"  report is standard output\n"),
+    };
 }
 
 /// The lines of the notes.
@@ -109,11 +129,15 @@ fn lines_of(alloc: Global, notes: &[Note]) -> Result<String, NoMemory>
     Ok(lines)
 }
 
-/// Says the notes, a line each, where there is memory for them.
+/// Says the notes, a line each; or, where there is no memory for the lines, that.
 pub fn say_notes<E: Sink>(alloc: Global, notes: &[Note], errors: &mut E)
     ensures { SaysNotes (writer E.held E.failures errors.old errors.new) notes.now }
 {
-    if let Ok(lines) = lines_of(alloc, notes) {
-        push_whole(errors, lines.as_bytes());
+    if notes.is_empty() {
+        return;
     }
+    match lines_of(alloc, notes) {
+        Ok(lines) => push_whole(errors, lines.as_bytes()),
+        Err(NoMemory) => push_whole(errors, b"note: out of memory\n"),
+    };
 }

@@ -1,0 +1,5 @@
+use Rattle.archive_laws.proofs.Crashes.{no_file}
+use Rattle.archive_laws.proofs.out_laws.never_written_through.Goals as goal
+
+pub returns : goal.returns
+returns c = no_file
