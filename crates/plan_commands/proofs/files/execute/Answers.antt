@@ -23,7 +23,7 @@ returns-in_err-heap g c =
     rw (wanting.1, wanting.2) (inl (record {
       wanting = refl;
       asked = none_asked _ _;
-      uncalled = none_called _ _ c.requires.6 c.requires.5;
+      uncalled = none_called _ _ c.requires.files.6 c.requires.files.5;
       report_same = refl;
       report_unfailed = refl;
     }))
@@ -34,7 +34,7 @@ returns-in_err-clone g c =
     rw (wanting.1, wanting.2) (inl (record {
       wanting = refl;
       asked = none_asked _ _;
-      uncalled = none_called _ _ c.requires.6 c.requires.5;
+      uncalled = none_called _ _ c.requires.files.6 c.requires.files.5;
       report_same = refl;
       report_unfailed = refl;
     }))
