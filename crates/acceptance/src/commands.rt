@@ -34,6 +34,8 @@ impl<'a> Disk for Desk<'a> {
 
     ghost opened = { λ _. None };
 
+    ghost wanting = { λ _. None };
+
     fn open(&mut self, path: &str) -> Result<Result<StrictSource<'a>, CannotOpen>, NoMemory> {
         if self.limits.opened == 0 {
             return Err(NoMemory);

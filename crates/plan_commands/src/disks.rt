@@ -32,7 +32,7 @@ pub fn execute_on<A: Archive + Drop, L: Archive + Drop, D: Disk, T: Target, P: S
 ) -> Result<Status, CommandFault>
     requires inputs { AreWaiting told (inputs_of (line_view line.now)) inputs.old }
     requires plan { IsPlanOf plan.now (line_view line.now) }
-    ensures { Carried told (line_view line.now) inputs.old inputs.new
+    ensures { Carried told (line_view line.now) plan.now inputs.old inputs.new
         (outs T.Draft.held T.Draft.failures T.placed T.failures out.old out.new)
         (writer P.held P.failures report.old report.new) result notes.old.items notes.new.items }
 {

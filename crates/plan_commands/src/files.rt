@@ -1,6 +1,6 @@
 //! A line, carried out over files of the system.
 
-ghost use Rattle.std.specs.Prelude.{◌≡◌, ◌++◌, [], Err, IfOk, MatchResult, None, Ok, OnOk, option_map, string_bytes};
+ghost use Rattle.std.specs.Prelude.{◌≡◌, ◌≢◌, ◌++◌, [], Err, IfOk, MatchResult, None, Ok, OnOk, option_map, string_bytes};
 ghost use Rattle.command_ends.specs.Outputs.{writer};
 ghost use Rattle.archive_files.specs.AtTurns.{told as told_of, told_by};
 ghost use Rattle.archive_files.specs.Fresh.{AreFresh};
@@ -39,6 +39,7 @@ fn begin<F: Files>(
     ensures asked { files.new.asked.entries ≡ files.old.asked.entries }
     ensures path { OnOk result (IsPath (out_of (line_view line.now)) (inputs_of (line_view line.now))
         files.new.others.entries files.new.same.entries (option_map string_bytes files.new.out.draft.path)) }
+    ensures rule { OnOk result (out_of (line_view line.now) ≢ None → files.new.out.draft.replaces ≡ replaces) }
     ensures untouched { stage_of files.new.out.draft.state ≡ Untouched }
     ensures unfailed { files.new.out.draft.failures ≡ 0 }
     ensures calls { files.new.out.draft.calls.entries ≡ [] }

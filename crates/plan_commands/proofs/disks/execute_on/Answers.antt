@@ -13,7 +13,6 @@ blamed-requires g c = c.execute-ended.auto.inputs ∙ as_many _ _ _ c.requires.i
 
 pub returns : goal.returns
 returns g c = record {
-  plan = c.args.plan.now;
   plan_is = c.requires.plan;
   waiting = c.requires.inputs;
   as_many = c.execute-ended.auto.inputs;
