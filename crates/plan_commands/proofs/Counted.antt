@@ -13,23 +13,12 @@ use Rattle.command_line.specs.declared.commands.Kind.{Kind}
 use Rattle.command_line.specs.declared.commands.Kind.TheVariants as kinds
 use Rattle.command_line.specs.declared.commands.Role.{Role}
 use Rattle.command_line.specs.declared.commands.Role.TheVariants as roles
-use Rattle.plan_commands.specs.Plans.{IsPlanOf, least_inputs}
+use Rattle.plan_commands.specs.Plans.{IsPlanOf, has_to_stand, least_inputs, least_of}
 use Rattle.plan_commands.specs.declared.plans.Plan.{Plan}
 use Rattle.plan_commands.specs.declared.plans.Plan.TheVariants as plan
 
--- it has to be there
-abbrev stands : Count → Bool
-stands Once = true
-stands Several = true
-stands _ = false
-
--- as many of these arguments are paths of inputs that have to be there
-abbrev least_of : List Argument → ℕ
-least_of [] = 0
-least_of (a ∷ rest) = if reads a.role && stands a.count then suc (least_of rest) else least_of rest
-
 -- a path that has to be there is one
-one_there : (count : Count) (v : Values) → stands count ≡ true → is_formed forms.Plain count v ≡ true
+one_there : (count : Count) (v : Values) → has_to_stand count ≡ true → is_formed forms.Plain count v ≡ true
     → 1 ≤ length (texts_of v)
 one_there count v must formed = grind arith
 
@@ -44,7 +33,7 @@ few (a ∷ rest) (v ∷ vs) are =
   where
     go : (role : Role) (count : Count) → is_formed (form_of role) count v ≡ true
         → least_of rest ≤ length (texts_by reads rest vs)
-        → (if reads role && stands count then suc (least_of rest) else least_of rest)
+        → (if reads role && has_to_stand count then suc (least_of rest) else least_of rest)
         ≤ length (if reads role then texts_of v ++ texts_by reads rest vs else texts_by reads rest vs)
     go (roles.Reads kind) Once formed more =
         omega (arith, more, one_there Once v refl formed, length-append (texts_of v) (texts_by reads rest vs))
@@ -128,21 +117,10 @@ enough asked line is listed = by_plan asked is (least line.name line.values list
 
     by_plan : (asked : Plan) → IsPlanOf asked line → least_of (arguments_named line.name) ≤ length (inputs_of line)
         → least_inputs asked ≤ length (inputs_of line)
-    by_plan plan.New is some = omega arith
-    by_plan plan.Admit is some = at _ 2 is refl some
-    by_plan (plan.Retire key digest) is some = at _ 1 is.0 refl some
-    by_plan plan.Merge is some = at _ 2 is refl some
-    by_plan plan.Migrate is some = at _ 1 is refl some
-    by_plan plan.Apply is some = at _ 2 is refl some
     by_plan (plan.Find uuid others) is some =
-        rw (← is.2) (few_of_kind kinds.Archive (arguments_named line.name) line.values)
-    by_plan plan.List is some = at _ 1 is refl some
-    by_plan (plan.Name name) is some = at _ 1 is.0 refl some
+        rw (← is.1.1) (few_of_kind kinds.Archive (arguments_named line.name) line.values)
     by_plan (plan.Symbolicate key load others addresses) is some =
-        rw (← is.5) (few_of_kind kinds.Archive (arguments_named line.name) line.values)
+        rw (← is.1.4) (few_of_kind kinds.Archive (arguments_named line.name) line.values)
     by_plan (plan.Frames indexes) is some =
         rw (← is.1, is.0) (frames_few line.values (values_are line.name _ line.values is.0 listed))
-    by_plan plan.Summary is some = at _ 1 is refl some
-    by_plan plan.Index is some = at _ 1 is refl some
-    by_plan plan.Delta is some = at _ 2 is refl some
-    by_plan plan.Rehearse is some = at _ 1 is refl some
+    by_plan asked is some = at _ _ is.0 refl some

@@ -1,16 +1,18 @@
--- What a line asks for, by name, and how its command ends.
-use Rattle.std.specs.Prelude.{◌≡◌, ℕ, suc, List, [], ◌∷◌, codes, length, take, drop, if◌then◌else◌}
+-- What a line asks for, and how its command ends.
+use Rattle.std.specs.Prelude.{◌≡◌, ⊤, ℕ, suc, Bool, true, false, ◌&&◌, List, [], ◌∷◌, codes, length, take, drop}
+use Rattle.std.specs.Prelude.{if◌then◌else◌}
 use Rattle.std.specs.Prelude.{Option, Some, None, Result}
 use Rattle.std.specs.FinSet as set
 use Rattle.std.specs.Str.{bytes_eq}
 use Rattle.clap.specs.Words.{Text}
-use Rattle.command_line.specs.Arguments.{Argument, Values, archs, digests, numbers, one, perhaps, several, text, uuids}
+use Rattle.command_line.specs.Arguments.{Argument, Count, Once, Several, Values, archs, digests, numbers, one, perhaps}
+use Rattle.command_line.specs.Arguments.{reads, several, text, uuids}
 use Rattle.command_line.specs.Lines.{Line, inputs_of_kind}
 use Rattle.command_line.specs.declared.commands.Kind.{Kind}
 use Rattle.command_line.specs.declared.commands.Kind.TheVariants as kinds
 use Rattle.command_line.specs.Table.{admit_command, apply_command, delta_command, find_command, frames_command}
 use Rattle.command_line.specs.Table.{index_command, list_command, merge_command, migrate_command, name_command}
-use Rattle.command_line.specs.Table.{arguments_named, new_command}
+use Rattle.command_line.specs.Table.{Signature, arguments_named, new_command}
 use Rattle.command_line.specs.Table.{rehearse_command, retire_command, summary_command, symbolicate_command}
 use Rattle.archive_core.specs.declared.keys.ArchKey.{ArchKey}
 use Rattle.archive_core.specs.declared.keys.SliceKey.{SliceKey}
@@ -52,50 +54,60 @@ Has line name values = named_by name (arguments_named line.name) line.values ≡
 abbrev pub count_of : Kind → Line → ℕ
 count_of kind line = length (inputs_of_kind kind line)
 
--- The plan is the one that a line asks for: it is of the line's command, with the values at its names, and with the
--- numbers of its inputs.
-abbrev pub IsPlanOf : Plan → Line → Type 0
-IsPlanOf plan.New line = line.name ≡ new_command.name
-IsPlanOf plan.Admit line = line.name ≡ admit_command.name
-IsPlanOf (plan.Retire key digest) line =
-    (line.name ≡ retire_command.name) × Has line (codes "UUID") (uuids (one key.uuid))
-    × Has line (codes "ARCH") (archs (one key.arch)) × Has line (codes "DIGEST") (digests (one digest))
-IsPlanOf plan.Merge line = line.name ≡ merge_command.name
-IsPlanOf plan.Migrate line = line.name ≡ migrate_command.name
-IsPlanOf plan.Apply line = line.name ≡ apply_command.name
-IsPlanOf (plan.Find uuid others) line =
-    (line.name ≡ find_command.name) × Has line (codes "UUID") (uuids (one uuid))
-    × (count_of kinds.Archive line ≡ suc others)
-IsPlanOf plan.List line = line.name ≡ list_command.name
-IsPlanOf (plan.Name name) line = (line.name ≡ name_command.name) × Has line (codes "NAME") (text name.now)
-IsPlanOf (plan.Symbolicate key load others addresses) line =
-    (line.name ≡ symbolicate_command.name) × Has line (codes "UUID") (uuids (one key.uuid))
-    × Has line (codes "ARCH") (archs (one key.arch)) × Has line (codes "HEX") (numbers (perhaps load))
-    × Has line (codes "ADDRESS") (numbers (several addresses.now)) × (count_of kinds.Archive line ≡ suc others)
-IsPlanOf (plan.Frames indexes) line =
-    (line.name ≡ frames_command.name) × (count_of kinds.Index line ≡ indexes)
-IsPlanOf plan.Summary line = line.name ≡ summary_command.name
-IsPlanOf plan.Index line = line.name ≡ index_command.name
-IsPlanOf plan.Delta line = line.name ≡ delta_command.name
-IsPlanOf plan.Rehearse line = line.name ≡ rehearse_command.name
+-- the command of a plan
+abbrev pub command_of : Plan → Signature
+command_of plan.New = new_command
+command_of plan.Admit = admit_command
+command_of (plan.Retire _ _) = retire_command
+command_of plan.Merge = merge_command
+command_of plan.Migrate = migrate_command
+command_of plan.Apply = apply_command
+command_of (plan.Find _ _) = find_command
+command_of plan.List = list_command
+command_of (plan.Name _) = name_command
+command_of (plan.Symbolicate _ _ _ _) = symbolicate_command
+command_of (plan.Frames _) = frames_command
+command_of plan.Summary = summary_command
+command_of plan.Index = index_command
+command_of plan.Delta = delta_command
+command_of plan.Rehearse = rehearse_command
 
--- the fewest inputs that the lines of a plan have
+-- A line has the values of a plan at its names, and as many inputs as the plan says.
+abbrev pub HasValues : Plan → Line → Type 0
+HasValues (plan.Retire key digest) line =
+    Has line (codes "UUID") (uuids (one key.uuid)) × Has line (codes "ARCH") (archs (one key.arch))
+    × Has line (codes "DIGEST") (digests (one digest))
+HasValues (plan.Find uuid others) line =
+    Has line (codes "UUID") (uuids (one uuid)) × (count_of kinds.Archive line ≡ suc others)
+HasValues (plan.Name name) line = Has line (codes "NAME") (text name.now)
+HasValues (plan.Symbolicate key load others addresses) line =
+    Has line (codes "UUID") (uuids (one key.uuid)) × Has line (codes "ARCH") (archs (one key.arch))
+    × Has line (codes "HEX") (numbers (perhaps load)) × Has line (codes "ADDRESS") (numbers (several addresses.now))
+    × (count_of kinds.Archive line ≡ suc others)
+HasValues (plan.Frames indexes) line = count_of kinds.Index line ≡ indexes
+HasValues _ line = ⊤
+
+-- The plan is the one that a line asks for.
+abbrev pub IsPlanOf : Plan → Line → Type 0
+IsPlanOf asked line = (line.name ≡ (command_of asked).name) × HasValues asked line
+
+-- it has to be there
+abbrev pub has_to_stand : Count → Bool
+has_to_stand Once = true
+has_to_stand Several = true
+has_to_stand _ = false
+
+-- as many of these arguments are paths of inputs that have to be there
+abbrev pub least_of : List Argument → ℕ
+least_of [] = 0
+least_of (a ∷ rest) = if reads a.role && has_to_stand a.count then suc (least_of rest) else least_of rest
+
+-- the fewest inputs that a line of a plan has
 abbrev pub least_inputs : Plan → ℕ
-least_inputs plan.New = 0
-least_inputs plan.Admit = 2
-least_inputs (plan.Retire _ _) = 1
-least_inputs plan.Merge = 2
-least_inputs plan.Migrate = 1
-least_inputs plan.Apply = 2
 least_inputs (plan.Find _ others) = suc others
-least_inputs plan.List = 1
-least_inputs (plan.Name _) = 1
 least_inputs (plan.Symbolicate _ _ others _) = suc others
 least_inputs (plan.Frames indexes) = suc (suc indexes)
-least_inputs plan.Summary = 1
-least_inputs plan.Index = 1
-least_inputs plan.Delta = 2
-least_inputs plan.Rehearse = 1
+least_inputs asked = least_of (command_of asked).arguments
 
 -- which files the OUT of a plan replaces: a message or an index each of symarch's own, an archive those below it
 abbrev pub replaces_of : Plan → Replaces
