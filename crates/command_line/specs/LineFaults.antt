@@ -10,6 +10,7 @@ use Rattle.command_line.specs.LineView.{line_view}
 use Rattle.command_line.specs.Lines.{Line, line_in, out_of, overwrites_input, words_by}
 use Rattle.command_line.specs.declared.commands.Form.{Form}
 use Rattle.command_line.specs.declared.commands.Form.TheVariants as forms
+use Rattle.command_line.specs.Shown.{shown}
 use Rattle.command_line.specs.Table.{signature_named}
 use Rattle.command_line.specs.declared.lines.Line.{Line as LineOfProgram}
 use Rattle.command_line.specs.declared.line_faults.LineFault.{LineFault}
@@ -44,7 +45,7 @@ form_words forms.Number = codes "1 to 16 hex digits, with or without 0x"
 -- what is told of a word of another form than its argument's, and of an argument without a word
 abbrev pub other_form : Argument → Text → Text
 other_form a word = codes "error: invalid "
-    ++ (a.name ++ (codes " '" ++ (word ++ (codes "': expected " ++ (form_words (form_of a.role) ++ 10 ∷ [])))))
+    ++ (a.name ++ (codes " '" ++ (shown word ++ (codes "': expected " ++ (form_words (form_of a.role) ++ 10 ∷ [])))))
 
 abbrev pub without_value : Argument → Text
 without_value a = codes "error: missing " ++ (a.name ++ 10 ∷ [])
@@ -89,7 +90,7 @@ abbrev pub refusal_in : Text × List Row → Option Text
 refusal_in p = option_map_or (λ s. refusal_among s.arguments p.1) (signature_named p.0) (Some (unknown_command p.0))
 
 abbrev pub out_is_input : Text → Text
-out_is_input out = codes "error: invalid OUT '" ++ (out ++ (codes "': expected a path that is no input" ++ 10 ∷ []))
+out_is_input out = codes "error: invalid OUT '" ++ (shown out ++ (codes "': expected a path that is no input" ++ 10 ∷ []))
 
 -- what is told of a line, if its OUT is an input
 abbrev pub out_refusal : Line → Option Text

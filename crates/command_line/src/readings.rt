@@ -14,6 +14,7 @@ ghost use Rattle.command_line.specs.Lines.{all_spelled, all_values, amount_spell
 ghost use Rattle.command_line.specs.Lines.{values_spelled, words_by};
 
 use crate::commands::{Argument, Count, Form, form_of, form_text};
+use crate::escapes::shown;
 use crate::line_faults::{LineFault, refused};
 use crate::values::{Amount, Values};
 use archive_words::Word;
@@ -107,7 +108,10 @@ fn other_form(alloc: Global, argument: Argument, word: &str) -> LineFault
 {
     let name = argument.name;
     let form = form_text(form_of(argument.role));
-    refused(format!(in alloc; "error: invalid {name} '{word}': expected {form}\n"))
+    match shown(alloc, word) {
+        Ok(word) => refused(format!(in alloc; "error: invalid {name} '{word}': expected {form}\n")),
+        Err(_) => LineFault::OutOfMemory,
+    }
 }
 
 /// The refusal of a line in which a value is missing.

@@ -8,10 +8,11 @@ ghost use Rattle.command_line.specs.Lines.{line_of};
 ghost use Rattle.command_line.specs.Lines.{named_command, overwrites_input};
 ghost use Rattle.command_line.specs.LineView.{line_view};
 ghost use Rattle.command_line.specs.LineFaults.{IsHelpUnlessMemory, IsRefusalUnlessMemory, IsRefusedBy, Reads};
-ghost use Rattle.command_line.specs.LineFaults.{out_refusal, refusal_in, refusal_of};
+ghost use Rattle.command_line.specs.LineFaults.{out_is_input, out_refusal, refusal_in, refusal_of};
 
 use crate::apps::symarch_command;
 use crate::commands::signature_named;
+use crate::escapes::{has_control, shown};
 use crate::line_faults::{LineFault, parse_fault, refused};
 use crate::lines::Line;
 use crate::readings::all_values;
@@ -50,7 +51,7 @@ fn matches_of<'a, S: AsStr>(alloc: Global, words: &'a [S]) -> Result<ArgMatches<
     let command = symarch_command(alloc)?;
     match command.try_get_matches_from(words) {
         Ok(matches) => Ok(matches),
-        Err(error) => Err(parse_fault(alloc, &error)),
+        Err(error) => Err(parse_fault(alloc, &error, has_control(words))),
     }
 }
 
@@ -69,6 +70,19 @@ fn is_among(path: &str, paths: &[&str]) -> bool
     paths.contains(&path)
 }
 
+/// The refusal of a line in which OUT is an input.
+fn out_is_input(alloc: Global, out: &str) -> LineFault
+    ensures told { IsRefusedBy (Some (out_is_input out.now)) result }
+    ensures refusal { IsRefusalUnlessMemory result }
+{
+    match shown(alloc, out) {
+        Ok(out) => refused(format!(in alloc;
+            "error: invalid OUT '{out}': expected a path that is no input\n"
+        )),
+        Err(_) => LineFault::OutOfMemory,
+    }
+}
+
 /// Refuses a line that would write over one of its inputs.
 fn check_out(alloc: Global, line: &Line) -> Result<(), LineFault>
     ensures ok { OnOk result (overwrites_input (line_view line.now) ≡ false) }
@@ -80,9 +94,7 @@ fn check_out(alloc: Global, line: &Line) -> Result<(), LineFault>
         return Ok(());
     };
     if is_among(out, &line.inputs(alloc)?) {
-        return Err(refused(format!(in alloc;
-            "error: invalid OUT '{out}': expected a path that is no input\n"
-        )));
+        return Err(out_is_input(alloc, out));
     }
     Ok(())
 }
