@@ -13,7 +13,7 @@ use command_ends::Output;
 use command_line::Line;
 use memory::{Heap, NoMemory};
 use placed_bytes::LaidPieces;
-use plan_commands::execute_on;
+use plan_commands::{Plan, execute_on};
 
 impl<'a> Disk for Desk<'a> {
     ghost use Rattle.std.specs.Prelude.{[], None, is_some, option_map, if◌then◌else◌};
@@ -33,6 +33,8 @@ impl<'a> Disk for Desk<'a> {
     ghost place_of = { λ _. [] };
 
     ghost opened = { λ _. None };
+
+    ghost wanting = { λ _. None };
 
     fn open(&mut self, path: &str) -> Result<Result<StrictSource<'a>, CannotOpen>, NoMemory> {
         if self.limits.opened == 0 {
@@ -84,6 +86,7 @@ impl<'a> Desk<'a> {
             heap,
             &mut inputs,
             line,
+            &Plan::of(line),
             &mut notes,
             &mut out,
             &mut report,

@@ -2,3 +2,4 @@ pub mod Accounts
 pub mod Placings
 pub mod Asked
 mod PlacesHeld
+pub mod Described

@@ -16,6 +16,7 @@ told_by disk input places = record {
   file = λ s. disk.file_at s.disk s.path.now;
   stage = λ s. stage_of s.turn;
   opened = λ s. disk.opened s.disk;
+  wanting = λ s. disk.wanting s.disk;
 }
 
 -- the same

@@ -1,9 +1,21 @@
 -- What is called of the system for an output.
-use Rattle.std.specs.Prelude.{ℕ, ◌==◌, if◌then◌else◌, List, [], ◌∷◌, ◌++◌, map}
+use Rattle.std.specs.Prelude.{ℕ, Bool, true, false, ◌&&◌, ◌==◌, if◌then◌else◌, List, [], ◌∷◌, ◌++◌, map}
+use Rattle.std.specs.Fs.{file_type}
+use Rattle.std.specs.declared.fs.attrs.Metadata.{Metadata}
 
--- A call. A file is created that was not there, or what is there is opened and emptied; it takes bytes, which are
--- synced to the disk; it is renamed, and the folder synced; or it is removed.
+-- A call. The system says what a path leads to: a regular file, something else, or nothing; that the path itself is no
+-- link; which path it leads to; or that what is there is no archive. A draft is compared with an archive, of which it
+-- has or covers each record, or not. A file is created that was not there, or what is there is opened and emptied; it
+-- takes bytes, which are synced to the disk; it is renamed, and the folder synced; or it is removed.
 pub data FileCall : Type 0 where
+  FindsFile : (path : List ℕ) → FileCall
+  FindsOther : (path : List ℕ) → FileCall
+  FindsNothing : (path : List ℕ) → FileCall
+  FindsNoLink : (path : List ℕ) → FileCall
+  Leads : (path : List ℕ) → (target : List ℕ) → FileCall
+  FindsNoArchive : (path : List ℕ) → FileCall
+  Covers : (draft : List ℕ) → (target : List ℕ) → FileCall
+  Loses : (draft : List ℕ) → (target : List ℕ) → FileCall
   Creates : (path : List ℕ) → FileCall
   Opens : (path : List ℕ) → FileCall
   Writes : (bytes : List ℕ) → FileCall
@@ -21,7 +33,15 @@ call_of (number ∷ []) path other =
     else if number == 3 then Syncs
     else if number == 4 then Renames path other
     else if number == 5 then SyncsFolder path
-    else Removes path
+    else if number == 6 then Removes path
+    else if number == 7 then FindsFile path
+    else if number == 8 then FindsOther path
+    else if number == 9 then FindsNothing path
+    else if number == 10 then FindsNoLink path
+    else if number == 11 then Leads path other
+    else if number == 12 then FindsNoArchive path
+    else if number == 13 then Covers path other
+    else Loses path other
 call_of _ path other = Removes path
 
 -- the bytes of the calls that write
@@ -29,6 +49,37 @@ abbrev pub bytes_in : List FileCall → List ℕ
 bytes_in [] = []
 bytes_in (Writes bytes ∷ calls) = bytes ++ bytes_in calls
 bytes_in (_ ∷ calls) = bytes_in calls
+
+-- what a path leads to, of which the system said this
+abbrev pub found : List ℕ → Metadata → FileCall
+found path metadata = if (file_type metadata).bits == 0o100000 then FindsFile path else FindsOther path
+
+-- a draft was compared with an archive, of which it lacks so many records
+abbrev pub compared : List ℕ → List ℕ → ℕ → FileCall
+compared draft target lost = if lost == 0 then Covers draft target else Loses draft target
+
+-- a call that only asks
+abbrev pub is_look : FileCall → Bool
+is_look (FindsFile path) = true
+is_look (FindsOther path) = true
+is_look (FindsNothing path) = true
+is_look (FindsNoLink path) = true
+is_look (Leads path target) = true
+is_look (FindsNoArchive path) = true
+is_look (Covers draft target) = true
+is_look (Loses draft target) = true
+is_look (Creates path) = false
+is_look (Opens path) = false
+is_look (Writes bytes) = false
+is_look Syncs = false
+is_look (Renames draft target) = false
+is_look (SyncsFolder path) = false
+is_look (Removes path) = false
+
+-- the calls only ask
+abbrev pub are_looks : List FileCall → Bool
+are_looks [] = true
+are_looks (call ∷ calls) = is_look call && are_looks calls
 
 -- pieces of a text go to a draft
 abbrev pub drafting : List ℕ → List (List ℕ) → List FileCall

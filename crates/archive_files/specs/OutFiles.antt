@@ -1,12 +1,15 @@
 -- OUT: how far it is, and what is known of it.
-use Rattle.std.specs.Prelude.{◌≡◌, ℕ, Bool, true, false, List, [], Option, Some, None, Result, IsErr, string_bytes}
+use Rattle.std.specs.Prelude.{◌≡◌, ◌≢◌, ℕ, Bool, true, false, List, [], Option, Some, None, Result, IsErr, string_bytes}
 use Rattle.std.specs.Io.KnownBytes.{WriteAppends}
 use Rattle.archive_files.specs.FileCalls.{FileCall, bytes_in}
-use Rattle.archive_files.specs.Placing.{IsDrafted, IsRemoved, IsWrittenThrough, account}
+use Rattle.archive_files.specs.Placing.{IsDrafted, IsRemoved, IsTargetOf, IsWritable, IsWrittenThrough, account}
 use Rattle.archive_files.specs.declared.out_file.OutState.{OutState}
 use Rattle.archive_files.specs.declared.out_file.OutState.TheVariants as state
 use Rattle.archive_files.specs.declared.placed.Placed.{Placed}
 use Rattle.archive_files.specs.declared.replaceable.OutFault.{OutFault}
+use Rattle.archive_files.specs.declared.replaceable.Replaces.{Replaces}
+use Rattle.archive_files.specs.declared.ways.Way.{Way}
+use Rattle.archive_files.specs.declared.ways.Way.TheVariants as way
 
 -- how far OUT is
 pub data Stage : Type 0 where
@@ -35,6 +38,11 @@ WritesTo contents (state.Drafted old) (state.Drafted new) result bytes =
 WritesTo contents (state.Through old) _ result bytes = ⊥
 WritesTo contents (state.Drafted old) _ result bytes = ⊥
 WritesTo contents _ _ result bytes = IsErr result
+
+-- The same of a file that may be begun with these bytes.
+abbrev pub WritesBegun : {T E : Type 0} → (T → Option (List ℕ)) → OutState T → OutState T → Result ℕ E → List ℕ → Type 0
+WritesBegun {T = T} contents old new result bytes =
+    (begun : OutState T) × (stage_of old ≢ Untouched → begun ≡ old) × WritesTo contents begun new result bytes
 
 -- it takes bytes
 abbrev pub takes_bytes : Stage → Bool
@@ -81,24 +89,31 @@ fault_of (Refused fault) = Some fault
 fault_of Removed = None
 fault_of Settled = None
 
+-- OUT is written so, of whose path the system said this
+abbrev pub IsWayTo : List ℕ → Way → List FileCall → Type 0
+IsWayTo path way.Through looks = IsWritable path looks
+IsWayTo path (way.Beside target access) looks = IsTargetOf path (string_bytes target) looks
+
 -- what was called for OUT so far, which has this path, if it has one
 abbrev pub IsSoFar : Option (List ℕ) → Stage → List FileCall → Type 0
 IsSoFar path Untouched calls = calls ≡ []
 IsSoFar path Through calls = (p : List ℕ) × (path ≡ Some p) × (text : List ℕ) × IsWrittenThrough p text calls
-IsSoFar path (Drafted draft target) calls = (p : List ℕ) × (path ≡ Some p) × IsDrafted draft target calls
+IsSoFar path (Drafted draft target) calls = (p : List ℕ) × (path ≡ Some p) × IsDrafted p draft target calls
 IsSoFar path (Refused fault) calls = IsRemoved path calls
 IsSoFar path Removed calls = IsRemoved path calls
 IsSoFar path Settled calls = calls ≡ []
 
 -- What is known of OUT's draft: the same; and nothing of one that was put in place.
-abbrev pub draft_account : Bool → Option (List ℕ) → List FileCall → List ℕ
-draft_account true path calls = []
-draft_account false path calls = account path (bytes_in calls)
+abbrev pub draft_account : Bool → Option (List ℕ) → Replaces → List FileCall → List ℕ
+draft_account true path replaces calls = []
+draft_account false path replaces calls = account path replaces (bytes_in calls)
 
--- What is known of what was put in place: its path, and the bytes that were written for it.
+-- What is known of what was put in place: its path, which files could be replaced there, and the bytes that were
+-- written for it.
 abbrev pub placed_account : Option Placed → Option (List ℕ)
 placed_account None = None
-placed_account (Some placed) = Some (account (Some (string_bytes placed.path)) (bytes_in placed.calls.entries))
+placed_account (Some placed) =
+    Some (account (Some (string_bytes placed.path)) placed.replaces (bytes_in placed.calls.entries))
 
 -- what was called for it
 abbrev pub placing_calls : Option Placed → List FileCall

@@ -4,7 +4,7 @@ use Rattle.std.specs.Prelude.{IfSome, MatchResult, ⊤}
 use Rattle.std.specs.List.{AllByRecursion, AllZip}
 use Rattle.std.specs.IoError.{error_kind}
 use Rattle.std.specs.declared.io.ErrorKind.TheVariants.{OutOfMemory}
-use Rattle.byte_device.specs.Disks.{At, FileAt, Holding, IsOpened, Missing, Path, Unknown}
+use Rattle.byte_device.specs.Disks.{At, FileAt, Holding, IsOpened, Missing, Path, Unknown, opened_with}
 use Rattle.byte_device.specs.declared.disks.CannotOpen.{CannotOpen}
 use Rattle.archive_files.specs.declared.at_turn.Turn.{Turn}
 use Rattle.archive_files.specs.declared.at_turn.Turn.TheVariants as turn
@@ -34,6 +34,21 @@ abbrev pub opened_in : Stage → Path → List Path
 opened_in Waiting path = []
 opened_in Open path = path ∷ []
 opened_in (Unopened reason) path = path ∷ []
+
+-- the paths at whose opening memory was wanting, of an input with this path
+abbrev pub wanting_in : Stage → Path → List Path
+wanting_in Waiting path = []
+wanting_in Open path = []
+wanting_in (Unopened (why.Refused refused)) path = []
+wanting_in (Unopened why.OutOfMemory) path = path ∷ []
+
+-- The disk says that memory was wanting where that is why an input with this path was not opened, and says it for no
+-- other.
+abbrev pub SaysWanting : Option (List Path) → Option (List Path) → Stage → Path → Type 0
+SaysWanting old new Waiting path = new ≡ old
+SaysWanting old new Open path = new ≡ old
+SaysWanting old new (Unopened (why.Refused refused)) path = new ≡ old
+SaysWanting old new (Unopened why.OutOfMemory) path = new ≡ opened_with old (path ∷ [])
 
 -- The bytes that a file gives, of which this is known. One that is not there gives none: what stands for them is no
 -- byte, so that nobody can have read it.
@@ -89,7 +104,8 @@ IsTurnOf (At path) (Unopened (why.Refused refused)) = error_kind refused.reason 
 IsTurnOf _ _ = ⊤
 
 -- What is told of inputs: what each has left, all its bytes, and how often it failed, its path, what is known of its
--- file, how far it is, and which paths were opened for it, where that is known.
+-- file, how far it is, and, where that is known, which paths were opened for it, and at which of them the system said
+-- that memory is wanting.
 pub record Told (S : Type 0) : Type 0 where
   pub left : S → Option (List ℕ)
   pub whole : S → Option (List ℕ)
@@ -98,6 +114,7 @@ pub record Told (S : Type 0) : Type 0 where
   pub file : S → FileAt
   pub stage : S → Stage
   pub opened : S → Option (List Path)
+  pub wanting : S → Option (List Path)
 
 -- The input has this path, and waits for its turn.
 pub record IsWaiting {S : Type 0} (told : Told S) (path : Path) (input : S) : Type 0 where
@@ -107,10 +124,13 @@ pub record IsWaiting {S : Type 0} (told : Told S) (path : Path) (input : S) : Ty
   pub bytes : told.left input ≡ bytes_at (told.file input)
   pub all : told.whole input ≡ bytes_at (told.file input)
 
--- Of an input no other path is opened than its own, and that once, at its turn; and where it is not opened it fails.
+-- Of an input no other path is opened than its own, and that once, at its turn; where that is for want of memory the
+-- system said so; and where it is not opened it fails.
 pub record IsAtTurn {S : Type 0} (told : Told S) (input : S) : Type 0 where
   pub log : (paths : List Path) → told.opened input ≡ Some paths
       → paths ≡ opened_in (told.stage input) (told.path input)
+  pub wants : (paths : List Path) → told.wanting input ≡ Some paths
+      → paths ≡ wanting_in (told.stage input) (told.path input)
   pub fits : ∥ IsTurnOf (told.file input) (told.stage input) ∥₁
   pub failed : unopened_in (told.stage input) ≢ None → told.failures input ≢ 0
 

@@ -6,8 +6,8 @@ ghost use Rattle.std.specs.Prelude.{◌≡◌, ◌≢◌, ◌≤◌, List, ◌�
 ghost use Rattle.std.specs.Io.KnownBytes.{ReadConsumes};
 ghost use Rattle.byte_device.specs.Disks.{FileAt, Path, opened_with};
 ghost use Rattle.placed_bytes.specs.Places.{HasSize, TakenAt};
-ghost use Rattle.archive_files.specs.Turns.{GivesPlaces, GivesTurn, HoldsFile, IsTurnOf, Open, Waiting, bytes_at};
-ghost use Rattle.archive_files.specs.Turns.{left_in, opened_in, stage_of, unopened_in};
+ghost use Rattle.archive_files.specs.Turns.{GivesPlaces, GivesTurn, HoldsFile, IsTurnOf, Open, SaysWanting, Waiting};
+ghost use Rattle.archive_files.specs.Turns.{bytes_at, left_in, opened_in, stage_of, unopened_in, wanting_in};
 
 use crate::disks::Disk;
 use byte_device::{CannotOpen, Failed, Source};
@@ -44,6 +44,8 @@ pub struct AtTurn<'l, D: Disk> {
     failures: u64,
     // The disk, which is its own, opened its path, once, or nothing while no byte was asked for.
     ghost log: { (paths : List Path) → D.opened disk ≡ Some paths → paths ≡ opened_in (stage_of turn) path.now },
+    // Memory was wanting where the disk says so.
+    ghost wants: { (paths : List Path) → D.wanting disk ≡ Some paths → paths ≡ wanting_in (stage_of turn) path.now },
     // What is not there is not open, and what is known to be there is not refused.
     ghost fits: { ∥ IsTurnOf (D.file_at disk path.now) (stage_of turn) ∥₁ },
     // One that is read from any place has the bytes of the file, where these are known.
@@ -55,7 +57,8 @@ pub struct AtTurn<'l, D: Disk> {
 impl<'l, D: Disk> AtTurn<'l, D> {
     /// The file at this path of a disk that opened nothing.
     pub fn new(disk: D, path: &'l str) -> Self
-        requires { (paths : List Path) → D.opened disk ≡ Some paths → paths ≡ [] }
+        requires opened { (paths : List Path) → D.opened disk ≡ Some paths → paths ≡ [] }
+        requires wanting { (paths : List Path) → D.wanting disk ≡ Some paths → paths ≡ [] }
         ensures disk { result.disk ≡ disk }
         ensures path { result.path.now ≡ path.now }
         ensures waiting { stage_of result.turn ≡ Waiting }
@@ -101,6 +104,7 @@ fn open<D: Disk>(disk: &mut D, path: &str) -> Turn<D::Input, D::Places>
     ensures turn { GivesTurn D.Input.left D.Input.failures D.path_of (D.file_at disk.old path.now) result }
     ensures files { D.file_at disk.new ≡ D.file_at disk.old }
     ensures opened { D.opened disk.new ≡ opened_with (D.opened disk.old) (path.now ∷ []) }
+    ensures wanting { SaysWanting (D.wanting disk.old) (D.wanting disk.new) (stage_of result) path.now }
 {
     match disk.open(path) {
         Ok(Ok(input)) => Turn::Open(input),
@@ -114,6 +118,7 @@ fn open_places<D: Disk>(disk: &mut D, path: &str) -> Turn<D::Input, D::Places>
     ensures turn { GivesPlaces D.Places.whole D.Places.failures D.place_of (D.file_at disk.old path.now) result }
     ensures files { D.file_at disk.new ≡ D.file_at disk.old }
     ensures opened { D.opened disk.new ≡ opened_with (D.opened disk.old) (path.now ∷ []) }
+    ensures wanting { SaysWanting (D.wanting disk.old) (D.wanting disk.new) (stage_of result) path.now }
 {
     match disk.open_places(path) {
         Ok(Ok(places)) => Turn::Placed(places),
@@ -127,11 +132,12 @@ fn begin<D: Disk>(disk: &mut D, path: &str, turn: &mut Turn<D::Input, D::Places>
     ensures files { D.file_at disk.new ≡ D.file_at disk.old }
     ensures waited { stage_of turn.old ≡ Waiting
         → (D.opened disk.new ≡ opened_with (D.opened disk.old) (path.now ∷ []))
+        × SaysWanting (D.wanting disk.old) (D.wanting disk.new) (stage_of turn.new) path.now
         × GivesTurn D.Input.left D.Input.failures D.path_of (D.file_at disk.old path.now) turn.new }
     ensures holds { HoldsFile D.Places.whole (D.file_at disk.old path.now) turn.old
         → HoldsFile D.Places.whole (D.file_at disk.old path.now) turn.new }
     ensures came { stage_of turn.old ≢ Waiting
-        → (D.opened disk.new ≡ D.opened disk.old) × (turn.new ≡ turn.old) }
+        → (D.opened disk.new ≡ D.opened disk.old) × (D.wanting disk.new ≡ D.wanting disk.old) × (turn.new ≡ turn.old) }
 {
     if let Turn::Waiting = turn {
         *turn = open(disk, path);
@@ -143,11 +149,12 @@ fn begin_places<D: Disk>(disk: &mut D, path: &str, turn: &mut Turn<D::Input, D::
     ensures files { D.file_at disk.new ≡ D.file_at disk.old }
     ensures waited { stage_of turn.old ≡ Waiting
         → (D.opened disk.new ≡ opened_with (D.opened disk.old) (path.now ∷ []))
+        × SaysWanting (D.wanting disk.old) (D.wanting disk.new) (stage_of turn.new) path.now
         × GivesPlaces D.Places.whole D.Places.failures D.place_of (D.file_at disk.old path.now) turn.new }
     ensures holds { HoldsFile D.Places.whole (D.file_at disk.old path.now) turn.old
         → HoldsFile D.Places.whole (D.file_at disk.old path.now) turn.new }
     ensures came { stage_of turn.old ≢ Waiting
-        → (D.opened disk.new ≡ D.opened disk.old) × (turn.new ≡ turn.old) }
+        → (D.opened disk.new ≡ D.opened disk.old) × (D.wanting disk.new ≡ D.wanting disk.old) × (turn.new ≡ turn.old) }
 {
     if let Turn::Waiting = turn {
         *turn = open_places(disk, path);

@@ -1,6 +1,6 @@
 //! Files by their paths, each of which is read from its start, or from any place.
 
-ghost use Rattle.std.specs.Prelude.{◌≡◌, ◌∷◌, [], List, Option, IfOk};
+ghost use Rattle.std.specs.Prelude.{◌≡◌, ◌∷◌, [], List, Option, IfOk, MatchResult};
 ghost use Rattle.byte_device.specs.Disks.{FileAt, IsOpened, Path, opened_with};
 
 use byte_device::{CannotOpen, Source};
@@ -27,17 +27,24 @@ pub trait Disk {
     // The paths that were opened, in their order, where they are known.
     ghost opened: { Self → Option (List Path) };
 
+    // Those at whose opening the system said that memory is wanting.
+    ghost wanting: { Self → Option (List Path) };
+
     /// Opens the file at a path, if that can be done. Where memory is wanting it was opened too.
     fn open(&mut self, path: &str) -> Result<Result<Self::Input, CannotOpen>, NoMemory>
         ensures input { IfOk result
             (λ input. IsOpened Self.Input.left Self.Input.failures path_of (file_at self.old path.now) input) }
         ensures files { file_at self.new ≡ file_at self.old }
-        ensures opened { opened self.new ≡ opened_with (opened self.old) (path.now ∷ []) };
+        ensures opened { opened self.new ≡ opened_with (opened self.old) (path.now ∷ []) }
+        ensures wanting { MatchResult result (λ _. wanting self.new ≡ wanting self.old)
+            (λ _. wanting self.new ≡ opened_with (wanting self.old) (path.now ∷ [])) };
 
     /// Opens it to be read from any place.
     fn open_places(&mut self, path: &str) -> Result<Result<Self::Places, CannotOpen>, NoMemory>
         ensures places { IfOk result
             (λ places. IsOpened Self.Places.whole Self.Places.failures place_of (file_at self.old path.now) places) }
         ensures files { file_at self.new ≡ file_at self.old }
-        ensures opened { opened self.new ≡ opened_with (opened self.old) (path.now ∷ []) };
+        ensures opened { opened self.new ≡ opened_with (opened self.old) (path.now ∷ []) }
+        ensures wanting { MatchResult result (λ _. wanting self.new ≡ wanting self.old)
+            (λ _. wanting self.new ≡ opened_with (wanting self.old) (path.now ∷ [])) };
 }

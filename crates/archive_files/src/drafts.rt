@@ -1,14 +1,15 @@
 //! Drafts of OUT: a file of its own beside OUT, which takes the bytes and is renamed when it is whole. What the system
 //! does is in no contract; what is called of it is.
 
-ghost use Rattle.std.specs.Prelude.{◌≡◌, ◌∷◌, ◌++◌, ◌⊎◌, [], IfOk, OnErr, OnOk, string_bytes};
+ghost use Rattle.std.specs.Prelude.{◌≡◌, ◌∷◌, ◌++◌, ◌⊎◌, [], IfOk, List, OnErr, OnOk, string_bytes, true};
 ghost use Rattle.std.specs.Path.{path_with_file_name};
-ghost use Rattle.archive_files.specs.FileCalls.{Removes, Syncs, SyncsFolder, placing};
-ghost use Rattle.archive_files.specs.Placing.{IsBeside, draft_name, folder_of};
+ghost use Rattle.archive_files.specs.FileCalls.{FileCall, Removes, Syncs, SyncsFolder, are_looks, placing};
+ghost use Rattle.archive_files.specs.Placing.{IsBeside, IsTested, draft_name, folder_of};
 
 use crate::file_calls::FileCalls;
 use crate::losses::test_losses;
-use crate::replaceable::{Access, Obstacle, OutFault, Replaces};
+use crate::replaceable::{Obstacle, OutFault, Replaces};
+use crate::ways::Access;
 use memory::NoMemory;
 use std::alloc::Global;
 use std::fs::{self, OpenFile, OpenOptions, Permissions};
@@ -75,7 +76,8 @@ pub fn create_draft<F: Files>(
     target: String,
     access: Option<Access>,
 ) -> Result<Draft<F::File>, OutFault>
-    ensures { IfOk result (λ draft. IsBeside (string_bytes draft.path) (string_bytes draft.target)) }
+    ensures target { IfOk result (λ draft. draft.target ≡ target) }
+    ensures beside { IfOk result (λ draft. IsBeside (string_bytes draft.path) (string_bytes target)) }
 {
     'names: for number in 0..MOST_NAMES {
         let path = draft_path(alloc, &target, process, number)?;
@@ -128,14 +130,16 @@ pub fn put_draft<F: Files>(
     replaces: Replaces,
     calls: &mut FileCalls,
 ) -> Result<(), OutFault>
-    ensures placed { OnOk result (calls.new.entries ≡ calls.old.entries
+    ensures placed { OnOk result ((tests : List FileCall)
+        × IsTested replaces (string_bytes draft.now.path) (string_bytes draft.now.target) tests
+        × (calls.new.entries ≡ calls.old.entries ++ tests
         ++ placing (string_bytes draft.now.path) (string_bytes draft.now.target)
-        (folder_of (string_bytes draft.now.target))) }
-    ensures removed { OnErr result
-        ((calls.new.entries ≡ calls.old.entries ++ Removes (string_bytes draft.now.path) ∷ [])
-        ⊎ (calls.new.entries ≡ calls.old.entries ++ Syncs ∷ Removes (string_bytes draft.now.path) ∷ [])) }
+        (folder_of (string_bytes draft.now.target)))) }
+    ensures removed { OnErr result ((tests : List FileCall) × (are_looks tests ≡ true)
+        × ((calls.new.entries ≡ calls.old.entries ++ tests ++ Removes (string_bytes draft.now.path) ∷ [])
+        ⊎ (calls.new.entries ≡ calls.old.entries ++ tests ++ Syncs ∷ Removes (string_bytes draft.now.path) ∷ []))) }
 {
-    if let Err(fault) = test_place(alloc, files, draft, replaces) {
+    if let Err(fault) = test_place(alloc, files, draft, replaces, calls) {
         remove_draft(files, draft, calls);
         return Err(fault);
     }
@@ -159,9 +163,16 @@ fn test_place<F: Files>(
     files: &F,
     draft: &Draft<F::File>,
     replaces: Replaces,
-) -> Result<(), OutFault> {
+    calls: &mut FileCalls,
+) -> Result<(), OutFault>
+    ensures tested { OnOk result ((tests : List FileCall)
+        × IsTested replaces (string_bytes draft.now.path) (string_bytes draft.now.target) tests
+        × (calls.new.entries ≡ calls.old.entries ++ tests)) }
+    ensures refused { OnErr result ((tests : List FileCall) × (are_looks tests ≡ true)
+        × (calls.new.entries ≡ calls.old.entries ++ tests)) }
+{
     match replaces {
         Replaces::OwnFiles => Ok(()),
-        Replaces::ArchivesBelow => test_losses(alloc, files, &draft.path, &draft.target),
+        Replaces::ArchivesBelow => test_losses(alloc, files, &draft.path, &draft.target, calls),
     }
 }

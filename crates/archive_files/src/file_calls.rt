@@ -4,12 +4,14 @@
 ghost use Rattle.std.specs.Prelude.{◌≡◌, List, [], ◌∷◌, ◌++◌};
 ghost use Rattle.std.specs.Borrow.{ftrue};
 ghost use Rattle.archive_files.specs.FileCalls.{FileCall, Creates, Opens, Removes, Renames, Syncs, SyncsFolder, Writes};
+ghost use Rattle.archive_files.specs.FileCalls.{FindsNoArchive, FindsNoLink, FindsNothing, Leads, compared, found};
 ghost use Rattle.archive_files.specs.FileCalls.{call_of};
 
+use std::fs::Metadata;
 use std::marker::{Model, PhantomData};
 
-/// The calls that were made for one output. A call stands there once the system said that it was done; for the removal
-/// of a draft and the sync of its folder that is not asked.
+/// The calls that were made for one output, and what the system said of its path. A call stands there once the system
+/// said that it was done; for the removal of a draft and the sync of its folder that is not asked.
 #[derive(Drop)]
 pub struct FileCalls {
     marker: PhantomData<u8>,
@@ -82,5 +84,55 @@ impl FileCalls {
         ensures { self.new.entries ≡ self.old.entries ++ Removes path.now ∷ [] }
     {
         self.note(&[6], path.as_bytes(), &[]);
+    }
+
+    /// A path leads to a file of which the system said this.
+    pub fn finds(&mut self, path: &str, metadata: &Metadata)
+        ensures { self.new.entries ≡ self.old.entries ++ found path.now metadata.now ∷ [] }
+    {
+        if metadata.is_file() {
+            self.note(&[7], path.as_bytes(), &[]);
+        } else {
+            self.note(&[8], path.as_bytes(), &[]);
+        }
+    }
+
+    /// A path leads to nothing, as the system said.
+    pub fn finds_nothing(&mut self, path: &str)
+        ensures { self.new.entries ≡ self.old.entries ++ FindsNothing path.now ∷ [] }
+    {
+        self.note(&[9], path.as_bytes(), &[]);
+    }
+
+    /// The path itself is no link, as the system said.
+    pub fn finds_no_link(&mut self, path: &str)
+        ensures { self.new.entries ≡ self.old.entries ++ FindsNoLink path.now ∷ [] }
+    {
+        self.note(&[10], path.as_bytes(), &[]);
+    }
+
+    /// The path leads to this one, as the system said.
+    pub fn leads(&mut self, path: &str, target: &str)
+        ensures { self.new.entries ≡ self.old.entries ++ Leads path.now target.now ∷ [] }
+    {
+        self.note(&[11], path.as_bytes(), target.as_bytes());
+    }
+
+    /// What is at a path begins as no archive.
+    pub fn finds_no_archive(&mut self, path: &str)
+        ensures { self.new.entries ≡ self.old.entries ++ FindsNoArchive path.now ∷ [] }
+    {
+        self.note(&[12], path.as_bytes(), &[]);
+    }
+
+    /// A draft neither has nor covers so many records of the archive at a path.
+    pub fn compares(&mut self, draft: &str, target: &str, lost: u64)
+        ensures { self.new.entries ≡ self.old.entries ++ compared draft.now target.now lost ∷ [] }
+    {
+        if lost == 0 {
+            self.note(&[13], draft.as_bytes(), target.as_bytes());
+        } else {
+            self.note(&[14], draft.as_bytes(), target.as_bytes());
+        }
     }
 }

@@ -18,6 +18,7 @@
 
 mod at_turn;
 mod call_log;
+mod descriptors;
 mod disks;
 mod drafts;
 mod file_calls;
@@ -32,6 +33,7 @@ mod placed_file;
 mod replaceable;
 mod system_disk;
 mod system_files;
+mod ways;
 
 pub use at_turn::{AtTurn, Unopened};
 pub use disks::Disk;

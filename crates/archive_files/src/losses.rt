@@ -1,5 +1,11 @@
 //! What would be lost of an archive where a draft takes its place. What files hold is in no contract.
 
+ghost use Rattle.std.specs.Prelude.{◌≡◌, ◌≢◌, ◌∷◌, ◌++◌, [], IfOk, List, Ok, OnErr, OnOk, false, true};
+ghost use Rattle.archive_files.specs.FileCalls.{FileCall, FindsNoArchive, are_looks, compared};
+ghost use Rattle.archive_files.specs.Placing.{IsTested};
+ghost use Rattle.archive_files.specs.declared.replaceable.Replaces.TheVariants.{ArchivesBelow};
+
+use crate::file_calls::FileCalls;
 use crate::replaceable::{Obstacle, OutFault, magic_in};
 use archive_records::{MergeCause, MergeFault, RecordFaultKind, TextKind};
 use byte_device::Reading;
@@ -13,31 +19,68 @@ use std::rt::Files;
 /// How many bytes of a file are read at a time.
 const PIECE: usize = 64 * 1024;
 
-/// Why a draft does not take the place of what is at its target: an archive there has records that the draft, which is
-/// an archive too, neither has nor covers.
+/// Tests whether a draft may take the place of what is at its target: an archive there has no record that the draft,
+/// which is an archive too, neither has nor covers.
 pub fn test_losses<F: Files>(
     alloc: Global,
     files: &F,
     draft: &str,
     target: &str,
-) -> Result<(), OutFault> {
-    match is_archive_at(files, target) {
+    calls: &mut FileCalls,
+) -> Result<(), OutFault>
+    ensures tested { OnOk result ((tests : List FileCall) × IsTested ArchivesBelow draft.now target.now tests
+        × (calls.new.entries ≡ calls.old.entries ++ tests)) }
+    ensures refused { OnErr result ((tests : List FileCall) × (are_looks tests ≡ true)
+        × (calls.new.entries ≡ calls.old.entries ++ tests)) }
+{
+    match is_archive_at(files, target, calls) {
         Ok(true) => {}
         Ok(false) => return Ok(()),
         Err(error) => return Err(refused(error)),
     }
+    match lost_at(alloc, files, draft, target, calls)? {
+        0 => Ok(()),
+        lost => Err(OutFault::NotReplaced(Obstacle::Loses(lost))),
+    }
+}
+
+/// How many records of the archive at the target the draft neither has nor covers.
+fn lost_at<F: Files>(
+    alloc: Global,
+    files: &F,
+    draft: &str,
+    target: &str,
+    calls: &mut FileCalls,
+) -> Result<u64, OutFault>
+    ensures lost { IfOk result
+        (λ lost. calls.new.entries ≡ calls.old.entries ++ compared draft.now target.now lost ∷ []) }
+    ensures refused { OnErr result (calls.new.entries ≡ calls.old.entries) }
+{
     let heap = Heap::new(alloc)?;
     let mut new = reading_of(alloc, files, draft)?;
     let mut old = reading_of(alloc, files, target)?;
     match lost_operations(&heap, &mut new, &mut old) {
-        Ok(0) => Ok(()),
-        Ok(lost) => Err(OutFault::NotReplaced(Obstacle::Loses(lost))),
+        Ok(lost) => {
+            calls.compares(draft, target, lost);
+            Ok(lost)
+        }
         Err(fault) => Err(unread(fault, new.reason(), old.reason())),
     }
 }
 
 /// Whether a file is there that begins as an archive does.
-fn is_archive_at<F: Files>(files: &F, path: &str) -> io::Result<bool> {
+fn is_archive_at<F: Files>(files: &F, path: &str, calls: &mut FileCalls) -> io::Result<bool>
+    ensures none { result ≡ Ok false → calls.new.entries ≡ calls.old.entries ++ FindsNoArchive path.now ∷ [] }
+    ensures other { result ≢ Ok false → calls.new.entries ≡ calls.old.entries }
+{
+    let is = begins_as_archive(files, path)?;
+    if !is {
+        calls.finds_no_archive(path);
+    }
+    Ok(is)
+}
+
+fn begins_as_archive<F: Files>(files: &F, path: &str) -> io::Result<bool> {
     let mut file = match fs::open(files, path) {
         Ok(file) => file,
         Err(error) if error.kind() == ErrorKind::NotFound => return Ok(false),

@@ -1,17 +1,20 @@
 //! OUT, whose draft is created with its first bytes, and put in place when it is whole. What the files hold is in no
 //! contract; what was called of the system is.
 
-ghost use Rattle.std.specs.Prelude.{◌≡◌, ◌⊎◌, ◌≤◌, ◌<◌, ℕ, List, Option, None, Some, IfSome, IfOk, IsSome, OnErr, OnOk};
+ghost use Rattle.std.specs.Prelude.{◌≡◌, ◌≢◌, ◌⊎◌, ◌≤◌, ◌<◌, ◌-◌, ◌^◌, ℕ, List, Option, None, Some, IfSome, IfOk, IsSome, OnErr, OnOk};
 ghost use Rattle.std.specs.Prelude.{length, true, false, [], option_map, string_bytes};
-ghost use Rattle.archive_files.specs.FileCalls.{bytes_in};
-ghost use Rattle.archive_files.specs.OutFiles.{IsSoFar, Settled, Untouched, WritesTo, draft_account, fault_of};
+ghost use Rattle.archive_files.specs.FileCalls.{are_looks, bytes_in};
+ghost use Rattle.archive_files.specs.OutFiles.{IsSoFar, Settled, Untouched, WritesBegun, WritesTo};
+ghost use Rattle.archive_files.specs.OutFiles.{draft_account, fault_of};
 ghost use Rattle.archive_files.specs.OutFiles.{has_calls, is_drafted, is_settled, stage_of, takes_bytes};
+ghost use Rattle.archive_files.specs.declared.replaceable.Replaces.TheVariants.{OwnFiles};
 ghost use Rattle.archive_files.specs.Placing.{HandsOn, IsRemoved, took_nothing};
 
 use crate::drafts::{Draft, create_draft, put_draft, remove_draft};
 use crate::file_calls::FileCalls;
 use crate::placed::Placed;
-use crate::replaceable::{Obstacle, OutFault, Replaces, Way, way_to};
+use crate::replaceable::{Obstacle, OutFault, Replaces};
+use crate::ways::{Way, way_to};
 use byte_device::{Failed, Sink};
 use std::alloc::Global;
 use std::io::{self, Write};
@@ -60,6 +63,7 @@ enum OutState<T> {
 }
 
 /// What bytes go to first, where OUT has this path.
+#[tactic(auto, using(crate::proofs::Placings::begun_through, crate::proofs::Placings::begun_drafted, crate::proofs::Placings::looks_bytes,))]
 fn begun<F: Files>(
     alloc: Global,
     files: &F,
@@ -71,9 +75,9 @@ fn begun<F: Files>(
         (λ state. IsSoFar (Some path.now) (stage_of state) calls.new.entries) }
     ensures bytes { calls.old.entries ≡ [] → bytes_in calls.new.entries ≡ [] }
     ensures begun { IfOk result (λ state. has_calls (stage_of state) ≡ true) }
-    ensures refused { OnErr result (calls.new.entries ≡ calls.old.entries) }
+    ensures refused { calls.old.entries ≡ [] → OnErr result (are_looks calls.new.entries ≡ true) }
 {
-    match way_to(alloc, files, path)? {
+    match way_to(alloc, files, path, calls)? {
         Way::Through => {
             let file = match fs::create(files, path) {
                 Ok(file) => file,
@@ -128,6 +132,7 @@ fn begin<F: Files>(
     ensures empty { (has_calls (stage_of state.old) ≡ false → calls.old.entries ≡ [])
         → has_calls (stage_of state.new) ≡ false → calls.new.entries ≡ [] }
     ensures settled { is_settled (stage_of state.new) ≡ is_settled (stage_of state.old) }
+    ensures same { stage_of state.old ≢ Untouched → state.new ≡ state.old }
 {
     if let OutState::Untouched = state {
         *state = first_state(alloc, files, process, path, calls);
@@ -160,7 +165,7 @@ fn finish<F: Files>(
     calls: &mut FileCalls,
 ) -> bool
     ensures placed { result ≡ true → (path : Option (List ℕ)) → IsSoFar path (stage_of state.old) calls.old.entries
-        → HandsOn path calls.new.entries }
+        → HandsOn path replaces calls.new.entries }
     ensures settled { result ≡ true → stage_of state.new ≡ Settled }
     ensures was_open { result ≡ true → is_settled (stage_of state.old) ≡ false }
     ensures refused { result ≡ false → (path : Option (List ℕ)) → IsSoFar path (stage_of state.old) calls.old.entries
@@ -209,6 +214,7 @@ impl<'a, F: Files> OutFile<'a, F> {
     /// A file without a path, which is never begun. Drafts are named for this process.
     pub fn new(alloc: Global, files: &'a F, process: u32) -> Self
         ensures path { result.path ≡ None }
+        ensures replaces { result.replaces ≡ OwnFiles }
         ensures untouched { stage_of result.state ≡ Untouched }
         ensures unfailed { result.failures ≡ 0 }
         ensures calls { result.calls.entries ≡ [] }
@@ -226,15 +232,27 @@ impl<'a, F: Files> OutFile<'a, F> {
         }
     }
 
-    /// Takes a path, and which files that are there may be replaced.
-    pub fn take_path(&mut self, path: String, replaces: Replaces)
+    /// Takes a path.
+    pub fn take_path(&mut self, path: String)
         requires { stage_of self.old.state ≡ Untouched }
         ensures path { self.new.path ≡ Some path }
+        ensures replaces { self.new.replaces ≡ self.old.replaces }
         ensures state { self.new.state ≡ self.old.state }
         ensures failures { self.new.failures ≡ self.old.failures }
         ensures calls { self.new.calls ≡ self.old.calls }
     {
         self.path = Some(path);
+    }
+
+    /// Takes which files that are at its path may be replaced.
+    pub fn take_rule(&mut self, replaces: Replaces)
+        requires { stage_of self.old.state ≡ Untouched }
+        ensures path { self.new.path ≡ self.old.path }
+        ensures replaces { self.new.replaces ≡ replaces }
+        ensures state { self.new.state ≡ self.old.state }
+        ensures failures { self.new.failures ≡ self.old.failures }
+        ensures calls { self.new.calls ≡ self.old.calls }
+    {
         self.replaces = replaces;
     }
 
@@ -276,11 +294,12 @@ impl<'a, F: Files> OutFile<'a, F> {
     pub fn settle(&mut self) -> Option<Placed>
         ensures placed { IfSome result (λ placed.
             (Some (string_bytes placed.path) ≡ option_map string_bytes self.old.path)
+            × (placed.replaces ≡ self.old.replaces)
             × (bytes_in placed.calls.entries ≡ bytes_in self.old.calls.entries)
             × (is_settled (stage_of self.old.state) ≡ false)) }
         ensures settled { IsSome result → stage_of self.new.state ≡ Settled }
         ensures kept { result ≡ None
-            → (self.new.path ≡ self.old.path)
+            → (self.new.path ≡ self.old.path) × (self.new.replaces ≡ self.old.replaces)
             × (bytes_in self.new.calls.entries ≡ bytes_in self.old.calls.entries)
             × (is_settled (stage_of self.new.state) ≡ is_settled (stage_of self.old.state)) }
         ensures failures { self.new.failures ≡ self.old.failures }
@@ -296,7 +315,11 @@ impl<'a, F: Files> OutFile<'a, F> {
         }
         let calls = mem::replace(&mut self.calls, FileCalls::new());
         match mem::replace(&mut self.path, None) {
-            Some(path) => Some(Placed { path, calls }),
+            Some(path) => Some(Placed {
+                path,
+                replaces: self.replaces,
+                calls,
+            }),
             None => unreachable!(),
         }
     }
@@ -305,6 +328,7 @@ impl<'a, F: Files> OutFile<'a, F> {
     pub fn discard(&mut self)
         ensures removed { ∥ IsRemoved (option_map string_bytes self.new.path) self.new.calls.entries ∥₁ }
         ensures path { self.new.path ≡ self.old.path }
+        ensures replaces { self.new.replaces ≡ self.old.replaces }
         ensures bytes { bytes_in self.new.calls.entries ≡ bytes_in self.old.calls.entries }
         ensures failures { self.new.failures ≡ self.old.failures }
         ensures settled { is_settled (stage_of self.new.state) ≡ is_settled (stage_of self.old.state) }
@@ -320,7 +344,7 @@ impl<'a, F: Files> Sink for OutFile<'a, F> {
     ghost use Rattle.byte_device.specs.Devices.{CountsFailure};
 
     ghost held = { λ s. Some (draft_account (is_settled (stage_of s.state)) (option_map string_bytes s.path)
-        s.calls.entries) };
+        s.replaces s.calls.entries) };
 
     ghost failures = { λ s. s.failures };
 
@@ -329,13 +353,18 @@ impl<'a, F: Files> Sink for OutFile<'a, F> {
         ensures some { 0 < length bytes.now → IfOk result (λ n. 0 < n) }
         ensures bytes { WriteAppends
             (Some (draft_account (is_settled (stage_of self.old.state)) (option_map string_bytes self.old.path)
-            self.old.calls.entries))
+            self.old.replaces self.old.calls.entries))
             (Some (draft_account (is_settled (stage_of self.new.state)) (option_map string_bytes self.new.path)
-            self.new.calls.entries)) result bytes.now }
+            self.new.replaces self.new.calls.entries)) result bytes.now }
         ensures count { CountsFailure self.old.failures self.new.failures result }
+
+        // The bytes that it is given are what is written.
+        ensures written { 0 < length bytes.now → self.old.failures ≢ 2 ^ 64 - 1
+            → WritesBegun ⟦<F::File as Write>⟧.contents self.old.state self.new.state result bytes.now }
 
         // No bytes begin nothing, and what was not begun or not put in place stays so.
         ensures path { self.new.path ≡ self.old.path }
+        ensures replaces { self.new.replaces ≡ self.old.replaces }
         ensures empty { bytes.now ≡ [] → self.new.state ≡ self.old.state }
         ensures taken { IfOk result (λ n. 0 < n → takes_bytes (stage_of self.new.state) ≡ true) }
     {

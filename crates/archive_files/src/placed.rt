@@ -5,11 +5,13 @@ ghost use Rattle.archive_files.specs.FileCalls.{bytes_in};
 ghost use Rattle.archive_files.specs.Placing.{IsPlaced};
 
 use crate::file_calls::FileCalls;
+use crate::replaceable::Replaces;
 
-/// The path of an output that is in place, and what was called for it.
+/// The path of an output that is in place, which files could be replaced there, and what was called for it.
 #[derive(Drop)]
 pub struct Placed {
     pub path: String,
+    pub replaces: Replaces,
     pub calls: FileCalls,
-    ghost whole: { ∥ IsPlaced (string_bytes path) (bytes_in calls.entries) calls.entries ∥₁ },
+    ghost whole: { ∥ IsPlaced (string_bytes path) replaces (bytes_in calls.entries) calls.entries ∥₁ },
 }

@@ -1,12 +1,8 @@
-//! What stands at OUT's path, and whether it may be replaced. What the system says of it is in no contract.
+//! Which file at OUT's path may be replaced, and why one is not. What files hold is in no contract.
 
 use archive_records::{Format, MAGIC_LEN};
 use memory::NoMemory;
-use std::alloc::Global;
-use std::fs::{self, Metadata, OpenOptions};
-use std::io::{self, ErrorKind, Read};
-use std::os::unix::fs::MetadataExt;
-use std::rt::Files;
+use std::io::{self, Read};
 
 /// The formats of symarch's own files.
 const OWN: [Format; 4] = [
@@ -59,96 +55,8 @@ pub enum Replaces {
     ArchivesBelow,
 }
 
-/// Who may do what with a file.
-#[derive(Clone, Copy)]
-pub struct Access {
-    pub mode: u32,
-    pub user: u32,
-    pub group: u32,
-}
-
-impl Access {
-    fn of(metadata: &Metadata) -> Access {
-        Access {
-            mode: metadata.mode(),
-            user: metadata.uid(),
-            group: metadata.gid(),
-        }
-    }
-}
-
-/// How OUT is written.
-#[derive(Drop)]
-pub enum Way {
-    /// To what is there, which is no regular file.
-    Through,
-    /// To a draft beside this path, where no symbolic link is; with the access of a file that is there.
-    Beside(String, Option<Access>),
-}
-
-/// How OUT is written that has this path.
-///
-/// What is no regular file is written to, and so is what begins with `/dev/` or `/proc/`, where a regular file may be a
-/// descriptor that others hold. A symbolic link is followed; one that leads to nothing is refused.
-pub fn way_to<F: Files>(alloc: Global, files: &F, path: &str) -> Result<Way, OutFault> {
-    if path.starts_with("/dev/") || path.starts_with("/proc/") {
-        return Ok(Way::Through);
-    }
-    match fs::metadata(files, path) {
-        Ok(metadata) if metadata.is_file() => replaced(alloc, files, path, &metadata),
-        Ok(_) => Ok(Way::Through),
-        Err(error) if error.kind() == ErrorKind::NotFound => absent(alloc, files, path, error),
-        Err(error) => Err(OutFault::NotCreated(Some(error))),
-    }
-}
-
-/// The way to a path at which the system finds nothing, unless it is a link, or no file can have that path.
-fn absent<F: Files>(
-    alloc: Global,
-    files: &F,
-    path: &str,
-    error: io::Error,
-) -> Result<Way, OutFault> {
-    let is_no_name = path.is_empty() || path.ends_with('/');
-    if is_no_name || fs::symlink_metadata(files, path).is_ok() {
-        return Err(OutFault::NotCreated(Some(error)));
-    }
-    Ok(Way::Beside(String::from_str(alloc, path)?, None))
-}
-
-/// The way to a regular file, which has to be one that may be written and is replaced.
-fn replaced<F: Files>(
-    alloc: Global,
-    files: &F,
-    path: &str,
-    metadata: &Metadata,
-) -> Result<Way, OutFault> {
-    let mut file = match OpenOptions::new().read(true).write(true).open(files, path) {
-        Ok(file) => file,
-        Err(error) => return Err(OutFault::NotCreated(Some(error))),
-    };
-    if metadata.len() > 0 && !is_own(&mut file) {
-        return Err(OutFault::NotReplaced(Obstacle::Foreign));
-    }
-    let target = target_of(alloc, files, path)?;
-    Ok(Way::Beside(target, Some(Access::of(metadata))))
-}
-
-/// The path of the file that a path names: its own, unless it is a link.
-fn target_of<F: Files>(alloc: Global, files: &F, path: &str) -> Result<String, OutFault> {
-    match fs::symlink_metadata(files, path) {
-        Ok(metadata) if !metadata.is_symlink() => return Ok(String::from_str(alloc, path)?),
-        _ => {}
-    }
-    match files.canonicalize(alloc, path) {
-        Ok(target) => Ok(target.into_string()),
-        Err(error) if error.kind() == ErrorKind::OutOfMemory => Err(OutFault::OutOfMemory),
-        Err(error) => Err(OutFault::NotCreated(Some(error))),
-    }
-}
-
 /// Whether a file is one of symarch's own, told by what it begins with.
-fn is_own<R: Read>(file: &mut R) -> bool {
+pub fn is_own<R: Read>(file: &mut R) -> bool {
     match magic_in(file) {
         Ok(magic) => {
             magic.starts_with(INDEX_MAGIC) || OWN.iter().any(|format| format.magic() == magic)

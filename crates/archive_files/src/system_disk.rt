@@ -1,6 +1,6 @@
 //! Files of the system that are read. What they hold is in no contract, and which were opened is.
 
-ghost use Rattle.std.specs.Prelude.{◌≡◌, ◌≢◌, Err, IsErr, Ok};
+ghost use Rattle.std.specs.Prelude.{◌≡◌, ◌≢◌, ◌∷◌, ◌++◌, [], Err, IfErr, IsErr, Ok, OnOk};
 ghost use Rattle.std.specs.IoError.{error_kind};
 
 use crate::call_log::CallLog;
@@ -11,7 +11,7 @@ use byte_device::CannotOpen;
 use memory::NoMemory;
 use std::alloc::Global;
 use std::fs;
-use std::io::{self, BufReader, ErrorKind};
+use std::io::{self, BufReader, ErrorKind, Read};
 use std::rt::Files;
 
 /// How many bytes of a file are read at a time.
@@ -23,6 +23,8 @@ pub struct SystemDisk<'a, F: Files> {
     alloc: Global,
     files: &'a F,
     opened: CallLog,
+    /// The paths at whose opening the system said that memory is wanting.
+    wanting: CallLog,
 }
 
 impl<'a, F: Files> SystemDisk<'a, F> {
@@ -30,12 +32,64 @@ impl<'a, F: Files> SystemDisk<'a, F> {
 
     /// These files, of which none was opened.
     pub(crate) fn new(alloc: Global, files: &'a F) -> Self
-        ensures { result.opened.entries ≡ [] }
+        ensures opened { result.opened.entries ≡ [] }
+        ensures wanting { result.wanting.entries ≡ [] }
     {
         SystemDisk {
             alloc,
             files,
             opened: CallLog::new(),
+            wanting: CallLog::new(),
+        }
+    }
+}
+
+/// Notes that memory is wanting, if that is what the system said.
+fn note_wanting(reason: &io::Error, path: &str, wanting: &mut CallLog)
+    ensures memory { error_kind reason.now ≡ ErrorKind.OutOfMemory
+        → wanting.new.entries ≡ wanting.old.entries ++ path.now ∷ [] }
+    ensures other { error_kind reason.now ≢ ErrorKind.OutOfMemory → wanting.new.entries ≡ wanting.old.entries }
+{
+    if reason.kind() == ErrorKind::OutOfMemory {
+        wanting.note(path.as_bytes());
+    }
+}
+
+/// Opens the file at a path.
+fn open_file<F: Files>(files: &F, path: &str, wanting: &mut CallLog) -> io::Result<F::File>
+    ensures opened { OnOk result (wanting.new.entries ≡ wanting.old.entries) }
+    ensures memory { IfErr result (λ reason. error_kind reason ≡ ErrorKind.OutOfMemory
+        → wanting.new.entries ≡ wanting.old.entries ++ path.now ∷ []) }
+    ensures other { IfErr result (λ reason. error_kind reason ≢ ErrorKind.OutOfMemory
+        → wanting.new.entries ≡ wanting.old.entries) }
+{
+    match fs::open(files, path) {
+        Ok(file) => Ok(file),
+        Err(reason) => {
+            note_wanting(&reason, path, wanting);
+            Err(reason)
+        }
+    }
+}
+
+/// A reader of an open file, which was opened at this path.
+fn reader_of<T: Read + Drop>(
+    alloc: Global,
+    file: T,
+    path: &str,
+    wanting: &mut CallLog,
+) -> io::Result<BufReader<T>>
+    ensures opened { OnOk result (wanting.new.entries ≡ wanting.old.entries) }
+    ensures memory { IfErr result (λ reason. error_kind reason ≡ ErrorKind.OutOfMemory
+        → wanting.new.entries ≡ wanting.old.entries ++ path.now ∷ []) }
+    ensures other { IfErr result (λ reason. error_kind reason ≢ ErrorKind.OutOfMemory
+        → wanting.new.entries ≡ wanting.old.entries) }
+{
+    match BufReader::with_capacity(alloc, PIECE, file) {
+        Ok(reader) => Ok(reader),
+        Err(reason) => {
+            note_wanting(&reason, path, wanting);
+            Err(reason)
         }
     }
 }
@@ -68,13 +122,15 @@ impl<'a, F: Files> Disk for SystemDisk<'a, F> {
 
     ghost opened = { λ disk. Some disk.opened.entries };
 
+    ghost wanting = { λ disk. Some disk.wanting.entries };
+
     fn open(&mut self, path: &str) -> Result<Result<Self::Input, CannotOpen>, NoMemory> {
         self.opened.note(path.as_bytes());
-        let file = match fs::open(self.files, path) {
+        let file = match open_file(self.files, path, &mut self.wanting) {
             Ok(file) => file,
             Err(reason) => return unopened(reason),
         };
-        match BufReader::with_capacity(self.alloc, PIECE, file) {
+        match reader_of(self.alloc, file, path, &mut self.wanting) {
             Ok(reader) => Ok(Ok(OpenedFile::new(reader, path))),
             Err(reason) => unopened(reason),
         }
@@ -82,7 +138,7 @@ impl<'a, F: Files> Disk for SystemDisk<'a, F> {
 
     fn open_places(&mut self, path: &str) -> Result<Result<Self::Places, CannotOpen>, NoMemory> {
         self.opened.note(path.as_bytes());
-        match fs::open(self.files, path) {
+        match open_file(self.files, path, &mut self.wanting) {
             Ok(file) => Ok(Ok(PlacedFile::new(file, path))),
             Err(reason) => unopened(reason),
         }

@@ -61,15 +61,17 @@ impl<'a, F: Files> SystemFiles<'a, F> {
         ensures asked { self.new.asked.entries ≡ self.old.asked.entries }
         ensures path { OnOk result (IsPath (Some path.now) (map (λ p. p.now) inputs.now) self.new.others.entries
             self.new.same.entries (option_map string_bytes self.new.out.draft.path)) }
+        ensures replaces { OnOk result (self.new.out.draft.replaces ≡ replaces) }
         ensures untouched { stage_of self.new.out.draft.state ≡ Untouched }
         ensures unfailed { self.new.out.draft.failures ≡ 0 }
         ensures calls { self.new.out.draft.calls.entries ≡ [] }
         ensures placed { self.new.out.target.placed ≡ None }
     {
+        self.out.draft.take_rule(replaces);
         let files = self.out.draft.files();
         if are_other_files(files, path, inputs, &mut self.others, &mut self.same) {
             let path = String::from_str(self.alloc, path)?;
-            self.out.draft.take_path(path, replaces);
+            self.out.draft.take_path(path);
         }
         Ok(())
     }

@@ -27,6 +27,7 @@ told_as : {S D T : Type 0} (calls : Calls S D T) (line : Line) (report : Writer)
     → (told : Result Status Failure) (notes : List Note) → told ≡ was → OnOk told (notes ≡ noted) → IsCarriedOut calls line report told notes
 told_as calls line report was noted is told notes same alike = record {
   path = is.path;
+  replaces = is.replaces;
   begun = is.begun;
   done = is.done;
   ended = is.ended;
@@ -38,7 +39,9 @@ told_as calls line report was noted is told notes same alike = record {
   before = is.before;
   behind = is.behind;
   noted = is.noted;
+  plan = is.plan;
   carried = is.carried;
+  replaces_is = is.replaces_is;
   notes_are = both_on told notes noted is.noted alike (rw same is.notes_are);
   outcome = is.outcome;
   placed = is.placed;

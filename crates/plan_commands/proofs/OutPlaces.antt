@@ -2,7 +2,7 @@
 use Rattle.std.proofs.Common.{◌≡◌, ◌∙◌, ℕ, Bool, true, false, List, [], ◌∷◌, ◌++◌, length, take, drop}
 use Rattle.std.proofs.Common.{get_or, suc}
 use Rattle.std.proofs.Common.{Option, Some, None, Result, OnOk, refl, ap, sym, subst, inl, inr}
-use Rattle.std.proofs.Common.{append-nil, arith, string_bytes}
+use Rattle.std.proofs.Common.{append-nil, append_assoc, arith, string_bytes}
 use Rattle.std.proofs.lemmas.List.{append_cancel_left}
 use Rattle.std.proofs.Math.Seq.{take-append_seam}
 use Rattle.std.proofs.lemmas.Grind.{not_there}
@@ -13,7 +13,9 @@ use Rattle.archive_files.specs.Turns.{AreFirstAsked}
 use Rattle.archive_files.specs.FileCalls.{FileCall, bytes_in}
 use Rattle.archive_files.specs.OutFiles.{Stage}
 use Rattle.archive_files.specs.OutFiles.{draft_account, has_calls, is_settled, placed_account, placing_calls}
-use Rattle.archive_files.specs.Placing.{IsPath, IsPlaced, IsRemoved, account, place, took_nothing}
+use Rattle.archive_files.specs.Placing.{IsPath, IsPlaced, IsRemoved, account, number_of, place, took_nothing}
+use Rattle.archive_files.specs.declared.replaceable.Replaces.{Replaces}
+use Rattle.archive_files.specs.declared.replaceable.Replaces.TheVariants.{OwnFiles, ArchivesBelow}
 use Rattle.archive_files.specs.declared.placed.Placed.{Placed}
 
 -- what is known tells the path
@@ -27,13 +29,26 @@ place_first (Some p) (Some q) xs ys same =
     ap (λ path. Some path) (sym (take-append_seam p xs) ∙ ap (λ l. take (length p) (drop 1 l)) same
     ∙ ap (λ n. take n (q ++ ys)) long ∙ take-append_seam q ys)
 
--- what took a text has the path that was there, and the text
-known : (p q : Option (List ℕ)) (bytes text : List ℕ) → account q bytes ≡ account p [] ++ text
-    → (q ≡ p) × (bytes ≡ text)
-known p q bytes text took =
-    let flat : place q ++ bytes ≡ place p ++ text = took ∙ ap (λ l. l ++ text) (append-nil (place p)) in
-    let same : q ≡ p = place_first q p bytes text flat in
-    (same, append_cancel_left (place p) bytes text (subst (λ r. place r ++ bytes ≡ place p ++ text) same flat))
+same_rule : (r s : Replaces) → number_of r ≡ number_of s → r ≡ s
+same_rule OwnFiles OwnFiles same = refl
+same_rule OwnFiles ArchivesBelow same = grind (arith, same)
+same_rule ArchivesBelow OwnFiles same = grind (arith, same)
+same_rule ArchivesBelow ArchivesBelow same = refl
+
+-- what took a text has the path and the rule that were there, and the text
+known : (p q : Option (List ℕ)) (r s : Replaces) (bytes text : List ℕ) → account q s bytes ≡ account p r [] ++ text
+    → (q ≡ p) × (s ≡ r) × (bytes ≡ text)
+known p q r s bytes text took =
+    let flat : place q ++ (number_of s ∷ bytes) ≡ place p ++ (number_of r ∷ text) =
+    took ∙ append_assoc (place p) (number_of r ∷ []) text in
+    let same : q ≡ p = place_first q p (number_of s ∷ bytes) (number_of r ∷ text) flat in
+    let rest : number_of s ∷ bytes ≡ number_of r ∷ text =
+    append_cancel_left (place p) (number_of s ∷ bytes) (number_of r ∷ text)
+    (subst (λ o. place o ++ (number_of s ∷ bytes) ≡ place p ++ (number_of r ∷ text)) same flat) in (
+      same,
+      same_rule s r (ap (λ l. get_or l 0 0) rest),
+      ap (drop 1) rest,
+    )
 
 -- there is always something known of a path
 some_known : (p : Option (List ℕ)) (xs : List ℕ) → place p ++ xs ≡ [] → ⊥
@@ -41,33 +56,38 @@ some_known None xs none = let h = ap length none in grind (arith, h)
 some_known (Some p) xs none = let h = ap length none in grind (arith, h)
 
 -- nothing is known of what was put in place alone
-pub settled_of : (settled : Bool) (path : Option (List ℕ)) (calls : List FileCall)
-    → Some (draft_account settled path calls) ≡ Some [] → settled ≡ true
-settled_of true path calls none = refl
-settled_of false path calls none =
-    let same : place path ++ bytes_in calls ≡ [] = cc in absurd (some_known path (bytes_in calls) same)
+pub settled_of : (settled : Bool) (path : Option (List ℕ)) (replaces : Replaces) (calls : List FileCall)
+    → Some (draft_account settled path replaces calls) ≡ Some [] → settled ≡ true
+settled_of true path replaces calls none = refl
+settled_of false path replaces calls none =
+    let held = number_of replaces ∷ bytes_in calls in
+    let same : place path ++ held ≡ [] = cc in absurd (some_known path held same)
 
 -- what was put in place has no calls left
 pub settled_without_calls : (stage : Stage) → is_settled stage ≡ true → has_calls stage ≡ false
 settled_without_calls stage settled = grind arith
 
 -- a draft that took bytes has its path, and the bytes were written
-pub draft_took : (settled : Bool) (p q : Option (List ℕ)) (calls : List FileCall) (bytes : List ℕ)
-    → Appends (Some (account p [])) (Some (draft_account settled q calls)) bytes → (q ≡ p) × (bytes_in calls ≡ bytes)
-draft_took true p q calls bytes took =
-    absurd (some_known p bytes (sym (took ∙ ap (λ l. l ++ bytes) (append-nil (place p)))))
-draft_took false p q calls bytes took = known p q (bytes_in calls) bytes took
+pub draft_took : (settled : Bool) (p q : Option (List ℕ)) (r s : Replaces) (calls : List FileCall) (bytes : List ℕ)
+    → Appends (Some (account p r [])) (Some (draft_account settled q s calls)) bytes
+    → (q ≡ p) × (bytes_in calls ≡ bytes)
+draft_took true p q r s calls bytes took =
+    absurd (some_known p (number_of r ∷ bytes) (sym (took ∙ append_assoc (place p) (number_of r ∷ []) bytes)))
+draft_took false p q r s calls bytes took = let is = known p q r s (bytes_in calls) bytes took in (is.0, is.2)
 
 -- what was put in place is the text, at the path
-pub placed_there : (p : Option (List ℕ)) (placed : Option Placed) (text : List ℕ)
-    → Appends (Some (account p [])) (placed_account placed) text
-    → (q : List ℕ) × (p ≡ Some q) × ∥ IsPlaced q text (placing_calls placed) ∥₁
-placed_there p None text took = absurd took
-placed_there p (Some there) text took =
-    let is = known p (Some (string_bytes there.path)) (bytes_in there.calls.entries) text took in (
-      string_bytes there.path,
+pub placed_there : (p : Option (List ℕ)) (r : Replaces) (placed : Option Placed) (text : List ℕ)
+    → Appends (Some (account p r [])) (placed_account placed) text
+    → (q : List ℕ) × (p ≡ Some q) × ∥ IsPlaced q r text (placing_calls placed) ∥₁
+placed_there p r None text took = absurd took
+placed_there p r (Some there) text took =
+    let path = string_bytes there.path in
+    let calls = there.calls.entries in
+    let is = known p (Some path) r there.replaces (bytes_in calls) text took in (
+      path,
       sym is.0,
-      ∥∥₁_map there.whole (λ whole. subst (λ t. IsPlaced (string_bytes there.path) t there.calls.entries) is.1 whole),
+      ∥∥₁_map there.whole (λ whole. subst (λ t. IsPlaced path r t calls) is.2
+          (subst (λ rule. IsPlaced path rule (bytes_in calls) calls) is.1 whole)),
     )
 
 -- and else nothing is there
@@ -92,8 +112,9 @@ called_nowhere path (call ∷ calls) none removed = absurd (not_there removed by
   where
     by_case : IsRemoved path (call ∷ calls) → ⊥
     by_case (inl empty) = cc
-    by_case (inr (inl drafted)) = cc drafted.1
-    by_case (inr (inr through)) = cc through.1
+    by_case (inr (inl asked)) = cc asked.1
+    by_case (inr (inr (inl drafted))) = cc drafted.1
+    by_case (inr (inr (inr through))) = cc through.1
 
 -- no input was made yet
 pub none_asked : (asked paths : List Text) → AreFirstAsked asked asked paths

@@ -21,5 +21,5 @@ pub at_turn : {D I P : Type 0} (disk : Disks D I P) (input : Sources I) (places 
     (xs : List (Result (AtTurn D I P disk input places) CannotOpen)) → AreAtTurn (told_by disk input places) xs
 at_turn disk input places [] = tt
 at_turn disk input places (Ok s ∷ xs) =
-    (record { log = s.log; fits = s.fits; failed = s.failed }, at_turn disk input places xs)
+    (record { log = s.log; wants = s.wants; fits = s.fits; failed = s.failed }, at_turn disk input places xs)
 at_turn disk input places (Err e ∷ xs) = (tt, at_turn disk input places xs)

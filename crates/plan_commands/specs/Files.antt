@@ -1,5 +1,5 @@
 -- A line that is carried out over files of the system.
-use Rattle.std.specs.Prelude.{◌≡◌, ◌⊎◌, ℕ, List, OnOk, [], ◌++◌, length, Option, Some, None, Result, Ok, Err}
+use Rattle.std.specs.Prelude.{◌≡◌, ◌≢◌, ◌⊎◌, ℕ, List, OnOk, [], ◌++◌, length, Option, Some, None, Result, Ok, Err}
 use Rattle.std.specs.Io.KnownBytes.{Appends}
 use Rattle.std.specs.declared.io.traits.Read.{Ghosts as Reads}
 use Rattle.std.specs.declared.io.traits.Seek.{Ghosts as Seeks}
@@ -18,10 +18,13 @@ use Rattle.archive_files.specs.OutFiles.{fault_of, placing_calls, stage_of}
 use Rattle.archive_files.specs.Placing.{IsPath, IsPlaced, IsRemoved, account}
 use Rattle.archive_files.specs.Turns.{AreFirstAsked, Told}
 use Rattle.archive_files.specs.declared.replaceable.OutFault.{OutFault}
+use Rattle.archive_files.specs.declared.replaceable.Replaces.{Replaces}
 use Rattle.archive_files.specs.declared.replaceable.OutFault.TheVariants as fault
 use Rattle.archive_files.specs.declared.system_files.SystemFiles.{SystemFiles}
 use Rattle.archive_updates.specs.declared.notes.Note.{Note}
 use Rattle.plan_commands.specs.Disks.{Carried}
+use Rattle.plan_commands.specs.Plans.{replaces_of}
+use Rattle.plan_commands.specs.declared.plans.Plan.{Plan}
 use Rattle.byte_device.specs.declared.disks.CannotOpen.{CannotOpen}
 
 -- why OUT failed after it took so many bytes
@@ -101,28 +104,31 @@ outs_in calls begun done = outs calls.held calls.draft_failures calls.placed cal
 
 -- The command of a line ended over files of which nothing is known, and this is told of it; where it ended well, these
 -- are its notes. Inputs were made for its paths, each once and in the order of the words, and for no other. OUT has the
--- path of the line, unless an input's file is there. Where a text was put in place, the calls for OUT are those by
--- which it was put at that path; where none was, those by which nothing is left, with the bytes that the draft took;
--- and where the draft took none and did not fail there are none.
+-- path of the line, unless an input's file is there, and replaces what the plan says. Where a text was put in place, the
+-- calls for OUT are those by which it was put at that path; where none was, those by which nothing is left, with the
+-- bytes that the draft took; and where the draft took none and did not fail there are none.
 pub record IsCarriedOut {S D T : Type 0} (calls : Calls S D T) (line : Line) (report : Writer)
     (told : Result Status Failure) (notes : List Note) : Type 0 where
   pub path : Option Text
+  pub replaces : Replaces
   pub begun : Out D T
   pub done : Out D T
   pub ended : Result Status CommandFault
   pub path_is : IsPath (out_of line) (inputs_of line) calls.others calls.same path
-  pub begun_is : calls.held begun.draft ≡ Some (account path [])
+  pub begun_is : calls.held begun.draft ≡ Some (account path replaces [])
   pub begun_unfailed : calls.draft_failures begun.draft ≡ 0
   pub nothing_placed : calls.placed begun.target ≡ None
   pub asked : calls.asked_new ≡ calls.asked_old ++ inputs_of line
   pub before : List (Result S CannotOpen)
   pub behind : List (Result S CannotOpen)
   pub noted : List Note
-  pub carried : Carried calls.told line before behind (outs_in calls begun done) report ended [] noted
+  pub plan : Plan
+  pub carried : Carried calls.told line plan before behind (outs_in calls begun done) report ended [] noted
+  pub replaces_is : out_of line ≢ None → replaces ≡ replaces_of plan
   pub notes_are : OnOk told (notes ≡ noted)
   pub outcome : IsOutcome (outs_in calls begun done) ended
   pub placed : (text : List ℕ) → Places (known_of (outs_in calls begun done)) text
-      → (p : List ℕ) × (path ≡ Some p) × ∥ IsPlaced p text calls.called ∥₁
+      → (p : List ℕ) × (path ≡ Some p) × ∥ IsPlaced p replaces text calls.called ∥₁
   pub removed : (not_put : IsNotPut (outs_in calls begun done) ended)
       → ∥ IsRemoved path calls.called ∥₁ × (bytes_in calls.called ≡ not_put.bytes)
   pub untouched : IsKept (known_of (outs_in calls begun done)) → calls.called ≡ []

@@ -23,7 +23,7 @@ returns-in_err-heap g c =
     rw (wanting.1, wanting.2) (inl (record {
       wanting = refl;
       asked = none_asked _ _;
-      uncalled = none_called _ _ c.requires.6 c.requires.5;
+      uncalled = none_called _ _ c.requires.files.7 c.requires.files.6;
       report_same = refl;
       report_unfailed = refl;
     }))
@@ -34,7 +34,7 @@ returns-in_err-clone g c =
     rw (wanting.1, wanting.2) (inl (record {
       wanting = refl;
       asked = none_asked _ _;
-      uncalled = none_called _ _ c.requires.6 c.requires.5;
+      uncalled = none_called _ _ c.requires.files.7 c.requires.files.6;
       report_same = refl;
       report_unfailed = refl;
     }))
@@ -75,19 +75,21 @@ returns g c =
     let done = c.execute_on-ended.new.out in
     let last = c.discard.new.self in
     let path = option_map string_bytes before.draft.path in
-    let begun : Some (draft_account (is_settled (stage_of before.draft.state)) path before.draft.calls.entries)
-    ≡ Some (account path []) =
-    ap (λ stage. Some (draft_account (is_settled stage) path before.draft.calls.entries)) untouched
-    ∙ ap (λ calls. Some (account path (bytes_in calls))) uncalled in
+    let rule = before.draft.replaces in
+    let begun : Some (draft_account (is_settled (stage_of before.draft.state)) path rule before.draft.calls.entries)
+    ≡ Some (account path rule []) =
+    ap (λ stage. Some (draft_account (is_settled stage) path rule before.draft.calls.entries)) untouched
+    ∙ ap (λ calls. Some (account path rule (bytes_in calls))) uncalled in
     let none_before : placed_account before.target.placed ≡ None = ap placed_account unplaced in
     let settled = is_settled (stage_of done.draft.state) in
     let after = option_map string_bytes done.draft.path in
     let took : (bytes : List ℕ)
-    → Appends (Some (draft_account (is_settled (stage_of before.draft.state)) path before.draft.calls.entries))
-    (Some (draft_account settled after done.draft.calls.entries)) bytes
+    → Appends (Some (draft_account (is_settled (stage_of before.draft.state)) path rule before.draft.calls.entries))
+    (Some (draft_account settled after done.draft.replaces done.draft.calls.entries)) bytes
     → (after ≡ path) × (bytes_in done.draft.calls.entries ≡ bytes) =
-    λ bytes is. draft_took settled path after done.draft.calls.entries bytes
-    (subst (λ held. Appends held (Some (draft_account settled after done.draft.calls.entries)) bytes) begun is) in
+    λ bytes is. draft_took settled path after rule done.draft.replaces done.draft.calls.entries bytes
+    (subst (λ held. Appends held (Some (draft_account settled after done.draft.replaces done.draft.calls.entries)) bytes)
+    begun is) in
     let none_called : (took_none : bytes_in done.draft.calls.entries ≡ [])
     → done.draft.failures ≡ before.draft.failures → placed_account done.target.placed ≡ placed_account before.target.placed
     → placing_calls done.target.placed ++ last.calls.entries ≡ [] =
@@ -99,10 +101,13 @@ returns g c =
     let carried = rw c.new-notes.ensures.items at c.execute_on-ended.ensures in
     told_done (λ notes. notes.items) _ _ _ c.fault.result c.execute_on-ended.result noted c.told_with.result c.told_with.ensures (record {
       path = path;
+      replaces = rule;
       begun = before;
       done = done;
       ended = c.execute_on-ended.result;
       path_is = rw (c.inputs_for.ensures.others.0, c.inputs_for.ensures.others.1, same) c.in_ok-begin.ensures.path;
+      replaces_is = λ some.
+          ap (λ out. out.draft.replaces) same ∙ c.in_ok-begin.ensures.rule some ∙ c.replaces.ensures;
       begun_is = begun;
       begun_unfailed = unfailed;
       nothing_placed = none_before;
@@ -111,17 +116,18 @@ returns g c =
       before = c.deref_mut.result.now;
       behind = c.execute_on-ended.new.inputs;
       noted = noted;
+      plan = c.args.plan.now;
       carried = carried;
       notes_are = on_any (command_fault_of c.fault.result c.execute_on-ended.result) refl;
-      outcome = carried_outcome _ _ _ _ _ _ _ _ _ carried;
+      outcome = carried_outcome _ _ _ _ _ _ _ _ _ _ carried;
       placed = λ text is.
-          let there = placed_there path done.target.placed text
+          let there = placed_there path rule done.target.placed text
           (subst (λ held. Appends held (placed_account done.target.placed) text) begun is.placed) in
           let gone : last.calls.entries ≡ [] = last.empty (settled_without_calls (stage_of last.state)
-          (c.discard.ensures.settled ∙ settled_of settled after done.draft.calls.entries is.emptied)) in (
+          (c.discard.ensures.settled ∙ settled_of settled after done.draft.replaces done.draft.calls.entries is.emptied)) in (
             there.0,
             there.1,
-            ∥∥₁_map there.2 (λ whole. subst (λ calls. IsPlaced there.0 text calls)
+            ∥∥₁_map there.2 (λ whole. subst (λ calls. IsPlaced there.0 rule text calls)
                 (sym (ap (λ calls. placing_calls done.target.placed ++ calls) gone
                 ∙ append-nil (placing_calls done.target.placed))) whole),
           );

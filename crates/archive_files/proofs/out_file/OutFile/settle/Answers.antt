@@ -25,9 +25,9 @@ invariant_of-result g c =
     let path = option_map string_bytes old.path in
     record {
       whole = ∥∥₁_map old.so_far (λ so.
-          subst (λ calls. IsPlaced (string_bytes c.in-Some.path) (bytes_in calls.entries) calls.entries)
+          subst (λ calls. IsPlaced (string_bytes c.in-Some.path) old.replaces (bytes_in calls.entries) calls.entries)
           (sym c.replace-calls.ensures.value)
-          (placed_at path (string_bytes c.in-Some.path) c.finish.new.calls.entries
+          (placed_at path old.replaces (string_bytes c.in-Some.path) c.finish.new.calls.entries
           (ap (option_map string_bytes) (sym c.replace.ensures.value ∙ c.in-Some.is))
           (c.if-not-finish.ensures.placed refl path so)));
     }
@@ -36,7 +36,7 @@ pub unreachable-requires : goal.unreachable-requires
 unreachable-requires g c =
     let old = c.args.self.now in
     let path = option_map string_bytes old.path in
-    not_there old.so_far (λ so. none_handed_on c.finish.new.calls.entries
-    (subst (λ p. HandsOn p c.finish.new.calls.entries)
+    not_there old.so_far (λ so. none_handed_on old.replaces c.finish.new.calls.entries
+    (subst (λ p. HandsOn p old.replaces c.finish.new.calls.entries)
     (ap (option_map string_bytes) (sym c.replace.ensures.value ∙ c.in-None.is))
     (c.if-not-finish.ensures.placed refl path so)))

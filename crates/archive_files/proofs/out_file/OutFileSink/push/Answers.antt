@@ -1,7 +1,7 @@
 use Rattle.std.proofs.Common.{◌∙◌, sym, ap, option_map, string_bytes, subst, take}
 use mathlib.Core.Logic.{∥∥₁_map}
 use Rattle.archive_files.specs.OutFiles.{IsSoFar, has_calls, is_settled, stage_of}
-use Rattle.archive_files.proofs.Placings.{failed_some, more_account, more_so_far, takes_has_calls, took_some}
+use Rattle.archive_files.proofs.Placings.{failed_some, more_account, more_so_far, takes_has_calls, took_some, written_anyhow}
 use Rattle.archive_files.proofs.out_file.OutFileSink.push.Goals as goal
 
 pub invariant_of-self : goal.invariant_of-self
@@ -34,7 +34,15 @@ invariant_of-self-in_default g c =
 pub returns-in-Ok-clause-bytes : goal.returns-in-Ok-clause-bytes
 returns-in-Ok-clause-bytes g c =
     let old = c.args.self.now in
-    more_account (option_map string_bytes old.path) (stage_of old.state) (stage_of c.write.new.state)
+    more_account (option_map string_bytes old.path) old.replaces (stage_of old.state) (stage_of c.write.new.state)
     old.calls.entries c.begin.new.calls.entries _ (take c.in-Ok.n c.args.bytes.now)
     (ap is_settled c.write.ensures.stage ∙ c.begin.ensures.settled) c.in-Ok.ensures.takes
     (c.begin.ensures.bytes old.empty) c.writes.ensures
+
+pub returns-in-Ok-clause-written : goal.returns-in-Ok-clause-written
+returns-in-Ok-clause-written g c = λ some able. (
+  c.begin.new.state,
+  c.begin.ensures.same,
+  written_anyhow _ _ g.F.File.Write.contents c.begin.new.state c.write.new.state c.in-Ok.n c.args.bytes.now
+      c.in-Ok.ensures.bytes,
+)
