@@ -237,6 +237,15 @@ class Refused(PlacesCase):
         self.has_bytes("one.sym", ONE)
         self.is_absent("out")
 
+    def test_no_word_makes_a_line(self) -> None:
+        """A line feed in a refused word is printed as its hex digits."""
+        word = "x\nsymarch: y"
+        refused: List[List[Word]] = [["find", "one.sym", word], ["new", "out", word], [word]]
+        for words in refused:
+            came = self.call(*words)
+            self.assertEqual((came.status, came.out, len(came.error_lines)), (3, b"", 1), words)
+            self.assertTrue(came.error_lines[0].startswith("symarch: "), words)
+
     def test_words_that_are_no_text(self) -> None:
         """A byte that no text has, a half of a character, one of two bytes too many, and a half of a pair, also if such
         a file is there."""

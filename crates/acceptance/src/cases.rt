@@ -167,6 +167,15 @@ pub fn carry_out<R: Files + AllocGlobal>(
     Ok(bench.carry_out(folder, case)?)
 }
 
+// Tells the command of a line, what stands at each of its names, and its plan.
+fn tell_line(line: &Line, told: &mut String) -> Result<(), NoMemory> {
+    write!(told, "  {}", line.name)?;
+    for (argument, values) in line.arguments().iter().zip(&line.values) {
+        write!(told, " {} {values:?}", argument.name)?;
+    }
+    writeln!(told, "\n  {:?}", Plan::of(line))
+}
+
 // Adds a line to what has to come of the last one.
 fn add_wanted(alloc: Global, steps: &mut Vec<Step>, line: &str) -> Result<(), NoMemory> {
     match steps.last_mut() {
@@ -327,7 +336,7 @@ impl<'t> Bench<'t> {
     // Tells what a command line asks for.
     fn plan(&self, words: &str, told: &mut String) -> Result<(), CaseFault> {
         match self.read(words) {
-            Ok(line) => writeln!(told, "  {:?}", Plan::of(&line))?,
+            Ok(line) => tell_line(&line, told)?,
             Err(fault) => tell_line_fault(&fault, told)?,
         }
         Ok(())

@@ -13,7 +13,7 @@ use command_ends::Output;
 use command_line::Line;
 use memory::{Heap, NoMemory};
 use placed_bytes::LaidPieces;
-use plan_commands::execute_on;
+use plan_commands::{Plan, execute_on};
 
 impl<'a> Disk for Desk<'a> {
     ghost use Rattle.std.specs.Prelude.{[], None, is_some, option_map, if◌then◌else◌};
@@ -86,6 +86,7 @@ impl<'a> Desk<'a> {
             heap,
             &mut inputs,
             line,
+            &Plan::of(line),
             &mut notes,
             &mut out,
             &mut report,

@@ -1,13 +1,14 @@
 -- Lines that are written out.
-use Rattle.std.proofs.Common.{◌≡◌, refl, true, false, codes, Some, None, List, [], ◌∷◌, option_map}
-use Rattle.clap.specs.Words.{Text}
+use Rattle.std.proofs.Common.{◌≡◌, refl, Bool, true, false, codes, Option, Some, None, List, [], ◌∷◌, ap, drop, get_or}
+use Rattle.std.proofs.Common.{map, option_map}
+use Rattle.clap.specs.Words.{Kinds, Text}
 use Rattle.hex.proofs.OnLiterals.{hex_on_literals}
 use Rattle.uuid.proofs.OnLiterals.{uuid_on_literals}
 use Rattle.clap.specs.declared.error.kind.ErrorKind.TheVariants as kind
 use Rattle.clap.proofs.OnLiterals.{clap_on_literals}
 use Rattle.command_line.specs.Commands.{symarch_command}
 use Rattle.command_line.specs.Arguments.{archs, digests, numbers, one, perhaps, several, text, texts, uuids}
-use Rattle.command_line.specs.Lines.{are_accepted, error_kinds, inputs_of, is_in_order, line_of, line_with}
+use Rattle.command_line.specs.Lines.{Line, are_accepted, error_kinds, inputs_of, is_in_order, line_of, line_with}
 use Rattle.command_line.specs.Lines.{named_command}
 use Rattle.command_line.specs.Table.{admit_command, find_command, frames_command, merge_command, migrate_command}
 use Rattle.command_line.specs.Table.{new_command, retire_command, symbolicate_command}
@@ -297,17 +298,30 @@ command_version_unknown = refl
 
 -- ---- for each command a line
 
-asks : (s : Sample) → error_kinds s.words ≡ [] → is_in_order s.words ≡ true → line_of s.words ≡ Some s.line → Asks s
-asks s accepted in_order line_is = record { accepted = accepted; in_order = in_order; line_is = line_is }
+-- what words have, and ask for
+record Answer : Type 0 where
+  kinds : Kinds
+  in_order : Bool
+  line : Option Line
 
-and : {P Q : Type 0} → P → Q → P × Q
-and p q = (p, q)
+abbrev answer : List Text → Answer
+answer words = record { kinds = error_kinds words; in_order = is_in_order words; line = line_of words }
+
+abbrev wanted : Sample → Answer
+wanted s = record { kinds = []; in_order = true; line = Some s.line }
+
+each : (all : List Sample) → map (λ s. answer s.words) all ≡ map wanted all → EachAsks all
+each [] same = tt
+each (s ∷ rest) same =
+    let first = ap (λ answers. get_or answers 0 (wanted s)) same in (
+      record {
+        accepted = ap (λ a. a.kinds) first;
+        in_order = ap (λ a. a.in_order) first;
+        line_is = ap (λ a. a.line) first;
+      },
+      each rest (ap (drop 1) same),
+    )
 
 pub each_asks : EachAsks samples
 unfolding error_kinds named_command symarch_command clap_on_literals hex_on_literals uuid_on_literals
-each_asks =
-    and (asks _ refl refl refl) (and (asks _ refl refl refl) (and (asks _ refl refl refl)
-    (and (asks _ refl refl refl) (and (asks _ refl refl refl) (and (asks _ refl refl refl)
-    (and (asks _ refl refl refl) (and (asks _ refl refl refl) (and (asks _ refl refl refl)
-    (and (asks _ refl refl refl) (and (asks _ refl refl refl) (and (asks _ refl refl refl)
-    (and (asks _ refl refl refl) (and (asks _ refl refl refl) (and (asks _ refl refl refl) tt))))))))))))))
+each_asks = each samples refl

@@ -7,5 +7,6 @@ pub mod Lines
 pub mod ValuesView
 pub mod LineView
 pub mod InnerWords
+pub mod Shown
 pub mod LineFaults
 pub mod Samples

@@ -1,13 +1,17 @@
 -- The fault of a line that asks for nothing.
-use Rattle.std.specs.Prelude.{◌≡◌, ◌⊎◌, ⊤, List, [], ◌∷◌, ◌++◌, codes, Option, Some, None, Result, IfErr, IfOk, IsSome}
-use Rattle.std.specs.Prelude.{string_bytes}
+use Rattle.std.specs.Prelude.{◌≡◌, ⊤, List, [], ◌∷◌, ◌++◌, codes, Option, Some, None, Result, IfErr, IfOk, IsSome}
+use Rattle.std.specs.Prelude.{if◌then◌else◌, is_some, option_and_then, option_map, string_bytes}
+use Rattle.std.specs.Option.{option_map_or, option_or}
 use Rattle.clap.specs.Words.{Row, Text}
-use Rattle.command_line.specs.Arguments.{Argument, form_of}
+use Rattle.uuid.specs.Text.{parsed}
+use Rattle.archive_words.specs.Words.{address_of, arch_of, digest_of}
+use Rattle.command_line.specs.Arguments.{Amount, Argument, form_of, one, perhaps, several}
 use Rattle.command_line.specs.LineView.{line_view}
-use Rattle.command_line.specs.Lines.{Line}
+use Rattle.command_line.specs.Lines.{Line, line_in, out_of, overwrites_input, words_by}
 use Rattle.command_line.specs.declared.commands.Form.{Form}
 use Rattle.command_line.specs.declared.commands.Form.TheVariants as forms
-use Rattle.command_line.specs.Table.{arguments_named}
+use Rattle.command_line.specs.Shown.{shown}
+use Rattle.command_line.specs.Table.{signature_named}
 use Rattle.command_line.specs.declared.lines.Line.{Line as LineOfProgram}
 use Rattle.command_line.specs.declared.line_faults.LineFault.{LineFault}
 use Rattle.command_line.specs.declared.line_faults.LineFault.TheVariants.{Refused, OutOfMemory, Help}
@@ -41,34 +45,69 @@ form_words forms.Number = codes "1 to 16 hex digits, with or without 0x"
 -- what is told of a word of another form than its argument's, and of an argument without a word
 abbrev pub other_form : Argument → Text → Text
 other_form a word = codes "error: invalid "
-    ++ (a.name ++ (codes " '" ++ (word ++ (codes "': expected " ++ (form_words (form_of a.role) ++ 10 ∷ [])))))
+    ++ (a.name ++ (codes " '" ++ (shown word ++ (codes "': expected " ++ (form_words (form_of a.role) ++ 10 ∷ [])))))
 
 abbrev pub without_value : Argument → Text
 without_value a = codes "error: missing " ++ (a.name ++ 10 ∷ [])
 
--- what is told of this argument: that it has no word, or that a word has another form
-abbrev pub IsToldOf : Argument → LineFault → Type 0
-IsToldOf a fault = IsRefusedAs (without_value a) fault ⊎ ((word : Text) × IsRefusedAs (other_form a word) fault)
+-- the first of these words that has not the form
+abbrev pub first_other : {X : Type 0} → (Text → Option X) → List Text → Option Text
+first_other form [] = None
+first_other form (word ∷ words) = if is_some (form word) then first_other form words else Some word
 
--- or of one of these
-abbrev pub IsToldAmong : List Argument → LineFault → Type 0
-IsToldAmong [] fault = ⊥
-IsToldAmong (a ∷ rest) fault = IsToldOf a fault ⊎ IsToldAmong rest fault
+abbrev pub other_in : {X : Type 0} → (Text → Option X) → Amount Text → Option Text
+other_in form (one word) = first_other form (word ∷ [])
+other_in form (several words) = first_other form words
+other_in form (perhaps None) = None
+other_in form (perhaps (Some word)) = first_other form (word ∷ [])
+
+-- the first word of an argument that has another form than this
+abbrev pub other_word : Form → Amount Text → Option Text
+other_word forms.Plain words = None
+other_word forms.Uuid words = other_in parsed words
+other_word forms.Arch words = other_in arch_of words
+other_word forms.Digest words = other_in digest_of words
+other_word forms.Number words = other_in address_of words
+
+-- what is told of the words of an argument, if one has another form
+abbrev pub form_refusal : Argument → Amount Text → Option Text
+form_refusal a words = option_map (other_form a) (other_word (form_of a.role) words)
+
+-- what is told of an argument, if it has not its values
+unfoldable pub refusal_at : Argument → List Row → Option Text
+refusal_at a rows = option_map_or (form_refusal a) (words_by a.count a.name rows) (Some (without_value a))
+
+-- what is told of the first of these that has not
+abbrev pub refusal_among : List Argument → List Row → Option Text
+refusal_among [] rows = None
+refusal_among (a ∷ rest) rows = option_or (refusal_at a rows) (refusal_among rest rows)
 
 abbrev pub unknown_command : Text → Text
 unknown_command called = codes "error: invalid command '" ++ (called ++ 39 ∷ 10 ∷ [])
 
--- what is told at a command of this name
-abbrev pub IsToldIn : Text → LineFault → Type 0
-IsToldIn called fault = IsToldAmong (arguments_named called) fault ⊎ IsRefusedAs (unknown_command called) fault
+-- what is told of a command of this name, if there is none, or an argument has not its values
+abbrev pub refusal_in : Text × List Row → Option Text
+refusal_in p = option_map_or (λ s. refusal_among s.arguments p.1) (signature_named p.0) (Some (unknown_command p.0))
 
 abbrev pub out_is_input : Text → Text
-out_is_input out = codes "error: invalid OUT '" ++ (out ++ (codes "': expected a path that is no input" ++ 10 ∷ []))
+out_is_input out = codes "error: invalid OUT '" ++ (shown out ++ (codes "': expected a path that is no input" ++ 10 ∷ []))
 
--- what is told of words that are accepted, by the command that they name
-abbrev pub IsToldFor : Option (Text × List Row) → LineFault → Type 0
-IsToldFor None fault = IsRefusedAs (codes "error: missing command" ++ 10 ∷ []) fault
-IsToldFor (Some p) fault = IsToldIn p.0 fault ⊎ ((out : Text) × IsRefusedAs (out_is_input out) fault)
+-- what is told of a line, if its OUT is an input
+abbrev pub out_refusal : Line → Option Text
+out_refusal line = if overwrites_input line then option_map out_is_input (out_of line) else None
+
+-- what is told of words that are accepted, by the command that they name, if they are refused: of the first argument
+-- that has not its values, and only if each has them, of OUT
+abbrev pub refusal_of : Option (Text × List Row) → Option Text
+refusal_of None = Some (codes "error: missing command" ++ 10 ∷ [])
+refusal_of (Some p) = option_or (refusal_in p) (option_and_then out_refusal (line_in p))
+
+-- a refusal with this text, if there is one, or memory was wanting
+abbrev pub IsRefusedBy : Option Text → LineFault → Type 0
+IsRefusedBy told OutOfMemory = ⊤
+IsRefusedBy told (Help _) = ⊥
+IsRefusedBy None (Refused _) = ⊥
+IsRefusedBy (Some text) (Refused told) = string_bytes told ≡ text
 
 -- This line, if there is one, and else a refusal. Memory may be wanting in either case.
 pub record Reads (line : Option Line) (result : Result LineOfProgram LineFault) : Type 0 where

@@ -41,7 +41,7 @@ fn with_arguments<'a>(
     Ok(command)
 }
 
-/// With what stands behind its help, if there is something.
+/// With what stands after its help, if there is something.
 fn with_more<'a>(command: Command<'a>, more: Option<&'static str>) -> Command<'a>
     ensures app { app_of result ≡ app_of command.entry }
     ensures local { (out-Command result).has_globals ≡ (out-Command command.entry).has_globals }
@@ -84,7 +84,7 @@ pub fn symarch_command<'a>(alloc: Global) -> Result<Command<'a>, AllocError>
     ensures app { IfOk result (λ c. app_of c ≡ symarch_command) }
     ensures local { IfOk result (λ c. (out-Command c).has_globals ≡ false) }
 {
-    let about = "Keep Mach-O images in archives, and name the addresses of a crash";
+    let about = "Keep Mach-O images in archives, and name the functions of a crash";
     let command = Command::new(alloc, "symarch").about(about);
     let command = with_table(alloc, command, table())?;
     Ok(command.version(VERSION).subcommand_required(true))

@@ -21,7 +21,7 @@ pub enum Form {
     Number,
 }
 
-/// What is read at a path, by which an input is told where it is refused.
+/// What is read at a path, which names an input that is refused.
 #[derive(Clone, Copy, PartialEq, Eq)]
 pub enum Kind {
     Archive,
@@ -66,7 +66,7 @@ pub struct Argument {
     pub role: Role,
 }
 
-/// A command, with its arguments in the order of the words, and what its help says behind them.
+/// A command, with its arguments in the order of the words, and what its help says after them.
 #[derive(Clone, Copy)]
 pub struct Signature {
     pub name: &'static str,
@@ -84,26 +84,26 @@ const ARCHIVE: Argument = Argument {
 
 const OTHER: Argument = Argument {
     name: "OTHER",
-    help: "A further archive; all of them are asked as their join",
+    help: "Also search this archive; results are as if all were merged",
     count: Count::Often("with"),
     role: Role::Reads(Kind::Archive),
 };
 
 const TOGETHER: Argument = Argument {
-    help: "The archives to read, as their join",
+    help: "The archives to search; results are as if all were merged",
     count: Count::Several,
     ..ARCHIVE
 };
 
 const INDEX: Argument = Argument {
     name: "INDEX",
-    help: "The index of the archive, which is read in its place",
+    help: "Use this index instead of reading the whole archive",
     count: Count::Perhaps("index"),
     role: Role::Reads(Kind::Index),
 };
 
 const INDEXES: Argument = Argument {
-    help: "The index of an archive, which is read by it; the first is that of the first archive, and so on",
+    help: "Use this index; repeat once per archive, in the same order",
     count: Count::Often("index"),
     ..INDEX
 };
@@ -115,44 +115,44 @@ const IN: Argument = Argument {
 
 const OUT: Argument = Argument {
     name: "OUT",
-    help: "The archive to write, which is replaced if it is there",
+    help: "The archive to write; an older one at this path is replaced if nothing in it is lost",
     count: Count::Once,
     role: Role::Writes,
 };
 
 const SUMMARY_OUT: Argument = Argument {
-    help: "The summary to write, which is replaced if it is there",
+    help: "The summary to write; one of symarch's files at this path is replaced",
     ..OUT
 };
 
 const INDEX_OUT: Argument = Argument {
-    help: "The index to write, which is replaced if it is there",
+    help: "The index to write; one of symarch's files at this path is replaced",
     ..OUT
 };
 
 const IMAGES: Argument = Argument {
     name: "FILE",
-    help: "The Mach-O files to take; of a dSYM bundle the one in Contents/Resources/DWARF",
+    help: "The Mach-O files to add; in a dSYM bundle, the file in Contents/Resources/DWARF",
     count: Count::Several,
     role: Role::Reads(Kind::File),
 };
 
 const ARCHIVES: Argument = Argument {
-    help: "The archives to join to it",
+    help: "The archives to merge with it",
     role: Role::Reads(Kind::Archive),
     ..IMAGES
 };
 
 const OPS: Argument = Argument {
     name: "OPS",
-    help: "The operations file to take",
+    help: "The operations file to apply",
     role: Role::Reads(Kind::Ops),
     ..ARCHIVE
 };
 
 const SUMMARY: Argument = Argument {
     name: "SUMMARY",
-    help: "The summary to compare with",
+    help: "The summary of the archive that asks",
     role: Role::Reads(Kind::Summary),
     ..ARCHIVE
 };
@@ -166,7 +166,7 @@ const SCRIPT: Argument = Argument {
 
 const FRAMES: Argument = Argument {
     name: "FRAMES",
-    help: "The file of the frames, with a line UUID ARCH LOAD ADDRESS for each",
+    help: "The file of frames, one line UUID ARCH LOAD ADDRESS for each",
     role: Role::Reads(Kind::Frames),
     ..ARCHIVE
 };
@@ -204,14 +204,14 @@ const DIGEST: Argument = Argument {
 
 const SYMBOL_NAME: Argument = Argument {
     name: "NAME",
-    help: "The whole name of a symbol; one that begins with - stands behind --",
+    help: "The whole name of a symbol; put -- before a name that starts with -",
     count: Count::Once,
     role: Role::Says(Form::Plain),
 };
 
 const LOAD: Argument = Argument {
     name: "HEX",
-    help: "Where the image was loaded, in hexadecimal, with or without 0x",
+    help: "The address where the image was loaded, in hexadecimal, with or without 0x",
     count: Count::Perhaps("load"),
     role: Role::Says(Form::Number),
 };
@@ -224,12 +224,12 @@ const ADDRESSES: Argument = Argument {
 };
 
 /// What `symbolicate` and `frames` print for an address, and what their exit status 1 says.
-const ANSWERS: &str = "Each address gets a line, with the symbol nearest to it, or with\n\
-    -   if it has none: it lies in no section, or below the section's first symbol\n\
-    ?   if no slice answers for the UUID and the ARCH\n\
-    !N  if N slices answer, of which each gets a line below\n\
-    The exit status is 1 if an address has another answer than one symbol.\n\
-    A number without 0x is hexadecimal too.";
+const ANSWERS: &str = "Each address gets one line: the nearest symbol, or\n\
+    -   if there is none: the address is in no section, or below its section's first symbol\n\
+    ?   if the archive has no slice with this UUID and ARCH\n\
+    !N  if N slices answer; a line for each follows\n\
+    The exit status is 1 if any answer is not exactly one symbol.\n\
+    Numbers are hexadecimal, also without 0x.";
 
 /// The commands, in the order in which help lists them.
 const COMMANDS: &[Signature] = &[
@@ -241,67 +241,67 @@ const COMMANDS: &[Signature] = &[
     },
     Signature {
         name: "admit",
-        about: "Take Mach-O images into an archive",
+        about: "Add Mach-O images to an archive",
         more: None,
         arguments: &[IN, OUT, IMAGES],
     },
     Signature {
         name: "retire",
-        about: "Withdraw a slice for good, on every site",
+        about: "Withdraw a slice for good, at every site",
         more: None,
         arguments: &[IN, OUT, SLICE_UUID, ARCH, DIGEST],
     },
     Signature {
         name: "merge",
-        about: "Join archives",
+        about: "Merge archives",
         more: None,
         arguments: &[IN, OUT, ARCHIVES],
     },
     Signature {
         name: "migrate",
-        about: "Take an archive over to the present version",
+        about: "Rewrite an archive in the current format",
         more: None,
         arguments: &[IN, OUT],
     },
     Signature {
         name: "apply",
-        about: "Take the records of an operations file",
+        about: "Apply the records of an operations file",
         more: None,
         arguments: &[IN, OUT, OPS],
     },
     Signature {
         name: "find",
-        about: "List what an archive has of a UUID",
+        about: "List what an archive has for a UUID",
         more: None,
         arguments: &[ARCHIVE, SOUGHT_UUID, OTHER, INDEXES],
     },
     Signature {
         name: "list",
-        about: "List all that an archive has",
+        about: "List everything in an archive",
         more: None,
         arguments: &[ARCHIVE, INDEX],
     },
     Signature {
         name: "name",
-        about: "Find a symbol by its exact name",
+        about: "Find symbols by their exact name",
         more: None,
         arguments: &[ARCHIVE, SYMBOL_NAME, OTHER],
     },
     Signature {
         name: "symbolicate",
-        about: "Name the symbols at addresses",
+        about: "Print the nearest symbols of addresses",
         more: Some(ANSWERS),
         arguments: &[ARCHIVE, IMAGE_UUID, ARCH, LOAD, OTHER, INDEXES, ADDRESSES],
     },
     Signature {
         name: "frames",
-        about: "Name the symbols of all frames of a crash",
+        about: "Print the nearest symbols of all frames of a crash",
         more: Some(ANSWERS),
         arguments: &[FRAMES, INDEXES, TOGETHER],
     },
     Signature {
         name: "summary",
-        about: "Write what an archive has, without its slices",
+        about: "Write the summary of an archive, which has no slices",
         more: None,
         arguments: &[ARCHIVE, SUMMARY_OUT, INDEX],
     },
@@ -313,13 +313,13 @@ const COMMANDS: &[Signature] = &[
     },
     Signature {
         name: "delta",
-        about: "Write the records that a summary does not name",
+        about: "Write the records that a summary lacks",
         more: None,
         arguments: &[ARCHIVE, SUMMARY, OUT],
     },
     Signature {
         name: "rehearse",
-        about: "Carry out events at sites that exchange",
+        about: "Run events at sites that exchange archives",
         more: None,
         arguments: &[SCRIPT],
     },

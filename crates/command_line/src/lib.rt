@@ -3,6 +3,7 @@
 //! - `commands`: the table of the commands, with their helps and arguments;
 //! - `values`: the values of an argument;
 //! - `lines`: what a command line asks for;
+//! - `escapes`: words as they are shown;
 //! - `line_faults`: why a line asks for nothing;
 //! - `apps`: the commands of the table, as `clap` builds them;
 //! - `readings`: the values that the words of an argument spell;
@@ -12,6 +13,7 @@
 
 mod apps;
 mod commands;
+mod escapes;
 pub mod laws;
 mod line_faults;
 mod lines;

@@ -4,6 +4,7 @@ ghost use Rattle.std.specs.Prelude.{◌≡◌, ◌≢◌, MatchResult};
 ghost use Rattle.clap.specs.Words.{kind_of};
 ghost use Rattle.command_line.specs.LineFaults.{IsHelpUnlessMemory, IsRefusalUnlessMemory};
 
+use crate::escapes::shown_line;
 use clap::Error;
 use clap::error::ErrorKind;
 use std::alloc::{AllocError, AllocFailed, Global};
@@ -54,8 +55,19 @@ fn asked_or_refused(kind: ErrorKind, text: String) -> LineFault
     }
 }
 
-/// The fault of a line at which `clap` gives this error.
-pub fn parse_fault(alloc: Global, error: &Error) -> LineFault
+/// The text of an error; of a refusal of words with control characters in one line, so that no word makes one of its
+/// own.
+fn error_text(alloc: Global, error: &Error, controlled: bool) -> Option<String> {
+    let text = error.to_string(alloc).ok()?;
+    match error.kind() {
+        ErrorKind::DisplayHelp | ErrorKind::DisplayVersion => Some(text),
+        _ if controlled => shown_line(alloc, &text).ok(),
+        _ => Some(text),
+    }
+}
+
+/// The fault of a line at which `clap` gives this error, and whether a word of the line has a control character.
+pub fn parse_fault(alloc: Global, error: &Error, controlled: bool) -> LineFault
     ensures memory { kind_of error.now ≡ ErrorKind.OutOfMemory → result ≡ LineFault.OutOfMemory }
     ensures help { kind_of error.now ≡ ErrorKind.DisplayHelp → IsHelpUnlessMemory result }
     ensures version { kind_of error.now ≡ ErrorKind.DisplayVersion → IsHelpUnlessMemory result }
@@ -66,9 +78,9 @@ pub fn parse_fault(alloc: Global, error: &Error) -> LineFault
     if kind == ErrorKind::OutOfMemory {
         return LineFault::OutOfMemory;
     }
-    match error.to_string(alloc) {
-        Ok(text) => asked_or_refused(kind, text),
-        Err(_) => LineFault::OutOfMemory,
+    match error_text(alloc, error, controlled) {
+        Some(text) => asked_or_refused(kind, text),
+        None => LineFault::OutOfMemory,
     }
 }
 

@@ -7,12 +7,14 @@ ghost use Rattle.command_line.specs.Arguments.{form_of};
 ghost use Rattle.command_line.specs.TableView.{argument_in, count_in};
 ghost use Rattle.command_line.specs.ValuesView.{amount_view, texts_view, values_view};
 ghost use Rattle.command_line.specs.InnerWords.{words_view};
-ghost use Rattle.command_line.specs.LineFaults.{IsRefusalUnlessMemory, IsRefusedAs, IsToldAmong, IsToldOf, other_form};
+ghost use Rattle.command_line.specs.LineFaults.{IsRefusalUnlessMemory, IsRefusedAs, IsRefusedBy, first_other};
+ghost use Rattle.command_line.specs.LineFaults.{form_refusal, other_form, other_in, refusal_among, refusal_at};
 ghost use Rattle.command_line.specs.LineFaults.{without_value};
 ghost use Rattle.command_line.specs.Lines.{all_spelled, all_values, amount_spelled, if_some, values_at};
 ghost use Rattle.command_line.specs.Lines.{values_spelled, words_by};
 
 use crate::commands::{Argument, Count, Form, form_of, form_text};
+use crate::escapes::shown;
 use crate::line_faults::{LineFault, refused};
 use crate::values::{Amount, Values};
 use archive_words::Word;
@@ -77,7 +79,8 @@ fn each_spelled<T: Word + Drop>(
     ensures err { IfErr result (λ e. (e ≡ LineFault.OutOfMemory)
         ⊎ (all_spelled T.form_of (map (λ w. w.now) words.now) ≡ None)) }
     ensures refusal { IfErr result IsRefusalUnlessMemory }
-    ensures told { IfErr result (IsToldOf (argument_in argument)) }
+    ensures told { IfErr result (IsRefusedBy (option_map (other_form (argument_in argument))
+        (first_other T.form_of (map (λ w. w.now) words.now)))) }
 {
     let mut values = Vec::new(alloc);
     'words: for word in words {
@@ -92,7 +95,6 @@ fn spelled<T: Word>(alloc: Global, argument: Argument, word: &str) -> Result<T, 
     ensures err { IfErr result (λ e. (e ≡ LineFault.OutOfMemory) ⊎ (T.form_of word.now ≡ None)) }
     ensures refusal { IfErr result IsRefusalUnlessMemory }
     ensures text { IfErr result (IsRefusedAs (other_form (argument_in argument) word.now)) }
-    ensures told { IfErr result (IsToldOf (argument_in argument)) }
 {
     match T::read(word) {
         Some(value) => Ok(value),
@@ -106,7 +108,10 @@ fn other_form(alloc: Global, argument: Argument, word: &str) -> LineFault
 {
     let name = argument.name;
     let form = form_text(form_of(argument.role));
-    refused(format!(in alloc; "error: invalid {name} '{word}': expected {form}\n"))
+    match shown(alloc, word) {
+        Ok(word) => refused(format!(in alloc; "error: invalid {name} '{word}': expected {form}\n")),
+        Err(_) => LineFault::OutOfMemory,
+    }
 }
 
 /// The refusal of a line in which a value is missing.
@@ -152,7 +157,8 @@ fn amount<T: Word + Drop>(
     ensures err { IfErr result (λ e. (e ≡ LineFault.OutOfMemory)
         ⊎ (amount_spelled T.form_of (words_view words.entry) ≡ None)) }
     ensures refusal { IfErr result IsRefusalUnlessMemory }
-    ensures told { IfErr result (IsToldOf (argument_in argument)) }
+    ensures told { IfErr result (IsRefusedBy (option_map (other_form (argument_in argument))
+        (other_in T.form_of (words_view words.entry)))) }
 {
     Ok(match words {
         Words::One(word) => Amount::One(spelled(alloc, argument, word)?),
@@ -171,7 +177,7 @@ fn values_spelled(alloc: Global, argument: Argument, words: Words) -> Result<Val
     ensures err { IfErr result (λ e. (e ≡ LineFault.OutOfMemory)
         ⊎ (values_spelled (form_of argument.role) (words_view words.entry) ≡ None)) }
     ensures refusal { IfErr result IsRefusalUnlessMemory }
-    ensures told { IfErr result (IsToldOf (argument_in argument)) }
+    ensures told { IfErr result (IsRefusedBy (form_refusal (argument_in argument) (words_view words.entry))) }
 {
     Ok(match form_of(argument.role) {
         Form::Plain => Values::Texts(copied(alloc, words)?),
@@ -183,13 +189,14 @@ fn values_spelled(alloc: Global, argument: Argument, words: Words) -> Result<Val
 }
 
 /// The values of an argument, which each line that `clap` accepts has where the argument has to be there.
+#[tactic(auto, unfolding(crate::specs::LineFaults::refusal_at))]
 fn values_at(alloc: Global, argument: Argument, matches: &ArgMatches) -> Result<Values, LineFault>
     ensures ok { IfOk result (λ vs. values_at (argument_in argument) (rows_of (found_of matches.now))
         ≡ Some (values_view vs)) }
     ensures err { IfErr result (λ e. (e ≡ LineFault.OutOfMemory)
         ⊎ (values_at (argument_in argument) (rows_of (found_of matches.now)) ≡ None)) }
     ensures refusal { IfErr result IsRefusalUnlessMemory }
-    ensures told { IfErr result (IsToldOf (argument_in argument)) }
+    ensures told { IfErr result (IsRefusedBy (refusal_at (argument_in argument) (rows_of (found_of matches.now)))) }
 {
     match words_at(argument, matches) {
         Some(words) => values_spelled(alloc, argument, words),
@@ -198,6 +205,7 @@ fn values_at(alloc: Global, argument: Argument, matches: &ArgMatches) -> Result<
 }
 
 /// The values of each of these arguments.
+#[tactic(auto, using(crate::proofs::LineFaultLemmas::among_next, crate::proofs::LineFaultLemmas::among_told))]
 pub fn all_values(
     alloc: Global,
     arguments: &[Argument],
@@ -208,7 +216,8 @@ pub fn all_values(
     ensures err { IfErr result (λ e. (e ≡ LineFault.OutOfMemory)
         ⊎ (all_values (map argument_in arguments.now) (rows_of (found_of matches.now)) ≡ None)) }
     ensures refusal { IfErr result IsRefusalUnlessMemory }
-    ensures told { IfErr result (IsToldAmong (map argument_in arguments.now)) }
+    ensures told { IfErr result (IsRefusedBy
+        (refusal_among (map argument_in arguments.now) (rows_of (found_of matches.now)))) }
 {
     let mut all = Vec::new(alloc);
     'arguments: for argument in arguments {

@@ -1,17 +1,18 @@
 //! A command line, read by `clap`.
 
-ghost use Rattle.std.specs.Prelude.{◌≡◌, ◌⊎◌, IfErr, IfOk, IsErrAnd, IsSomeAnd, OnOk, Some, [], ◌∷◌};
+ghost use Rattle.std.specs.Prelude.{◌≡◌, ◌⊎◌, IfErr, IfOk, IsErrAnd, OnOk, Some, [], ◌∷◌};
 ghost use Rattle.std.specs.Prelude.{false, map, option_map, true};
 ghost use Rattle.clap.specs.Words.{IsAmong, found_of, rows_of, subcommand_rows_of};
 ghost use Rattle.command_line.specs.Lines.{KeepsInputs, are_accepted, error_kinds, is_in_order, is_path_among, line_in};
 ghost use Rattle.command_line.specs.Lines.{line_of};
-ghost use Rattle.command_line.specs.Lines.{named_command, out_of, overwrites_input};
+ghost use Rattle.command_line.specs.Lines.{named_command, overwrites_input};
 ghost use Rattle.command_line.specs.LineView.{line_view};
-ghost use Rattle.command_line.specs.LineFaults.{IsHelpUnlessMemory, IsRefusalUnlessMemory, IsRefusedAs, IsToldFor};
-ghost use Rattle.command_line.specs.LineFaults.{IsToldIn, Reads, out_is_input};
+ghost use Rattle.command_line.specs.LineFaults.{IsHelpUnlessMemory, IsRefusalUnlessMemory, IsRefusedBy, Reads};
+ghost use Rattle.command_line.specs.LineFaults.{out_is_input, out_refusal, refusal_in, refusal_of};
 
 use crate::apps::symarch_command;
 use crate::commands::signature_named;
+use crate::escapes::{has_control, shown};
 use crate::line_faults::{LineFault, parse_fault, refused};
 use crate::lines::Line;
 use crate::readings::all_values;
@@ -23,7 +24,7 @@ use std::convert::AsStr;
 /// The line of the command of this name.
 fn line_in(alloc: Global, name: &str, matches: &ArgMatches) -> Result<Line, LineFault>
     ensures reads { Reads (line_in (name.now, rows_of (found_of matches.now))) result }
-    ensures told { IfErr result (IsToldIn name.now) }
+    ensures told { IfErr result (IsRefusedBy (refusal_in (name.now, rows_of (found_of matches.now)))) }
 {
     let Some(row) = signature_named(name) else {
         return Err(refused(format!(in alloc; "error: invalid command '{name}'\n")));
@@ -50,7 +51,7 @@ fn matches_of<'a, S: AsStr>(alloc: Global, words: &'a [S]) -> Result<ArgMatches<
     let command = symarch_command(alloc)?;
     match command.try_get_matches_from(words) {
         Ok(matches) => Ok(matches),
-        Err(error) => Err(parse_fault(alloc, &error)),
+        Err(error) => Err(parse_fault(alloc, &error, has_control(words))),
     }
 }
 
@@ -69,21 +70,31 @@ fn is_among(path: &str, paths: &[&str]) -> bool
     paths.contains(&path)
 }
 
+/// The refusal of a line in which OUT is an input.
+fn out_is_input(alloc: Global, out: &str) -> LineFault
+    ensures told { IsRefusedBy (Some (out_is_input out.now)) result }
+    ensures refusal { IsRefusalUnlessMemory result }
+{
+    match shown(alloc, out) {
+        Ok(out) => refused(format!(in alloc;
+            "error: invalid OUT '{out}': expected a path that is no input\n"
+        )),
+        Err(_) => LineFault::OutOfMemory,
+    }
+}
+
 /// Refuses a line that would write over one of its inputs.
 fn check_out(alloc: Global, line: &Line) -> Result<(), LineFault>
     ensures ok { OnOk result (overwrites_input (line_view line.now) ≡ false) }
     ensures err { IfErr result (λ e. (e ≡ LineFault.OutOfMemory) ⊎ (overwrites_input (line_view line.now) ≡ true)) }
     ensures refusal { IfErr result IsRefusalUnlessMemory }
-    ensures told { IfErr result (λ e. IsSomeAnd (out_of (line_view line.now))
-        (λ out. IsRefusedAs (out_is_input out) e)) }
+    ensures told { IfErr result (IsRefusedBy (out_refusal (line_view line.now))) }
 {
     let Some(out) = line.out_path() else {
         return Ok(());
     };
     if is_among(out, &line.inputs(alloc)?) {
-        return Err(refused(format!(in alloc;
-            "error: invalid OUT '{out}': expected a path that is no input\n"
-        )));
+        return Err(out_is_input(alloc, out));
     }
     Ok(())
 }
@@ -111,10 +122,10 @@ pub fn read_line<S: AsStr>(alloc: Global, words: &[S]) -> Result<Line, LineFault
         → ¬ IsAmong ErrorKind.DisplayVersion (error_kinds (map S.text words.now))
         → IfErr result IsRefusalUnlessMemory }
 
-    // Words that `clap` accepts are refused with the name, the word and the form of one of the command's arguments, or
-    // with OUT's path.
+    // Words that `clap` accepts are refused with the first of the command's arguments that has a word of another form,
+    // with that word, the first, and with the form; and only where each has its form, with OUT's path.
     ensures told { error_kinds (map S.text words.now) ≡ []
-        → IfErr result (IsToldFor (named_command (map S.text words.now))) }
+        → IfErr result (IsRefusedBy (refusal_of (named_command (map S.text words.now)))) }
 {
     let matches = matches_of(alloc, words)?;
     let Some((name, inner)) = named_command(&matches) else {

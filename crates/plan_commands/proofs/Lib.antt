@@ -8,4 +8,5 @@ pub mod Noting
 pub mod Reasons
 pub mod Numbers
 pub mod Numbered
+pub mod Counted
 mod Asked

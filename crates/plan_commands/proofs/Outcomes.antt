@@ -26,6 +26,7 @@ use Rattle.plan_commands.specs.Disks.{Carried, Tells, fault_at, unopened_of}
 use Rattle.plan_commands.specs.Plans.{Deed, EndsDeed, EndsQuery, answers, changes, deed_of, empties, none, streams}
 use Rattle.plan_commands.specs.Numbers.{number_at}
 use Rattle.plan_commands.specs.Files.{IsNotPut, IsOutcome}
+use Rattle.plan_commands.specs.declared.plans.Plan.{Plan}
 
 -- if OUT failed, this is told of it
 abbrev pub Counts : Result Status CommandFault → ℕ → Type 0
@@ -137,11 +138,11 @@ module _ {S D T : Type 0} (told : Told S) (line : Line) (behind : List (Result S
   told_outcome (Err (Report n)) result tells o = subst (IsOutcome out) (sym tells) o
   told_outcome (Err OutOfMemory) result tells o = subst (IsOutcome out) (sym tells) o
 
-pub carried_outcome : {S D T : Type 0} (told : Told S) (line : Line) (before behind : List (Result S CannotOpen))
+pub carried_outcome : {S D T : Type 0} (told : Told S) (line : Line) (plan : Plan) (before behind : List (Result S CannotOpen))
     (out : Outs D T) (report : Writer) (r : Result Status CommandFault) (notes noted : List Note)
-    → Carried told line before behind out report r notes noted
+    → Carried told line plan before behind out report r notes noted
     → IsOutcome out r
-carried_outcome told line before behind out report r notes noted c =
+carried_outcome told line plan before behind out report r notes noted c =
     told_outcome told line behind out c.ended r c.tells
-    (done (deed_of c.plan (readers told.left told.failures before behind)
+    (done (deed_of plan (readers told.left told.failures before behind)
     (readers told.whole told.failures before behind) out) out report c.ended c.executes)

@@ -5,7 +5,7 @@ use Rattle.clap.specs.declared.error.kind.ErrorKind.TheVariants.{DisplayHelp, Di
 use Rattle.archive_files.specs.FileCalls.{FileCall}
 use Rattle.archive_files.specs.OutFiles.{placing_calls}
 use Rattle.archive_files.specs.declared.placed.Placed.{Placed}
-use Rattle.command_line.specs.LineFaults.{IsHelpUnlessMemory, IsRefusalUnlessMemory, IsToldFor}
+use Rattle.command_line.specs.LineFaults.{IsHelpUnlessMemory, IsRefusalUnlessMemory, IsRefusedBy, refusal_of}
 use Rattle.command_line.specs.Lines.{error_kinds, is_in_order, named_command}
 use Rattle.command_line.specs.declared.line_faults.LineFault.{LineFault}
 use Rattle.command_line.specs.declared.line_faults.LineFault.TheVariants.{Help, Refused, OutOfMemory}
@@ -34,7 +34,7 @@ pub no_plan : (words : List Text) (fault : LineFault) (told said : Writer) (stat
     → (error_kinds words ≡ DisplayVersion ∷ [] → IsHelpUnlessMemory fault)
     → (¬ IsAmong DisplayHelp (error_kinds words) → ¬ IsAmong DisplayVersion (error_kinds words)
     → IsRefusalUnlessMemory fault)
-    → (error_kinds words ≡ [] → IsToldFor (named_command words) fault)
+    → (error_kinds words ≡ [] → IsRefusedBy (refusal_of (named_command words)) fault)
     → IsRefused words told said status ⊎ IsHelped words told said status ⊎ WantsMemory told said status
 no_plan words OutOfMemory told said status is memory help version refusal telling = inr (inr is)
 no_plan words (Refused text) told said status is memory help version refusal telling = inl (record {

@@ -15,7 +15,7 @@ use Rattle.command_ends.specs.Inputs.{readers}
 use Rattle.command_ends.specs.Outputs.{Outs, Writer}
 use Rattle.plan_commands.specs.Numbers.{number_at}
 use Rattle.archive_updates.specs.declared.notes.Note.{Note}
-use Rattle.plan_commands.specs.Plans.{Executes, Notes, plan_view}
+use Rattle.plan_commands.specs.Plans.{Executes, IsPlanOf, Notes}
 use Rattle.plan_commands.specs.declared.plans.Plan.{Plan}
 
 -- why an input was not opened at its turn, if it was not
@@ -41,12 +41,11 @@ Tells told line inputs (Err (Output n)) result = result ≡ Err (Output n)
 Tells told line inputs (Err (Report n)) result = result ≡ Err (Report n)
 Tells told line inputs (Err OutOfMemory) result = result ≡ Err OutOfMemory
 
--- The command of a line ended so over inputs with the paths of the line, in the order of the words, each of which was
+-- The plan of a line ended so over inputs with the paths of the line, in the order of the words, each of which was
 -- opened at its turn, if that came; this was told of it, and where it ended well, these notes were added to those.
-pub record Carried {S D T : Type 0} (told : Told S) (line : Line) (before behind : List (Result S CannotOpen))
+pub record Carried {S D T : Type 0} (told : Told S) (line : Line) (plan : Plan) (before behind : List (Result S CannotOpen))
     (out : Outs D T) (report : Writer) (result : Result Status CommandFault) (notes noted : List Note) : Type 0 where
-  pub plan : Plan
-  pub plan_is : plan_view plan ≡ line
+  pub plan_is : IsPlanOf plan line
   pub waiting : AreWaiting told (inputs_of line) before
   pub as_many : length behind ≡ length before
   pub at_turn : AreAtTurn told behind

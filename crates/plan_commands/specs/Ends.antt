@@ -3,7 +3,7 @@ use Rattle.std.specs.Prelude.{◌≡◌, ◌≢◌, ◌⊎◌, ℕ, Bool, true, 
 use Rattle.std.specs.declared.alloc.Global.{Global}
 use Rattle.clap.specs.Words.{IsAmong, Text}
 use Rattle.clap.specs.declared.error.kind.ErrorKind.TheVariants.{DisplayHelp, DisplayVersion}
-use Rattle.command_line.specs.LineFaults.{IsToldFor}
+use Rattle.command_line.specs.LineFaults.{IsRefusedBy, refusal_of}
 use Rattle.command_line.specs.Lines.{Line, error_kinds, is_in_order, line_of, named_command}
 use Rattle.command_line.specs.declared.line_faults.LineFault.{LineFault}
 use Rattle.command_line.specs.declared.line_faults.LineFault.TheVariants as fault
@@ -43,14 +43,13 @@ pub record Refuses (told said : Writer) (reason : Text) (status : ℕ) : Type 0 
   pub says : SaysRefused said reason
   pub status_is : status ≡ 3
 
--- The words are refused, and why is said: words that are accepted have one of the reasons of the command that they
--- name.
+-- The words are refused, and why is said: of words that are accepted the first reason of the command that they name.
 pub record IsRefused (words : List Text) (told said : Writer) (status : ℕ) : Type 0 where
   pub no_plan : HasNoPlan words
   pub no_help : error_kinds words ≢ DisplayHelp ∷ []
   pub no_version : error_kinds words ≢ DisplayVersion ∷ []
   pub text : String Global
-  pub accepted : error_kinds words ≡ [] → IsToldFor (named_command words) (fault.Refused text)
+  pub accepted : error_kinds words ≡ [] → IsRefusedBy (refusal_of (named_command words)) (fault.Refused text)
   pub refuses : Refuses told said (reason_in (string_bytes text)) status
 
 -- The words ask for help or for the version, and that is told.

@@ -23,7 +23,7 @@ use Rattle.archive_files.specs.declared.replaceable.OutFault.TheVariants as faul
 use Rattle.archive_files.specs.declared.system_files.SystemFiles.{SystemFiles}
 use Rattle.archive_updates.specs.declared.notes.Note.{Note}
 use Rattle.plan_commands.specs.Disks.{Carried}
-use Rattle.plan_commands.specs.Plans.{plan_view, replaces_of}
+use Rattle.plan_commands.specs.Plans.{replaces_of}
 use Rattle.plan_commands.specs.declared.plans.Plan.{Plan}
 use Rattle.byte_device.specs.declared.disks.CannotOpen.{CannotOpen}
 
@@ -102,15 +102,11 @@ calls_of told held draft_failures placed place_failures old new = record {
 abbrev pub outs_in : {S D T : Type 0} → Calls S D T → Out D T → Out D T → Outs D T
 outs_in calls begun done = outs calls.held calls.draft_failures calls.placed calls.place_failures begun done
 
--- This says which files the OUT of a line replaces.
-abbrev pub IsRuleOf : Line → Replaces → Type 0
-IsRuleOf line replaces = (plan : Plan) × (plan_view plan ≡ line) × (replaces ≡ replaces_of plan)
-
 -- The command of a line ended over files of which nothing is known, and this is told of it; where it ended well, these
 -- are its notes. Inputs were made for its paths, each once and in the order of the words, and for no other. OUT has the
--- path of the line, unless an input's file is there, and replaces what the plan of the line says. Where a text was put
--- in place, the calls for OUT are those by which it was put at that path; where none was, those by which nothing is
--- left, with the bytes that the draft took; and where the draft took none and did not fail there are none.
+-- path of the line, unless an input's file is there, and replaces what the plan says. Where a text was put in place, the
+-- calls for OUT are those by which it was put at that path; where none was, those by which nothing is left, with the
+-- bytes that the draft took; and where the draft took none and did not fail there are none.
 pub record IsCarriedOut {S D T : Type 0} (calls : Calls S D T) (line : Line) (report : Writer)
     (told : Result Status Failure) (notes : List Note) : Type 0 where
   pub path : Option Text
@@ -119,7 +115,6 @@ pub record IsCarriedOut {S D T : Type 0} (calls : Calls S D T) (line : Line) (re
   pub done : Out D T
   pub ended : Result Status CommandFault
   pub path_is : IsPath (out_of line) (inputs_of line) calls.others calls.same path
-  pub rule : out_of line ≢ None → IsRuleOf line replaces
   pub begun_is : calls.held begun.draft ≡ Some (account path replaces [])
   pub begun_unfailed : calls.draft_failures begun.draft ≡ 0
   pub nothing_placed : calls.placed begun.target ≡ None
@@ -127,7 +122,9 @@ pub record IsCarriedOut {S D T : Type 0} (calls : Calls S D T) (line : Line) (re
   pub before : List (Result S CannotOpen)
   pub behind : List (Result S CannotOpen)
   pub noted : List Note
-  pub carried : Carried calls.told line before behind (outs_in calls begun done) report ended [] noted
+  pub plan : Plan
+  pub carried : Carried calls.told line plan before behind (outs_in calls begun done) report ended [] noted
+  pub replaces_is : out_of line ≢ None → replaces ≡ replaces_of plan
   pub notes_are : OnOk told (notes ≡ noted)
   pub outcome : IsOutcome (outs_in calls begun done) ended
   pub placed : (text : List ℕ) → Places (known_of (outs_in calls begun done)) text

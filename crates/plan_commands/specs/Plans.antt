@@ -1,12 +1,18 @@
--- What a line asks for, by name, and how its command ends.
-use Rattle.std.specs.Prelude.{◌≡◌, ℕ, ◌+◌, Bool, true, false, List, [], ◌∷◌, length, map, take, drop, string_bytes}
-use Rattle.std.specs.Prelude.{option_map, Result}
+-- What a line asks for, and how its command ends.
+use Rattle.std.specs.Prelude.{◌≡◌, ⊤, ℕ, suc, Bool, true, false, ◌&&◌, List, [], ◌∷◌, codes, length, take, drop}
+use Rattle.std.specs.Prelude.{if◌then◌else◌}
+use Rattle.std.specs.Prelude.{Option, Some, None, Result}
 use Rattle.std.specs.FinSet as set
-use Rattle.command_line.specs.Arguments.{archs, digests, numbers, one, perhaps, several, text, texts, uuids}
-use Rattle.command_line.specs.Lines.{Line, line_with}
+use Rattle.std.specs.Str.{bytes_eq}
+use Rattle.clap.specs.Words.{Text}
+use Rattle.command_line.specs.Arguments.{Argument, Count, Once, Several, Values, archs, digests, numbers, one, perhaps}
+use Rattle.command_line.specs.Arguments.{reads, several, text, uuids}
+use Rattle.command_line.specs.Lines.{Line, inputs_of_kind}
+use Rattle.command_line.specs.declared.commands.Kind.{Kind}
+use Rattle.command_line.specs.declared.commands.Kind.TheVariants as kinds
 use Rattle.command_line.specs.Table.{admit_command, apply_command, delta_command, find_command, frames_command}
 use Rattle.command_line.specs.Table.{index_command, list_command, merge_command, migrate_command, name_command}
-use Rattle.command_line.specs.Table.{new_command}
+use Rattle.command_line.specs.Table.{Signature, arguments_named, new_command}
 use Rattle.command_line.specs.Table.{rehearse_command, retire_command, summary_command, symbolicate_command}
 use Rattle.archive_core.specs.declared.keys.ArchKey.{ArchKey}
 use Rattle.archive_core.specs.declared.keys.SliceKey.{SliceKey}
@@ -35,69 +41,80 @@ use Rattle.index_updates.specs.Index.{index}
 use Rattle.plan_commands.specs.declared.plans.Plan.{Plan}
 use Rattle.plan_commands.specs.declared.plans.Plan.TheVariants as plan
 
--- the line that asks for this
-abbrev pub plan_view : Plan → Line
-plan_view (plan.New out) =
-    line_with new_command (text out.now ∷ [])
-plan_view (plan.Admit input out files) =
-    line_with admit_command (text input.now ∷ text out.now ∷ texts (several (map string_bytes files.now)) ∷ [])
-plan_view (plan.Retire input out uuid arch digest) =
-    line_with retire_command (text input.now ∷ text out.now ∷ uuids (one uuid) ∷ archs (one arch)
-    ∷ digests (one digest) ∷ [])
-plan_view (plan.Merge input out files) =
-    line_with merge_command (text input.now ∷ text out.now ∷ texts (several (map string_bytes files.now)) ∷ [])
-plan_view (plan.Migrate input out) =
-    line_with migrate_command (text input.now ∷ text out.now ∷ [])
-plan_view (plan.Apply input out ops) =
-    line_with apply_command (text input.now ∷ text out.now ∷ text ops.now ∷ [])
-plan_view (plan.Find archive uuid others indexes) =
-    line_with find_command (text archive.now ∷ uuids (one uuid) ∷ texts (several (map string_bytes others.now))
-    ∷ texts (several (map string_bytes indexes.now)) ∷ [])
-plan_view (plan.List archive index) =
-    line_with list_command (text archive.now ∷ texts (perhaps (option_map string_bytes index.now)) ∷ [])
-plan_view (plan.Name archive name others) =
-    line_with name_command (text archive.now ∷ text name.now ∷ texts (several (map string_bytes others.now)) ∷ [])
-plan_view (plan.Symbolicate archive uuid arch load others indexes addresses) =
-    line_with symbolicate_command (text archive.now ∷ uuids (one uuid) ∷ archs (one arch) ∷ numbers (perhaps load)
-    ∷ texts (several (map string_bytes others.now)) ∷ texts (several (map string_bytes indexes.now))
-    ∷ numbers (several addresses.now) ∷ [])
-plan_view (plan.Frames frames indexes archive others) =
-    line_with frames_command (text frames.now ∷ texts (several (map string_bytes indexes.now))
-    ∷ texts (several (archive.now ∷ map string_bytes others.now)) ∷ [])
-plan_view (plan.Summary archive out index) =
-    line_with summary_command
-    (text archive.now ∷ text out.now ∷ texts (perhaps (option_map string_bytes index.now)) ∷ [])
-plan_view (plan.Index archive out) =
-    line_with index_command (text archive.now ∷ text out.now ∷ [])
-plan_view (plan.Delta archive summary out) =
-    line_with delta_command (text archive.now ∷ text summary.now ∷ text out.now ∷ [])
-plan_view (plan.Rehearse script) =
-    line_with rehearse_command (text script.now ∷ [])
+-- the values of the argument of this name
+abbrev pub named_by : Text → List Argument → List Values → Option Values
+named_by name (a ∷ rest) (v ∷ vs) = if bytes_eq name a.name then Some v else named_by name rest vs
+named_by name _ _ = None
+
+-- These are the values of a line at this name.
+abbrev pub Has : Line → Text → Values → Type 0
+Has line name values = named_by name (arguments_named line.name) line.values ≡ Some values
+
+-- how many inputs of a kind a line has
+abbrev pub count_of : Kind → Line → ℕ
+count_of kind line = length (inputs_of_kind kind line)
+
+-- the command of a plan
+abbrev pub command_of : Plan → Signature
+command_of plan.New = new_command
+command_of plan.Admit = admit_command
+command_of (plan.Retire _ _) = retire_command
+command_of plan.Merge = merge_command
+command_of plan.Migrate = migrate_command
+command_of plan.Apply = apply_command
+command_of (plan.Find _ _) = find_command
+command_of plan.List = list_command
+command_of (plan.Name _) = name_command
+command_of (plan.Symbolicate _ _ _ _) = symbolicate_command
+command_of (plan.Frames _) = frames_command
+command_of plan.Summary = summary_command
+command_of plan.Index = index_command
+command_of plan.Delta = delta_command
+command_of plan.Rehearse = rehearse_command
+
+-- A line has the values of a plan at its names, and as many inputs as the plan says.
+abbrev pub HasValues : Plan → Line → Type 0
+HasValues (plan.Retire key digest) line =
+    Has line (codes "UUID") (uuids (one key.uuid)) × Has line (codes "ARCH") (archs (one key.arch))
+    × Has line (codes "DIGEST") (digests (one digest))
+HasValues (plan.Find uuid others) line =
+    Has line (codes "UUID") (uuids (one uuid)) × (count_of kinds.Archive line ≡ suc others)
+HasValues (plan.Name name) line = Has line (codes "NAME") (text name.now)
+HasValues (plan.Symbolicate key load others addresses) line =
+    Has line (codes "UUID") (uuids (one key.uuid)) × Has line (codes "ARCH") (archs (one key.arch))
+    × Has line (codes "HEX") (numbers (perhaps load)) × Has line (codes "ADDRESS") (numbers (several addresses.now))
+    × (count_of kinds.Archive line ≡ suc others)
+HasValues (plan.Frames indexes) line = count_of kinds.Index line ≡ indexes
+HasValues _ line = ⊤
+
+-- The plan is the one that a line asks for.
+abbrev pub IsPlanOf : Plan → Line → Type 0
+IsPlanOf asked line = (line.name ≡ (command_of asked).name) × HasValues asked line
+
+-- it has to be there
+abbrev pub has_to_stand : Count → Bool
+has_to_stand Once = true
+has_to_stand Several = true
+has_to_stand _ = false
+
+-- as many of these arguments are paths of inputs that have to be there
+abbrev pub least_of : List Argument → ℕ
+least_of [] = 0
+least_of (a ∷ rest) = if reads a.role && has_to_stand a.count then suc (least_of rest) else least_of rest
+
+-- the fewest inputs that a line of a plan has
+abbrev pub least_inputs : Plan → ℕ
+least_inputs (plan.Find _ others) = suc others
+least_inputs (plan.Symbolicate _ _ others _) = suc others
+least_inputs (plan.Frames indexes) = suc (suc indexes)
+least_inputs asked = least_of (command_of asked).arguments
 
 -- which files the OUT of a plan replaces: a message or an index each of symarch's own, an archive those below it
 abbrev pub replaces_of : Plan → Replaces
-replaces_of (plan.Summary archive out index) = OwnFiles
-replaces_of (plan.Index archive out) = OwnFiles
-replaces_of (plan.Delta archive summary out) = OwnFiles
+replaces_of plan.Summary = OwnFiles
+replaces_of plan.Index = OwnFiles
+replaces_of plan.Delta = OwnFiles
 replaces_of _ = ArchivesBelow
-
--- the plan writes no OUT: it only reports
-abbrev pub only_reports : Plan → Bool
-only_reports (plan.Find _ _ _ _) = true
-only_reports (plan.List _ _) = true
-only_reports (plan.Name _ _ _) = true
-only_reports (plan.Symbolicate _ _ _ _ _ _ _) = true
-only_reports (plan.Frames _ _ _ _) = true
-only_reports (plan.Rehearse _) = true
-only_reports _ = false
-
--- it is one of these whose first input is one by itself
-abbrev pub begins_with_one : Plan → Bool
-begins_with_one (plan.List _ _) = true
-begins_with_one (plan.Name _ _ _) = true
-begins_with_one (plan.Frames _ _ _ _) = true
-begins_with_one (plan.Rehearse _) = true
-begins_with_one _ = false
 
 -- the key that a line names
 abbrev pub key_of : List ℕ → ArchKey → SliceKey
@@ -112,45 +129,31 @@ pub data Deed : Type 1 where
   answers : Query → Deed
   none : Deed
 
--- of a plan that only reports, over the inputs at the paths of its line, in their order, as they are read from their
--- start, and as they are read from any place: an archive and the further ones are asked as their join
-abbrev pub answer_of : {S : Type 0} → Plan → List (Reader S) → List (Reader S) → Deed
-answer_of (plan.Find _ uuid others _) inputs places =
-    let number = length others.now + 1 in
-    answers (find_of (take number inputs) (take number places) (drop number inputs) uuid)
-answer_of (plan.List _ _) (archive ∷ indexes) (place ∷ _) = answers (list_of archive place indexes)
-answer_of (plan.Name _ sought _) (archive ∷ others) _ = answers (name archive others sought.now)
-answer_of (plan.Symbolicate _ uuid arch load others _ addresses) inputs places =
-    let number = length others.now + 1 in
-    answers (symbolicate_of (take number inputs) (take number places) (drop number inputs) (key_of uuid arch) load
-    addresses.now)
-answer_of (plan.Frames _ indexes _ _) (crash ∷ inputs) (_ ∷ places) =
-    let number = length indexes.now in
-    answers (frames_of crash (drop number inputs) (drop number places) (take number inputs))
-answer_of (plan.Rehearse _) (script ∷ _) _ = answers (rehearse script)
-answer_of _ _ _ = none
-
--- of any plan
+-- of a plan, over the inputs of its line, in their order, as they are read from their start, and as they are read from
+-- any place: an archive and the further ones are asked as their join
 abbrev pub deed_of : {S D T : Type 0} → Plan → List (Reader S) → List (Reader S) → Outs D T → Deed
-deed_of (plan.New _) _ _ out = empties
-deed_of (plan.Admit _ _ _) (input ∷ files) _ out = streams (admit_as_it_comes input files (out_of out).draft)
-deed_of (plan.Retire _ _ uuid arch digest) (input ∷ _) _ out =
-    streams (writes_amidst (retire input (key_of uuid arch) digest) (IsKnown input) (out_of out).draft)
-deed_of (plan.Merge _ _ _) (input ∷ files) _ out = streams (merge_as_it_comes input files out)
-deed_of (plan.Migrate _ _) (input ∷ _) _ out =
-    streams (writes_amidst (migrate input) (IsKnown input) (out_of out).draft)
-deed_of (plan.Apply _ _ _) (input ∷ ops ∷ _) _ out = streams (apply_as_it_comes input ops (out_of out).draft)
-deed_of (plan.Summary _ _ _) (archive ∷ []) _ out = changes (summary archive)
-deed_of (plan.Summary _ _ _) (_ ∷ named ∷ _) (place ∷ _) out = changes (summary_at named place)
-deed_of (plan.Index _ _) (archive ∷ _) _ out = changes (index archive)
-deed_of (plan.Delta _ _ _) (archive ∷ named ∷ _) _ out =
-    streams (delta_as_it_comes archive named (out_of out).draft)
-deed_of asked inputs places out = answer_of asked inputs places
-
--- It reports so.
-abbrev pub Reports : Deed → Writer → Result Status CommandFault → Type 0
-Reports (answers query) report result = EndsReport query report result
-Reports _ report result = ⊥
+deed_of plan.New _ _ out = empties
+deed_of plan.Admit (input ∷ files) _ out = streams (admit_as_it_comes input files (out_of out).draft)
+deed_of (plan.Retire key digest) (input ∷ _) _ out =
+    streams (writes_amidst (retire input key digest) (IsKnown input) (out_of out).draft)
+deed_of plan.Merge (input ∷ files) _ out = streams (merge_as_it_comes input files out)
+deed_of plan.Migrate (input ∷ _) _ out = streams (writes_amidst (migrate input) (IsKnown input) (out_of out).draft)
+deed_of plan.Apply (input ∷ ops ∷ _) _ out = streams (apply_as_it_comes input ops (out_of out).draft)
+deed_of (plan.Find uuid others) inputs places out =
+    answers (find_of (take (suc others) inputs) (take (suc others) places) (drop (suc others) inputs) uuid)
+deed_of plan.List (archive ∷ indexes) (place ∷ _) out = answers (list_of archive place indexes)
+deed_of (plan.Name sought) (archive ∷ others) _ out = answers (name archive others sought.now)
+deed_of (plan.Symbolicate key load others addresses) inputs places out =
+    answers (symbolicate_of (take (suc others) inputs) (take (suc others) places) (drop (suc others) inputs) key load
+    addresses.now)
+deed_of (plan.Frames indexes) (crash ∷ inputs) (_ ∷ places) out =
+    answers (frames_of crash (drop indexes inputs) (drop indexes places) (take indexes inputs))
+deed_of plan.Summary (archive ∷ []) _ out = changes (summary archive)
+deed_of plan.Summary (_ ∷ named ∷ _) (place ∷ _) out = changes (summary_at named place)
+deed_of plan.Index (archive ∷ _) _ out = changes (index archive)
+deed_of plan.Delta (archive ∷ named ∷ _) _ out = streams (delta_as_it_comes archive named (out_of out).draft)
+deed_of plan.Rehearse (script ∷ _) _ out = answers (rehearse script)
+deed_of _ _ _ _ = none
 
 -- The query ends so, and OUT is as it was.
 abbrev pub EndsQuery : {D T : Type 0} → Query → Outs D T → Writer → Result Status CommandFault → Type 0
@@ -173,6 +176,6 @@ Executes asked inputs places out report result = EndsDeed (deed_of asked inputs 
 
 -- What the command of a plan that ended well notes over these inputs: `admit` and `retire` alone note something.
 abbrev pub Notes : {S : Type 0} → Plan → List (Reader S) → List Note → List Note → Type 0
-Notes (plan.Admit _ _ _) (input ∷ files) old new = NotesRetired input files old new
-Notes (plan.Retire _ _ uuid arch digest) (input ∷ _) old new = NotesMissing input (key_of uuid arch) digest old new
+Notes plan.Admit (input ∷ files) old new = NotesRetired input files old new
+Notes (plan.Retire key digest) (input ∷ _) old new = NotesMissing input key digest old new
 Notes _ _ old new = new ≡ old

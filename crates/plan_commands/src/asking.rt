@@ -1,6 +1,7 @@
 //! Queries of archives, the first of which are read by their indexes, and the others whole.
 
-ghost use Rattle.std.specs.Prelude.{◌≡◌, ◌<◌, length};
+ghost use Rattle.std.specs.Prelude.{◌≡◌, ◌<◌, ◌≤◌, ◌∷◌, IfErr, OnOk, length};
+ghost use Rattle.std.specs.Borrow.{Array, LendsBoth, sem};
 ghost use Rattle.command_ends.specs.Ends.{EndsReport};
 ghost use Rattle.command_ends.specs.Inputs.{reader, readers};
 ghost use Rattle.command_ends.specs.Outputs.{writer};
@@ -20,11 +21,25 @@ use uuid::Uuid;
 /// An input of a command, if it could be opened.
 pub type Input<S> = Result<S, CannotOpen>;
 
-/// The refusal of the first index that has no archive, since there are so many of these.
-fn no_archive(archives: usize) -> CommandFault
-    ensures { result ≡ no_archive archives }
+/// The first of some, and the rest.
+pub fn first_and_rest<T>(items: &mut [T]) -> (&mut T, &mut [T])
+    requires { 0 < length items.old }
+    ensures parts { items.old ≡ result.0.now ∷ result.1.now }
+    ensures* writes_back { sem 𝓛 (LendsBoth (Array T.row 0) T.row (Array T.row 0) items.entry result ◌∷◌) }
 {
-    CommandFault::Input(Place::Index(archives as u64), Why::NoArchive)
+    let (first, rest) = items.split_at_mut(1);
+    (&mut first[0], rest)
+}
+
+/// Refuses the first index that has no archive, if there are more of them than so many archives.
+fn test_indexes(archives: usize, indexes: usize) -> Result<(), CommandFault>
+    ensures few { OnOk result (indexes ≤ archives) }
+    ensures more { IfErr result (λ fault. (archives < indexes) × (fault ≡ no_archive archives)) }
+{
+    if indexes > archives {
+        return Err(CommandFault::Input(Place::Index(archives as u64), Why::NoArchive));
+    }
+    Ok(())
 }
 
 /// `find` over archives, the first of which are read by these indexes: of one archive by its index alone.
@@ -43,14 +58,10 @@ pub fn find<A: Archive + Drop, S: Source + Placed, P: Sink>(
         (writer P.held P.failures report.old report.new) result }
 {
     if indexes.is_empty() {
-        let Some((archive, others)) = archives.split_first_mut() else {
-            unreachable!();
-        };
+        let (archive, others) = first_and_rest(archives);
         return run_find::<A, _, _>(heap, archive, others, uuid, report);
     }
-    if indexes.len() > archives.len() {
-        return Err(no_archive(archives.len()));
-    }
+    test_indexes(archives.len(), indexes.len())?;
     if archives.len() == 1 {
         return match (indexes, archives) {
             ([index], [archive]) => run_find_at(heap, index, archive, uuid, report),
@@ -98,14 +109,10 @@ pub fn symbolicate<A: Archive + Drop, S: Source + Placed, P: Sink>(
         (writer P.held P.failures report.old report.new) result }
 {
     if indexes.is_empty() {
-        let Some((archive, others)) = archives.split_first_mut() else {
-            unreachable!();
-        };
+        let (archive, others) = first_and_rest(archives);
         return run_symbolicate::<A, _, _>(heap, archive, others, key, load, addresses, report);
     }
-    if indexes.len() > archives.len() {
-        return Err(no_archive(archives.len()));
-    }
+    test_indexes(archives.len(), indexes.len())?;
     let (archives, others) = archives.split_at_mut(indexes.len());
     run_symbolicate_at::<A, _, _, _, _>(
         heap, indexes, archives, others, key, load, addresses, report,
@@ -129,14 +136,10 @@ pub fn frames<A: Archive + Drop, S: Source + Placed, P: Sink>(
         (writer P.held P.failures report.old report.new) result }
 {
     if indexes.is_empty() {
-        let Some((archive, others)) = archives.split_first_mut() else {
-            unreachable!();
-        };
+        let (archive, others) = first_and_rest(archives);
         return run_frames::<A, _, _>(heap, crash, archive, others, report);
     }
-    if indexes.len() > archives.len() {
-        return Err(no_archive(archives.len()));
-    }
+    test_indexes(archives.len(), indexes.len())?;
     let (archives, others) = archives.split_at_mut(indexes.len());
     run_frames_at::<A, _, _, _, _, _>(heap, crash, indexes, archives, others, report)
 }

@@ -6,6 +6,7 @@ ghost use Rattle.command_ends.specs.Outputs.{outs, writer};
 ghost use Rattle.command_line.specs.LineView.{line_view};
 ghost use Rattle.command_line.specs.Lines.{inputs_of};
 ghost use Rattle.plan_commands.specs.Disks.{Carried};
+ghost use Rattle.plan_commands.specs.Plans.{IsPlanOf};
 
 use crate::places::blamed;
 use crate::plans::{Plan, execute};
@@ -17,22 +18,24 @@ use command_ends::{CommandFault, Output, Status, Target};
 use command_line::Line;
 use memory::Heap;
 
-/// Carries out a line over inputs with its paths, in the order of the words. Each is opened with the first call for its
+/// Carries out the plan of a line over inputs with its paths, in the order of the words. Each is opened with the first call for its
 /// bytes, so where it cannot be opened its command is refused as where it cannot be read, and that is told as what it
 /// is. What the command notes is added to `notes`.
 pub fn execute_on<A: Archive + Drop, L: Archive + Drop, D: Disk, T: Target, P: Sink>(
     heap: Heap,
     inputs: &mut [Result<AtTurn<'_, D>, CannotOpen>],
     line: &Line,
+    plan: &Plan,
     notes: &mut Vec<Note, Heap>,
     out: &mut Output<T::Draft, T>,
     report: &mut P,
 ) -> Result<Status, CommandFault>
-    requires { AreWaiting told (inputs_of (line_view line.now)) inputs.old }
-    ensures { Carried told (line_view line.now) inputs.old inputs.new
+    requires inputs { AreWaiting told (inputs_of (line_view line.now)) inputs.old }
+    requires plan { IsPlanOf plan.now (line_view line.now) }
+    ensures { Carried told (line_view line.now) plan.now inputs.old inputs.new
         (outs T.Draft.held T.Draft.failures T.placed T.failures out.old out.new)
         (writer P.held P.failures report.old report.new) result notes.old.items notes.new.items }
 {
-    let ended = execute::<A, L, _, _, _>(heap, &Plan::of(line), inputs, notes, out, report);
+    let ended = execute::<A, L, _, _, _>(heap, plan, inputs, notes, out, report);
     blamed(line, inputs, ended)
 }

@@ -10,13 +10,15 @@ ghost use Rattle.archive_files.specs.Placing.{IsPath};
 ghost use Rattle.archive_files.specs.Turns.{AreFirstAsked, AreWaiting};
 ghost use Rattle.command_line.specs.Lines.{inputs_of, out_of};
 ghost use Rattle.command_line.specs.LineView.{line_view};
-ghost use Rattle.plan_commands.specs.Files.{IsDone, IsRuleOf, calls_of, command_fault_of, out_failure};
+ghost use Rattle.plan_commands.specs.Files.{IsDone, calls_of, command_fault_of, out_failure};
+ghost use Rattle.plan_commands.specs.Plans.{IsPlanOf};
 
 use crate::execute_on;
 use crate::hints::Seen;
 use crate::plans::Plan;
 use archive_files::{
-    Disk, OpenedFile, OutFault, OutFile, OutPath, PlacedFile, SystemDisk, SystemFiles, SystemInput,
+    Disk, OpenedFile, OutFault, OutFile, OutPath, PlacedFile, Replaces, SystemDisk, SystemFiles,
+    SystemInput,
 };
 use archive_updates::Note;
 use byte_device::{CannotCreate, Sink, Source};
@@ -28,14 +30,17 @@ use sorted_archive::{IndexedArchive, PlainArchive};
 use std::io::BufReader;
 use std::rt::Files;
 
-/// Takes the path of OUT, if the line has one.
-fn begin<F: Files>(files: &mut SystemFiles<'_, F>, line: &Line) -> Result<(), NoMemory>
+/// Takes the path of OUT, if the line has one, and which files it replaces.
+fn begin<F: Files>(
+    files: &mut SystemFiles<'_, F>,
+    line: &Line,
+    replaces: Replaces,
+) -> Result<(), NoMemory>
     requires { AreFresh files.old }
     ensures asked { files.new.asked.entries ≡ files.old.asked.entries }
     ensures path { OnOk result (IsPath (out_of (line_view line.now)) (inputs_of (line_view line.now))
         files.new.others.entries files.new.same.entries (option_map string_bytes files.new.out.draft.path)) }
-    ensures rule { OnOk result (out_of (line_view line.now) ≢ None
-        → IsRuleOf (line_view line.now) files.new.out.draft.replaces) }
+    ensures rule { OnOk result (out_of (line_view line.now) ≢ None → files.new.out.draft.replaces ≡ replaces) }
     ensures untouched { stage_of files.new.out.draft.state ≡ Untouched }
     ensures unfailed { files.new.out.draft.failures ≡ 0 }
     ensures calls { files.new.out.draft.calls.entries ≡ [] }
@@ -45,7 +50,7 @@ fn begin<F: Files>(files: &mut SystemFiles<'_, F>, line: &Line) -> Result<(), No
         return Ok(());
     };
     let inputs = line.inputs(files.alloc())?;
-    files.begin(path, &inputs, Plan::of(line).replaces())
+    files.begin(path, &inputs, replaces)
 }
 
 /// The inputs of a line, each of which is opened at its turn.
@@ -103,17 +108,19 @@ fn told_with(
     }
 }
 
-/// Carries out a line over files of the system, whose report goes to `report`. Each input is opened at its turn, and
+/// Carries out the plan of a line over files of the system, whose report goes to `report`. Each input is opened at its turn, and
 /// closed at its end; OUT's draft is created with its first bytes, put in place when it is whole, and removed where it
 /// was not. No line without OUT has any. What was seen of the file that it failed at is in `seen`, and what a command
 /// that ended well notes is handed back.
 pub fn execute<'f, F: Files, P: Sink>(
     files: &mut SystemFiles<'f, F>,
     line: &Line,
+    plan: &Plan,
     report: &mut P,
     seen: &mut Seen,
 ) -> Result<(Status, Vec<Note, Heap>), Failure>
-    requires { AreFresh files.old }
+    requires files { AreFresh files.old }
+    requires plan { IsPlanOf plan.now (line_view line.now) }
     ensures { let calls = calls_of
         (told_by ⟦<SystemDisk<'f, F> as Disk>⟧ ⟦<OpenedFile<BufReader<F::File>> as Source>⟧
         ⟦<PlacedFile<F::File> as Placed>⟧)
@@ -127,12 +134,13 @@ pub fn execute<'f, F: Files, P: Sink>(
 {
     let heap = Heap::new(files.alloc())?;
     let mut notes = Vec::new(heap.clone()?);
-    begin(files, line)?;
+    begin(files, line, plan.replaces())?;
     let mut inputs = inputs_for(files, line)?;
     let ended = execute_on::<PlainArchive, IndexedArchive, _, _, _>(
         heap,
         &mut inputs,
         line,
+        plan,
         &mut notes,
         &mut files.out,
         report,

@@ -13,6 +13,7 @@ ghost use Rattle.plan_commands.specs.Said.{SaysFailure, SaysNotes, behind_error,
 
 use crate::files::execute;
 use crate::hints::{Seen, help_with};
+use crate::plans::Plan;
 use crate::said::{FailureLine, RefusedLine, say, say_help, say_notes, say_wanting};
 use archive_files::{Disk, OpenedFile, OutFile, OutPath, PlacedFile, SystemDisk, SystemFiles};
 use archive_updates::Note;
@@ -83,7 +84,7 @@ fn run_words<'f, F: Files, P: Sink, E: Sink>(
     match read_line(alloc, words) {
         Ok(line) => {
             let mut seen = Seen::NOTHING;
-            let ended = execute(files, &line, report, &mut seen);
+            let ended = execute(files, &line, &Plan::of(&line), report, &mut seen);
             end(alloc, &line, ended, seen, errors)
         }
         Err(fault) => end_without_line(alloc, fault, report, errors),

@@ -2,9 +2,9 @@ use Rattle.std.proofs.Common.{◌≡◌, ◌++◌, drop, map, option_map}
 use Rattle.clap.specs.Words.{found_of, rows_of}
 use Rattle.command_line.specs.TableView.{argument_in}
 use Rattle.command_line.specs.ValuesView.{values_view}
-use Rattle.command_line.specs.LineFaults.{IsToldAmong}
-use Rattle.command_line.specs.Lines.{all_values}
+use Rattle.command_line.specs.LineFaults.{IsRefusedBy, refusal_among}
 use Rattle.command_line.specs.declared.line_faults.LineFault.{LineFault}
+use Rattle.command_line.specs.Lines.{all_values}
 use Rattle.command_line.proofs.readings.all_values.Given as goal
 
 -- what is left gives what all of them give, and what is told of what is left is told of all
@@ -13,5 +13,6 @@ invariant-arguments l =
     (option_map (λ vs. map values_view l.all.items ++ vs)
     (all_values (map argument_in (drop l.argument-index l.arguments)) (rows_of (found_of l.matches)))
     ≡ all_values (map argument_in l.arguments) (rows_of (found_of l.matches)))
-    × ((fault : LineFault) → IsToldAmong (map argument_in (drop l.argument-index l.arguments)) fault
-    → IsToldAmong (map argument_in l.arguments) fault)
+    × ((fault : LineFault)
+    → IsRefusedBy (refusal_among (map argument_in (drop l.argument-index l.arguments)) (rows_of (found_of l.matches))) fault
+    → IsRefusedBy (refusal_among (map argument_in l.arguments) (rows_of (found_of l.matches))) fault)

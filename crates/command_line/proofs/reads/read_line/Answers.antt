@@ -7,9 +7,9 @@ use Rattle.command_line.specs.LineView.{line_view}
 use Rattle.command_line.specs.Lines.{line_in, named_command}
 use Rattle.command_line.specs.declared.line_faults.LineFault.{LineFault}
 use Rattle.command_line.specs.declared.line_faults.LineFault.TheVariants.{OutOfMemory}
-use Rattle.command_line.specs.LineFaults.{IsToldFor}
+use Rattle.command_line.specs.LineFaults.{IsRefusedBy, refusal_of}
 use Rattle.command_line.proofs.Exactly.{accepted_if_faultless}
-use Rattle.command_line.proofs.LineFaultLemmas.{handed_on, memory_told, out_told, refused_as}
+use Rattle.command_line.proofs.LineFaultLemmas.{handed_on, in_told, memory_told, out_told, refused_by}
 use Rattle.command_line.proofs.KeptInputs.{in_order_apart, in_order_of, keeps_inputs, kept_line}
 use Rattle.command_line.proofs.Accepted.{accepted_line}
 use Rattle.command_line.proofs.reads.read_line.Goals as goal
@@ -21,9 +21,9 @@ unnamed None f named is none some = true≢false (sym (ap (λ n. is_some (option
 unnamed (Some x) f named is none some = none x refl
 
 nothing_named : {A : Type 0} (o : Option A) (f : A → Text × List Row) (named : Option (Text × List Row))
-    (fault : LineFault) → option_map f o ≡ named → ((x : A) → o ≡ Some x → ⊥) → IsToldFor None fault
-    → IsToldFor named fault
-nothing_named None f named fault is none told = subst (λ n. IsToldFor n fault) is told
+    (fault : LineFault) → option_map f o ≡ named → ((x : A) → o ≡ Some x → ⊥) → IsRefusedBy (refusal_of None) fault
+    → IsRefusedBy (refusal_of named) fault
+nothing_named None f named fault is none told = subst (λ n. IsRefusedBy (refusal_of n) fault) is told
 nothing_named (Some x) f named fault is none told = absurd (none x refl)
 
 pub returns-clause-ok : goal.returns-clause-ok
@@ -64,25 +64,27 @@ returns-in_default-clause-err g c = λ accepted ordered.
 pub returns-in_err-matches-clause-told : goal.returns-in_err-matches-clause-told
 returns-in_err-matches-clause-told g c = λ faultless.
     let words = map g.S.AsStr.text c.args.words.now in
-    handed_on (IsToldFor (named_command words)) _ _ c.from_residual.ensures.1
-    (memory_told (named_command words) _ (c.in_err-matches.ensures.err (accepted_if_faultless words faultless)))
+    let told = refusal_of (named_command words) in
+    handed_on (IsRefusedBy told) _ _ c.from_residual.ensures.1
+    (memory_told told _ (c.in_err-matches.ensures.err (accepted_if_faultless words faultless)))
 
 pub returns-in_err-line-clause-told : goal.returns-in_err-line-clause-told
 returns-in_err-line-clause-told g c = λ _.
     let named = c.in-Some.ensures ∙ c.in_ok-matches.ensures.ok in
-    handed_on (IsToldFor (named_command (map g.S.AsStr.text c.args.words.now))) _ _
-    c.from_residual-in_err-line.ensures.1 (rw (← named) (inl c.in_err-line.ensures.told))
+    handed_on (IsRefusedBy (refusal_of (named_command (map g.S.AsStr.text c.args.words.now)))) _ _
+    c.from_residual-in_err-line.ensures.1
+    (rw (← named) (in_told (c.in-Some.name.now, rows_of (found_of c.in-Some.inner.now)) _ c.in_err-line.ensures.told))
 
 pub returns-in_err-check_out-clause-told : goal.returns-in_err-check_out-clause-told
 returns-in_err-check_out-clause-told g c = λ _.
     let named = c.in-Some.ensures ∙ c.in_ok-matches.ensures.ok in
-    handed_on (IsToldFor (named_command (map g.S.AsStr.text c.args.words.now))) _ _
+    handed_on (IsRefusedBy (refusal_of (named_command (map g.S.AsStr.text c.args.words.now)))) _ _
     c.from_residual-in_err-check_out.ensures.1
-    (rw (← named) (out_told _ (c.in-Some.name.now, rows_of (found_of c.in-Some.inner.now)) _
-    c.in_err-check_out.ensures.told))
+    (rw (← named) (out_told (c.in-Some.name.now, rows_of (found_of c.in-Some.inner.now)) _ _
+    c.in_ok-line.ensures.reads.ok c.in_err-check_out.ensures.told))
 
 pub returns-in_default-clause-told : goal.returns-in_default-clause-told
 returns-in_default-clause-told g c = λ _.
     nothing_named c.named_command.result (λ p. (p.0.now, rows_of (found_of p.1.now))) _ _
     (c.named_command.ensures ∙ c.in_ok-matches.ensures.ok) c.in_default.not-Some
-    (refused_as _ _ _ c.from_str.ensures.ok c.refused.ensures.text)
+    (refused_by _ _ _ c.from_str.ensures.ok c.refused.ensures.text)

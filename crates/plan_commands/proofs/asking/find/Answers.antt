@@ -1,25 +1,27 @@
 use Rattle.std.proofs.Common.{◌∙◌, ◌++◌, ap, arith, length, length-append, refl, sym}
 use Rattle.indexed_queries.specs.Find.{find_together}
+use Rattle.std.proofs.lemmas.Result.{err_from_is_err_and}
 use Rattle.plan_commands.proofs.Asked.{as_many_readers, few_kept, more_refused, not_none, some_read, find_by}
 use Rattle.plan_commands.proofs.asking.find.Goals as goal
 
-pub returns-then-indexes-archives : goal.returns-then-indexes-archives
-returns-then-indexes-archives g c =
+pub returns-in_err-test_indexes : goal.returns-in_err-test_indexes
+returns-in_err-test_indexes g c =
     let left = g.S.Source.left in
     let failures = g.S.Source.failures in
     let some = some_read left failures c.args.indexes.now c.args.indexes.now refl
-    (omega (arith, c.if-indexes-archives.true)) in
-    more_refused left g.S.Placed.whole failures g.S.Placed.failures g.P.Sink.held g.P.Sink.failures
+    (omega (arith, c.in_err-test_indexes.ensures.more.0)) in
+    let refused = err_from_is_err_and c.from_residual.result c.from_residual.ensures.1 in
+    rw (refused.1, refused.2) (more_refused left g.S.Placed.whole failures g.S.Placed.failures g.P.Sink.held g.P.Sink.failures
     (λ i p o. find_together i p o c.args.uuid.now) c.args.archives.now
-    c.args.indexes.now _ _ _ (length c.args.archives.now) refl c.if-indexes-archives.true c.no_archive.ensures
+    c.args.indexes.now _ _ _ (length c.args.archives.now) refl c.in_err-test_indexes.ensures.more.0 c.in_err-test_indexes.ensures.more.1
     (find_by _ _ _ _ some (λ one single. omega (
       arith,
       one,
       single,
-      c.if-indexes-archives.true,
+      c.in_err-test_indexes.ensures.more.0,
       as_many_readers left failures c.args.archives.now c.args.archives.now refl,
       as_many_readers left failures c.args.indexes.now c.args.indexes.now refl,
-    )))
+    ))))
 
 pub returns : goal.returns
 returns g c =

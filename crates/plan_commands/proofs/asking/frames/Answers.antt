@@ -1,19 +1,21 @@
 use Rattle.std.proofs.Common.{arith, length, refl}
 use Rattle.command_ends.specs.Inputs.{reader}
 use Rattle.indexed_queries.specs.Frames.{frames_at}
+use Rattle.std.proofs.lemmas.Result.{err_from_is_err_and}
 use Rattle.plan_commands.proofs.Asked.{few_kept, more_refused, not_none, some_read, frames_by}
 use Rattle.plan_commands.proofs.asking.frames.Goals as goal
 
-pub returns-then-indexes-archives : goal.returns-then-indexes-archives
-returns-then-indexes-archives g c =
+pub returns-in_err-test_indexes : goal.returns-in_err-test_indexes
+returns-in_err-test_indexes g c =
     let left = g.S.Source.left in
     let failures = g.S.Source.failures in
     let some = some_read left failures c.args.indexes.now c.args.indexes.now refl
-    (omega (arith, c.if-indexes-archives.true)) in
-    more_refused left g.S.Placed.whole failures g.S.Placed.failures g.P.Sink.held g.P.Sink.failures
+    (omega (arith, c.in_err-test_indexes.ensures.more.0)) in
+    let refused = err_from_is_err_and c.from_residual.result c.from_residual.ensures.1 in
+    rw (refused.1, refused.2) (more_refused left g.S.Placed.whole failures g.S.Placed.failures g.P.Sink.held g.P.Sink.failures
     (frames_at (reader left failures c.args.crash.now c.args.crash.now)) c.args.archives.now
-    c.args.indexes.now _ _ _ (length c.args.archives.now) refl c.if-indexes-archives.true c.no_archive.ensures
-    (frames_by _ _ _ _ some)
+    c.args.indexes.now _ _ _ (length c.args.archives.now) refl c.in_err-test_indexes.ensures.more.0 c.in_err-test_indexes.ensures.more.1
+    (frames_by _ _ _ _ some))
 
 pub returns : goal.returns
 returns g c =

@@ -1,19 +1,20 @@
-use Rattle.std.proofs.Common.{◌∙◌, ap, length, sym}
-use Rattle.command_line.specs.Lines.{inputs_of}
+use Rattle.std.proofs.Common.{◌∙◌}
+use Rattle.command_line.specs.LineView.{line_view}
+use Rattle.plan_commands.proofs.Counted.{enough}
 use Rattle.plan_commands.proofs.Turned.{as_many, at_turn}
 use Rattle.plan_commands.proofs.disks.execute_on.Goals as goal
 
 pub execute-ended-requires : goal.execute-ended-requires
-execute-ended-requires g c = as_many _ _ _ c.requires ∙ ap (λ line. length (inputs_of line)) (sym c.of.ensures)
+execute-ended-requires g c =
+    rw (as_many _ _ _ c.requires.inputs) (enough c.args.plan.now (line_view c.args.line.now) c.requires.plan c.args.line.now.of_table)
 
 pub blamed-requires : goal.blamed-requires
-blamed-requires g c = c.execute-ended.auto.inputs ∙ as_many _ _ _ c.requires
+blamed-requires g c = c.execute-ended.auto.inputs ∙ as_many _ _ _ c.requires.inputs
 
 pub returns : goal.returns
 returns g c = record {
-  plan = c.of.result;
-  plan_is = c.of.ensures;
-  waiting = c.requires;
+  plan_is = c.requires.plan;
+  waiting = c.requires.inputs;
   as_many = c.execute-ended.auto.inputs;
   at_turn = at_turn g.D.Disk g.D.Input.Source g.D.Places.Placed c.execute-ended.new.inputs;
   ended = c.execute-ended.result;

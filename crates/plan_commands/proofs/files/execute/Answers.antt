@@ -9,7 +9,7 @@ use Rattle.archive_files.specs.OutFiles.{stage_of}
 use Rattle.archive_files.specs.Placing.{IsPlaced, IsRemoved, account}
 use Rattle.command_line.specs.LineView.{line_view}
 use Rattle.command_line.specs.Lines.{inputs_of}
-use Rattle.plan_commands.specs.Files.{IsRuleOf, command_fault_of}
+use Rattle.plan_commands.specs.Files.{command_fault_of}
 use Rattle.plan_commands.proofs.OutPlaces.{draft_took, first_from, none_asked, nothing_taken, nothing_there}
 use Rattle.plan_commands.proofs.OutPlaces.{placed_there, settled_of, settled_without_calls}
 use Rattle.plan_commands.proofs.Noting.{on_any, told_done}
@@ -23,7 +23,7 @@ returns-in_err-heap g c =
     rw (wanting.1, wanting.2) (inl (record {
       wanting = refl;
       asked = none_asked _ _;
-      uncalled = none_called _ _ c.requires.7 c.requires.6;
+      uncalled = none_called _ _ c.requires.files.7 c.requires.files.6;
       report_same = refl;
       report_unfailed = refl;
     }))
@@ -34,7 +34,7 @@ returns-in_err-clone g c =
     rw (wanting.1, wanting.2) (inl (record {
       wanting = refl;
       asked = none_asked _ _;
-      uncalled = none_called _ _ c.requires.7 c.requires.6;
+      uncalled = none_called _ _ c.requires.files.7 c.requires.files.6;
       report_same = refl;
       report_unfailed = refl;
     }))
@@ -106,8 +106,8 @@ returns g c =
       done = done;
       ended = c.execute_on-ended.result;
       path_is = rw (c.inputs_for.ensures.others.0, c.inputs_for.ensures.others.1, same) c.in_ok-begin.ensures.path;
-      rule = λ some. subst (IsRuleOf (line_view c.args.line.now)) (sym (ap (λ out. out.draft.replaces) same))
-          (c.in_ok-begin.ensures.rule some);
+      replaces_is = λ some.
+          ap (λ out. out.draft.replaces) same ∙ c.in_ok-begin.ensures.rule some ∙ c.replaces.ensures;
       begun_is = begun;
       begun_unfailed = unfailed;
       nothing_placed = none_before;
@@ -116,9 +116,10 @@ returns g c =
       before = c.deref_mut.result.now;
       behind = c.execute_on-ended.new.inputs;
       noted = noted;
+      plan = c.args.plan.now;
       carried = carried;
       notes_are = on_any (command_fault_of c.fault.result c.execute_on-ended.result) refl;
-      outcome = carried_outcome _ _ _ _ _ _ _ _ _ carried;
+      outcome = carried_outcome _ _ _ _ _ _ _ _ _ _ carried;
       placed = λ text is.
           let there = placed_there path rule done.target.placed text
           (subst (λ held. Appends held (placed_account done.target.placed) text) begun is.placed) in

@@ -1,0 +1,11 @@
+use Rattle.std.proofs.Common.{◌≡◌, ◌++◌, flat_map, string_bytes}
+use Rattle.std.specs.Str.Iter.{chars_rest}
+use Rattle.std.specs.Prelude.{encode_utf8_all}
+use Rattle.command_line.specs.Shown.{shown_character}
+use Rattle.command_line.proofs.escapes.shown.Given as goal
+
+-- what is shown of the characters so far, and that what is left follows them
+abbrev pub invariant-characters : goal.invariant-characters
+invariant-characters l =
+    (string_bytes l.shown ≡ flat_map shown_character l.yielded)
+    × (encode_utf8_all l.yielded ++ chars_rest l.character-iterator ≡ l.text)
