@@ -20,4 +20,4 @@ mod taking;
 pub use checking::{AcceptedFile, check_file};
 pub use fault::TakeFault;
 pub use taken::Taken;
-pub use taking::{take_accepted, take_file};
+pub use taking::take_accepted;

@@ -3,8 +3,8 @@
 //! - `records`: the record at the place of an entry, tested and hashed;
 //! - `runs`: the entries of one tag under a front, which stand together;
 //! - `gathering`: [`gather_at`], the records under a UUID or a key;
-//! - `parts`: [`archive_of`], what they make; [`part_at`], both at once; [`has_length`], whether an archive has the
-//!   length that the index tells; [`indexed_size`], that length; [`is_under`], whether an entry is under a front.
+//! - `parts`: [`archive_of`], what they make; [`has_length`], whether an archive has the length that the index tells;
+//!   [`indexed_size`], that length; [`is_under`], whether an entry is under a front.
 #![tactic(auto)]
 
 mod gathering;
@@ -13,4 +13,4 @@ mod records;
 mod runs;
 
 pub use gathering::gather_at;
-pub use parts::{archive_of, has_length, indexed_size, is_under, part_at};
+pub use parts::{archive_of, has_length, indexed_size, is_under};
