@@ -1,0 +1,7 @@
+"""What a user runs beside the program symarch, and what it is made of. In reading order:
+
+- keep              symarch-keep: its words
+- keeping           what its words do
+- symbolicate       symbolicate-report: its words
+- reports           the forms of reports that it reads
+"""
