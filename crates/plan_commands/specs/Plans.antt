@@ -21,7 +21,7 @@ use Rattle.archive_updates.specs.Delta.{delta_as_it_comes}
 use Rattle.command_ends.specs.Ends.{Command, Ends, EndsReport, EndsStreamed, Query, Streamed}
 use Rattle.indexed_queries.specs.Summary.{summary_at}
 use Rattle.plan_commands.specs.Asking.{find_of, frames_of, list_of, symbolicate_of}
-use Rattle.command_ends.specs.Inputs.{IsKnown, Reader}
+use Rattle.command_ends.specs.Inputs.{Reader}
 use Rattle.archive_updates.specs.MergeStreams.{merge_as_it_comes}
 use Rattle.archive_updates.specs.Migrate.{migrate_as_it_comes}
 use Rattle.archive_updates.specs.Notes.{NotesMissing, NotesRetired}
