@@ -9,6 +9,21 @@
 //! - `taken`: what becomes of a slice;
 //! - `taking`: a file's slices taken into an archive;
 //! - [`laws`]: what holds of files, and of what their taking makes.
+//!
+//! # What is proved
+//!
+//! - [`check_file`] accepts exactly the accepted files and gives what each was accepted as, otherwise the fault of the
+//!   definition. [`take_accepted`] takes all slices of such a file, in order; after want of memory some first ones may
+//!   be taken, and taking the file again comes to the same (`laws::taking_resumed`).
+//!
+//! # Why it is so
+//!
+//! - A file is checked whole before it is taken, and what the check found out is handed on, so each slice is checked
+//!   and hashed once. That stands in an array of 32 items, as many as a file can have: memory is asked for only after
+//!   the check, so want of memory is reported of an accepted file alone.
+//! - A FILE that is neither thin nor universal is `Unrecognised`, and a part that does not begin as an image is
+//!   skipped, so `NotMachO64` is never the fault of a FILE.
+//! - Why a file is not taken (`TakeFault`) is here, since it is the lowest crate that can have it.
 #![tactic(auto)]
 
 mod checking;
@@ -20,4 +35,4 @@ mod taking;
 pub use checking::{AcceptedFile, check_file};
 pub use fault::TakeFault;
 pub use taken::Taken;
-pub use taking::{take_accepted, take_file};
+pub use taking::take_accepted;

@@ -1,14 +1,14 @@
 //! The slices of a file taken into an archive.
-ghost use Rattle.std.specs.Prelude.{◌≡◌, ◌≢◌, [], ◌∷◌, true, IfOk, IfErr, OnOk, OnErr, filter, if◌then◌else◌};
+ghost use Rattle.std.specs.Prelude.{◌≡◌, [], ◌∷◌, true, IfOk, OnOk, OnErr, filter, if◌then◌else◌};
 ghost use Rattle.fat_slices.specs.Kind.{kind_of, is_fat};
 ghost use Rattle.fat_slices.specs.Slices.{slices};
 ghost use Rattle.admission.specs.Accepted.{AreFound, IsAcceptedAs, IsFoundOf};
 ghost use Rattle.admission.specs.InnerTaking.{file_of};
-ghost use Rattle.admission.specs.File.{IsAcceptedFile, IsTakeFault, is_admissible, admissible, parts};
+ghost use Rattle.admission.specs.File.{is_admissible, admissible, parts};
 ghost use Rattle.admission.specs.Take.{admitted, taken_of, taken_rows, HoldsFirstParts};
 
-use crate::checking::{AcceptedFile, MOST_PARTS, check_file};
-use crate::{TakeFault, Taken};
+use crate::Taken;
+use crate::checking::{AcceptedFile, MOST_PARTS};
 use archive_core::{Archive, Digest, Operation, Slice, SliceFacts, SliceKey};
 use fat_slices::{FileKind, Universal};
 use memory::{Heap, NoMemory};
@@ -100,8 +100,9 @@ fn take_universal<A: Archive>(
     Ok(rows)
 }
 
-/// Takes the slices of an accepted file, in their order, each copied at its turn, and gives a row a slice. After want
-/// of memory some first ones of the slices may have been taken.
+/// Takes the slices of an accepted file, in their order, each copied at its turn, and gives a row a slice, in the order
+/// of the file. After want of memory some first ones of the slices may have been taken; `laws::taking_resumed` says
+/// what comes of taking them again.
 pub fn take_accepted<A: Archive>(
     archive: &mut A,
     heap: Heap,
@@ -121,43 +122,4 @@ pub fn take_accepted<A: Archive>(
             take_universal(archive, heap, universal, found)
         }
     }
-}
-
-/// Takes the slices of a file, all or none, and gives a row a slice, in the order of the file.
-///
-/// All slices are checked before one is taken, and each once. The bytes of a thin file are taken over without a copy;
-/// the slices of a universal file are copied one at a time. Memory is the vector's own.
-///
-/// # Errors
-///
-/// Those of [`check_file`], which leave the archive as it was, and `OutOfMemory`, after which some first ones of the
-/// file's slices may have been taken. The vector is dropped, so a caller that makes the call again reads the file once
-/// more; `laws::taking_resumed` says what comes of it.
-pub fn take_file<A: Archive>(
-    archive: &mut A,
-    file: Vec<u8, Heap>,
-) -> Result<Vec<Taken, Heap>, TakeFault>
-    // On success the file is accepted, and each of its admissible parts was taken.
-    ensures accepted { OnOk result (IsAcceptedFile file.items) }
-    ensures content { OnOk result (A.content archive.new ≡ admitted (A.content archive.old) (admissible file.items)) }
-    ensures rows { IfOk result (λ rows. rows.items ≡ taken_rows (A.content archive.old) (parts file.items)) }
-
-    // Why it is refused, and what the archive holds then.
-    ensures refused { IfErr result (IsTakeFault file.items) }
-    ensures kept { IfErr result (λ fault.
-        fault ≢ TakeFault.OutOfMemory → A.content archive.new ≡ A.content archive.old) }
-    ensures stopped { OnErr result (HoldsFirstParts file.items (A.content archive.old) (A.content archive.new)) }
-{
-    let accepted = check_file(&file)?;
-    let heap = file.allocator().clone()?;
-    let rows = match accepted {
-        AcceptedFile::Thin(slice) => {
-            let facts = slice.facts();
-            take_thin(archive, heap, Slice::of_checked(file, facts))?
-        }
-        AcceptedFile::Universal(universal, found) => {
-            take_universal(archive, heap, &universal, &found)?
-        }
-    };
-    Ok(rows)
 }

@@ -20,13 +20,15 @@ use Rattle.command_ends.specs.declared.faults.CommandFault.TheVariants.{Input, O
 use Rattle.command_ends.specs.declared.faults.Place.{Place}
 use Rattle.command_ends.specs.declared.faults.Status.{Status}
 use Rattle.command_ends.specs.declared.faults.Why.{Why}
-use Rattle.command_ends.specs.Ends.{EndsAsItComes, HasFirst, HasTaken, MakesArchive, StopsAmidst}
+use Rattle.command_ends.specs.Ends.{EndsStreamed, HasFirst, HasTaken, MakesArchive, StopsAmidst, writes_amidst}
 use Rattle.command_ends.specs.Inputs.{IsKnown, IsRefusedArchive, Reader, Unfailed, reader}
 use Rattle.command_ends.specs.Outputs.{Out, PlacesNothing, Publishes, Takes, Writer, sizes_of, writer}
-use Rattle.command_ends.proofs.Amidst.{gives_known, published_amidst, stopped_amidst, stops_alike}
+use Rattle.command_ends.proofs.Amidst.{gives_known, stopped_amidst, stops_alike}
+use Rattle.archive_updates.specs.Begun.{EndsBegun, HasBegun, IsUnfinished}
 use Rattle.archive_updates.specs.Joining.{IsAtHand, IsJoined, MakesJoin, joining}
 use Rattle.archive_updates.specs.MergeStreams.{IsMergeFaultTold}
 use Rattle.archive_updates.proofs.Beginnings.{first_of_join}
+use Rattle.archive_updates.proofs.Begun.{begun, published, taken_begun}
 
 pub sizes_are : (sizes : Sizes) (o : Operations) → sizes.records ≡ (sizes_of o).records → sizes.bytes ≡ (sizes_of o).bytes → sizes ≡ sizes_of o
 sizes_are sizes o r b = λ i. record { records = r i; bytes = b i }
@@ -34,12 +36,20 @@ sizes_are sizes o r b = λ i. record { records = r i; bytes = b i }
 -- ---- a command whose archive was written
 
 -- it is published
-pub archive_published : (Makes : Operations → List ℕ → Type 0) (Refuses : Place → Why → Type 0) (NoneFailed Known : Type 0) {W : Type 0} (draft : Stream W) (sizes : Sizes) (o : Operations) (lines : List ℕ) (out : Out) (report : Writer) (result : Result Status CommandFault)
+pub archive_published : (Makes : Operations → List ℕ → Type 0) (Stops : CommandFault → Type 0) (NoneFailed : Type 0) {W : Type 0} (draft : Stream W) (sizes : Sizes) (o : Operations) (lines : List ℕ) (out : Out) (report : Writer) (result : Result Status CommandFault)
     → NoneFailed → Makes o lines → IsWrittenWhole draft.bytes draft.failures draft.old draft.new (set.len o) (written o) sizes → Publishes out report (written o) (lines ++ archive_line sizes) result
-    → EndsAsItComes (record { Makes = MakesArchive Makes; Refuses = Refuses; Unfailed = NoneFailed }) Known out report result
-archive_published Makes Refuses NoneFailed Known draft sizes o lines out report result unfailed makes whole =
-    published_amidst (MakesArchive Makes) Refuses NoneFailed Known out report result (written o) (lines ++ archive_line sizes) unfailed
+    → EndsStreamed (record { Makes = MakesArchive Makes; Stops = Stops; Unfailed = NoneFailed }) out report result
+archive_published Makes Stops NoneFailed draft sizes o lines out report result unfailed makes whole =
+    published out report (record { Makes = MakesArchive Makes; Stops = Stops; Unfailed = NoneFailed }) result (written o) (lines ++ archive_line sizes) unfailed
     (record { content = o; lines = lines; makes = makes; text_is = refl; told_is = ap (λ (s : Sizes). lines ++ archive_line s) (sizes_are sizes o whole.records_are whole.bytes_are) })
+
+-- one that was stopped
+pub stopped_begun : {R : Type 0} (input : Reader R) (Makes : List ℕ → List ℕ → Type 0) (Refuses : Place → Why → Type 0) (NoneFailed : Type 0) (out : Out) (report : Writer) (fault : CommandFault)
+    → StopsAmidst (record { Makes = Makes; Refuses = Refuses; Unfailed = NoneFailed }) (IsKnown input) out.draft fault → IsUnfinished input (Unit {0}) out.draft → HasTaken out.draft fault → PlacesNothing out → Takes report []
+    → EndsBegun input (record { Makes = Makes; Refuses = Refuses; Unfailed = NoneFailed }) out report (Err fault)
+stopped_begun input Makes Refuses NoneFailed out report fault s u taken nothing unreported =
+    begun out report input (Unit {0}) (writes_amidst (record { Makes = Makes; Refuses = Refuses; Unfailed = NoneFailed }) (IsKnown input) out.draft) u (Err fault)
+    (stopped_amidst Makes Refuses NoneFailed (IsKnown input) out report fault s taken nothing unreported)
 
 module _ {R : Type 0} (input : Reader R) (p : Operations) (Makes : List ℕ → List ℕ → Type 0) (makes : (text told : List ℕ) → Makes text told → MakesJoin input p text told) where
   -- what stops a join stops what makes no more
@@ -49,9 +59,25 @@ module _ {R : Type 0} (input : Reader R) (p : Operations) (Makes : List ℕ → 
       stops_alike (MakesJoin input p) Makes (IsRefusedArchive 0 input) (IsRefusedArchive 0 input) (Unfailed input) (Unfailed input) (IsKnown input) (IsKnown input) draft
       makes (λ at why r. r) (λ u. u) (λ k. k)
 
-  pub join_stopped : (out : Out) (report : Writer) (fault : CommandFault) → StopsAmidst (joining input p) (IsKnown input) out.draft fault → HasTaken out.draft fault → PlacesNothing out → Takes report []
-      → EndsAsItComes (record { Makes = Makes; Refuses = IsRefusedArchive 0 input; Unfailed = Unfailed input }) (IsKnown input) out report (Err fault)
-  join_stopped out report fault s = stopped_amidst Makes (IsRefusedArchive 0 input) (Unfailed input) (IsKnown input) out report fault (join_stops out.draft fault s)
+  pub join_stopped : (out : Out) (report : Writer) (fault : CommandFault) → StopsAmidst (joining input p) (IsKnown input) out.draft fault → IsUnfinished input (Unit {0}) out.draft → HasTaken out.draft fault → PlacesNothing out → Takes report []
+      → EndsBegun input (record { Makes = Makes; Refuses = IsRefusedArchive 0 input; Unfailed = Unfailed input }) out report (Err fault)
+  join_stopped out report fault s = stopped_begun input Makes (IsRefusedArchive 0 input) (Unfailed input) out report fault (join_stops out.draft fault s)
+
+-- what a draft has where a merge into it was stopped
+module _ {R S W : Type 0} (left : R → Option (List ℕ)) (failures : R → ℕ) (l l' : R) (other : Stream S) (held : W → Option (List ℕ)) (draft_failures : W → ℕ) (w w' : W) where
+  begun_by : (cause : MergeCause) (n : ℕ) → StopsBy (stream left failures l l') other (stream held draft_failures w w') cause n → Takes (writer held draft_failures w w') [] ⊎ (Unit {0} × HasBegun (reader left failures (Ok l) (Ok l')))
+  begun_by (Left why) n s = elim s.order [
+    | inl magic ↦ inl (magic.0.2, s.out_unfailed)
+    | inr behind ↦ inr (tt, taken_begun (stream left failures l l') behind.lefts behind.left_next behind.left_taken)
+  ]
+  begun_by (Right why) n s = elim s.order [
+    | inl magic ↦ inl (magic.0.2, s.out_unfailed)
+    | inr behind ↦ inr (tt, taken_begun (stream left failures l l') behind.lefts behind.left_next behind.left_taken)
+  ]
+  begun_by Write n s = inr (tt, s.left_begun)
+
+  pub unfinished_opened : (e : MergeFault) → Merges (stream left failures l l') other (stream held draft_failures w w') (Err e) → IsUnfinished (reader left failures (Ok l) (Ok l')) (Unit {0}) (writer held draft_failures w w')
+  unfinished_opened e merges = record { no_text = merges.2; begun = begun_by e.cause e.written merges.0 }
 
 -- what an input lends is what was opened
 pub lent_from : {S : Type 0} (old : Result S CannotOpen) (lent : S) → MatchResult old (λ source. lent ≡ source) (λ _. ⊥) → old ≡ Ok lent

@@ -8,22 +8,28 @@ use Rattle.command_ends.specs.declared.faults.CommandFault.TheVariants.{Input, O
 use Rattle.command_ends.specs.declared.faults.Place.{Place}
 use Rattle.command_ends.specs.declared.faults.Status.{Status}
 use Rattle.command_ends.specs.declared.faults.Why.{Why}
-use Rattle.command_ends.specs.Ends.{EndsAsItComes, EndsStreamed, MakesArchive, writes_in_turn}
+use Rattle.command_ends.specs.Ends.{Command, EndsStreamed, HasFirst, MakesArchive, StopsAmidst, StopsInTurn, writes_in_turn}
 use Rattle.command_ends.specs.Inputs.{EachKnown, Gives, IsKnown, IsRefusal, IsRefusedArchive, IsRefusedInTurn, IsWantedInTurn, Reader, TellsInTurn, Unfailed, failures_of, reader}
 use Rattle.command_ends.specs.Outputs.{IsKept, Out, Takes, Writer}
-use Rattle.command_ends.proofs.Amidst.{ends_in_turn, refused_in_turn}
+use Rattle.command_ends.proofs.Amidst.{refused_in_turn}
+use Rattle.archive_updates.specs.Begun.{EndsBegun, begins_alone, begins_behind}
+use Rattle.archive_updates.proofs.Begun.{accepted, begun, ends_so, untouched}
 
 -- what makes no more of content and lines makes no more of their texts
 makes_alike : (P Q : Operations → List ℕ → Type 0) → ((o : Operations) (lines : List ℕ) → P o lines → Q o lines) → (text told : List ℕ) → MakesArchive P text told → MakesArchive Q text told
 makes_alike P Q makes text told m = record { content = m.content; lines = m.lines; makes = makes m.content m.lines m.makes; text_is = m.text_is; told_is = m.told_is }
 
-module _ {R : Type 0} (Makes : Operations → List ℕ → Type 0) (input : Reader R) (IsRefusedBehind : Place → Why → Type 0) (OthersUnfailed Known : Type 0) (out : Out) (report : Writer) where
+module _ {R : Type 0} (Makes : Operations → List ℕ → Type 0) (input : Reader R) (IsRefusedBehind : Place → Why → Type 0) (OthersUnfailed Known Accepted : Type 0) (out : Out) (report : Writer) where
+  abbrev command : Command
+  command = record { Makes = MakesArchive Makes; Refuses = IsRefusedInTurn input IsRefusedBehind; Unfailed = Unfailed input × OthersUnfailed }
+
   abbrev EndsSo : Result Status CommandFault → Type 0
-  EndsSo result =
-      EndsStreamed (writes_in_turn (record { Makes = MakesArchive Makes; Refuses = IsRefusedInTurn input IsRefusedBehind; Unfailed = Unfailed input × OthersUnfailed }) (IsWantedInTurn input IsRefusedBehind) Known out.draft) out report result
+  EndsSo result = EndsStreamed (begins_behind input Accepted out.draft (writes_in_turn command (IsWantedInTurn input IsRefusedBehind) Known out.draft)) out report result
 
   ends : (fault : CommandFault) → IsRefusal (IsRefusedInTurn input IsRefusedBehind) ((Unfailed input × OthersUnfailed) ⊎ IsWantedInTurn input IsRefusedBehind) fault → IsKept out → Takes report [] → EndsSo (Err fault)
-  ends = refused_in_turn Makes (IsRefusedInTurn input IsRefusedBehind) (Unfailed input × OthersUnfailed) (IsWantedInTurn input IsRefusedBehind) Known out report
+  ends fault refusal kept unreported =
+      begun out report input Accepted (writes_in_turn command (IsWantedInTurn input IsRefusedBehind) Known out.draft) (untouched input Accepted out.draft kept.0) (Err fault)
+      (refused_in_turn Makes (IsRefusedInTurn input IsRefusedBehind) (Unfailed input × OthersUnfailed) (IsWantedInTurn input IsRefusedBehind) Known out report fault refusal kept unreported)
 
   refused : (at : Place) (why : Why) → IsRefusedBehind at why → (fault : CommandFault) → IsRefusal (IsRefusedInTurn input (λ place reason. (place ≡ at) × (reason ≡ why))) (Unfailed input) fault → IsKept out → Takes report [] → EndsSo (Err fault)
   refused at why is (Input place reason) r = ends (Input place reason) (elim r [
@@ -46,11 +52,23 @@ module _ {R : Type 0} (Makes : Operations → List ℕ → Type 0) (input : Read
   told_behind OutOfMemory told r t = rw t.0 (wanting (ap (failures_of input.failures) t.1) r)
 
   -- what is behind it was read: as the command ends that reads the first input alone and makes the same of it
-  pub read_behind : (Others : Operations → List ℕ → Type 0) → OthersUnfailed → (Known → IsKnown input) → ((o : Operations) (lines : List ℕ) → Others o lines → Makes o lines) → (Known → (o : Operations) (lines : List ℕ) → Makes o lines → Others o lines)
-      → (result : Result Status CommandFault) → EndsAsItComes (record { Makes = MakesArchive Others; Refuses = IsRefusedArchive 0 input; Unfailed = Unfailed input }) (IsKnown input) out report result → EndsSo result
-  read_behind Others unfailed known forth back =
-      ends_in_turn Makes (IsRefusedInTurn input IsRefusedBehind) (Unfailed input × OthersUnfailed) (IsWantedInTurn input IsRefusedBehind) Known out report Others (IsRefusedArchive 0 input) (Unfailed input) (IsKnown input)
-      (makes_alike Others Makes forth) (λ k. makes_alike Makes Others (back k)) (λ at why r. inl r) (λ u. (u, unfailed)) known
+  pub read_behind : (Others : Operations → List ℕ → Type 0) → OthersUnfailed → Accepted → (Known → IsKnown input) → ((o : Operations) (lines : List ℕ) → Others o lines → Makes o lines) → (Known → (o : Operations) (lines : List ℕ) → Makes o lines → Others o lines)
+      → (result : Result Status CommandFault) → EndsBegun input (record { Makes = MakesArchive Others; Refuses = IsRefusedArchive 0 input; Unfailed = Unfailed input }) out report result → EndsSo result
+  read_behind Others unfailed all known forth back =
+      ends_so out report (begins_alone input out.draft other) (begins_behind input Accepted out.draft (writes_in_turn command (IsWantedInTurn input IsRefusedBehind) Known out.draft))
+      (makes_alike Others Makes forth) (λ u. (u, unfailed)) (λ fault s. (stops fault s.0, accepted input Accepted out.draft all s.1))
+    where
+      other : Command
+      other = record { Makes = MakesArchive Others; Refuses = IsRefusedArchive 0 input; Unfailed = Unfailed input }
+
+      first : (n : ℕ) → HasFirst other (IsKnown input) out.draft n → HasFirst command Known out.draft n
+      first n f k text told m = f (known k) text told (makes_alike Makes Others (back k) text told m)
+
+      stops : (fault : CommandFault) → StopsAmidst other (IsKnown input) out.draft fault → StopsInTurn command (IsWantedInTurn input IsRefusedBehind) Known out.draft fault
+      stops (Input at why) s = (inl s.0, s.1, (s.2.0, first s.2.0 s.2.1))
+      stops (Output n) s = ((s.0, unfailed), s.1, first n s.2)
+      stops (Report n) s = absurd s
+      stops OutOfMemory s = inl ((s.0, unfailed), s.1, (s.2.0, first s.2.0 s.2.1))
 
 -- ---- inputs whose bytes are known
 

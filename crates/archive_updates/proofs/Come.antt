@@ -3,6 +3,7 @@ use Rattle.std.proofs.Common.{◌≡◌, ◌++◌, ℕ, List, [], ◌∷◌, len
 use Rattle.std.proofs.lemmas.List.{append-nil}
 use Rattle.std.proofs.lemmas.Grind.{flat_map-append}
 use Rattle.std.specs.FinSet as set
+use Rattle.std.specs.List.{AllByRecursion}
 use Rattle.join_core.specs.Listing.{listing}
 use Rattle.archive_core.specs.Content.{Operations, IsMade, changes, content_of, joined}
 use Rattle.admission.specs.File.{IsAcceptedFile, admissible, parts}
@@ -12,15 +13,16 @@ use Rattle.report_text.specs.Report.{admit_lines}
 use Rattle.command_ends.specs.declared.faults.CommandFault.{CommandFault}
 use Rattle.command_ends.specs.declared.faults.Place.TheVariants.{File}
 use Rattle.command_ends.specs.declared.faults.Status.{Status}
-use Rattle.command_ends.specs.Ends.{EndsAsItComes, EndsStreamed}
+use Rattle.command_ends.specs.Ends.{EndsStreamed}
 use Rattle.command_ends.specs.Inputs.{EachKnown, EachUnfailed, Holds, IsAccepted, IsFileRefused, IsFirstRefused, IsKnown, Reader}
 use Rattle.command_ends.specs.Outputs.{Out, Writer}
 use Rattle.archive_updates.specs.Admit.{MakesAdmitted, admit_as_it_comes, admit_rows, file_rows, images_of}
 use Rattle.archive_updates.specs.InnerArriving.{ArePlaced, HasCome, lines_again, records_in, records_of, rows_again}
+use Rattle.archive_updates.specs.Begun.{EndsBegun}
 use Rattle.archive_updates.specs.InnerTelling.{MakesTold, telling}
 use Rattle.archive_updates.proofs.Again.{admitted_joined, rows_over}
 use Rattle.archive_updates.proofs.Behind.{all_given, read_behind}
-use Rattle.archive_updates.proofs.Files.{taken_more, taken_none}
+use Rattle.archive_updates.proofs.Files.{taken_accepted, taken_more, taken_none}
 
 -- ---- one file more
 
@@ -45,10 +47,10 @@ module _ {S : Type 0} where
 
 module _ {R S : Type 0} (input : Reader R) (files : List (Reader S)) (out : Out) (report : Writer) where
   pub admitted_in_turn : (came : Operations) (places : List ℕ) (rows : List AdmitRow) (h : HasCome files came places rows) → EachUnfailed files → (result : Result Status CommandFault)
-      → EndsAsItComes (telling input came (lines_again rows (records_of h.taken.texts))) (IsKnown input) out report result → EndsStreamed (admit_as_it_comes input files out.draft) out report result
+      → EndsBegun input (telling input came (lines_again rows (records_of h.taken.texts))) out report result → EndsStreamed (admit_as_it_comes input files out.draft) out report result
   admitted_in_turn came places rows h unfailed =
-      read_behind (MakesAdmitted input files) input (IsFirstRefused File IsAccepted IsFileRefused files) (EachUnfailed files) (IsKnown input × EachKnown files) out report (MakesTold input came (lines_again rows (records_of h.taken.texts)))
-      unfailed (λ known. known.0)
+      read_behind (MakesAdmitted input files) input (IsFirstRefused File IsAccepted IsFileRefused files) (EachUnfailed files) (IsKnown input × EachKnown files) (AllByRecursion IsAccepted files × EachUnfailed files) out report (MakesTold input came (lines_again rows (records_of h.taken.texts)))
+      unfailed (taken_accepted files set.empty came rows h.taken, unfailed) (λ known. known.0)
       (λ o lines m. record {
         before = m.before;
         texts = h.taken.texts;

@@ -19,7 +19,7 @@ use Rattle.archive_records.specs.declared.fault.RecordFault.{RecordFault}
 use Rattle.archive_records.specs.declared.writing.Sizes.{Sizes}
 use Rattle.archive_records.specs.Kind.{end_length, kind_of, magic}
 use Rattle.archive_records.specs.Reader.{GathersAll, HasRead, HasReadAll, IsGathered, Position, Stopped}
-use Rattle.archive_records.specs.Text.{end_record, missing, taken_of, text_of}
+use Rattle.archive_records.specs.Text.{end_record, ending, missing, taken_of, text_of}
 use Rattle.archive_records.proofs.Blamed.{blames_behind}
 use Rattle.archive_records.proofs.Gathered.{gathered}
 use Rattle.archive_records.proofs.Taken.{taken_none}
@@ -28,7 +28,7 @@ use Rattle.byte_device.specs.Devices.{FailedIn}
 use Rattle.byte_device.specs.Writes.{WritesFirst}
 use Rattle.byte_device.proofs.Known.{Appends-then, Consumes-then}
 use Rattle.byte_device.proofs.Gains.{stopped}
-use Rattle.archive_updates.specs.Copying.{BlamesDevices, BlamesOne, HasDraft, IsCause, IsCopied, IsCopiedUpTo, IsCopiedWhole, StopsEnd, StopsRecords, copy_of}
+use Rattle.archive_updates.specs.Copying.{BlamesDevices, BlamesOne, HasDraft, IsCause, IsCopied, IsCopiedUpTo, IsCopiedWhole, ReadsBehindMagic, StopsEnd, StopsRecords, copy_of}
 
 -- what is written of records and of one more
 pub copy_more : (s : Entries) (records : List (List ℕ)) (x : List (List ℕ)) → copy_of s (records ++ x) ≡ copy_of s records ++ concat (missing s x)
@@ -89,10 +89,14 @@ begun_within s a b w0 w1 position n k x read is e p =
 pub begun_copied : (s : Entries) (w0 w1 : Option (List ℕ)) (n : ℕ) → n ≡ 8 → Appends w0 w1 magic → IsCopied s w0 w1 [] (record { records = 0; bytes = n })
 begun_copied s w0 w1 n is p = record { gained = p; bytes_are = is; records_are = refl }
 
-pub cause_of : (file : Format) → kind_of file ≡ Archive_text → (a b : Option (List ℕ)) (cause : MergeCause) → StopsRecords file a b cause → IsCause a b cause
-cause_of file k a b (Left fault) s = inr (file, k, s.0, s.1)
-cause_of file k a b (Right fault) s = absurd s
-cause_of file k a b Write s = tt
+-- and so the magic was read
+pub read_behind_magic : (file : Format) → kind_of file ≡ Archive_text → (a b : Option (List ℕ)) (position : Position) → HasRead file a b [] position → ReadsBehindMagic a b
+read_behind_magic file k a b position read = (file, k, [], read.taken)
+
+pub cause_of : (file : Format) → kind_of file ≡ Archive_text → (s : Entries) (a b w0 w1 : Option (List ℕ)) (n : ℕ) (cause : MergeCause) → StopsRecords file a b cause → IsCopiedUpTo file s a b w0 w1 n → IsCause a b cause
+cause_of file k s a b w0 w1 n (Left fault) st u = inr (file, k, st.0, st.1)
+cause_of file k s a b w0 w1 n (Right fault) st u = absurd st
+cause_of file k s a b w0 w1 n Write st u = (file, k, concat u.records ++ u.rest, u.taken)
 
 -- ---- its end
 
@@ -132,14 +136,15 @@ module _ (s : Entries) (a b c w0 w1 w2 : Option (List ℕ)) (file : Format) (kin
   ended_by Write n st =
       let m = all.makes in
       let end = end_record (length (missing s kept)) in
-      let p : WritesFirst w1 w2 end st.2.0 = rw (← m.records_are) st.2.2 in (
-        tt,
+      let p : WritesFirst w1 w2 end st.2.0 = rw (← m.records_are) st.2.2 in
+      let taken : Consumes a c (text_of file all.records) = rw append-nil at (Consumes-then a b c (text_of file all.records) [] all.read.taken st.1) in (
+        (file, kind, concat all.records ++ ending file (length all.records), taken),
         inr (
           file,
           kind,
           inr (record {
             records = all.records;
-            taken = rw append-nil at (Consumes-then a b c (text_of file all.records) [] all.read.taken st.1);
+            taken = taken;
             at_end = st.0;
             ordered = all.read.ordered;
             apart = all.read.apart;

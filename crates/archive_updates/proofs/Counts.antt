@@ -13,11 +13,12 @@ use Rattle.command_ends.specs.declared.faults.Status.{Status}
 use Rattle.command_ends.specs.declared.faults.CommandFault.{CommandFault}
 use Rattle.report_text.specs.Report.{apply_line}
 use Rattle.sorted_archive.specs.InTurn.{AreNewInTurn}
-use Rattle.archive_updates.specs.Apply.{MakesApplied, apply_as_it_comes}
+use Rattle.archive_updates.specs.Apply.{GivesOperations, MakesApplied, apply_as_it_comes}
+use Rattle.archive_updates.specs.Begun.{EndsBegun}
 use Rattle.archive_updates.specs.InnerTelling.{HasNewOf, MakesTold, counts_of, telling}
 use Rattle.archive_updates.proofs.Behind.{one_given, read_behind}
 use Rattle.archive_updates.proofs.Told.{set_of}
-use Rattle.command_ends.specs.Ends.{EndsAsItComes, EndsStreamed}
+use Rattle.command_ends.specs.Ends.{EndsStreamed}
 use Rattle.command_ends.specs.Inputs.{IsKnown, IsRefusedOps, Reader, Unfailed, reader}
 use Rattle.command_ends.specs.Outputs.{Out, Writer}
 
@@ -43,9 +44,9 @@ module _ {R S : Type 0} (input : Reader R) (left : S → Option (List ℕ)) (fai
 
   -- OPS was read
   pub applied : (sorted : List Operation) (number : ℕ) → HasNewOf ops sorted number → Unfailed ops → (result : Result Status CommandFault)
-      → EndsAsItComes (telling input (set_of sorted) (counts_of (map record_bytes sorted) number)) (IsKnown input) out report result → EndsStreamed (apply_as_it_comes input ops out.draft) out report result
+      → EndsBegun input (telling input (set_of sorted) (counts_of (map record_bytes sorted) number)) out report result → EndsStreamed (apply_as_it_comes input ops out.draft) out report result
   applied sorted number has unfailed =
-      read_behind (MakesApplied input ops) input (IsRefusedOps ops) (Unfailed ops) (IsKnown input × IsKnown ops) out report (MakesTold input (set_of sorted) (counts_of (map record_bytes sorted) number)) unfailed (λ known. known.0)
+      read_behind (MakesApplied input ops) input (IsRefusedOps ops) (Unfailed ops) (IsKnown input × IsKnown ops) (GivesOperations ops × Unfailed ops) out report (MakesTold input (set_of sorted) (counts_of (map record_bytes sorted) number)) unfailed ((has.operations, has.ops_are), unfailed) (λ known. known.0)
       (λ o lines m. record {
         before = m.before;
         operations = has.operations;

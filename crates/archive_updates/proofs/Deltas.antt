@@ -1,5 +1,5 @@
 -- What `delta` makes, by a copy of what a summary does not name.
-use Rattle.std.proofs.Common.{◌≡◌, ◌∙◌, ◌++◌, ℕ, List, [], Option, Result, Ok, Err, refl, ap, sym, subst}
+use Rattle.std.proofs.Common.{◌≡◌, ◌∙◌, ◌++◌, ℕ, List, [], Option, Result, Ok, Err, refl, ap, sym, subst, inl, inr}
 use Rattle.archive_core.specs.Summary.{Entries, delta}
 use Rattle.archive_records.specs.Entry.{AreEntries}
 use Rattle.archive_records.specs.declared.fault.MergeCause.{MergeCause}
@@ -15,14 +15,16 @@ use Rattle.report_text.specs.Report.{archive_line}
 use Rattle.command_ends.specs.declared.faults.CommandFault.{CommandFault}
 use Rattle.command_ends.specs.declared.faults.CommandFault.TheVariants.{Input, Output, Report, OutOfMemory}
 use Rattle.command_ends.specs.declared.faults.Status.{Status}
-use Rattle.command_ends.specs.Ends.{EndsAsItComes, EndsStreamed, HasFirst, HasTaken, MakesArchive, StopsAmidst}
+use Rattle.command_ends.specs.Ends.{EndsStreamed, HasFirst, HasTaken, MakesArchive, StopsAmidst}
 use Rattle.command_ends.specs.Inputs.{Holds, IsKnown, IsRefusedArchive, IsRefusedSummary, Reader, Unfailed, reader}
 use Rattle.command_ends.specs.Outputs.{IsKept, Out, PlacesNothing, Publishes, Takes, Writer, writer}
-use Rattle.command_ends.proofs.Amidst.{gives_known, nothing_first, stopped_amidst}
+use Rattle.command_ends.proofs.Amidst.{gives_known, nothing_first}
+use Rattle.archive_updates.specs.Begun.{EndsBegun, IsUnfinished}
 use Rattle.archive_updates.specs.Copying.{CopiesUnnamed, IsUnnamed, MakesUnnamed, StopsCopy, StopsCopyBy, copying}
-use Rattle.archive_updates.specs.Delta.{MakesDelta, delta_as_it_comes}
+use Rattle.archive_updates.specs.Delta.{GivesSummary, MakesDelta, delta_as_it_comes}
 use Rattle.archive_updates.specs.MergeStreams.{IsMergeFaultTold}
-use Rattle.archive_updates.proofs.AtHand.{archive_published}
+use Rattle.archive_updates.proofs.AtHand.{archive_published, stopped_begun}
+use Rattle.archive_updates.proofs.Begun.{untouched}
 use Rattle.archive_updates.proofs.Behind.{one_given, read_behind}
 
 -- ---- an archive that was opened
@@ -55,25 +57,35 @@ module _ {R W : Type 0} (left : R → Option (List ℕ)) (failures : R → ℕ) 
   stops Write n (Output k) st f t = (st.0, st.1, subst (HasFirst (copying archive s) (IsKnown archive) draft) (ap (λ (e : MergeFault). e.written) t) f)
   stops Write n OutOfMemory st f t = absurd t
 
+  -- what its draft has then
+  pub unfinished_copy : (e : MergeFault) → StopsCopy (stream left failures l l') (stream held draft_failures w w') s e → IsUnfinished archive (Unit {0}) draft
+  unfinished_copy e st = record {
+    no_text = st.no_text;
+    begun = elim st.begun [
+      | inl none ↦ inl none
+      | inr begun ↦ inr (tt, begun)
+    ];
+  }
+
   pub stopped_copy : (e : MergeFault) (fault : CommandFault) → StopsCopy (stream left failures l l') (stream held draft_failures w w') s e → IsMergeFaultTold e fault → StopsAmidst (copying archive s) (IsKnown archive) draft fault
   stopped_copy e fault st told = stops e.cause e.written fault st.by (first e st) told
 
 -- ---- OUT, and the report
 
 module _ {R : Type 0} (archive : Reader R) (s : Entries) where
-  pub unnamed_stopped : (out : Out) (report : Writer) (fault : CommandFault) → StopsAmidst (copying archive s) (IsKnown archive) out.draft fault → HasTaken out.draft fault → PlacesNothing out → Takes report []
-      → EndsAsItComes (copying archive s) (IsKnown archive) out report (Err fault)
-  unnamed_stopped = stopped_amidst (MakesArchive (MakesUnnamed archive s)) (IsRefusedArchive 0 archive) (Unfailed archive) (IsKnown archive)
+  pub unnamed_stopped : (out : Out) (report : Writer) (fault : CommandFault) → StopsAmidst (copying archive s) (IsKnown archive) out.draft fault → IsUnfinished archive (Unit {0}) out.draft → HasTaken out.draft fault → PlacesNothing out → Takes report []
+      → EndsBegun archive (copying archive s) out report (Err fault)
+  unnamed_stopped = stopped_begun archive (MakesArchive (MakesUnnamed archive s)) (IsRefusedArchive 0 archive) (Unfailed archive)
 
   -- memory was wanted before anything was written
-  pub unnamed_wanting : (out : Out) (report : Writer) → Unfailed archive → IsKept out → Takes report [] → EndsAsItComes (copying archive s) (IsKnown archive) out report (Err OutOfMemory)
+  pub unnamed_wanting : (out : Out) (report : Writer) → Unfailed archive → IsKept out → Takes report [] → EndsBegun archive (copying archive s) out report (Err OutOfMemory)
   unnamed_wanting out report unfailed kept unreported =
-      unnamed_stopped out report OutOfMemory (unfailed, kept.0.1, (0, λ known text told m. nothing_first (MakesUnnamed archive s) out.draft.old out.draft.new text told kept.0.0 m)) ([], kept.0.0, λ n h. cc) kept.1 unreported
+      unnamed_stopped out report OutOfMemory (unfailed, kept.0.1, (0, λ known text told m. nothing_first (MakesUnnamed archive s) out.draft.old out.draft.new text told kept.0.0 m)) (untouched archive (Unit {0}) out.draft kept.0) ([], kept.0.0, λ n h. cc) kept.1 unreported
 
   pub unnamed_published : {W : Type 0} (draft : Stream W) (sizes : Sizes) (u : IsUnnamed archive s draft sizes) (lines : List ℕ) → lines ≡ [] → (out : Out) (report : Writer) (result : Result Status CommandFault)
-      → Publishes out report (written (delta u.before s)) (lines ++ archive_line sizes) result → EndsAsItComes (copying archive s) (IsKnown archive) out report result
+      → Publishes out report (written (delta u.before s)) (lines ++ archive_line sizes) result → EndsBegun archive (copying archive s) out report result
   unnamed_published draft sizes u lines none out report result =
-      archive_published (MakesUnnamed archive s) (IsRefusedArchive 0 archive) (Unfailed archive) (IsKnown archive) draft sizes (delta u.before s) lines out report result u.unfailed
+      archive_published (MakesUnnamed archive s) _ (Unfailed archive) draft sizes (delta u.before s) lines out report result u.unfailed
       (record { before = u.before; is_content = u.is_content; archive_is = u.archive_is; content_is = refl; lines_are = none }) u.written_is
 
 -- ---- SUMMARY, and then ARCHIVE
@@ -86,9 +98,9 @@ module _ {R S : Type 0} (archive : Reader R) (left : S → Option (List ℕ)) (f
   EndsSo result = EndsStreamed (delta_as_it_comes archive summary out.draft) out report result
 
   -- SUMMARY was read
-  pub named : (s : Entries) → AreEntries s → Holds summary (summary_text s) → Unfailed summary → (result : Result Status CommandFault) → EndsAsItComes (copying archive s) (IsKnown archive) out report result → EndsSo result
+  pub named : (s : Entries) → AreEntries s → Holds summary (summary_text s) → Unfailed summary → (result : Result Status CommandFault) → EndsBegun archive (copying archive s) out report result → EndsSo result
   named s are holds unfailed =
-      read_behind (MakesDelta archive summary) archive (IsRefusedSummary summary) (Unfailed summary) (IsKnown archive × IsKnown summary) out report (MakesUnnamed archive s) unfailed (λ known. known.0)
+      read_behind (MakesDelta archive summary) archive (IsRefusedSummary summary) (Unfailed summary) (IsKnown archive × IsKnown summary) (GivesSummary summary × Unfailed summary) out report (MakesUnnamed archive s) unfailed ((s, are, holds), unfailed) (λ known. known.0)
       (λ o lines m. record {
         before = m.before;
         entries = s;

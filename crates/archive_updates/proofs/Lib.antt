@@ -2,6 +2,7 @@ pub mod Files
 pub mod Joins
 pub mod Streamed
 pub mod Beginnings
+pub mod Begun
 pub mod AtHand
 pub mod Migrated
 pub mod Copied

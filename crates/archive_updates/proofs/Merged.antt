@@ -16,14 +16,16 @@ use Rattle.report_text.specs.Report.{archive_line}
 use Rattle.command_ends.specs.declared.faults.CommandFault.{CommandFault}
 use Rattle.command_ends.specs.declared.faults.CommandFault.TheVariants.{OutOfMemory}
 use Rattle.command_ends.specs.declared.faults.Status.{Status}
-use Rattle.command_ends.specs.Ends.{EndsAsItComes, EndsStreamed, HasTaken, MakesArchive, StopsAmidst}
-use Rattle.command_ends.specs.Inputs.{AreRead, EachKnown, EachUnfailed, IsArchive, IsArchiveRefused, IsFirstRefused, IsKnown, IsRefusedArchive, Reader, Unfailed}
+use Rattle.command_ends.specs.Ends.{EndsStreamed, HasTaken, MakesArchive, StopsAmidst}
+use Rattle.command_ends.specs.Inputs.{AreRead, EachKnown, EachUnfailed, IsArchive, IsArchiveRefused, IsFirstRefused, IsKnown, Reader, Unfailed}
 use Rattle.command_ends.specs.Outputs.{Out, PlacesNothing, Publishes, Takes, Writer}
+use Rattle.archive_updates.specs.Begun.{EndsBegun, IsUnfinished}
 use Rattle.archive_updates.specs.Joining.{IsJoined, MakesJoined, joining, joins}
 use Rattle.archive_updates.specs.Merge.{HasJoined, MakesMerged, merge_in_turn}
 use Rattle.command_ends.specs.Archives.{ReadsOthers, file_place, merged}
 use Rattle.archive_updates.proofs.AtHand.{archive_published, join_stopped}
 use Rattle.archive_updates.proofs.Behind.{all_given, read_behind}
+use Rattle.archive_updates.proofs.Joins.{joined_archives}
 use Rattle.archive_updates.proofs.Migrated.{join_with_nothing}
 
 -- the text in memory is that of the join of the files
@@ -63,8 +65,8 @@ merged_again o (c ∷ cs) is are =
 -- ---- IN with one content
 
 module _ {R : Type 0} (input : Reader R) (p : Operations) where
-  pub joins_stopped : (out : Out) (report : Writer) (fault : CommandFault) → StopsAmidst (joining input p) (IsKnown input) out.draft fault → HasTaken out.draft fault → PlacesNothing out → Takes report []
-      → EndsAsItComes (joins input p) (IsKnown input) out report (Err fault)
+  pub joins_stopped : (out : Out) (report : Writer) (fault : CommandFault) → StopsAmidst (joining input p) (IsKnown input) out.draft fault → IsUnfinished input (Unit {0}) out.draft → HasTaken out.draft fault → PlacesNothing out → Takes report []
+      → EndsBegun input (joins input p) out report (Err fault)
   joins_stopped =
       join_stopped input p (MakesArchive (MakesJoined input p)) (λ text told m. record {
         content = m.makes.before;
@@ -74,18 +76,18 @@ module _ {R : Type 0} (input : Reader R) (p : Operations) where
       })
 
   pub joins_published : {W : Type 0} (draft : Stream W) (sizes : Sizes) (j : IsJoined input p draft sizes) (lines : List ℕ) → lines ≡ [] → (out : Out) (report : Writer) (result : Result Status CommandFault)
-      → Publishes out report (written (joined j.content p)) (lines ++ archive_line sizes) result → EndsAsItComes (joins input p) (IsKnown input) out report result
+      → Publishes out report (written (joined j.content p)) (lines ++ archive_line sizes) result → EndsBegun input (joins input p) out report result
   joins_published draft sizes j lines none out report result =
-      archive_published (MakesJoined input p) (IsRefusedArchive 0 input) (Unfailed input) (IsKnown input) draft sizes (joined j.content p) lines out report result j.unfailed
+      archive_published (MakesJoined input p) _ (Unfailed input) draft sizes (joined j.content p) lines out report result j.unfailed
       (record { before = j.content; is_content = j.is_content; archive = j.archive; content_is = refl; lines_are = none }) j.written_is
 
 -- ---- FILEs, and then IN
 
 module _ {R S : Type 0} (input : Reader R) (files : List (Reader S)) (out : Out) (report : Writer) where
-  pub merged_in_turn : (p : Operations) → HasJoined files set.empty p → EachUnfailed files → (result : Result Status CommandFault) → EndsAsItComes (joins input p) (IsKnown input) out report result
+  pub merged_in_turn : (p : Operations) → HasJoined files set.empty p → EachUnfailed files → (result : Result Status CommandFault) → EndsBegun input (joins input p) out report result
       → EndsStreamed (merge_in_turn input files out.draft) out report result
   merged_in_turn p j unfailed =
-      read_behind (MakesMerged input files) input (IsFirstRefused file_place IsArchive IsArchiveRefused files) (EachUnfailed files) (IsKnown input × EachKnown files) out report (MakesJoined input p) unfailed (λ known. known.0)
+      read_behind (MakesMerged input files) input (IsFirstRefused file_place IsArchive IsArchiveRefused files) (EachUnfailed files) (IsKnown input × EachKnown files) (AllByRecursion IsArchive files × EachUnfailed files) out report (MakesJoined input p) unfailed (joined_archives files set.empty p j, unfailed) (λ known. known.0)
       (λ o lines m. record {
         before = m.before;
         contents = j.contents;

@@ -1,5 +1,5 @@
 -- What `migrate` makes, by a merge with an archive that holds nothing.
-use Rattle.std.proofs.Common.{◌≡◌, ℕ, false, List, [], ◌∷◌, ◌++◌, length, Result, Err, refl, sym, ap, ◌∙◌, arith}
+use Rattle.std.proofs.Common.{◌≡◌, ℕ, List, [], ◌∷◌, ◌++◌, length, Result, Err, refl, sym, ap, ◌∙◌, arith}
 use Rattle.std.proofs.lemmas.Bool.{false≢true}
 use Rattle.std.specs.Ordering.{nat_cmp}
 use Rattle.std.specs.Cmp.Lexicographic.{slice_cmp, nat_list_cmp_total}
@@ -16,9 +16,10 @@ use Rattle.byte_device.specs.Devices.{Stream}
 use Rattle.report_text.specs.Report.{archive_line}
 use Rattle.command_ends.specs.declared.faults.CommandFault.{CommandFault}
 use Rattle.command_ends.specs.declared.faults.Status.{Status}
-use Rattle.command_ends.specs.Ends.{EndsAsItComes, HasTaken, MakesArchive, StopsAmidst}
-use Rattle.command_ends.specs.Inputs.{IsKnown, IsRefusedArchive, Reader, Unfailed}
+use Rattle.command_ends.specs.Ends.{HasTaken, MakesArchive, StopsAmidst}
+use Rattle.command_ends.specs.Inputs.{IsKnown, Reader, Unfailed}
 use Rattle.command_ends.specs.Outputs.{Out, PlacesNothing, Publishes, Takes, Writer}
+use Rattle.archive_updates.specs.Begun.{EndsBegun, IsUnfinished}
 use Rattle.archive_updates.specs.Joining.{IsJoined, joining}
 use Rattle.archive_updates.specs.Migrate.{MakesMigrated, migrate}
 use Rattle.archive_updates.proofs.AtHand.{archive_published, join_stopped}
@@ -44,8 +45,8 @@ join_with_nothing o is =
 
 module _ {R : Type 0} (input : Reader R) where
   -- what stops the join with nothing stops it
-  pub migrate_stopped : (out : Out) (report : Writer) (fault : CommandFault) → StopsAmidst (joining input set.empty) (IsKnown input) out.draft fault → HasTaken out.draft fault → PlacesNothing out → Takes report []
-      → EndsAsItComes (migrate input) (IsKnown input) out report (Err fault)
+  pub migrate_stopped : (out : Out) (report : Writer) (fault : CommandFault) → StopsAmidst (joining input set.empty) (IsKnown input) out.draft fault → IsUnfinished input (Unit {0}) out.draft → HasTaken out.draft fault → PlacesNothing out → Takes report []
+      → EndsBegun input (migrate input) out report (Err fault)
   migrate_stopped =
       join_stopped input set.empty (MakesArchive (MakesMigrated input)) (λ text told m. record {
         content = m.content;
@@ -56,7 +57,7 @@ module _ {R : Type 0} (input : Reader R) where
 
   -- and what the join makes is published
   pub migrate_published : {W : Type 0} (draft : Stream W) (sizes : Sizes) (j : IsJoined input set.empty draft sizes) (lines : List ℕ) → lines ≡ [] → (out : Out) (report : Writer) (result : Result Status CommandFault)
-      → Publishes out report (written (joined j.content set.empty)) (lines ++ archive_line sizes) result → EndsAsItComes (migrate input) (IsKnown input) out report result
+      → Publishes out report (written (joined j.content set.empty)) (lines ++ archive_line sizes) result → EndsBegun input (migrate input) out report result
   migrate_published draft sizes j lines none out report result =
-      archive_published (MakesMigrated input) (IsRefusedArchive 0 input) (Unfailed input) (IsKnown input) draft sizes (joined j.content set.empty) lines out report result j.unfailed
+      archive_published (MakesMigrated input) _ (Unfailed input) draft sizes (joined j.content set.empty) lines out report result j.unfailed
       (rw (join_with_nothing j.content j.is_content.itself) (record { is_content = j.is_content; archive = j.archive; lines_are = none })) j.written_is

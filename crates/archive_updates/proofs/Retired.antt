@@ -24,14 +24,14 @@ use Rattle.record_merge.proofs.Lost.{new_changes}
 use Rattle.report_text.specs.Report.{archive_line, retire_line}
 use Rattle.command_ends.specs.declared.faults.CommandFault.{CommandFault}
 use Rattle.command_ends.specs.declared.faults.Status.{Status}
-use Rattle.command_ends.specs.Ends.{EndsAsItComes, HasTaken, MakesArchive, StopsAmidst}
+use Rattle.command_ends.specs.Ends.{HasTaken, MakesArchive, StopsAmidst}
 use Rattle.command_ends.specs.Inputs.{IsKnown, IsRefusedArchive, Reader, Unfailed}
 use Rattle.command_ends.specs.Outputs.{Out, PlacesNothing, Publishes, Takes, Writer}
-use Rattle.command_ends.proofs.Amidst.{stopped_amidst}
 use Rattle.archive_updates.specs.InnerTelling.{IsJoinedTelling, IsRetired}
+use Rattle.archive_updates.specs.Begun.{EndsBegun, IsUnfinished}
 use Rattle.archive_updates.specs.Joining.{joining}
 use Rattle.archive_updates.specs.Retire.{MakesRetired, retire}
-use Rattle.archive_updates.proofs.AtHand.{archive_published, join_stops}
+use Rattle.archive_updates.proofs.AtHand.{archive_published, join_stops, stopped_begun}
 
 module _ (key : SliceKey) (digest : Digest) where
   abbrev pub record_of : List ℕ
@@ -76,13 +76,13 @@ module _ (key : SliceKey) (digest : Digest) where
           text_is = m.text_is ∙ ap written (m.makes.content_is ∙ with_alone m.makes.before m.makes.is_content.itself);
         })
 
-    pub retire_stopped : (out : Out) (report : Writer) (fault : CommandFault) → StopsAmidst (retire input key digest) (IsKnown input) out.draft fault → HasTaken out.draft fault → PlacesNothing out → Takes report []
-        → EndsAsItComes (retire input key digest) (IsKnown input) out report (Err fault)
-    retire_stopped = stopped_amidst (MakesArchive (MakesRetired input key digest)) (IsRefusedArchive 0 input) (Unfailed input) (IsKnown input)
+    pub retire_stopped : (out : Out) (report : Writer) (fault : CommandFault) → StopsAmidst (retire input key digest) (IsKnown input) out.draft fault → IsUnfinished input (Unit {0}) out.draft → HasTaken out.draft fault → PlacesNothing out → Takes report []
+        → EndsBegun input (retire input key digest) out report (Err fault)
+    retire_stopped = stopped_begun input (MakesArchive (MakesRetired input key digest)) (IsRefusedArchive 0 input) (Unfailed input)
 
     -- and what it makes is published
     pub retire_published : {W : Type 0} (draft : Stream W) (sizes : Sizes) (changed had : Bool) (i : IsRetired input key digest draft sizes changed had) (out : Out) (report : Writer) (result : Result Status CommandFault)
-        → Publishes out report (written (with_record i.before record_of)) (retire_line changed key digest ++ archive_line sizes) result → EndsAsItComes (retire input key digest) (IsKnown input) out report result
+        → Publishes out report (written (with_record i.before record_of)) (retire_line changed key digest ++ archive_line sizes) result → EndsBegun input (retire input key digest) out report result
     retire_published draft sizes changed had i out report result =
-        archive_published (MakesRetired input key digest) (IsRefusedArchive 0 input) (Unfailed input) (IsKnown input) draft sizes (with_record i.before record_of) (retire_line changed key digest) out report result i.unfailed
+        archive_published (MakesRetired input key digest) _ (Unfailed input) draft sizes (with_record i.before record_of) (retire_line changed key digest) out report result i.unfailed
         (record { before = i.before; is_content = i.is_content; archive = i.archive; content_is = refl; lines_are = ap (λ (b : Bool). retire_line b key digest) i.changed_is }) i.written_is

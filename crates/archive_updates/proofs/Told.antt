@@ -19,10 +19,11 @@ use Rattle.record_merge.specs.declared.turns.Turn.{Turn}
 use Rattle.report_text.specs.Report.{archive_line}
 use Rattle.command_ends.specs.declared.faults.CommandFault.{CommandFault}
 use Rattle.command_ends.specs.declared.faults.Status.{Status}
-use Rattle.command_ends.specs.Ends.{EndsAsItComes, HasTaken, MakesArchive, StopsAmidst}
-use Rattle.command_ends.specs.Inputs.{IsKnown, IsRefusedArchive, Reader, Unfailed}
+use Rattle.command_ends.specs.Ends.{HasTaken, MakesArchive, StopsAmidst}
+use Rattle.command_ends.specs.Inputs.{IsKnown, Reader, Unfailed}
 use Rattle.command_ends.specs.Outputs.{Out, PlacesNothing, Publishes, Takes, Writer}
 use Rattle.archive_updates.specs.InnerTelling.{IsJoinedTelling, MakesTold, telling}
+use Rattle.archive_updates.specs.Begun.{EndsBegun, IsUnfinished}
 use Rattle.archive_updates.specs.Joining.{joining}
 use Rattle.archive_updates.proofs.AtHand.{archive_published, join_stopped}
 
@@ -42,8 +43,8 @@ text_in_order operations up = ap (text_of OldArchive) (sym (listed_in_order oper
 
 module _ {R : Type 0} (input : Reader R) (operations : Operations) (lines_of : (List ℕ → Bool) → List ℕ) where
   -- what stops the join with what they make stops it
-  pub told_stopped : (out : Out) (report : Writer) (fault : CommandFault) → StopsAmidst (joining input (content_of operations)) (IsKnown input) out.draft fault → HasTaken out.draft fault → PlacesNothing out → Takes report []
-      → EndsAsItComes (telling input operations lines_of) (IsKnown input) out report (Err fault)
+  pub told_stopped : (out : Out) (report : Writer) (fault : CommandFault) → StopsAmidst (joining input (content_of operations)) (IsKnown input) out.draft fault → IsUnfinished input (Unit {0}) out.draft → HasTaken out.draft fault → PlacesNothing out → Takes report []
+      → EndsBegun input (telling input operations lines_of) out report (Err fault)
   told_stopped =
       join_stopped input (content_of operations) (MakesArchive (MakesTold input operations lines_of)) (λ text told m. record {
         content = m.makes.before;
@@ -54,8 +55,8 @@ module _ {R : Type 0} (input : Reader R) (operations : Operations) (lines_of : (
 
   -- and what it makes is published
   pub told_published : {W : Type 0} (draft : Stream W) (sizes : Sizes) (turns : List Turn) (withdraws : Bool) (j : IsJoinedTelling input operations draft sizes turns withdraws) (lines : List ℕ) → lines ≡ lines_of (changes j.joined.content) → (out : Out) (report : Writer) (result : Result Status CommandFault)
-      → Publishes out report (written (joined j.joined.content (content_of operations))) (lines ++ archive_line sizes) result → EndsAsItComes (telling input operations lines_of) (IsKnown input) out report result
+      → Publishes out report (written (joined j.joined.content (content_of operations))) (lines ++ archive_line sizes) result → EndsBegun input (telling input operations lines_of) out report result
   told_published draft sizes turns withdraws j lines lines_are out report result =
       let i = j.joined in
-      archive_published (MakesTold input operations lines_of) (IsRefusedArchive 0 input) (Unfailed input) (IsKnown input) draft sizes (joined i.content (content_of operations)) lines out report result i.unfailed
+      archive_published (MakesTold input operations lines_of) _ (Unfailed input) draft sizes (joined i.content (content_of operations)) lines out report result i.unfailed
       (record { before = i.content; is_content = i.is_content; archive = i.archive; content_is = refl; lines_are = lines_are }) i.written_is

@@ -1,12 +1,13 @@
 -- A copy of those records of an archive that a summary does not name, by the texts.
-use Rattle.std.proofs.Common.{◌≡◌, ℕ, ◌≤◌, ◌<◌, List, [], ◌∷◌, ◌++◌, length, take, MatchResult, Option, Some, Result, Ok, Err, refl, sym, ap, ◌∙◌, arith, inl, inr, append_assoc, length-append, length-take-le}
+use Rattle.std.proofs.Common.{◌≡◌, ℕ, ◌≤◌, ◌<◌, List, [], ◌∷◌, ◌++◌, length, take, MatchResult, Option, Some, Result, Ok, Err, refl, sym, ap, ◌∙◌, arith, inl, inr, ◌⊎◌, append_assoc, length-append, length-take-le}
 use Rattle.std.proofs.lemmas.List.{take-append-le}
-use Rattle.std.specs.Prelude.{IfOk, IfErr}
+use Rattle.std.specs.Prelude.{IfOk, IfErr, IfSome}
 use Rattle.std.specs.List.{concat}
 use Rattle.std.specs.FinSet as set
 use Rattle.std.specs.Io.KnownBytes.{Appends, IsAtEnd}
 use Rattle.archive_core.specs.Content.{Operations, IsContent}
 use Rattle.archive_core.specs.Summary.{Entries, delta}
+use Rattle.archive_core.proofs.Summaries.{delta_content}
 use Rattle.archive_records.specs.declared.fault.MergeCause.{MergeCause}
 use Rattle.archive_records.specs.declared.fault.MergeCause.TheVariants.{Left, Right, Write}
 use Rattle.archive_records.specs.declared.fault.MergeFault.{MergeFault}
@@ -16,7 +17,7 @@ use Rattle.archive_records.specs.declared.kind.TextKind.TheVariants.{Archive as 
 use Rattle.archive_records.specs.declared.writing.Sizes.{Sizes}
 use Rattle.archive_records.specs.Kind.{kind_of, magic, magic_of}
 use Rattle.archive_records.specs.Reader.{IsGathered, set_of}
-use Rattle.archive_records.specs.Text.{end_record, ending, missing, written, taken_of, InOrder, IsArchiveOf}
+use Rattle.archive_records.specs.Text.{end_record, ending, missing, text_of, written, taken_of, AreApart, InOrder, IsArchiveOf}
 use Rattle.byte_device.specs.Devices.{stream}
 use Rattle.byte_device.specs.Writes.{WritesFirst}
 use Rattle.archive_records.proofs.Ends.{length-end_record}
@@ -26,9 +27,12 @@ use Rattle.archive_records.proofs.KeptRecords.{behind, kept_more}
 use Rattle.archive_records.proofs.Made.{read_to, taken_listing}
 use Rattle.archive_records.proofs.Puts.{delta_count, delta_parts}
 use Rattle.archive_records.proofs.Versions.{Formed, formed, formed_content, formed_text, one_content}
+use Rattle.record_merge.specs.Merging.{IsArchiveText, IsBegun}
 use Rattle.record_merge.proofs.Fronts.{before, front_of, taken_rest, text_whole}
+use Rattle.record_merge.proofs.Unread.{first_no_text}
 use Rattle.archive_updates.specs.Copying.{BlamesDevices, BlamesOne, CopiesUnnamed, HasDraft, IsCause, IsCopiedToEnd, IsCopiedUpTo, IsCopiedWhole, StopsCopy, StopsCopyBy, copy_of}
 use Rattle.archive_updates.proofs.Beginnings.{good_formed}
+use Rattle.archive_updates.proofs.Begun.{no_bytes}
 use Rattle.archive_updates.proofs.Copied.{copy_more}
 
 -- ---- what is written of an archive's records
@@ -133,6 +137,26 @@ drafted s a b w0 w1 n (inr (file, kind, inr u)) =
     let all = whole_of s (taken_of file u.records) in
     (take n all, p.gained, sym (length-take-le n all (omega (arith, lt))))
 
+-- ---- a beginning, and no archive's text
+
+module _ (s : Entries) (a b w0 w1 : Option (List ℕ)) (n : ℕ) where
+  abbrev NoText : Type 0
+  NoText = IfSome w0 (λ _. (bytes : List ℕ) → Appends w0 w1 bytes → IsArchiveText bytes → ⊥)
+
+  none_of : (f : Format) (kind : kind_of f ≡ Archive_text) (xs : List (List ℕ)) → InOrder f [] xs → AreApart f xs → WritesFirst w0 w1 (whole_of s (taken_of f xs)) n → NoText
+  none_of f kind xs ordered apart w =
+      let made : Operations = set_of (taken_of f xs) in
+      let content : IsContent made = formed_content made (text_of f xs) (record { format = f; archive = kind; records = xs; ordered = ordered; apart = apart; whole = refl; content = refl }) in
+      first_no_text w0 w1 (delta made s) n (delta_content made s content) (rw (delta_text s f kind xs ordered) w)
+
+  pub draft_no_text : HasDraft s a b w0 w1 n → NoText
+  draft_no_text (inl none) = no_bytes w0 w1 none.1
+  draft_no_text (inr (file, kind, inl u)) =
+      let kept_of = taken_of file u.records in
+      let end = end_record (length (missing s kept_of)) in
+      none_of file kind u.records u.ordered u.apart (first_in w0 w1 (copy_of s kept_of) end (whole_of s kept_of) n refl (omega (arith, length-end_record (length (missing s kept_of)))) u.within u.gained)
+  draft_no_text (inr (file, kind, inr u)) = none_of file kind u.records u.ordered u.apart u.first
+
 -- ---- what came of it
 
 module _ {R W : Type 0} (left : R → Option (List ℕ)) (failures : R → ℕ) (old new : R) (held : W → Option (List ℕ)) (write_failures : W → ℕ) (w w' : W) (s : Entries) where
@@ -140,6 +164,15 @@ module _ {R W : Type 0} (left : R → Option (List ℕ)) (failures : R → ℕ) 
   stops_by (Left fault) st blames = (refused Archive_text left failures old new fault st blames.0, blames.1)
   stops_by (Right fault) st blames = absurd st
   stops_by Write st blames = blames
+
+  -- the magic was taken, or nothing was written
+  begun_by : (cause : MergeCause) (n : ℕ) → IsCause (left old) (left new) cause → HasDraft s (left old) (left new) (held w) (held w') n → BlamesOne left failures old new (write_failures w) (write_failures w') cause
+      → (Appends (held w) (held w') [] × (write_failures w' ≡ write_failures w)) ⊎ IsBegun (stream left failures old new)
+  begun_by (Left fault) n st (inl none) blames = inl (none.1, blames.1)
+  begun_by (Left fault) n st (inr (file, kind, inl u)) blames = inr (file, kind, concat u.records ++ u.rest, u.taken)
+  begun_by (Left fault) n st (inr (file, kind, inr u)) blames = inr (file, kind, concat u.records ++ ending file (length u.records), u.taken)
+  begun_by (Right fault) n st draft blames = absurd st
+  begun_by Write n st draft blames = inr st
 
   pub unnamed : (r : Result Sizes MergeFault) → IfOk r (λ sizes. IsGathered Archive_text (IsCopiedWhole s (held w) (held w')) (left old) (left new) sizes × IsAtEnd (left new))
       → IfErr r (λ e. IsCause (left old) (left new) e.cause × HasDraft s (left old) (left new) (held w) (held w') e.written)
@@ -163,4 +196,6 @@ module _ {R W : Type 0} (left : R → Option (List ℕ)) (failures : R → ℕ) 
     by = stops_by e.cause cause blames;
     first = λ o text content is given. first_of s text o content is (left new) (held w) (held w') e.written (left old) given draft;
     count = drafted s (left old) (left new) (held w) (held w') e.written draft;
+    no_text = draft_no_text s (left old) (left new) (held w) (held w') e.written draft;
+    begun = begun_by e.cause e.written cause draft blames;
   }

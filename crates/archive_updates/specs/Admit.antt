@@ -12,6 +12,7 @@ use Rattle.command_ends.specs.Ends.{Command, MakesArchive, Streamed, writes_in_t
 use Rattle.command_ends.specs.Inputs.{Reader, Holds, Unfailed, EachUnfailed, EachKnown, IsAccepted, IsKnown}
 use Rattle.command_ends.specs.Inputs.{HoldsArchive, IsFileRefused, IsFirstRefused, IsRefusedInTurn, IsWantedInTurn}
 use Rattle.command_ends.specs.Outputs.{Writer}
+use Rattle.archive_updates.specs.Begun.{begins_behind}
 
 -- the images of files: those of their parts that are one, in their order
 abbrev pub images_of : List (List ℕ) → List (List ℕ)
@@ -61,5 +62,6 @@ admit input files = record {
 -- the same as it comes, the files before IN
 abbrev pub admit_as_it_comes : {R S : Type 0} → Reader R → List (Reader S) → Writer → Streamed
 admit_as_it_comes input files draft =
-    writes_in_turn (admit input files) (IsWantedInTurn input (IsFirstRefused File IsAccepted IsFileRefused files))
-    (IsKnown input × EachKnown files) draft
+    begins_behind input (AllByRecursion IsAccepted files × EachUnfailed files) draft
+    (writes_in_turn (admit input files) (IsWantedInTurn input (IsFirstRefused File IsAccepted IsFileRefused files))
+    (IsKnown input × EachKnown files) draft)

@@ -9,6 +9,7 @@ use Rattle.command_ends.specs.Ends.{Command, MakesArchive, Streamed, writes_in_t
 use Rattle.command_ends.specs.Inputs.{Reader, Gives, Unfailed, IsRefusedOps, IsRefusedInTurn, IsWantedInTurn}
 use Rattle.command_ends.specs.Inputs.{HoldsArchive, IsKnown}
 use Rattle.command_ends.specs.Outputs.{Writer}
+use Rattle.archive_updates.specs.Begun.{begins_behind}
 
 -- IN is the text of a content and OPS that of operations; this is the content with their records, and this is the line
 -- that counts the new and the known ones.
@@ -32,7 +33,12 @@ apply input ops = record {
   Unfailed = Unfailed input × Unfailed ops;
 }
 
+-- OPS is the text of operations
+abbrev pub GivesOperations : {S : Type 0} → Reader S → Type 0
+GivesOperations ops = (operations : List Operation) × Gives ops (λ text. IsOperationsText text operations)
+
 -- the same as it comes, OPS before IN
 abbrev pub apply_as_it_comes : {R S : Type 0} → Reader R → Reader S → Writer → Streamed
 apply_as_it_comes input ops draft =
-    writes_in_turn (apply input ops) (IsWantedInTurn input (IsRefusedOps ops)) (IsKnown input × IsKnown ops) draft
+    begins_behind input (GivesOperations ops × Unfailed ops) draft
+    (writes_in_turn (apply input ops) (IsWantedInTurn input (IsRefusedOps ops)) (IsKnown input × IsKnown ops) draft)

@@ -19,7 +19,7 @@ use Rattle.archive_records.specs.Text.{end_record, missing, text_of, written, ta
 use Rattle.archive_records.specs.Writing.{IsWrittenWhole}
 use Rattle.byte_device.specs.Devices.{FailedIn, Stream}
 use Rattle.byte_device.specs.Writes.{WritesFirst}
-use Rattle.record_merge.specs.Merging.{GainsCount, IsRefusedAlone, IsUnfailed}
+use Rattle.record_merge.specs.Merging.{Gains, GainsCount, GainsNoText, IsBegun, IsRefusedAlone, IsUnfailed}
 use Rattle.command_ends.specs.Ends.{Command, MakesArchive}
 use Rattle.command_ends.specs.Inputs.{Reader, Unfailed, IsRefusedArchive, HoldsArchive}
 
@@ -88,11 +88,15 @@ HasDraft s a b w0 w1 n =
     ⊎ ((file : Format) × (kind_of file ≡ Archive_text)
     × (IsCopiedUpTo file s a b w0 w1 n ⊎ IsCopiedToEnd file s a b w0 w1 n))
 
--- what stopped it: reading, or writing
+-- the magic of an archive was read, and what stands behind it so far
+abbrev pub ReadsBehindMagic : Option (List ℕ) → Option (List ℕ) → Type 0
+ReadsBehindMagic a b = (file : Format) × (kind_of file ≡ Archive_text) × (rest : List ℕ) × Consumes a b (magic_of file ++ rest)
+
+-- what stopped it: reading, or, behind the magic, writing
 abbrev pub IsCause : Option (List ℕ) → Option (List ℕ) → MergeCause → Type 0
 IsCause a b (Left fault) = HasStopped Archive_text a b fault
 IsCause a b (Right fault) = ⊥
-IsCause a b Write = Unit {0}
+IsCause a b Write = ReadsBehindMagic a b
 
 -- what stopped it in or behind the end record: more bytes, or the device; or the writer
 abbrev pub StopsEnd : Position → Option (List ℕ) → Option (List ℕ) → Option (List ℕ) → Option (List ℕ) → Sizes
@@ -124,7 +128,7 @@ StopsCopyBy input draft (Right fault) = ⊥
 StopsCopyBy input draft Write = IsUnfailed input × FailedIn (draft.failures draft.old) (draft.failures draft.new)
 
 -- It was stopped. Of what is written of an archive's text, if the input is one, exactly the first bytes were written,
--- and fewer than all.
+-- and fewer than all. What was written is no archive's text, and nothing was before the magic of the input was taken.
 pub record StopsCopy {R W : Type 0} (input : Stream R) (draft : Stream W) (s : Entries) (e : MergeFault)
     : Type 0 where
   pub by : StopsCopyBy input draft e.cause
@@ -132,6 +136,8 @@ pub record StopsCopy {R W : Type 0} (input : Stream R) (draft : Stream W) (s : E
       → input.bytes input.old ≡ Some text
       → WritesFirst (draft.bytes draft.old) (draft.bytes draft.new) (written (delta o s)) e.written
   pub count : GainsCount draft e.written
+  pub no_text : GainsNoText draft
+  pub begun : (Gains draft [] × IsUnfailed draft) ⊎ IsBegun input
 
 -- ---- as a command
 

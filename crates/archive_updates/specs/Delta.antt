@@ -9,6 +9,7 @@ use Rattle.command_ends.specs.Ends.{Command, MakesArchive, Streamed, writes_in_t
 use Rattle.command_ends.specs.Inputs.{Reader, Holds, Unfailed, IsRefusedSummary, IsRefusedInTurn, IsWantedInTurn}
 use Rattle.command_ends.specs.Inputs.{HoldsArchive, IsKnown}
 use Rattle.command_ends.specs.Outputs.{Writer}
+use Rattle.archive_updates.specs.Begun.{begins_behind}
 
 -- ARCHIVE is the text of a content and SUMMARY that of entries; this is the content of the operations that they do not
 -- name, and there are no lines but the sizes.
@@ -31,8 +32,13 @@ delta archive summary = record {
   Unfailed = Unfailed archive × Unfailed summary;
 }
 
+-- SUMMARY is the text of entries
+abbrev pub GivesSummary : {S : Type 0} → Reader S → Type 0
+GivesSummary summary = (entries : Entries) × AreEntries entries × Holds summary (summary_text entries)
+
 -- the same as it comes, SUMMARY before ARCHIVE
 abbrev pub delta_as_it_comes : {R S : Type 0} → Reader R → Reader S → Writer → Streamed
 delta_as_it_comes archive summary draft =
-    writes_in_turn (delta archive summary) (IsWantedInTurn archive (IsRefusedSummary summary))
-    (IsKnown archive × IsKnown summary) draft
+    begins_behind archive (GivesSummary summary × Unfailed summary) draft
+    (writes_in_turn (delta archive summary) (IsWantedInTurn archive (IsRefusedSummary summary))
+    (IsKnown archive × IsKnown summary) draft)

@@ -10,14 +10,16 @@ use Rattle.command_ends.specs.declared.faults.CommandFault.{CommandFault}
 use Rattle.command_ends.specs.Ends.{Command, HasTaken, MakesArchive, StopsAmidst}
 use Rattle.command_ends.specs.Inputs.{Reader, Unfailed, IsKnown, IsRefusedArchive, HoldsArchive}
 use Rattle.command_ends.specs.Outputs.{writer}
+use Rattle.archive_updates.specs.Begun.{IsUnfinished}
 
--- what came of writing a draft while the input is read: this; or what the draft took, and why that was stopped
+-- what came of writing a draft while the input is read: this; or what the draft took and has, and why that was stopped
 abbrev pub WritesAmidst : {R W T : Type 0} → (Reader R → Command) → (Reader R → Stream W → T → Type 0) → Reader R
     → Stream W → Result T CommandFault → Type 0
 WritesAmidst command Makes input draft (Ok made) = Makes input draft made
 WritesAmidst command Makes input draft (Err fault) =
     HasTaken (writer draft.bytes draft.failures draft.old draft.new) fault
     × StopsAmidst (command input) (IsKnown input) (writer draft.bytes draft.failures draft.old draft.new) fault
+    × IsUnfinished input (Unit {0}) (writer draft.bytes draft.failures draft.old draft.new)
 
 -- A source has the text of this content, and does not fail.
 pub record IsAtHand {S : Type 0} (side : Stream S) (p : Operations) : Type 0 where
@@ -53,8 +55,8 @@ pub record IsJoined {R W : Type 0} (input : Reader R) (p : Operations) (draft : 
   pub written_is : IsWrittenWhole draft.bytes draft.failures draft.old draft.new (set.len (joined content p))
       (written (joined content p)) sizes
 
--- what came of writing the join with a content of which this is true: it was written; or what the draft took, and why
--- that was stopped
+-- what came of writing the join with a content of which this is true: it was written; or what the draft took and has,
+-- and why that was stopped
 abbrev pub JoinsAmidst : {R W : Type 0} → (Operations → Type 0) → Reader R → Stream W → Result Sizes CommandFault
     → Type 0
 JoinsAmidst IsGiven input draft (Ok sizes) = (p : Operations) → IsGiven p → IsJoined input p draft sizes
@@ -62,6 +64,7 @@ JoinsAmidst IsGiven input draft (Err fault) =
     HasTaken (writer draft.bytes draft.failures draft.old draft.new) fault
     × ((p : Operations) → IsGiven p → StopsAmidst (joining input p) (IsKnown input)
     (writer draft.bytes draft.failures draft.old draft.new) fault)
+    × IsUnfinished input (Unit {0}) (writer draft.bytes draft.failures draft.old draft.new)
 
 -- The input is an archive's text, and this is the join of its content with this one; there are no lines but the sizes.
 pub record MakesJoined {R : Type 0} (input : Reader R) (p content : Operations) (lines : List ℕ) : Type 0 where

@@ -8,6 +8,7 @@ pub mod MergeStreams
 pub mod Apply
 pub mod Summary
 pub mod Delta
+pub mod Begun
 pub mod Joining
 pub mod Copying
 pub mod InnerTelling

@@ -8,6 +8,7 @@ use Rattle.command_ends.specs.Ends.{Command, MakesArchive, Streamed, writes_in_t
 use Rattle.command_ends.specs.Inputs.{Reader, Unfailed, EachUnfailed, IsArchive, HoldsArchive, IsKnown, EachKnown}
 use Rattle.command_ends.specs.Inputs.{IsArchiveRefused, IsFirstRefused, IsRefusedInTurn, IsWantedInTurn}
 use Rattle.command_ends.specs.Outputs.{Writer}
+use Rattle.archive_updates.specs.Begun.{begins_behind}
 
 -- the operations of all these contents
 abbrev pub operations_of : List Operations → Operations
@@ -43,6 +44,7 @@ merge input files = record {
 -- the same as IN comes, the files before it
 abbrev pub merge_in_turn : {R S : Type 0} → Reader R → List (Reader S) → Writer → Streamed
 merge_in_turn input files draft =
-    writes_in_turn (merge input files)
+    begins_behind input (AllByRecursion IsArchive files × EachUnfailed files) draft
+    (writes_in_turn (merge input files)
     (IsWantedInTurn input (IsFirstRefused file_place IsArchive IsArchiveRefused files))
-    (IsKnown input × EachKnown files) draft
+    (IsKnown input × EachKnown files) draft)

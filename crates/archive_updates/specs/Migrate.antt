@@ -1,8 +1,10 @@
 -- What `migrate` makes of an archive.
 use Rattle.std.specs.Prelude.{◌≡◌, ℕ, List, []}
 use Rattle.archive_core.specs.Content.{Operations, IsContent}
-use Rattle.command_ends.specs.Ends.{Command, MakesArchive}
+use Rattle.command_ends.specs.Ends.{Command, MakesArchive, Streamed}
 use Rattle.command_ends.specs.Inputs.{Reader, Unfailed, IsRefusedArchive, HoldsArchive}
+use Rattle.command_ends.specs.Outputs.{Writer}
+use Rattle.archive_updates.specs.Begun.{begins_alone}
 
 -- IN is an archive's text, of whichever version, and this is the content that it gives; there are no lines but the
 -- sizes.
@@ -18,3 +20,7 @@ migrate input = record {
   Refuses = IsRefusedArchive 0 input;
   Unfailed = Unfailed input;
 }
+
+-- the same as it comes
+abbrev pub migrate_as_it_comes : {R : Type 0} → Reader R → Writer → Streamed
+migrate_as_it_comes input draft = begins_alone input draft (migrate input)

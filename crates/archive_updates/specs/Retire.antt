@@ -5,8 +5,10 @@ use Rattle.archive_core.specs.Content.{Operations, IsContent, with_record, chang
 use Rattle.archive_core.specs.declared.keys.SliceKey.{SliceKey}
 use Rattle.archive_core.specs.declared.keys.Digest.{Digest}
 use Rattle.report_text.specs.Report.{retire_line}
-use Rattle.command_ends.specs.Ends.{Command, MakesArchive}
+use Rattle.command_ends.specs.Ends.{Command, MakesArchive, Streamed}
 use Rattle.command_ends.specs.Inputs.{Reader, Unfailed, IsRefusedArchive, HoldsArchive}
+use Rattle.command_ends.specs.Outputs.{Writer}
+use Rattle.archive_updates.specs.Begun.{begins_alone}
 
 -- IN is the text of a content; this is the content with the retirement, and this is the line that tells whether that
 -- changed it.
@@ -25,3 +27,7 @@ retire input key digest = record {
   Refuses = IsRefusedArchive 0 input;
   Unfailed = Unfailed input;
 }
+
+-- the same as it comes
+abbrev pub retire_as_it_comes : {R : Type 0} → Reader R → SliceKey → Digest → Writer → Streamed
+retire_as_it_comes input key digest draft = begins_alone input draft (retire input key digest)

@@ -12,9 +12,10 @@ ghost use Rattle.archive_updates.specs.InnerNotes.{IsNoted};
 ghost use Rattle.archive_updates.specs.InnerTelling.{telling};
 ghost use Rattle.archive_updates.specs.Notes.{NotesRetired, retired_notes};
 ghost use Rattle.command_ends.specs.declared.faults.Place.TheVariants.{File};
-ghost use Rattle.command_ends.specs.Ends.{EndsAsItComes, EndsStreamed};
+ghost use Rattle.archive_updates.specs.Begun.{EndsBegun};
+ghost use Rattle.command_ends.specs.Ends.{EndsStreamed};
 ghost use Rattle.command_ends.specs.Inputs.{EachUnfailed, Holds, IsAccepted, IsFileRefused};
-ghost use Rattle.command_ends.specs.Inputs.{IsFirstRefused, IsKnown, IsRefusal, IsRefusedBytes};
+ghost use Rattle.command_ends.specs.Inputs.{IsFirstRefused, IsRefusal, IsRefusedBytes};
 ghost use Rattle.command_ends.specs.Inputs.{IsRefusedFile, Reads, ReadsInputs, reader, readers};
 ghost use Rattle.command_ends.specs.Outputs.{out_of, outs, writer};
 
@@ -133,9 +134,9 @@ fn write_admitted<R: Source, T: Target, P: Sink>(
         × ArePlaced (listing arrivals.came) arrivals.places.items arrivals.rows.items records }
     ensures ends { (records : List (List ℕ))
         → ArePlaced (listing arrivals.came) arrivals.places.items arrivals.rows.items records
-        → EndsAsItComes (telling (reader R.left R.failures input.old input.new) arrivals.came
+        → EndsBegun (reader R.left R.failures input.old input.new)
+        (telling (reader R.left R.failures input.old input.new) arrivals.came
         (lines_again arrivals.rows.items records))
-        (IsKnown (reader R.left R.failures input.old input.new))
         (out_of (outs T.Draft.held T.Draft.failures T.placed T.failures out.old out.new))
         (writer P.held P.failures report.old report.new) result }
     ensures noted { OnOk result (IsNoted (reader R.left R.failures input.old input.new) arrivals.came

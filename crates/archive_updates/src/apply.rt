@@ -9,8 +9,9 @@ ghost use Rattle.archive_core.specs.Content.{Operations, IsMade, changes};
 ghost use Rattle.archive_core.specs.Record.{IsOperation, record_bytes};
 ghost use Rattle.archive_updates.specs.Apply.{apply_as_it_comes};
 ghost use Rattle.archive_updates.specs.InnerTelling.{HasNewOf, counts_of, telling};
-ghost use Rattle.command_ends.specs.Ends.{EndsAsItComes, EndsStreamed};
-ghost use Rattle.command_ends.specs.Inputs.{IsKnown, IsRefusedOps, Reads, reader};
+ghost use Rattle.archive_updates.specs.Begun.{EndsBegun};
+ghost use Rattle.command_ends.specs.Ends.{EndsStreamed};
+ghost use Rattle.command_ends.specs.Inputs.{IsRefusedOps, Reads, reader};
 ghost use Rattle.command_ends.specs.Outputs.{out_of, outs, writer};
 ghost use Rattle.record_merge.specs.Turns.{is_new};
 
@@ -46,9 +47,9 @@ fn write_applied<R: Source, T: Target, P: Sink>(
     requires ascending { IsStrictlySortedBy (slice_cmp nat_cmp) (map record_bytes operations.now) }
     requires are { AllByRecursion IsOperation operations.now }
     requires few { (o : Operations) → IsMade o → count_by (changes o) (map record_bytes operations.now) ≤ number }
-    ensures { EndsAsItComes (telling (reader R.left R.failures input.old input.new)
+    ensures { EndsBegun (reader R.left R.failures input.old input.new)
+        (telling (reader R.left R.failures input.old input.new)
         (set.from_list (map record_bytes operations.now)) (counts_of (map record_bytes operations.now) number))
-        (IsKnown (reader R.left R.failures input.old input.new))
         (out_of (outs T.Draft.held T.Draft.failures T.placed T.failures out.old out.new))
         (writer P.held P.failures report.old report.new) result }
 {

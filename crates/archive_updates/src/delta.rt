@@ -3,8 +3,9 @@ ghost use Rattle.byte_device.specs.Devices.{stream};
 ghost use Rattle.archive_updates.specs.Copying.{IsUnnamed, copying};
 ghost use Rattle.archive_updates.specs.Delta.{delta_as_it_comes};
 ghost use Rattle.archive_updates.specs.Joining.{WritesAmidst};
-ghost use Rattle.command_ends.specs.Ends.{EndsAsItComes, EndsStreamed};
-ghost use Rattle.command_ends.specs.Inputs.{IsKnown, reader};
+ghost use Rattle.archive_updates.specs.Begun.{EndsBegun};
+ghost use Rattle.command_ends.specs.Ends.{EndsStreamed};
+ghost use Rattle.command_ends.specs.Inputs.{reader};
 ghost use Rattle.command_ends.specs.Outputs.{out_of, outs, writer};
 
 use crate::copying::copy_unnamed;
@@ -42,8 +43,8 @@ fn write_unnamed<R: Source, T: Target, P: Sink>(
     out: &mut Output<T::Draft, T>,
     report: &mut P,
 ) -> Result<Status, CommandFault>
-    ensures { EndsAsItComes (copying (reader R.left R.failures archive.old archive.new) named.now)
-        (IsKnown (reader R.left R.failures archive.old archive.new))
+    ensures { EndsBegun (reader R.left R.failures archive.old archive.new)
+        (copying (reader R.left R.failures archive.old archive.new) named.now)
         (out_of (outs T.Draft.held T.Draft.failures T.placed T.failures out.old out.new))
         (writer P.held P.failures report.old report.new) result }
 {

@@ -4,9 +4,10 @@ ghost use Rattle.std.specs.FinSet as set;
 ghost use Rattle.archive_core.specs.Content.{Operations, IsContent, joined};
 ghost use Rattle.archive_records.specs.Text.{written};
 ghost use Rattle.command_ends.specs.Archives.{ReadsOthers};
-ghost use Rattle.command_ends.specs.Ends.{EndsAsItComes, EndsStreamed};
+ghost use Rattle.archive_updates.specs.Begun.{EndsBegun};
+ghost use Rattle.command_ends.specs.Ends.{EndsStreamed};
 ghost use Rattle.command_ends.specs.declared.faults.CommandFault.TheVariants.{OutOfMemory};
-ghost use Rattle.command_ends.specs.Inputs.{HoldsContent, IsKnown, IsRefusedArchive, Reads, reader, readers};
+ghost use Rattle.command_ends.specs.Inputs.{HoldsContent, IsRefusedArchive, Reads, reader, readers};
 ghost use Rattle.archive_updates.specs.Joining.{joins};
 ghost use Rattle.archive_updates.specs.Merge.{HasJoined, merge_in_turn};
 ghost use Rattle.archive_updates.specs.MergeStreams.{merge_as_it_comes, merge_of_one};
@@ -89,8 +90,8 @@ fn merge_text<R: Source, T: Target, P: Sink>(
     report: &mut P,
 ) -> Result<Status, CommandFault>
     ensures { (p : Operations) → IsContent p → text.now ≡ written p
-        → EndsAsItComes (joins (reader R.left R.failures input.old input.new) p)
-        (IsKnown (reader R.left R.failures input.old input.new))
+        → EndsBegun (reader R.left R.failures input.old input.new)
+        (joins (reader R.left R.failures input.old input.new) p)
         (out_of (outs T.Draft.held T.Draft.failures T.placed T.failures out.old out.new))
         (writer P.held P.failures report.old report.new) result }
 {

@@ -2,9 +2,9 @@
 ghost use Rattle.std.specs.Prelude.{◌≡◌};
 ghost use Rattle.std.specs.FinSet as set;
 ghost use Rattle.archive_records.specs.Text.{written};
-ghost use Rattle.command_ends.specs.Ends.{EndsAsItComes};
-ghost use Rattle.command_ends.specs.Inputs.{IsKnown, reader};
-ghost use Rattle.archive_updates.specs.Migrate.{migrate};
+ghost use Rattle.command_ends.specs.Ends.{EndsStreamed};
+ghost use Rattle.command_ends.specs.Inputs.{reader};
+ghost use Rattle.archive_updates.specs.Migrate.{migrate_as_it_comes};
 ghost use Rattle.command_ends.specs.Outputs.{out_of, outs, writer};
 
 use crate::joining::join_input;
@@ -32,9 +32,8 @@ pub fn run_migrate<R: Source, T: Target, P: Sink>(
     out: &mut Output<T::Draft, T>,
     report: &mut P,
 ) -> Result<Status, CommandFault>
-    ensures { EndsAsItComes (migrate (reader R.left R.failures input.old input.new))
-        (IsKnown (reader R.left R.failures input.old input.new))
-        (out_of (outs T.Draft.held T.Draft.failures T.placed T.failures out.old out.new))
+    ensures { let known = out_of (outs T.Draft.held T.Draft.failures T.placed T.failures out.old out.new) in
+        EndsStreamed (migrate_as_it_comes (reader R.left R.failures input.old input.new) known.draft) known
         (writer P.held P.failures report.old report.new) result }
 {
     let empty = empty_text();

@@ -2,13 +2,13 @@
 ghost use Rattle.std.specs.Prelude.{◌≡◌, OnOk};
 ghost use Rattle.archive_core.specs.Record.{IsOperation};
 ghost use Rattle.byte_device.specs.Devices.{stream};
-ghost use Rattle.command_ends.specs.Ends.{EndsAsItComes};
-ghost use Rattle.command_ends.specs.Inputs.{IsKnown, reader};
+ghost use Rattle.command_ends.specs.Ends.{EndsStreamed};
+ghost use Rattle.command_ends.specs.Inputs.{reader};
 ghost use Rattle.command_ends.specs.Outputs.{out_of, outs, writer};
 ghost use Rattle.archive_updates.specs.InnerTelling.{IsRetired};
 ghost use Rattle.archive_updates.specs.Joining.{WritesAmidst};
 ghost use Rattle.archive_updates.specs.Notes.{NotesMissing};
-ghost use Rattle.archive_updates.specs.Retire.{retire};
+ghost use Rattle.archive_updates.specs.Retire.{retire, retire_as_it_comes};
 
 use crate::notes::{Note, note_missing};
 use crate::telling::tell_operations;
@@ -75,9 +75,8 @@ pub fn run_retire<R: Source, T: Target, P: Sink>(
     out: &mut Output<T::Draft, T>,
     report: &mut P,
 ) -> Result<Status, CommandFault>
-    ensures ends { EndsAsItComes (retire (reader R.left R.failures input.old input.new) key digest)
-        (IsKnown (reader R.left R.failures input.old input.new))
-        (out_of (outs T.Draft.held T.Draft.failures T.placed T.failures out.old out.new))
+    ensures ends { let known = out_of (outs T.Draft.held T.Draft.failures T.placed T.failures out.old out.new) in
+        EndsStreamed (retire_as_it_comes (reader R.left R.failures input.old input.new) key digest known.draft) known
         (writer P.held P.failures report.old report.new) result }
     ensures noted { OnOk result (NotesMissing (reader R.left R.failures input.old input.new) key digest
         notes.old.items notes.new.items) }

@@ -21,7 +21,7 @@ use Rattle.archive_core.proofs.Taken.{IsUnderWay, taken_are_joined}
 use Rattle.archive_core.specs.Order.{made_again, contains_made}
 use Rattle.archive_index.specs.Entry.{IsPlacedEntry}
 use Rattle.archive_index.specs.Index.{AreIndexed}
-use Rattle.archive_index.specs.Places.{BlamesPlaced, IsNamedBy, entries_under}
+use Rattle.archive_index.specs.Places.{BlamesPlaced, IsNamedBy}
 use Rattle.archive_index.specs.declared.fault.PlaceFault.{PlaceFault}
 use Rattle.archive_index.specs.declared.fault.PlaceFault.TheVariants.{Stale, Device, OutOfMemory}
 use Rattle.archive_core.specs.Summary.{Entries}

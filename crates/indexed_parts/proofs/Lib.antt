@@ -1,4 +1,3 @@
 pub mod Named
 pub mod Ordered
 pub mod Gathered
-pub mod Answered

@@ -1,5 +1,5 @@
 -- The record that an entry names, and when none is there.
-use Rattle.std.proofs.Common.{◌≡◌, ◌≢◌, ℕ, ◌+◌, ◌-◌, ◌<◌, ◌^◌, Bool, true, false, cond, eqb, List, ◌∷◌, ◌++◌, length, take, drop, get_or, Option, Some, None, refl, sym, ap, ◌∙◌, subst, inl, inr, arith, length-drop, length-take, nat_le, ◌&&◌, eq-eqb}
+use Rattle.std.proofs.Common.{◌≡◌, ◌≢◌, ℕ, ◌+◌, ◌-◌, ◌<◌, ◌^◌, true, false, cond, eqb, List, ◌∷◌, ◌++◌, length, take, drop, get_or, Option, Some, None, refl, sym, ap, ◌∙◌, subst, inl, inr, arith, length-drop, length-take, nat_le, ◌&&◌, eq-eqb}
 use Rattle.std.specs.Prelude.{IfSome}
 use Rattle.archive_records.proofs.Forms.{parts-of}
 use Rattle.std.specs.Int.{w64, to_be_bytes, from_be_bytes}
@@ -7,7 +7,7 @@ use Rattle.archive_core.specs.Key.{IsKey, key_bytes}
 use Rattle.archive_core.specs.Record.{Admits, retirement_record}
 use Rattle.archive_core.specs.Content.{is_admission}
 use Rattle.archive_core.specs.declared.find.FindState.{FindState}
-use Rattle.archive_core.specs.declared.find.FindState.TheVariants.{Retired, Image, Dsym}
+use Rattle.archive_core.specs.declared.find.FindState.TheVariants.{Retired}
 use Rattle.std.proofs.lemmas.Bool.{eqb-true}
 use Rattle.archive_records.specs.Layout.{largest_slice, slice_length}
 use Rattle.archive_core.proofs.Entries.{retirement_entry}

@@ -1,12 +1,11 @@
 -- Records that are gathered one after another at the places that an index names: the words of the inner functions. No
 -- contract of a public one has them.
-use Rattle.std.specs.Prelude.{◌≡◌, ◌<◌, ◌^◌, ℕ, Bool, true, List, [], ◌∷◌, ◌++◌, length, take, filter}
+use Rattle.std.specs.Prelude.{◌≡◌, ◌<◌, ℕ, Bool, true, List, [], ◌∷◌, ◌++◌, length, take, filter}
 use Rattle.std.specs.Prelude.{slice_index_or, Option, Some, None, IfSome}
 use Rattle.std.specs.List.{AllZip}
 use Rattle.archive_index.specs.declared.fault.PlaceFault.{PlaceFault}
 use Rattle.archive_index.specs.declared.fault.PlaceFault.TheVariants.{Stale, Device, OutOfMemory}
-use Rattle.archive_core.specs.Summary.{Entries}
-use Rattle.archive_index.specs.Places.{IsNamedBy, IsStale}
+use Rattle.archive_index.specs.Places.{IsNamedBy}
 
 -- the record that this entry names stands behind what was gathered
 pub record IsGathered (whole : Option (List ℕ)) (entry : List ℕ) (old new : List (List ℕ)) : Type 0 where
@@ -38,9 +37,3 @@ IsStaleAmong passes entries text (Stale (Some k)) =
     → (r : List ℕ) × IsNamedBy text (slice_index_or entries j []) r)
 IsStaleAmong passes entries text Device = Unit {0}
 IsStaleAmong passes entries text OutOfMemory = Unit {0}
-
--- why a part is refused, of a text whose length is known then
-abbrev pub IsPartRefused : List ℕ → Entries → List ℕ → PlaceFault → Type 0
-IsPartRefused front entries text (Stale entry) = IsStale front entries text entry × (length text < 2 ^ 64)
-IsPartRefused front entries text Device = Unit {0}
-IsPartRefused front entries text OutOfMemory = Unit {0}

@@ -1,21 +1,17 @@
 //! The records under a UUID or a key.
 
-ghost use Rattle.std.specs.Prelude.{◌≡◌, ◌+◌, ◌≤◌, ◌<◌, ◌^◌, ◌↔◌, Some, length, map};
-ghost use Rattle.std.specs.Prelude.{IfOk, IfErr, IfSome, IsTrue, OnOk};
+ghost use Rattle.std.specs.Prelude.{◌≡◌, ◌+◌, ◌<◌, ◌↔◌, length, map, IfOk, IfSome, IsTrue, OnOk};
 ghost use Rattle.std.specs.FinSet as set;
-ghost use Rattle.archive_core.specs.Content.{Operations, IsContent, content_of, with_records};
-ghost use Rattle.archive_core.specs.Part.{is_under, part};
+ghost use Rattle.archive_core.specs.Content.{content_of, with_records};
+ghost use Rattle.archive_core.specs.Part.{is_under};
 ghost use Rattle.archive_core.specs.Record.{record_bytes};
-ghost use Rattle.archive_records.specs.Text.{written};
 ghost use Rattle.byte_device.specs.Devices.{CountsFailure};
 ghost use Rattle.placed_bytes.specs.Places.{HasSize};
 ghost use Rattle.archive_index.specs.Entry.{placed_bytes};
-ghost use Rattle.archive_index.specs.Index.{index, lengths_of};
-ghost use Rattle.archive_index.specs.Places.{AreNamed, HasIndexedLength, IsOfPlaceMachine, IsPlaceFault};
-ghost use Rattle.indexed_parts.specs.InnerPlaces.{IsPartRefused};
+ghost use Rattle.archive_index.specs.Index.{lengths_of};
+ghost use Rattle.archive_index.specs.Places.{HasIndexedLength};
 ghost use Rattle.indexed_parts.specs.Places.{IsLengthFault, ReadsPlaces};
 
-use crate::gathering::gather_at;
 use archive_core::{Archive, Operation};
 use archive_index::{Index, PlaceFault, PlacedEntry};
 use byte_device::Failed;
@@ -103,59 +99,4 @@ pub fn archive_of<A: Archive + Drop>(
     let mut made = A::empty(heap);
     take_in_turn(&mut made, sorted)?;
     Ok(made)
-}
-
-/// Reads what `part_at` reads. What is said is of a text that is known.
-fn part_named<A: Archive + Drop, P: Placed>(
-    heap: Heap,
-    front: &[u8],
-    entries: &Index,
-    archive: &mut P,
-) -> Result<A, PlaceFault>
-    requires { length front.now ≤ 24 }
-    ensures { ReadsPlaces P.whole P.failures archive.old archive.new result
-        (λ part. IfSome (P.whole archive.old) (λ text. HasIndexedLength entries.now text
-        × AreNamed front.now entries.now text (A.content part) × (length text < 2 ^ 64)))
-        (IsPartRefused front.now entries.now) }
-{
-    let size = indexed_size(entries, archive)?;
-    let Ok(kept) = heap.clone() else {
-        return Err(PlaceFault::OutOfMemory);
-    };
-    let mut gathered = Vec::new(kept);
-    gather_at(&heap, &mut gathered, front, entries, archive, size)?;
-    match archive_of(heap, gathered) {
-        Ok(part) => Ok(part),
-        Err(NoMemory) => Err(PlaceFault::OutOfMemory),
-    }
-}
-
-/// Reads the records under a UUID or a key at the places that an index names: each admission is tested as a record of
-/// an archive is, and its slice hashed and compared with its entry. It takes the memory of the part, and of its largest
-/// record twice, which grows with the bytes that come.
-///
-/// # Errors
-///
-/// `Stale` where the archive has another length than the index tells, and else at the first entry at whose place stands
-/// no record that it names; `Device`; `OutOfMemory`.
-pub fn part_at<A: Archive + Drop, P: Placed>(
-    heap: Heap,
-    front: &[u8],
-    entries: &Index,
-    archive: &mut P,
-) -> Result<A, PlaceFault>
-    requires { length front.now ≤ 24 }
-
-    // Whatever bytes the archive has, what is told are records that stand at the places that the index names.
-    ensures named { ReadsPlaces P.whole P.failures archive.old archive.new result
-        (λ part. IfSome (P.whole archive.old) (λ text. HasIndexedLength entries.now text
-        × AreNamed front.now entries.now text (A.content part))) (IsPlaceFault front.now entries.now) }
-
-    // With the index of this very archive it is the part of its content, and no text is refused.
-    ensures right { IfOk result (λ made. (o : Operations) → IsContent o → entries.now ≡ index o
-        → P.whole archive.old ≡ Some (written o) → A.content made ≡ part o (is_under front.now)) }
-    ensures accepted { IfErr result (λ fault. (o : Operations) → IsContent o → entries.now ≡ index o
-        → P.whole archive.old ≡ Some (written o) → IsOfPlaceMachine fault) }
-{
-    part_named(heap, front, entries, archive)
 }

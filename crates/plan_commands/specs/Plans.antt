@@ -24,18 +24,18 @@ use Rattle.archive_files.specs.declared.replaceable.Replaces.TheVariants.{OwnFil
 use Rattle.archive_updates.specs.Admit.{admit_as_it_comes}
 use Rattle.archive_updates.specs.Apply.{apply_as_it_comes}
 use Rattle.archive_updates.specs.Delta.{delta_as_it_comes}
-use Rattle.command_ends.specs.Ends.{Command, Ends, EndsReport, EndsStreamed, Query, Streamed, writes_amidst}
+use Rattle.command_ends.specs.Ends.{Command, Ends, EndsReport, EndsStreamed, Query, Streamed}
 use Rattle.indexed_queries.specs.Summary.{summary_at}
 use Rattle.plan_commands.specs.Asking.{find_of, frames_of, list_of, symbolicate_of}
-use Rattle.command_ends.specs.Inputs.{IsKnown, Reader}
+use Rattle.command_ends.specs.Inputs.{Reader}
 use Rattle.archive_updates.specs.MergeStreams.{merge_as_it_comes}
-use Rattle.archive_updates.specs.Migrate.{migrate}
+use Rattle.archive_updates.specs.Migrate.{migrate_as_it_comes}
 use Rattle.archive_updates.specs.Notes.{NotesMissing, NotesRetired}
 use Rattle.archive_updates.specs.declared.notes.Note.{Note}
 use Rattle.archive_queries.specs.Name.{name}
 use Rattle.command_ends.specs.Outputs.{Outs, Publishes, Writer, out_of, report_of}
 use Rattle.rehearse.specs.Rehearse.{rehearse}
-use Rattle.archive_updates.specs.Retire.{retire}
+use Rattle.archive_updates.specs.Retire.{retire_as_it_comes}
 use Rattle.archive_updates.specs.Summary.{summary}
 use Rattle.index_updates.specs.Index.{index}
 use Rattle.plan_commands.specs.declared.plans.Plan.{Plan}
@@ -135,9 +135,9 @@ abbrev pub deed_of : {S D T : Type 0} → Plan → List (Reader S) → List (Rea
 deed_of plan.New _ _ out = empties
 deed_of plan.Admit (input ∷ files) _ out = streams (admit_as_it_comes input files (out_of out).draft)
 deed_of (plan.Retire key digest) (input ∷ _) _ out =
-    streams (writes_amidst (retire input key digest) (IsKnown input) (out_of out).draft)
+    streams (retire_as_it_comes input key digest (out_of out).draft)
 deed_of plan.Merge (input ∷ files) _ out = streams (merge_as_it_comes input files out)
-deed_of plan.Migrate (input ∷ _) _ out = streams (writes_amidst (migrate input) (IsKnown input) (out_of out).draft)
+deed_of plan.Migrate (input ∷ _) _ out = streams (migrate_as_it_comes input (out_of out).draft)
 deed_of plan.Apply (input ∷ ops ∷ _) _ out = streams (apply_as_it_comes input ops (out_of out).draft)
 deed_of (plan.Find uuid others) inputs places out =
     answers (find_of (take (suc others) inputs) (take (suc others) places) (drop (suc others) inputs) uuid)

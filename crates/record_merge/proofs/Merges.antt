@@ -35,7 +35,7 @@ use Rattle.archive_records.proofs.Apart.{apart_front}
 use Rattle.archive_records.proofs.Undecided.{cut_behind}
 use Rattle.record_merge.proofs.Starts.{memory_stopped, memory_stops}
 use Rattle.record_merge.proofs.Unread.{text_none}
-use Rattle.record_merge.proofs.Orders.{left_order, right_order}
+use Rattle.record_merge.proofs.Orders.{left_order, right_order, side_begun}
 use Rattle.archive_records.proofs.Contents.{written_text}
 use Rattle.archive_records.proofs.Inputs.{IsReadTo, read_whole as text_read, refused}
 use Rattle.record_merge.proofs.Fronts.{taken_rest, both_taken}
@@ -208,7 +208,8 @@ module _ {R S W : Type 0} (left : Stream R) (right : Stream S) (out : Stream W) 
       (record { refused = refused; left_unfailed = blames.0; out_unfailed = blames.2; stops = told.0; place = told.1; order = right_order left right out n fault s }, told.2)
   stops_by Write n s blames =
       let told = write_told _ _ _ _ n _ _ s in
-      (record { failed = blames.2; left_unfailed = blames.0; right_unfailed = blames.1; left_later = told.1; right_later = told.2 }, told.0)
+      let both = s.both in
+      (record { failed = blames.2; left_unfailed = blames.0; right_unfailed = blames.1; left_begun = side_begun left both.lefts (last_of [] s.out) s.left_side both.left; right_begun = side_begun right both.rights (last_of [] s.out) s.right_side both.right; left_later = told.1; right_later = told.2 }, told.0)
 
   unfoldable pub merged : (sizes : Sizes) → MergedAll (left.bytes left.old) (left.bytes left.new) (right.bytes right.old) (right.bytes right.new) (out.bytes out.old) (out.bytes out.new) sizes → IsUnfailed left × IsUnfailed right × IsUnfailed out → IsMerged left right out sizes
   merged sizes m unfailed =

@@ -18,7 +18,7 @@ use Rattle.archive_records.specs.Kind.{magic, magic_of, IsItem, may_follow}
 use Rattle.archive_records.specs.Text.{end_record, InOrder, AreApart, last_of, kept}
 use Rattle.archive_records.specs.Reader.{set_of, Stopped, Stops}
 use Rattle.byte_device.specs.Devices.{Stream}
-use Rattle.record_merge.specs.Merging.{IsTaken, IsMagicTaken, IsNext, IsTurnOfRight, IsOneMore, IsBehind, IsOut, IsInMagic, IsLeftBehind, IsRightBehind, all_of, of_both, most_records}
+use Rattle.record_merge.specs.Merging.{IsBegun, IsTaken, IsMagicTaken, IsNext, IsTurnOfRight, IsOneMore, IsBehind, IsOut, IsInMagic, IsLeftBehind, IsRightBehind, all_of, of_both, most_records}
 use Rattle.record_merge.specs.MergeSteps.{Stands, Joins, LeftStopped, RightStopped, LeftFull, RightFull, BothWanted, RightAlone, LeftTold, RightTold, first_by, first_of, next_record, next_record_by}
 use Rattle.archive_records.proofs.Puts.{concat-push, length_written}
 use Rattle.archive_records.proofs.Forms.{item-no_end}
@@ -72,6 +72,10 @@ module _ {R : Type 0} (side : Stream R) (records : List (List ℕ)) (low : List 
   taken_next =
       let t = taken_by s.ahead refl in
       record { format = s.reader.file; archive = p.archive; taken = t.0; ordered = t.1; apart = t.2 }
+
+  -- its magic was
+  pub side_begun : IsBegun side
+  side_begun = (s.reader.file, p.archive, concat records ++ next, (taken_by s.ahead refl).0)
 
   next_by : (h : Lookahead) → s.ahead ≡ h → h ≢ Unread → IsNext side s.reader.file low records (next_of h s.reader.last records)
   next_by Unread e read = absurd (read refl)

@@ -70,14 +70,15 @@ written_none left right o low bytes content w t =
 abbrev NoText : Option (List ℕ) → Option (List ℕ) → Type 0
 NoText w0 w1 = IfSome w0 (λ _. (bytes : List ℕ) → Appends w0 w1 bytes → IsArchiveText bytes → ⊥)
 
-first_none : (w0 w1 : Option (List ℕ)) (o : Operations) (n : ℕ) → IsContent o → WritesFirst w0 w1 (written o) n → NoText w0 w1
-first_none None w1 o n content w = tt
-first_none (Some x) None o n content w = λ bytes gained t. gained
-first_none (Some x) (Some y) o n content w = λ bytes gained t.
+-- nor is the beginning that a writer gained
+pub first_no_text : (w0 w1 : Option (List ℕ)) (o : Operations) (n : ℕ) → IsContent o → WritesFirst w0 w1 (written o) n → NoText w0 w1
+first_no_text None w1 o n content w = tt
+first_no_text (Some x) None o n content w = λ bytes gained t. gained
+first_no_text (Some x) (Some y) o n content w = λ bytes gained t.
     no_text o n content w.within (subst IsArchiveText (append_cancel_left x bytes (take n (written o)) (sym gained ∙ w.gained)) t)
 
 pub text_none : (w0 w1 : Option (List ℕ)) (out : List (List ℕ)) (n : ℕ) → InOrder Archive [] out → WritesFirst w0 w1 (text_of Archive (kept out)) n → NoText w0 w1
 text_none w0 w1 out n ordered w =
     let made : Operations = content_of (set_of out) in
     let text : text_of Archive (kept out) ≡ written made = sym (written_text made ∙ ap (text_of Archive) (kept_records out ordered)) in
-    first_none w0 w1 made n (made_content (set_of out) (are_records out ordered)) (subst (λ (t : List ℕ). WritesFirst w0 w1 t n) text w)
+    first_no_text w0 w1 made n (made_content (set_of out) (are_records out ordered)) (subst (λ (t : List ℕ). WritesFirst w0 w1 t n) text w)

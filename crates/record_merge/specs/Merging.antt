@@ -127,6 +127,11 @@ abbrev pub IsMagicTaken : {R : Type 0} → Stream R → Type 0
 IsMagicTaken side = (format : Format) × (kind_of format ≡ Archive_text)
     × Consumes (side.bytes side.old) (side.bytes side.new) (magic_of format)
 
+-- The magic of the side was taken, of one version or the other, and what was read behind it.
+abbrev pub IsBegun : {R : Type 0} → Stream R → Type 0
+IsBegun side = (format : Format) × (kind_of format ≡ Archive_text) × (rest : List ℕ)
+    × Consumes (side.bytes side.old) (side.bytes side.new) (magic_of format ++ rest)
+
 -- What was taken after these records of a side of this version that was read on once this record had its turn: one that
 -- is above it, and is a good one of that side, so that in version 2 no retirement before it covers it; or the end
 -- record, and the side is at its end. A record that is covered otherwise, by a retirement of the other side or in
@@ -244,12 +249,14 @@ IsWrittenIn out left right o low n =
     (bytes : List ℕ) × IsWrittenBefore left right o low bytes
     × WritesFirst (out.bytes out.old) (out.bytes out.new) bytes n
 
--- The writer failed, and no reader did; and no side had stopped the merge before: one that stops it by its text does so
--- after more bytes.
+-- The writer failed, and no reader did; both magics had been taken; and no side had stopped the merge before: one that
+-- stops it by its text does so after more bytes.
 pub record StopsWrite {R S W : Type 0} (left : Stream R) (right : Stream S) (out : Stream W) (n : ℕ) : Type 0 where
   pub failed : FailedIn (out.failures out.old) (out.failures out.new)
   pub left_unfailed : IsUnfailed left
   pub right_unfailed : IsUnfailed right
+  pub left_begun : IsBegun left
+  pub right_begun : IsBegun right
   pub left_later : ForTexts left right (λ t u lefts rights. LeftStops t u lefts rights
       → IsWrittenIn out t u (of_both lefts rights) (last_of [] lefts) n)
   pub right_later : ForTexts left right (λ t u lefts rights. RightStops t u lefts rights

@@ -1,16 +1,16 @@
 //! What is lost where one archive takes the place of another.
 
-ghost use Rattle.std.specs.Prelude.{◌≡◌, IfOk, count_by};
+ghost use Rattle.std.specs.Prelude.{◌≡◌, IfErr, IfOk, count_by};
 ghost use Rattle.byte_device.specs.Devices.{stream};
-ghost use Rattle.record_merge.specs.Losses.{Loses};
+ghost use Rattle.record_merge.specs.Losses.{IsNotCompared, Loses};
 ghost use Rattle.record_merge.specs.Turns.{is_new};
 
+use crate::nowhere::Nowhere;
 use crate::telling::merge_telling;
 use crate::turns::Turn;
 use archive_records::MergeFault;
-use byte_device::{Source, Writing};
+use byte_device::Source;
 use memory::Heap;
-use std::io;
 
 /// How many are new.
 fn number_of_new(turns: &[Turn]) -> u64
@@ -26,7 +26,9 @@ fn number_of_new(turns: &[Turn]) -> u64
 ///
 /// # Errors
 ///
-/// Those of [`merge_telling`], the new archive being the left one.
+/// `Left` with the fault that `read_archive` of `archive_reading` gives of the new archive, and `Right` with that of the
+/// old one: of two that are refused it is the one that stops [`merge_streams`](crate::merge_streams). `Write` never
+/// comes.
 pub fn lost_operations<R: Source, S: Source>(
     heap: &Heap,
     new: &mut R,
@@ -34,7 +36,9 @@ pub fn lost_operations<R: Source, S: Source>(
 ) -> Result<u64, MergeFault>
     ensures lost { IfOk result (λ lost. Loses (stream R.left R.failures new.old new.new)
         (stream S.left S.failures old.old old.new) lost) }
+    ensures refused { IfErr result (λ e. IsNotCompared (stream R.left R.failures new.old new.new)
+        (stream S.left S.failures old.old old.new) e.cause) }
 {
-    let (_, told) = merge_telling(heap, new, old, &mut Writing::new(io::sink()))?;
+    let (_, told) = merge_telling(heap, new, old, &mut Nowhere)?;
     Ok(number_of_new(&told.turns))
 }

@@ -43,15 +43,16 @@ impl Merge {
 
     /// Tests whether there may be one record more. Where there may not, memory is wanted by the side that it comes
     /// from.
-    fn test_number(&self) -> Result<(), MergeFault>
-        requires { self.now.written.records < 2 ^ 63 }
+    fn test_number(&self, next: Ordering) -> Result<(), MergeFault>
+        requires few { self.now.written.records < 2 ^ 63 }
+        requires next { next ≡ first_of self.now.left self.now.right }
         ensures room { OnOk result (self.now.written.records < most_records) }
         ensures refused { IfErr result (λ e. IsRefusedMore (sides_of self.now) e) }
     {
         if self.written.records < MOST {
             return Ok(());
         }
-        let cause = match first(&self.left, &self.right) {
+        let cause = match next {
             Ordering::Greater => MergeCause::Right(self.right.out_of_memory()),
             Ordering::Less | Ordering::Equal => MergeCause::Left(self.left.out_of_memory()),
         };
@@ -104,11 +105,12 @@ pub fn first(left: &MergeInput, right: &MergeInput) -> Ordering
 /// Whether a retirement of either side covers the record that is next. One of its own side does so in version 1 alone,
 /// where the reader tells it. All retirements stand before the admissions, so both sides' were read where an admission
 /// is next.
-fn is_covered(m: &mut Merge) -> bool
+fn is_covered(m: &mut Merge, next: Ordering) -> bool
+    requires { next ≡ first_of m.old.left m.old.right }
     ensures covered { TellsCovered (sides_of m.old).left (sides_of m.old).right result }
     ensures same { m.new ≡ m.old }
 {
-    match first(&m.left, &m.right) {
+    match next {
         Ordering::Less => {
             m.left.reader.dropped() || m.right.reader.retires_beside(&m.shared, &mut m.left.reader)
         }
@@ -120,10 +122,11 @@ fn is_covered(m: &mut Merge) -> bool
 }
 
 /// Leaves the side or sides that the record which is next comes from to be read on, as if it had been written.
-fn pass_over(m: &mut Merge)
+fn pass_over(m: &mut Merge, next: Ordering)
+    requires { next ≡ first_of m.old.left m.old.right }
     ensures { sides_of m.new ≡ after_turn (sides_of m.old) m.old.written }
 {
-    match first(&m.left, &m.right) {
+    match next {
         Ordering::Less => m.left.ahead = Lookahead::Unread,
         Ordering::Equal => {
             m.left.ahead = Lookahead::Unread;
@@ -153,15 +156,16 @@ fn put_held<W: Sink>(
 }
 
 /// Writes the record that is next, once, and leaves the side or sides that it came from to be read on.
-fn write_first<W: Sink>(w: &mut W, m: &mut Merge) -> Result<(), WriteFault>
+fn write_first<W: Sink>(w: &mut W, m: &mut Merge, next: Ordering) -> Result<(), WriteFault>
     requires fits { Fits (sides_of m.old) }
     requires room { m.old.written.records < most_records }
+    requires next { next ≡ first_of m.old.left m.old.right }
     ensures puts { Puts W.held W.failures (λ _. m.new.written.bytes) w.old w.new m.old.written.bytes
         (next_record (sides_of m.old)) result }
     ensures more { OnOk result (IsOneMore m.old.written m.new.written) }
     ensures turned { OnOk result (sides_of m.new ≡ after_turn (sides_of m.old) m.new.written) }
 {
-    match first(&m.left, &m.right) {
+    match next {
         Ordering::Less => put_held(w, &mut m.written, &mut m.left),
         Ordering::Equal => {
             m.right.ahead = Lookahead::Unread;
@@ -173,8 +177,9 @@ fn write_first<W: Sink>(w: &mut W, m: &mut Merge) -> Result<(), WriteFault>
 
 /// Gives the record that is next its turn: it is written, unless the retirements of either side cover it, and the side
 /// or sides that it came from are left to be read on. Tells whether it was passed over.
-pub fn take_turn<W: Sink>(w: &mut W, m: &mut Merge) -> Result<bool, MergeFault>
-    requires { IsBeforeTurn (sides_of m.old) }
+pub fn take_turn<W: Sink>(w: &mut W, m: &mut Merge, next: Ordering) -> Result<bool, MergeFault>
+    requires before { IsBeforeTurn (sides_of m.old) }
+    requires next { next ≡ first_of m.old.left m.old.right }
     ensures merging { (left right : Option (List ℕ))
         → MergesOn left left right right (W.held w.old) (W.held w.new) (sides_of m.old) (sides_of m.new) result }
     ensures telling { (a1 b1 a2 b2 w0 : Option (List ℕ)) (told : List Turn) (withdraws : Bool) (turn : Option Turn)
@@ -185,12 +190,12 @@ pub fn take_turn<W: Sink>(w: &mut W, m: &mut Merge) -> Result<bool, MergeFault>
     ensures unfailed { OnOk result (W.failures w.new ≡ W.failures w.old) }
     ensures blames { IfErr result (λ e. BlamesWriter (W.failures w.old) (W.failures w.new) e.cause) }
 {
-    if is_covered(m) {
-        pass_over(m);
+    if is_covered(m, next) {
+        pass_over(m, next);
         return Ok(true);
     }
-    m.test_number()?;
-    if let Err(fault) = write_first(w, m) {
+    m.test_number(next)?;
+    if let Err(fault) = write_first(w, m, next) {
         return Err(MergeFault {
             cause: MergeCause::Write,
             written: fault.written,
@@ -201,7 +206,9 @@ pub fn take_turn<W: Sink>(w: &mut W, m: &mut Merge) -> Result<bool, MergeFault>
 
 /// Keeps a retirement that both sides hold once, in what they share. Where memory is wanted for that, each side keeps
 /// its own.
-pub fn share(m: &mut Merge)
+pub fn share(m: &mut Merge, next: Ordering)
+    requires { next ≡ first_of m.old.left m.old.right }
+    ensures next { next ≡ first_of m.new.left m.new.right }
     ensures merging { (a1 b1 a2 b2 w0 w1 : Option (List ℕ)) → Merging a1 b1 a2 b2 w0 w1 (sides_of m.old)
         → Merging a1 b1 a2 b2 w0 w1 (sides_of m.new) }
     ensures telling { (a1 b1 a2 b2 w0 w1 : Option (List ℕ)) (told : List Turn) (withdraws : Bool)
@@ -212,12 +219,12 @@ pub fn share(m: &mut Merge)
     ensures right { m.new.right.ahead ≡ m.old.right.ahead }
     ensures cost { cost_of (sides_of m.new) ≡ cost_of (sides_of m.old) }
 {
+    if next.is_ne() {
+        return;
+    }
     let Some(retirement) = m.left.reader.last_retirement() else {
         return;
     };
-    if first(&m.left, &m.right).is_ne() {
-        return;
-    }
     if let Ok(_) = m.shared.keep(retirement) {
         m.left.reader.forget(&retirement);
         m.right.reader.forget(&retirement);
@@ -277,7 +284,8 @@ fn read_on<R: Source, S: Source>(r1: &mut R, r2: &mut S, m: &mut Merge) -> Resul
     read_right(r2, m)
 }
 
-/// Gives the record that is next its turn, and reads on.
+/// Gives the record that is next its turn, and reads on. Which side has it is found out once: two slices may be long,
+/// and the same.
 fn turn<R: Source, S: Source, W: Sink>(
     r1: &mut R,
     r2: &mut S,
@@ -292,8 +300,9 @@ fn turn<R: Source, S: Source, W: Sink>(
     ensures devices { BlamesDevices (stream R.left R.failures r1.old r1.new) (stream S.left S.failures r2.old r2.new)
         (W.failures w.old) (W.failures w.new) result }
 {
-    share(m);
-    take_turn(w, m)?;
+    let next = first(&m.left, &m.right);
+    share(m, next);
+    take_turn(w, m, next)?;
     read_on(r1, r2, m)
 }
 

@@ -30,12 +30,13 @@ use std::cmp::Ordering;
 
 /// What the record that is next is to the left side: none where it is that side's alone. All of the left side that are
 /// not above it were read, and so were its retirements where it is an admission.
-fn next_turn(m: &mut Merge) -> Option<Turn>
+fn next_turn(m: &mut Merge, next: Ordering) -> Option<Turn>
+    requires { next ≡ first_of m.old.left m.old.right }
     ensures tells { TellsNext (sides_of m.old) result }
     ensures right { IsSome result → first_of m.old.left m.old.right ≢ Less }
     ensures same { m.new ≡ m.old }
 {
-    match first(&m.left, &m.right) {
+    match next {
         Ordering::Less => None,
         Ordering::Equal => Some(turn_by(m.left.reader.dropped(), true)),
         Ordering::Greater => Some(turn_by(
@@ -46,10 +47,11 @@ fn next_turn(m: &mut Merge) -> Option<Turn>
 }
 
 /// Whether the left side has the record that is next, and does not retire it.
-fn has_next(m: &Merge) -> bool
+fn has_next(m: &Merge, next: Ordering) -> bool
+    requires { next ≡ first_of m.now.left m.now.right }
     ensures { result ≡ has_next (sides_of m.now) }
 {
-    match first(&m.left, &m.right) {
+    match next {
         Ordering::Less | Ordering::Equal => !m.left.reader.dropped(),
         Ordering::Greater => false,
     }
@@ -119,10 +121,11 @@ fn give_turn<R: Source, S: Source, W: Sink>(
     ensures devices { BlamesDevices (stream R.left R.failures r1.old r1.new) (stream S.left S.failures r2.old r2.new)
         (W.failures w.old) (W.failures w.new) result }
 {
-    share(m);
-    let turn = next_turn(m);
-    let had = has_next(m);
-    let passed = take_turn(w, m)?;
+    let next = first(&m.left, &m.right);
+    share(m, next);
+    let turn = next_turn(m, next);
+    let had = has_next(m, next);
+    let passed = take_turn(w, m, next)?;
     told.pass(passed, had);
     tell_and_read_on(r1, r2, m, told, turn)
 }

@@ -27,7 +27,7 @@ pub returns-in_err-sizes-clause-ends : goal.returns-in_err-sizes-clause-ends
 returns-in_err-sizes-clause-ends g c = λ records placed.
     let p = err_from_is_err_and c.from_residual.result c.from_residual.ensures.1 in
     let same = same_set c.args.arrivals.came (map record_bytes c.operations.result.now) c.operations.ensures.listed in
-    rw (p.1, p.2) (told_stopped _ _ _ _ _ _ (rw same at c.in_err-sizes.ensures.1) c.in_err-sizes.ensures.0 (refl, refl) (Appends-none _, refl))
+    rw (p.1, p.2) (told_stopped _ _ _ _ _ _ (rw same at c.in_err-sizes.ensures.1) c.in_err-sizes.ensures.2 c.in_err-sizes.ensures.0 (refl, refl) (Appends-none _, refl))
 
 pub tell_arrivals-requires-clause-told : goal.tell_arrivals-requires-clause-told
 tell_arrivals-requires-clause-told g c =

@@ -13,7 +13,7 @@ use Rattle.archive_updates.proofs.apply.write_applied.Goals as goal
 pub returns-in_err-sizes : goal.returns-in_err-sizes
 returns-in_err-sizes g c =
     let p = err_from_is_err_and c.from_residual.result c.from_residual.ensures.1 in
-    rw (p.1, p.2) (told_stopped _ _ _ _ _ _ c.in_err-sizes.ensures.1 c.in_err-sizes.ensures.0 (refl, refl) (Appends-none _, refl))
+    rw (p.1, p.2) (told_stopped _ _ _ _ _ _ c.in_err-sizes.ensures.1 c.in_err-sizes.ensures.2 c.in_err-sizes.ensures.0 (refl, refl) (Appends-none _, refl))
 
 pub overflow_sub-number : goal.overflow_sub-number
 overflow_sub-number g c =

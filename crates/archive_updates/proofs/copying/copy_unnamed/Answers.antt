@@ -17,7 +17,7 @@ returns-in_err-sizes g c =
     let e = c.in_err-sizes.field-0.0 in
     let st = c.in_err-sizes.ensures.stopped (g.R.Source.left c.args.r.now) (g.W.Sink.held c.args.w.now) begun.read.1 start in
     rw (failed c.from_residual-in_err-sizes.result e c.from_residual-in_err-sizes.ensures.1)
-    (unnamed _ _ _ _ _ _ _ _ c.args.summary.now (Err e) tt (cause_of _ begun.read.0 _ _ e.cause st.0, inr (_, begun.read.0, inl st.1))
+    (unnamed _ _ _ _ _ _ _ _ c.args.summary.now (Err e) tt (cause_of _ begun.read.0 c.args.summary.now _ _ _ _ e.written e.cause st.0 st.1, inr (_, begun.read.0, inl st.1))
     (blamed g.R.Source.left g.R.Source.failures c.args.r.now c.begin_copy.new.r c.copy_records.new.r _ _ _ begun.devices.0 begun.devices.1 e.cause c.in_err-sizes.ensures.devices))
 
 pub returns : goal.returns

@@ -10,7 +10,7 @@ use Rattle.archive_updates.proofs.delta.run_delta.Goals as goal
 pub returns-in_err-kept : goal.returns-in_err-kept
 returns-in_err-kept g c =
     let p = err_from_is_err_and c.from_residual.result c.from_residual.ensures.1 in
-    rw (p.1, p.2) (wanting _ _ _ _ _ _ _ refl refl ((Appends-none _, refl), (refl, refl)) (Appends-none _, refl))
+    rw (p.1, p.2) (wanting _ _ _ _ _ _ _ _ refl refl ((Appends-none _, refl), (refl, refl)) (Appends-none _, refl))
 
 pub returns-in-Ok : goal.returns-in-Ok
 returns-in-Ok g c =
@@ -20,4 +20,4 @@ returns-in-Ok g c =
 
 pub returns-in-Err : goal.returns-in-Err
 returns-in-Err g c =
-    told_behind _ _ _ _ _ _ _ c.in-Err.fault c.refused_behind.result c.in-Err.ensures c.refused_behind.ensures ((Appends-none _, refl), (refl, refl)) (Appends-none _, refl)
+    told_behind _ _ _ _ _ _ _ _ c.in-Err.fault c.refused_behind.result c.in-Err.ensures c.refused_behind.ensures ((Appends-none _, refl), (refl, refl)) (Appends-none _, refl)

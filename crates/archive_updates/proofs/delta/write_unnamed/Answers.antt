@@ -12,7 +12,7 @@ returns-in_err-kept g c =
 pub returns-in_err-sizes : goal.returns-in_err-sizes
 returns-in_err-sizes g c =
     let p = err_from_is_err_and c.from_residual-in_err-sizes.result c.from_residual-in_err-sizes.ensures.1 in
-    rw (p.1, p.2) (unnamed_stopped _ _ _ _ _ c.in_err-sizes.ensures.1 c.in_err-sizes.ensures.0 (refl, refl) (Appends-none _, refl))
+    rw (p.1, p.2) (unnamed_stopped _ _ _ _ _ c.in_err-sizes.ensures.1 c.in_err-sizes.ensures.2 c.in_err-sizes.ensures.0 (refl, refl) (Appends-none _, refl))
 
 pub returns : goal.returns
 returns g c =

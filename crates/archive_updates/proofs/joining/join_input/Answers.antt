@@ -1,4 +1,8 @@
-use Rattle.archive_updates.proofs.AtHand.{lent_from, joined_opened, stopped_opened, taken_of}
+use Rattle.std.proofs.Common.{refl, rules}
+use Rattle.archive_updates.proofs.Begun.{untouched}
+use Rattle.byte_device.proofs.Known.{Appends-none}
+use Rattle.std.proofs.lemmas.Result.{err_from_is_err_and}
+use Rattle.archive_updates.proofs.AtHand.{lent_from, joined_opened, stopped_opened, taken_of, unfinished_opened}
 use Rattle.archive_updates.proofs.joining.join_input.Goals as goal
 
 pub returns-in-Ok : goal.returns-in-Ok
@@ -13,4 +17,10 @@ returns-in-Err g c =
       λ p at.
           stopped_opened _ _ c.args.other.now c.merge_streams.new.right p at _ _ _ c.merge_streams.new.left
           _ _ _ c.merge_streams.new.w c.in-Err.fault c.command_fault_of.result c.in-Err.ensures.merges c.command_fault_of.ensures,
+      unfinished_opened _ _ _ c.merge_streams.new.left _ _ _ _ c.merge_streams.new.w c.in-Err.fault c.in-Err.ensures.merges,
     )
+
+pub returns-in_err-left : goal.returns-in_err-left
+returns-in_err-left g c =
+    let p = err_from_is_err_and c.from_residual.result c.from_residual.ensures.1 in
+    rw (p.1, p.2) (search rules, λ p at. search rules, untouched _ (Unit {0}) _ (Appends-none _, refl))

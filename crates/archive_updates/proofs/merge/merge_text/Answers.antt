@@ -11,7 +11,7 @@ returns-in_err-sizes g c = λ p content is.
     let given = c.new-other.ensures.left ∙ ap Some is in
     rw (f.1, f.2) (joins_stopped _ p _ _ _
     (c.in_err-sizes.ensures.1 p (record { is_content = content; text = written p; is_text = inl refl; bytes = given; unfailed_before = c.new-other.ensures.failures; unfailed = refl }))
-    c.in_err-sizes.ensures.0 (refl, refl) (Appends-none _, refl))
+    c.in_err-sizes.ensures.2 c.in_err-sizes.ensures.0 (refl, refl) (Appends-none _, refl))
 
 pub returns : goal.returns
 returns g c = λ p content is.

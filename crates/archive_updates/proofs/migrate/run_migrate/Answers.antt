@@ -12,7 +12,7 @@ returns-in_err-sizes g c =
     let nothing = c.new-nothing.ensures.left ∙ ap Some c.empty_text-empty.ensures in
     rw (p.1, p.2) (migrate_stopped _ _ _ _
     (c.in_err-sizes.ensures.1 set.empty (record { is_content = empty_content; text = written set.empty; is_text = inl refl; bytes = nothing; unfailed_before = c.new-nothing.ensures.failures; unfailed = refl }))
-    c.in_err-sizes.ensures.0 (refl, refl) (Appends-none _, refl))
+    c.in_err-sizes.ensures.2 c.in_err-sizes.ensures.0 (refl, refl) (Appends-none _, refl))
 
 pub returns : goal.returns
 returns g c =

@@ -14,7 +14,7 @@ pub returns-in_err-sizes : goal.returns-in_err-sizes
 returns-in_err-sizes g c =
     let p = err_from_is_err_and c.from_residual.result c.from_residual.ensures.1 in
     let stopped = c.in_err-sizes.ensures.1 in
-    rw (p.1, p.2) (c.in_err-sizes.ensures.0, retire_stops _ _ _ _ _ (rw c.retirement.ensures.is at stopped))
+    rw (p.1, p.2) (c.in_err-sizes.ensures.0, retire_stops _ _ _ _ _ (rw c.retirement.ensures.is at stopped), c.in_err-sizes.ensures.2)
 
 pub index-requires : goal.index-requires
 index-requires g c =

@@ -10,7 +10,7 @@ use Rattle.archive_updates.proofs.retire.run_retire.Goals as goal
 pub returns-in_err-written-clause-ends : goal.returns-in_err-written-clause-ends
 returns-in_err-written-clause-ends g c =
     let p = err_from_is_err_and c.from_residual.result c.from_residual.ensures.1 in
-    rw (p.1, p.2) (retire_stopped _ _ _ _ _ _ c.in_err-written.ensures.1 c.in_err-written.ensures.0 (refl, refl) (Appends-none _, refl))
+    rw (p.1, p.2) (retire_stopped _ _ _ _ _ _ c.in_err-written.ensures.1 c.in_err-written.ensures.2 c.in_err-written.ensures.0 (refl, refl) (Appends-none _, refl))
 
 pub returns-in_err-note_missing-clause-ends : goal.returns-in_err-note_missing-clause-ends
 returns-in_err-note_missing-clause-ends g c =

@@ -1,0 +1,21 @@
+//! A writer that keeps nothing.
+
+ghost use Rattle.std.specs.Prelude.{◌≡◌, ◌<◌, ◌≤◌, length, IfOk, None};
+ghost use Rattle.std.specs.Io.KnownBytes.{WriteAppends};
+ghost use Rattle.byte_device.specs.Devices.{CountsFailure};
+
+use byte_device::{Failed, Sink};
+
+/// Takes all bytes, keeps none, and never fails.
+#[derive(Drop)]
+pub struct Nowhere;
+
+impl Sink for Nowhere {
+    ghost held = { λ _. None };
+
+    ghost failures = { λ _. 0 };
+
+    fn push(&mut self, bytes: &[u8]) -> Result<usize, Failed> {
+        Ok(bytes.len())
+    }
+}
