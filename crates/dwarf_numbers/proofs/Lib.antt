@@ -1,0 +1,2 @@
+mod Leb128Lemmas
+pub mod Texts

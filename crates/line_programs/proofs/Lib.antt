@@ -1,0 +1,4 @@
+mod ShorterLemmas
+mod RowLemmas
+mod CoveringLemmas
+mod RunLemmas
