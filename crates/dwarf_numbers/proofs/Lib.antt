@@ -1,2 +1,4 @@
 mod Leb128Lemmas
 pub mod Texts
+pub mod SequenceLemmas
+pub mod ShorterLemmas

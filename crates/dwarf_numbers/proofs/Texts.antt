@@ -1,5 +1,5 @@
 -- A text is what stands before the first NUL.
-use Rattle.std.proofs.Common.{◌≡◌, refl, ℕ, ◌<◌, ◌+◌, List, length, take, drop, sym, ap, ◌∙◌, Option, Some, None, arith}
+use Rattle.std.proofs.Common.{◌≡◌, refl, ℕ, ◌+◌, List, length, take, drop, sym, ap, Option, Some, None, arith}
 use Rattle.std.proofs.lemmas.List.{take_all}
 use Rattle.std.proofs.lemmas.List.Sums.{position_or_len_is}
 use Rattle.std.specs.List.{before_first, position_or_len}

@@ -109,7 +109,7 @@ after_block size bytes =
 unfoldable pub variable_value_at : ℕ → List ℕ → Option (ValueRecord × List ℕ)
 variable_value_at form bytes =
     if is_one_of (DW_FORM_udata ∷ DW_FORM_ref_udata ∷ DW_FORM_strx ∷ DW_FORM_addrx ∷ DW_FORM_loclistx ∷
-        DW_FORM_rnglistx ∷ []) form
+    DW_FORM_rnglistx ∷ []) form
     then option_map (λ x. (class_value (class_of form) x.0, x.1)) (unsigned_leb128_at bytes)
     else if form == DW_FORM_sdata then option_map (λ x. (Constant_ x.0, x.1)) (signed_leb128_at bytes)
     else if form == DW_FORM_string then option_map (λ x. (InlineString_ x.0, x.1)) (text_at bytes)

@@ -4,18 +4,20 @@
 //!
 //! The modules in reading order: `little_endian`, numbers of a fixed size; `leb128`, numbers of any size; `text`,
 //! texts that end with a NUL; `value`, the value of an attribute; `dw_form`, the constants; `form`, how a
-//! value is written.
+//! value is written; `text_sections`, the text that a value is.
 #![tactic(auto)]
 
-mod dw_form;
+pub mod dw_form;
 mod form;
 mod leb128;
 mod little_endian;
 mod text;
+mod text_sections;
 mod value;
 
 pub use form::{Class, read_value};
 pub use leb128::{signed_leb128, unsigned_leb128};
 pub use little_endian::{u16_le_at, u32_le_at, u64_le_at};
-pub use text::{before_nul, read_text};
+pub use text::{before_nul, read_text, text_in};
+pub use text_sections::TextSections;
 pub use value::Value;

@@ -3,7 +3,7 @@
 ghost use Rattle.std.specs.Prelude.{◌≡◌};
 ghost use Rattle.std.specs.List.{before_first};
 ghost use Rattle.std.specs.Option.{option_map};
-ghost use Rattle.dwarf_numbers.specs.Text.{is_nul, text_at};
+ghost use Rattle.dwarf_numbers.specs.Text.{is_nul, text_at, text_in};
 
 use memchr::memchr;
 
@@ -24,4 +24,15 @@ pub fn read_text(bytes: &[u8]) -> Option<(&[u8], &[u8])>
 {
     let end = memchr(0, bytes)?;
     Some((bytes.split_at(end).0, bytes.split_at(end + 1).1))
+}
+
+/// The text from an offset of a section of texts, as `__debug_str` is; it ends before its NUL or with the section.
+/// `None` if the offset is not below the section's size.
+pub fn text_in(section: &[u8], offset: u64) -> Option<&[u8]>
+    ensures { option_map (λ x. x.now) result ≡ text_in section.now offset }
+{
+    if (section.len() as u64) <= offset {
+        return None;
+    }
+    Some(before_nul(section.split_at(offset as usize).1))
 }

@@ -2,3 +2,4 @@ mod ShorterLemmas
 mod RowLemmas
 mod CoveringLemmas
 mod RunLemmas
+mod NameLemmas

@@ -1,6 +1,6 @@
 //! The header of a line number program (DWARF 5, section 6.2.4).
 
-ghost use Rattle.std.specs.Prelude.{◌≡◌, ◌+◌, ◌≤◌, ◌<◌, length, slice_index, IfSome, IsTrue};
+ghost use Rattle.std.specs.Prelude.{◌≡◌, ◌+◌, ◌≤◌, ◌<◌, length, slice_index, IfSome, true};
 ghost use Rattle.std.specs.Option.{option_map};
 ghost use Rattle.line_programs.specs.Header.{version, header_length_offset, minimum_instruction_length_offset};
 ghost use Rattle.line_programs.specs.Header.{default_is_stmt_offset, opcode_base, names_offset, program_offset};
@@ -46,7 +46,7 @@ pub fn split_unit(bytes: &[u8]) -> Option<(&[u8], &[u8])>
     Some(bytes.split_at(size))
 }
 
-fn version(unit: &[u8]) -> u16
+pub(crate) fn version(unit: &[u8]) -> u16
     requires { 6 ≤ length unit.now }
     ensures { result ≡ version unit.now }
 {
@@ -91,7 +91,7 @@ fn program_offset(unit: &[u8]) -> usize
 }
 
 /// Whether a unit has a header that is read here.
-fn has_header(unit: &[u8]) -> bool
+pub(crate) fn has_header(unit: &[u8]) -> bool
     ensures { result ≡ has_header unit.now }
 {
     if unit.len() < 6 {
@@ -106,6 +106,16 @@ fn has_header(unit: &[u8]) -> bool
         && program_offset(unit) <= unit.len()
         && 0 < unit[offset + 2]
         && (version < 4 || unit[header_length_offset(unit) + 5] == 1)
+}
+
+/// The bytes of the names of directories and files.
+pub(crate) fn name_bytes(unit: &[u8]) -> &[u8]
+    requires { has_header unit.now ≡ true }
+    ensures { result.now ≡ name_bytes unit.now }
+{
+    let offset = names_offset(unit);
+    let (_, rest) = unit.split_at(offset);
+    rest.split_at(program_offset(unit) - offset).0
 }
 
 impl<'a> Program<'a> {
