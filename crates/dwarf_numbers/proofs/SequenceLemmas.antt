@@ -1,8 +1,9 @@
 -- Steps over items that stand one after another.
-use Rattle.std.proofs.Common.{◌≡◌, append_assoc, ℕ, zero, suc, ◌-◌, ◌<◌, ◌≤◌, ◌⊎◌, List, [], ◌∷◌, ◌++◌, length, Option, Some, None, refl, ap, sym, ◌∙◌, inl, inr, arith}
-use Rattle.std.specs.Option.{option_map}
+use Rattle.std.proofs.Common.{◌≡◌, append_assoc, ℕ, zero, suc, ◌-◌, ◌<◌, ◌≤◌, ◌⊎◌, List, [], ◌∷◌, ◌++◌, length, Option, Some, None, refl, ap, sym, ◌∙◌, inl, inr, cond, ◌==◌, arith}
+use Rattle.std.specs.Option.{option_map, option_map_or, option_and_then, option_or}
+use Rattle.std.proofs.lemmas.Bool.{cases_Bool}
 use Rattle.std.proofs.lemmas.List.{append-nil}
-use Rattle.dwarf_numbers.specs.Sequences.{counted, ended_within, ended, sequence_within, sequence, Shortens}
+use Rattle.dwarf_numbers.specs.Sequences.{counted, ended_within, ended, sequence_within, sequence, placed_within, placed_from, item_at, Shortens}
 
 -- what an option is
 pub none_or_some : {A : Type 0} (o : Option A) → (o ≡ None) ⊎ ((x : A) × (o ≡ Some x))
@@ -29,6 +30,16 @@ unfolding counted
 counted_missing item zero bytes some e = absurd (omega arith)
 counted_missing item (suc count) bytes some e = rw e refl
 
+-- what is made of an option is made of what it has
+mapped : {A B : Type 0} (f : A → B) (o : Option A) (y : B) → option_map f o ≡ Some y → (x : A) × (o ≡ Some x) × (f x ≡ y)
+mapped f None y e = cc e
+mapped f (Some x) y e = (x, refl, cc e)
+
+-- of no items there is no end
+within_zero : {A : Type 0} (item : List ℕ → Option (Option A × List ℕ)) (bytes : List ℕ) → ended_within item 0 bytes ≡ None
+unfolding ended_within
+within_zero item bytes = refl
+
 -- an item of none of at most so many
 within_missing : {A : Type 0} (item : List ℕ → Option (Option A × List ℕ)) (count : ℕ) (bytes : List ℕ) → item bytes ≡ None → ended_within item count bytes ≡ None
 unfolding ended_within
@@ -46,7 +57,7 @@ unfolding ended_within
 within_end item count bytes rest e = rw e refl
 
 -- no item begins no bytes
-nothing : {A : Type 0} (item : List ℕ → Option (A × List ℕ)) → Shortens item → item [] ≡ None
+pub nothing : {A : Type 0} (item : List ℕ → Option (A × List ℕ)) → Shortens item → item [] ≡ None
 nothing item h = elim (none_or_some (item [])) [
   | inl e ↦ e
   | inr x ↦ absurd (omega (arith, h.less [] x.0 x.1))
@@ -183,3 +194,80 @@ pub ended_fails : {A : Type 0} (item : List ℕ → Option (Option A × List ℕ
     → option_map {U = List A × List ℕ} (λ (y : List A × List ℕ). (found ++ y.0, y.1)) (ended item bytes) ≡ whole → None ≡ whole
 ended_fails {A = A} item bytes found whole read before =
     ap (option_map {U = List A × List ℕ} (λ (y : List A × List ℕ). (found ++ y.0, y.1))) (sym (ended_missing item bytes read)) ∙ before
+
+-- items with their offsets
+place_missing : {A : Type 0} (item : List ℕ → Option (A × List ℕ)) (count size : ℕ) (bytes : List ℕ) → item bytes ≡ None → placed_within item count size bytes ≡ []
+unfolding placed_within
+place_missing item zero size bytes e = refl
+place_missing item (suc count) size bytes e = rw e refl
+
+place_some : {A : Type 0} (item : List ℕ → Option (A × List ℕ)) (count size : ℕ) (bytes : List ℕ) (x : A × List ℕ) → item bytes ≡ Some x
+    → placed_within item (suc count) size bytes ≡ (size - length bytes, x.0) ∷ placed_within item count size x.1
+unfolding placed_within
+place_some item count size bytes x e = rw e refl
+
+same_places : {A : Type 0} (item : List ℕ → Option (A × List ℕ)) (h : Shortens item) (m n size : ℕ) (bytes : List ℕ) → length bytes ≤ m → length bytes ≤ n → placed_within item m size bytes ≡ placed_within item n size bytes
+same_places item h zero n size [] k l = place_missing item 0 size [] (nothing item h) ∙ sym (place_missing item n size [] (nothing item h))
+same_places item h zero n size (b ∷ bytes) k l = absurd (omega arith)
+same_places item h (suc m) zero size [] k l = place_missing item (suc m) size [] (nothing item h) ∙ sym (place_missing item 0 size [] (nothing item h))
+same_places item h (suc m) zero size (b ∷ bytes) k l = absurd (omega arith)
+same_places item h (suc m) (suc n) size bytes k l = elim (none_or_some (item bytes)) [
+  | inl e ↦ place_missing item (suc m) size bytes e ∙ sym (place_missing item (suc n) size bytes e)
+  | inr x ↦
+      let less : length x.0.1 < length bytes = h.less bytes x.0 x.1 in
+      place_some item m size bytes x.0 x.1
+      ∙ ap (λ rest. (size - length bytes, x.0.0) ∷ rest) (same_places item h m n size x.0.1 (omega arith) (omega arith))
+      ∙ sym (place_some item n size bytes x.0 x.1)
+]
+
+pub placed_missing : {A : Type 0} (item : List ℕ → Option (A × List ℕ)) (size : ℕ) (bytes : List ℕ) → item bytes ≡ None → placed_from item size bytes ≡ []
+unfolding placed_from
+placed_missing item size bytes e = place_missing item (length bytes) size bytes e
+
+pub placed_some : {A : Type 0} (item : List ℕ → Option (A × List ℕ)) (h : Shortens item) (size : ℕ) (bytes : List ℕ) (x : A × List ℕ) → item bytes ≡ Some x
+    → placed_from item size bytes ≡ (size - length bytes, x.0) ∷ placed_from item size x.1
+unfolding placed_from
+placed_some item h size [] x e = cc (nothing item h, e)
+placed_some item h size (b ∷ bytes) x e =
+    let less : length x.1 < suc (length bytes) = h.less (b ∷ bytes) x e in
+    place_some item (length bytes) size (b ∷ bytes) x e
+    ∙ ap (λ rest. (size - length (b ∷ bytes), x.0) ∷ rest) (same_places item h (length bytes) (length x.1) size x.1 (omega arith) (omega arith))
+
+-- what was found at an offset, or is still to be found, where one more was found
+pub found_step : {A : Type 0} (old new : Option A) (q offset : ℕ) (a : A) (items : List (ℕ × A)) → new ≡ cond (q == offset) (option_or old (Some a)) old
+    → option_or new (item_at q items) ≡ option_or old (item_at q ((offset, a) ∷ items))
+found_step (Some x) new q offset a items h = elim (cases_Bool (q == offset)) [
+  | inl t ↦ let here : new ≡ Some x = h ∙ rw t refl in rw here refl
+  | inr f ↦ let here : new ≡ Some x = h ∙ rw f refl in rw here refl
+]
+found_step None new q offset a items h = elim (cases_Bool (q == offset)) [
+  | inl t ↦ let here : new ≡ Some a = h ∙ rw t refl in rw (here, t) refl
+  | inr f ↦ let here : new ≡ None = h ∙ rw f refl in rw (here, f) refl
+]
+
+-- the items up to their end have a byte
+within_shorter : {A : Type 0} (item : List ℕ → Option (Option A × List ℕ)) (h : Shortens item) (count : ℕ) (bytes : List ℕ) (y : List A × List ℕ) → ended_within item count bytes ≡ Some y → length y.1 < length bytes
+within_shorter {A = A} item h zero bytes y e =
+    let gone : ◌≡◌ {A = Option (List A × List ℕ)} None (Some y) = sym (within_zero item bytes) ∙ e in
+    cc gone
+within_shorter {A = A} item h (suc count) bytes y e = elim (none_or_some (item bytes)) [
+  | inl none ↦
+      let gone : ◌≡◌ {A = Option (List A × List ℕ)} None (Some y) = sym (within_missing item (suc count) bytes none) ∙ e in
+      cc gone
+  | inr x ↦ elim (none_or_some x.0.0) [
+    | inl none ↦
+        let read : item bytes ≡ Some (None, x.0.1) = x.1 ∙ ap (λ a. Some (a, x.0.1)) none in
+        let found : ◌≡◌ {A = Option (List A × List ℕ)} (Some ([], x.0.1)) (Some y) = sym (within_end item count bytes x.0.1 read) ∙ e in
+        let same : ◌≡◌ {A = List A × List ℕ} ([], x.0.1) y = cc found in
+        omega (arith, h.less bytes x.0 x.1, ap (λ (z : List A × List ℕ). length z.1) same)
+    | inr a ↦
+        let read : item bytes ≡ Some (Some a.0, x.0.1) = x.1 ∙ ap (λ a. Some (a, x.0.1)) a.1 in
+        let found : option_map {U = List A × List ℕ} (λ (z : List A × List ℕ). (a.0 ∷ z.0, z.1)) (ended_within item count x.0.1) ≡ Some y = sym (within_some item count bytes a.0 x.0.1 read) ∙ e in
+        let z = mapped (λ (z : List A × List ℕ). (a.0 ∷ z.0, z.1)) (ended_within item count x.0.1) y found in
+        omega (arith, h.less bytes x.0 x.1, within_shorter item h count x.0.1 z.0 z.1, ap (λ (w : List A × List ℕ). length w.1) z.2)
+  ]
+]
+
+pub ended_shorter : {A : Type 0} (item : List ℕ → Option (Option A × List ℕ)) (h : Shortens item) (bytes : List ℕ) (y : List A × List ℕ) → ended item bytes ≡ Some y → length y.1 < length bytes
+unfolding ended
+ended_shorter item h bytes y e = within_shorter item h (length bytes) bytes y e

@@ -1,6 +1,7 @@
 -- Items that stand in bytes one after another. `item` reads the item that begins some bytes, and gives it with the
 -- bytes after it.
-use Rattle.std.specs.Prelude.{ℕ, zero, suc, List, [], ◌∷◌, ◌≡◌, ◌<◌, length, Option, Some, None}
+use Rattle.std.specs.Prelude.{ℕ, zero, suc, List, [], ◌∷◌, ◌≡◌, ◌<◌, ◌-◌, ◌==◌, length, if◌then◌else◌, Option, Some}
+use Rattle.std.specs.Prelude.{None}
 use Rattle.std.specs.Option.{option_map, option_map_or, option_and_then}
 
 -- so many items, and the bytes after them
@@ -31,6 +32,26 @@ sequence_within item (suc count) bytes =
 -- the items up to the first that cannot be read; each item has a byte
 unfoldable pub sequence : {A : Type 0} → (List ℕ → Option (A × List ℕ)) → List ℕ → List A
 sequence item bytes = sequence_within item (length bytes) bytes
+
+-- the items from some bytes at the end of a section of this size on, up to the first that cannot be read, each with its
+-- offset; at most so many
+unfoldable pub placed_within : {A : Type 0} → (List ℕ → Option (A × List ℕ)) → ℕ → ℕ → List ℕ → List (ℕ × A)
+placed_within item zero size bytes = []
+placed_within item (suc count) size bytes =
+    option_map_or (λ x. (size - length bytes, x.0) ∷ placed_within item count size x.1) (item bytes) []
+
+-- the items from there on, each with its offset; each item has a byte
+unfoldable pub placed_from : {A : Type 0} → (List ℕ → Option (A × List ℕ)) → ℕ → List ℕ → List (ℕ × A)
+placed_from item size bytes = placed_within item (length bytes) size bytes
+
+-- the items of a section, each with its offset
+abbrev pub placed : {A : Type 0} → (List ℕ → Option (A × List ℕ)) → List ℕ → List (ℕ × A)
+placed item section = placed_from item (length section) section
+
+-- the item at an offset
+abbrev pub item_at : {A : Type 0} → ℕ → List (ℕ × A) → Option A
+item_at offset [] = None
+item_at offset (x ∷ xs) = if offset == x.0 then Some x.1 else item_at offset xs
 
 -- each item has a byte
 pub record Shortens {A : Type 0} (item : List ℕ → Option (A × List ℕ)) : Type 0 where

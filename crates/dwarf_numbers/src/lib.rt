@@ -13,6 +13,7 @@ mod leb128;
 mod little_endian;
 mod text;
 mod text_sections;
+mod units;
 mod value;
 
 pub use form::{Class, read_value};
@@ -20,4 +21,5 @@ pub use leb128::{signed_leb128, unsigned_leb128};
 pub use little_endian::{u16_le_at, u32_le_at, u64_le_at};
 pub use text::{before_nul, read_text, text_in};
 pub use text_sections::TextSections;
+pub use units::{Units, split_unit};
 pub use value::Value;

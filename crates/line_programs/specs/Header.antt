@@ -17,17 +17,6 @@ pub record ProgramRecord : Type 0 where
   pub header : HeaderRecord
   pub bytes : List ℕ
 
--- unit_length: how many bytes of the unit follow this number
-abbrev pub unit_length : List ℕ → ℕ
-unit_length unit = u32_le_at unit 0
-
--- the unit that begins the bytes, and the bytes after it
-unfoldable pub unit_at : List ℕ → Option (List ℕ × List ℕ)
-unit_at bytes =
-    if nat_lt (length bytes) 4 then None
-    else if nat_lt (length bytes) (4 + unit_length bytes) then None
-    else Some (take (4 + unit_length bytes) bytes, drop (4 + unit_length bytes) bytes)
-
 abbrev pub version : List ℕ → ℕ
 version unit = u16_le_at unit 4
 

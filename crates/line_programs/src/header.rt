@@ -4,7 +4,7 @@ ghost use Rattle.std.specs.Prelude.{◌≡◌, ◌+◌, ◌≤◌, ◌<◌, leng
 ghost use Rattle.std.specs.Option.{option_map};
 ghost use Rattle.line_programs.specs.Header.{version, header_length_offset, minimum_instruction_length_offset};
 ghost use Rattle.line_programs.specs.Header.{default_is_stmt_offset, opcode_base, names_offset, program_offset};
-ghost use Rattle.line_programs.specs.Header.{has_header, program_of, unit_at, name_bytes};
+ghost use Rattle.line_programs.specs.Header.{has_header, program_of, name_bytes};
 
 use dwarf_numbers::{u16_le_at, u32_le_at};
 
@@ -27,23 +27,6 @@ pub struct Program<'a> {
     pub header: Header<'a>,
     /// The instructions, up to the end of the unit.
     pub bytes: &'a [u8],
-}
-
-/// The unit that begins the bytes of `__debug_line`, with its `unit_length`, and the bytes after it; `None` if fewer
-/// than four bytes are left or the unit passes the end, as each unit in the 64-bit format does.
-#[tactic(auto, unfolding(crate::specs::Header::unit_at))]
-pub fn split_unit(bytes: &[u8]) -> Option<(&[u8], &[u8])>
-    ensures value { option_map (λ x. (x.0.now, x.1.now)) result ≡ unit_at bytes.now }
-    ensures shorter { IfSome result (λ x. length x.1.now < length bytes.now) }
-{
-    if bytes.len() < 4 {
-        return None;
-    }
-    let size = 4 + u32_le_at(bytes, 0) as usize;
-    if bytes.len() < size {
-        return None;
-    }
-    Some(bytes.split_at(size))
 }
 
 pub(crate) fn version(unit: &[u8]) -> u16
@@ -121,7 +104,7 @@ pub(crate) fn name_bytes(unit: &[u8]) -> &[u8]
 impl<'a> Program<'a> {
     ghost use Rattle.line_programs.specs.Views.{program_view};
 
-    /// The program of a unit of `__debug_line`, as `split_unit` gives it; `None` if its header is not read here: its
+    /// The program of a unit of `__debug_line`, with its `unit_length`; `None` if its header is not read here: its
     /// version is not 2 to 5, its fields pass its program, `line_range` is 0, or
     /// `maximum_operations_per_instruction` is not 1.
     #[tactic(auto, unfolding(crate::specs::Header::program_of))]

@@ -24,7 +24,7 @@ mod registers;
 mod rows;
 
 pub use covering::covering_row;
-pub use header::{Header, Program, split_unit};
+pub use header::{Header, Program};
 pub use instruction::Instruction;
 pub use names::{Name, Names};
 pub use one_pass::covering_rows;
