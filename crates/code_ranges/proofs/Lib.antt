@@ -1,0 +1,2 @@
+mod ShorterLemmas
+pub mod ListLemmas

@@ -1,0 +1,4 @@
+pub mod Addresses
+pub mod Views
+pub mod ListEntries
+pub mod Lists

@@ -1,0 +1,26 @@
+//! Which code of a program an entry or a unit of DWARF is of (DWARF 5, sections 2.17, 6.1.2 and 7.25), in the 32-bit
+//! format, with addresses of eight bytes.
+//!
+//! Damage refuses nothing: the first thing that cannot be read ends the list in which it stands, and what was read
+//! before it counts. Sums of addresses are modulo 2^64.
+//!
+//! - `range`: [`CodeRange`]; `range_entry`: [`RangeEntry`], an entry of a list of ranges;
+//! - `addresses`: [`AddressTable`], addresses by their indexes;
+//! - `list_entries`: how the entries of `__debug_ranges` and `__debug_rnglists` are written; `dw_rle`: their kinds;
+//! - `range_lists`: [`Ranges`], the ranges of a list, one after another;
+//! - `laws`: what the definitions say of each other.
+#![tactic(auto)]
+
+mod addresses;
+pub mod dw_rle;
+mod list_entries;
+mod list_format;
+mod range;
+mod range_entry;
+mod range_lists;
+
+pub use addresses::AddressTable;
+pub use list_format::ListFormat;
+pub use range::CodeRange;
+pub use range_entry::RangeEntry;
+pub use range_lists::Ranges;
