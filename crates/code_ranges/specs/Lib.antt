@@ -2,3 +2,5 @@ pub mod Addresses
 pub mod Views
 pub mod ListEntries
 pub mod Lists
+pub mod EntryRanges
+pub mod UnitViews

@@ -8,19 +8,23 @@
 //! - `addresses`: [`AddressTable`], addresses by their indexes;
 //! - `list_entries`: how the entries of `__debug_ranges` and `__debug_rnglists` are written; `dw_rle`: their kinds;
 //! - `range_lists`: [`Ranges`], the ranges of a list, one after another;
+//! - `unit_ranges`: [`UnitRanges`], where the ranges of a unit's entries stand; `entry_ranges`: those of an entry;
 //! - `laws`: what the definitions say of each other.
 #![tactic(auto)]
 
 mod addresses;
 pub mod dw_rle;
+mod entry_ranges;
 mod list_entries;
 mod list_format;
 mod range;
 mod range_entry;
 mod range_lists;
+mod unit_ranges;
 
 pub use addresses::AddressTable;
 pub use list_format::ListFormat;
 pub use range::CodeRange;
 pub use range_entry::RangeEntry;
 pub use range_lists::Ranges;
+pub use unit_ranges::{RangeAttributes, UnitRanges};
