@@ -1,2 +1,3 @@
 mod ShorterLemmas
 pub mod ListLemmas
+pub mod ArangeLemmas

@@ -4,3 +4,4 @@ pub mod ListEntries
 pub mod Lists
 pub mod EntryRanges
 pub mod UnitViews
+pub mod Aranges

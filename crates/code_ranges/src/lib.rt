@@ -13,6 +13,8 @@
 #![tactic(auto)]
 
 mod addresses;
+mod arange;
+mod aranges;
 pub mod dw_rle;
 mod entry_ranges;
 mod list_entries;
@@ -23,6 +25,8 @@ mod range_lists;
 mod unit_ranges;
 
 pub use addresses::AddressTable;
+pub use arange::Arange;
+pub use aranges::Aranges;
 pub use list_format::ListFormat;
 pub use range::CodeRange;
 pub use range_entry::RangeEntry;
