@@ -5,3 +5,4 @@ pub mod Lists
 pub mod EntryRanges
 pub mod UnitViews
 pub mod Aranges
+pub mod Inner

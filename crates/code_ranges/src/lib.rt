@@ -9,6 +9,8 @@
 //! - `list_entries`: how the entries of `__debug_ranges` and `__debug_rnglists` are written; `dw_rle`: their kinds;
 //! - `range_lists`: [`Ranges`], the ranges of a list, one after another;
 //! - `unit_ranges`: [`UnitRanges`], where the ranges of a unit's entries stand; `entry_ranges`: those of an entry;
+//! - `arange`: [`Arange`], a tuple of `__debug_aranges`; `aranges`: [`Aranges`], all of them, one after another;
+//!   `one_pass`: [`first_tuples`], the first that has each of many addresses;
 //! - `laws`: what the definitions say of each other.
 #![tactic(auto)]
 
@@ -19,6 +21,7 @@ pub mod dw_rle;
 mod entry_ranges;
 mod list_entries;
 mod list_format;
+mod one_pass;
 mod range;
 mod range_entry;
 mod range_lists;
@@ -28,6 +31,7 @@ pub use addresses::AddressTable;
 pub use arange::Arange;
 pub use aranges::Aranges;
 pub use list_format::ListFormat;
+pub use one_pass::first_tuples;
 pub use range::CodeRange;
 pub use range_entry::RangeEntry;
 pub use range_lists::Ranges;
