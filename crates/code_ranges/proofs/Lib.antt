@@ -1,0 +1,4 @@
+mod ShorterLemmas
+pub mod ListLemmas
+pub mod ArangeLemmas
+pub mod TupleLemmas

@@ -1,0 +1,45 @@
+//! The unit of each of many addresses, by `__debug_aranges`.
+
+ghost use Rattle.std.specs.Prelude.{◌≡◌, ℕ, true, IfOk};
+ghost use Rattle.std.specs.Ordering.{nat_cmp};
+ghost use Rattle.std.specs.BTreeSet as tree_set;
+ghost use Rattle.std.specs.BTreeMap as tree_map;
+ghost use Rattle.code_ranges.specs.Aranges.{AreFirstTuples};
+ghost use Rattle.code_ranges.specs.Inner.{first_tuple};
+
+use crate::arange::Arange;
+use crate::aranges::Aranges;
+use memory::{Heap, NoMemory};
+use pending_addresses::{answers_for, assign_within, pending_addresses};
+use std::collections::{BTreeMap, BTreeSet};
+
+/// The first tuple that has each pending address.
+fn assign_all(
+    heap: Heap,
+    tuples: Aranges<'_>,
+    mut pending: BTreeSet<u64, Heap>,
+) -> Result<BTreeMap<u64, Arange, Heap>, NoMemory>
+    ensures { IfOk result (λ found. (a : ℕ) → tree_set.contains nat_cmp pending a ≡ true →
+        tree_map.get nat_cmp found a ≡ first_tuple a tuples.entry) }
+{
+    let mut found = BTreeMap::new(heap);
+    for tuple in tuples {
+        let end = u128::from(tuple.address) + u128::from(tuple.length);
+        assign_within(&mut pending, &mut found, tuple.address, end, tuple)?;
+    }
+    Ok(found)
+}
+
+/// For each of the addresses, the first tuple that has it, or `None`. It takes the time of the tuples, and of finding
+/// each address among those that have none yet, and the memory of the addresses.
+pub fn first_tuples(
+    heap: Heap,
+    tuples: Aranges<'_>,
+    addresses: &[u64],
+) -> Result<Vec<Option<Arange>, Heap>, NoMemory>
+    ensures { IfOk result (λ found. AreFirstTuples tuples.entry addresses.now found.items) }
+{
+    let pending = pending_addresses(heap.clone()?, addresses)?;
+    let found = assign_all(heap.clone()?, tuples, pending)?;
+    answers_for(heap, &found, addresses)
+}

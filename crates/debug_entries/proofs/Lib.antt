@@ -1,0 +1,4 @@
+mod SpecificationLemmas
+mod DeclarationLemmas
+mod KeyLemmas
+mod EntryLemmas

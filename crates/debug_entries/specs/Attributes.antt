@@ -1,0 +1,119 @@
+-- The attributes that are asked here (DWARF 5, sections 2.2 and 7.5.4, table 7.5).
+use Rattle.std.specs.Prelude.{ℕ, ◌==◌, if◌then◌else◌, Option, Some, None}
+use Rattle.std.specs.Option.{option_or}
+use Rattle.dwarf_numbers.specs.Values.{ValueRecord}
+
+-- their numbers; the last is of LLVM's vendor range, from before DW_AT_linkage_name
+abbrev pub DW_AT_name : ℕ
+DW_AT_name = 0x03
+
+abbrev pub DW_AT_stmt_list : ℕ
+DW_AT_stmt_list = 0x10
+
+abbrev pub DW_AT_low_pc : ℕ
+DW_AT_low_pc = 0x11
+
+abbrev pub DW_AT_high_pc : ℕ
+DW_AT_high_pc = 0x12
+
+abbrev pub DW_AT_comp_dir : ℕ
+DW_AT_comp_dir = 0x1b
+
+abbrev pub DW_AT_abstract_origin : ℕ
+DW_AT_abstract_origin = 0x31
+
+abbrev pub DW_AT_specification : ℕ
+DW_AT_specification = 0x47
+
+abbrev pub DW_AT_ranges : ℕ
+DW_AT_ranges = 0x55
+
+abbrev pub DW_AT_call_column : ℕ
+DW_AT_call_column = 0x57
+
+abbrev pub DW_AT_call_file : ℕ
+DW_AT_call_file = 0x58
+
+abbrev pub DW_AT_call_line : ℕ
+DW_AT_call_line = 0x59
+
+abbrev pub DW_AT_linkage_name : ℕ
+DW_AT_linkage_name = 0x6e
+
+abbrev pub DW_AT_str_offsets_base : ℕ
+DW_AT_str_offsets_base = 0x72
+
+abbrev pub DW_AT_addr_base : ℕ
+DW_AT_addr_base = 0x73
+
+abbrev pub DW_AT_rnglists_base : ℕ
+DW_AT_rnglists_base = 0x74
+
+abbrev pub DW_AT_MIPS_linkage_name : ℕ
+DW_AT_MIPS_linkage_name = 0x2007
+
+-- the value of each attribute that an entry has
+pub record AttributesRecord : Type 0 where
+  pub name : Option ValueRecord
+  pub stmt_list : Option ValueRecord
+  pub low_pc : Option ValueRecord
+  pub high_pc : Option ValueRecord
+  pub comp_dir : Option ValueRecord
+  pub abstract_origin : Option ValueRecord
+  pub specification : Option ValueRecord
+  pub ranges : Option ValueRecord
+  pub call_column : Option ValueRecord
+  pub call_file : Option ValueRecord
+  pub call_line : Option ValueRecord
+  pub linkage_name : Option ValueRecord
+  pub str_offsets_base : Option ValueRecord
+  pub addr_base : Option ValueRecord
+  pub rnglists_base : Option ValueRecord
+  pub mips_linkage_name : Option ValueRecord
+
+-- none of them
+abbrev pub no_attributes : AttributesRecord
+no_attributes =
+    record {
+      name = None;
+      stmt_list = None;
+      low_pc = None;
+      high_pc = None;
+      comp_dir = None;
+      abstract_origin = None;
+      specification = None;
+      ranges = None;
+      call_column = None;
+      call_file = None;
+      call_line = None;
+      linkage_name = None;
+      str_offsets_base = None;
+      addr_base = None;
+      rnglists_base = None;
+      mips_linkage_name = None;
+    }
+
+-- of two values of one attribute the first counts
+abbrev pub first : Option ValueRecord → ValueRecord → Option ValueRecord
+first earlier value = option_or earlier (Some value)
+
+-- the attributes with a value more
+unfoldable pub with_attribute : AttributesRecord → ℕ → ValueRecord → AttributesRecord
+with_attribute a attribute value =
+    if attribute == DW_AT_name then record a { name = first a.name value }
+    else if attribute == DW_AT_stmt_list then record a { stmt_list = first a.stmt_list value }
+    else if attribute == DW_AT_low_pc then record a { low_pc = first a.low_pc value }
+    else if attribute == DW_AT_high_pc then record a { high_pc = first a.high_pc value }
+    else if attribute == DW_AT_comp_dir then record a { comp_dir = first a.comp_dir value }
+    else if attribute == DW_AT_abstract_origin then record a { abstract_origin = first a.abstract_origin value }
+    else if attribute == DW_AT_specification then record a { specification = first a.specification value }
+    else if attribute == DW_AT_ranges then record a { ranges = first a.ranges value }
+    else if attribute == DW_AT_call_column then record a { call_column = first a.call_column value }
+    else if attribute == DW_AT_call_file then record a { call_file = first a.call_file value }
+    else if attribute == DW_AT_call_line then record a { call_line = first a.call_line value }
+    else if attribute == DW_AT_linkage_name then record a { linkage_name = first a.linkage_name value }
+    else if attribute == DW_AT_str_offsets_base then record a { str_offsets_base = first a.str_offsets_base value }
+    else if attribute == DW_AT_addr_base then record a { addr_base = first a.addr_base value }
+    else if attribute == DW_AT_rnglists_base then record a { rnglists_base = first a.rnglists_base value }
+    else if attribute == DW_AT_MIPS_linkage_name then record a { mips_linkage_name = first a.mips_linkage_name value }
+    else a

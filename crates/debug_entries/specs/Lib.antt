@@ -1,0 +1,9 @@
+pub mod Attributes
+pub mod AttributeViews
+pub mod Specifications
+pub mod ShapeViews
+pub mod Abbreviations
+pub mod DeclarationViews
+pub mod UnitHeaders
+pub mod Entries
+pub mod EntryViews

@@ -1,0 +1,5 @@
+mod ShorterLemmas
+mod RowLemmas
+mod CoveringLemmas
+mod RunLemmas
+mod NameLemmas

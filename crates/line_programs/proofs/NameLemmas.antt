@@ -1,0 +1,77 @@
+-- Steps over the names of a header.
+use Rattle.std.proofs.Common.{◌≡◌, ℕ, ◌+◌, ◌<◌, ◌≤◌, List, ◌∷◌, length, drop, get_or, ◌==◌, Option, Some, None, ap, sym, ◌∙◌, inl, inr, arith}
+use Rattle.std.specs.Option.{option_map, option_and_then}
+use Rattle.std.proofs.lemmas.Bool.{cases_Bool}
+use Rattle.std.proofs.lemmas.Option.{option_and_then_some}
+use Rattle.std.proofs.lemmas.List.{drop_more, drop_all}
+use Rattle.dwarf_numbers.specs.Leb128.{last_unsigned, unsigned_leb128_at}
+use Rattle.dwarf_numbers.specs.Text.{text_at}
+use Rattle.dwarf_numbers.specs.Values.{ValueRecord, InlineString}
+use Rattle.dwarf_numbers.specs.Sequences.{Shortens}
+use Rattle.dwarf_numbers.proofs.ShorterLemmas.{mapped_some, text_shorter, leb128_shorter}
+use Rattle.line_programs.specs.Names.{NameRecord, FieldsRecord, include_directory_at, directory_index_at, file_name_at, name_value_at, with_value, fields_from}
+
+-- a directory has a byte
+pub include_directory_shortens : Shortens include_directory_at
+include_directory_shortens = record {
+  less = λ bytes x e.
+      let y = mapped_some _ (text_at bytes) x e in
+      omega (arith, text_shorter bytes y.0 y.1, ap (λ (z : Option NameRecord × List ℕ). length z.1) y.2);
+}
+
+-- an index has one, too
+index_shorter : (bytes : List ℕ) (x : ℕ × List ℕ) → directory_index_at bytes ≡ Some x → length x.1 < length bytes
+unfolding directory_index_at
+index_shorter bytes x e =
+    option_and_then_some _ (unsigned_leb128_at bytes) x e
+    (λ y found after.
+    option_and_then_some _ (unsigned_leb128_at y.1) x after
+    (λ z second third.
+    let w = mapped_some (λ (v : ℕ × List ℕ). (y.0, v.1)) (unsigned_leb128_at z.1) x third in
+    omega (arith, leb128_shorter last_unsigned bytes y found, leb128_shorter last_unsigned y.1 z second, leb128_shorter last_unsigned z.1 w.0 w.1, ap (λ (v : ℕ × List ℕ). length v.1) w.2)))
+
+-- a file has one
+pub file_name_shortens : Shortens file_name_at
+unfolding file_name_at
+file_name_shortens = record {
+  less = λ bytes x e.
+      option_and_then_some _ (text_at bytes) x e
+      (λ y found after. elim (cases_Bool (length y.0 == 0)) [
+        | inl t ↦
+            let here : ◌≡◌ {A = Option (Option NameRecord × List ℕ)} (Some (None, y.1)) (Some x) = rw t at after in
+            let same : (None, y.1) ≡ x = cc here in
+            omega (arith, text_shorter bytes y found, ap (λ (z : Option NameRecord × List ℕ). length z.1) same)
+        | inr f ↦
+            let here : option_map {U = Option NameRecord × List ℕ} (λ (z : ℕ × List ℕ). (Some (record { name = InlineString y.0; directory = z.0 }), z.1)) (directory_index_at y.1) ≡ Some x = rw f at after in
+            let z = mapped_some _ (directory_index_at y.1) x here in
+            omega (arith, text_shorter bytes y found, index_shorter y.1 z.0 z.1, ap (λ (w : Option NameRecord × List ℕ). length w.1) z.2)
+      ]);
+}
+
+-- a value more of an entry
+pub fields_step : (fields next : FieldsRecord) (format : List (ℕ × ℕ)) (index : ℕ) (bytes rest : List ℕ) (value : ValueRecord) (whole : Option (FieldsRecord × List ℕ)) → index < length format
+    → ◌≡◌ {A = Option (ValueRecord × List ℕ)} (Some (value, rest)) (name_value_at (get_or format index (0, 0)).1 bytes) → next ≡ with_value fields (get_or format index (0, 0)).0 value
+    → fields_from fields (drop index format) bytes ≡ whole → fields_from next (drop (index + 1) format) rest ≡ whole
+unfolding fields_from
+fields_step fields next format index bytes rest value whole less read made before =
+    let first : drop index format ≡ get_or format index (0, 0) ∷ drop (index + 1) format = drop_more format index (0, 0) less in
+    let here : fields_from fields (get_or format index (0, 0) ∷ drop (index + 1) format) bytes ≡ whole = ap (λ f. fields_from fields f bytes) (sym first) ∙ before in
+    ap (λ f. fields_from f (drop (index + 1) format) rest) made
+    ∙ ap (option_and_then (λ (x : ValueRecord × List ℕ). fields_from (with_value fields (get_or format index (0, 0)).0 x.0) (drop (index + 1) format) x.1)) read
+    ∙ here
+
+-- one cannot be read
+pub fields_fails : (fields : FieldsRecord) (format : List (ℕ × ℕ)) (index : ℕ) (bytes : List ℕ) (whole : Option (FieldsRecord × List ℕ)) → index < length format
+    → name_value_at (get_or format index (0, 0)).1 bytes ≡ None → fields_from fields (drop index format) bytes ≡ whole → None ≡ whole
+unfolding fields_from
+fields_fails fields format index bytes whole less read before =
+    let first : drop index format ≡ get_or format index (0, 0) ∷ drop (index + 1) format = drop_more format index (0, 0) less in
+    ap (option_and_then (λ (x : ValueRecord × List ℕ). fields_from (with_value fields (get_or format index (0, 0)).0 x.0) (drop (index + 1) format) x.1)) (sym read)
+    ∙ ap (λ f. fields_from fields f bytes) (sym first) ∙ before
+
+-- all are read
+pub fields_done : (fields : FieldsRecord) (format : List (ℕ × ℕ)) (index : ℕ) (bytes : List ℕ) (whole : Option (FieldsRecord × List ℕ)) → length format ≤ index
+    → fields_from fields (drop index format) bytes ≡ whole → Some (fields, bytes) ≡ whole
+unfolding fields_from
+fields_done fields format index bytes whole all before =
+    ap (λ f. fields_from fields f bytes) (sym (drop_all index format all)) ∙ before

@@ -1,0 +1,13 @@
+pub mod Header
+pub mod Instructions
+pub mod Machine
+pub mod Covering
+pub mod Views
+pub mod Names
+pub mod NameViews
+pub mod Paths
+pub mod PathViews
+-- the words of inner functions: no contract of a public one has them
+pub mod Inner
+pub mod Pending
+pub mod Runs

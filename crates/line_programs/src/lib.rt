@@ -1,0 +1,33 @@
+//! Line number programs (DWARF 5, section 6.2), of the versions 2 to 5 in the 32-bit format: their headers with the
+//! names of directories and files, their instructions, the machine that these run on, and the rows of the line number
+//! table that it makes. Damage is never an error: what stands before it counts.
+//!
+//! The modules in reading order: `opcodes`, the constants; `header`; `names`, the names of directories and files, as
+//! `name_lists` (versions 2 to 4) and `name_entries` (version 5) read them; `path`, the paths of files; `instruction`,
+//! and `reading`, how an instruction is written; `registers`; `rows`, one after another; `covering`, the row that
+//! covers an address, and `one_pass`, the rows of many addresses in one pass; `laws`, what the definitions say of each
+//! other.
+#![tactic(auto)]
+
+mod covering;
+mod header;
+mod instruction;
+pub mod laws;
+mod name_entries;
+mod name_lists;
+mod names;
+mod one_pass;
+mod opcodes;
+mod path;
+mod reading;
+mod registers;
+mod rows;
+
+pub use covering::covering_row;
+pub use header::{Header, Program};
+pub use instruction::Instruction;
+pub use names::{Name, Names};
+pub use one_pass::covering_rows;
+pub use path::PathParts;
+pub use registers::{Registers, Row};
+pub use rows::Rows;
