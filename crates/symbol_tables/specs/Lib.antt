@@ -1,0 +1,4 @@
+pub mod Rows
+pub mod Steps
+pub mod Stored
+pub mod Asked
