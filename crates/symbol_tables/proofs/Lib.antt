@@ -3,3 +3,4 @@ pub mod NameLemmas
 pub mod StepLemmas
 pub mod OneSteps
 pub mod Asked
+pub mod TableLemmas

@@ -2,7 +2,7 @@
 use Rattle.std.specs.Prelude.{◌≡◌, ℕ, List, Option, Some, None}
 use Rattle.macho_symbols.specs.Symbols.{Tuple}
 use Rattle.macho_symbols.specs.Nearest.{IsNearest}
-use Rattle.symbol_tables.specs.declared.asking.NearestSymbol.{NearestSymbol}
+use Rattle.symbol_tables.specs.declared.nearest.NearestSymbol.{NearestSymbol}
 
 -- what is said is the nearest candidate, with its name, or that there is none
 abbrev pub IsSaid : List ℕ → ℕ → Option NearestSymbol → Type 0

@@ -6,17 +6,23 @@
 //! - `row`: [`Row`], 21 bytes of a table;
 //! - `search`: [`row_for`], the row that an address belongs to;
 //! - `names`: [`name_from`], a name among the strings of a table;
-//! - `asking`: [`nearest_in`], the nearest symbol of an address;
+//! - `head`, `table`: [`Table`], a table whose head was read; `opening`: [`Table::open`];
+//! - `nearest`: [`NearestSymbol`]; `asking`: [`Table::nearest`], the nearest symbol of an address;
 //! - `laws`: what the definitions say of each other.
 #![tactic(auto)]
 
 mod asking;
+mod head;
 pub mod laws;
 mod names;
+mod nearest;
+mod opening;
 mod row;
 mod search;
+mod table;
 
-pub use asking::NearestSymbol;
 pub use names::name_from;
+pub use nearest::NearestSymbol;
 pub use row::Row;
 pub use search::row_for;
+pub use table::Table;

@@ -24,7 +24,7 @@ pub struct Row {
 }
 
 /// The number in eight bytes from an offset on.
-fn u64_be_at(bytes: &[u8], offset: usize) -> u64
+pub(crate) fn u64_be_at(bytes: &[u8], offset: usize) -> u64
     requires { offset + 8 ≤ length bytes.now }
     ensures { result ≡ from_be_bytes w64 (take 8 (drop offset bytes.now)) }
 {

@@ -16,4 +16,4 @@ pub returns-in_err-digests-clause-read : goal.returns-in_err-digests-clause-read
 returns-in_err-digests-clause-read g c =
     let p = err_from_is_err_and c.from_residual.result c.from_residual.ensures.1 in
     passed_on _ _ _ _ _ _ _ _ _ _ _ c.in_err-digests.was (p.1 ∙ ap Err p.2)
-    (λ text absent long all are. digests_are_there text all (claim_view c.args.claim) c.in-Some.len are c.in-Some.ensures.len absent) c.read_checked.ensures.read
+    (λ text known absent long all are. digests_are_there text all (claim_view c.args.claim) c.in-Some.len are c.in-Some.ensures.len absent) c.read_checked.ensures.read
