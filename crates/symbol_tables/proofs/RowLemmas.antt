@@ -1,0 +1,195 @@
+-- Rows in the bytes of a table.
+use Rattle.std.proofs.Common.{◌≡◌, ℕ, zero, suc, ◌+◌, ◌*◌, ◌-◌, ◌<◌, ◌≤◌, List, [], ◌∷◌, ◌++◌, length, take, drop, get_or, refl, sym, ap, ◌∙◌, subst, arith, length-append, append_assoc, slice_get, Some}
+use Rattle.std.specs.Prelude.{slice_index_or, All}
+use Rattle.std.specs.Int.{w32, w64, from_be_bytes}
+use Rattle.std.proofs.lemmas.List.{append-nil, take_at, drop_at, drop-drop, drop-take, take-take}
+use Rattle.symbol_tables.specs.Stored.{Stands}
+use Rattle.std.proofs.lemmas.Nat.{from_be_bytes-to_be_bytes_4, from_be_bytes-to_be_bytes_8}
+use Rattle.symbol_tables.specs.Rows.{row_bytes, rows_bytes, IsRow, AreRows}
+use Rattle.symbol_tables.specs.declared.row.Row.{Row}
+use Rattle.std.specs.Prelude.{Option, None, MatchOption}
+use Rattle.std.proofs.lemmas.Option.{slice_get_within, get_or_from_slice_get, slice_get-get_or}
+use Rattle.std.proofs.lemmas.Bool.{cases_lt}
+use Rattle.std.proofs.lemmas.List.Elements.{All-get_or, All-head, All-tail}
+use Rattle.std.proofs.Common.{inl, inr, true, false, nat_le}
+use Rattle.std.specs.List.Sorted.{IsPartitionedBy, IsPartitionPoint}
+use Rattle.std.proofs.lemmas.Bool.Decides.{nat_tests}
+use Rattle.symbol_tables.specs.Rows.{IsRowFor, IsLastNotAbove, AreAbove}
+
+pub length-row_bytes : (r : Row) → length (row_bytes r) ≡ 21
+unfolding row_bytes
+length-row_bytes r = refl
+
+pub length-rows_bytes : (rows : List Row) → length (rows_bytes rows) ≡ 21 * length rows
+length-rows_bytes [] = refl
+length-rows_bytes (r ∷ rows) = omega (arith, length-append (row_bytes r) (rows_bytes rows), length-row_bytes r, length-rows_bytes rows)
+
+-- ---- the fields of a row
+
+pub start_in : (r : Row) → IsRow r → from_be_bytes w64 (take 8 (drop 0 (row_bytes r))) ≡ r.start
+unfolding row_bytes
+start_in r is = from_be_bytes-to_be_bytes_8 r.start is.start
+
+pub value_in : (r : Row) → IsRow r → from_be_bytes w64 (take 8 (drop 8 (row_bytes r))) ≡ r.value
+unfolding row_bytes
+value_in r is = from_be_bytes-to_be_bytes_8 r.value is.value
+
+pub place_in : (r : Row) → IsRow r → from_be_bytes w32 (take 4 (drop 16 (row_bytes r))) ≡ r.n_strx
+unfolding row_bytes
+place_in r is = from_be_bytes-to_be_bytes_4 r.n_strx is.n_strx
+
+pub sect_in : (r : Row) → get_or (row_bytes r) 20 0 ≡ r.sect
+unfolding row_bytes
+sect_in r = refl
+
+-- what is read of a row's bytes is the row
+pub read_row : (bytes : List ℕ) (start value place sect : ℕ) (r : Row) → IsRow r → bytes ≡ row_bytes r
+    → start ≡ from_be_bytes w64 (take 8 (drop 0 bytes)) → value ≡ from_be_bytes w64 (take 8 (drop 8 bytes))
+    → place ≡ from_be_bytes w32 (take 4 (drop 16 bytes)) → sect ≡ get_or bytes 20 0
+    → record { start = start; value = value; n_strx = place; sect = sect } ≡ r
+read_row bytes start value place sect r is e s v p n =
+    let start_is : start ≡ r.start = s ∙ ap (λ b. from_be_bytes w64 (take 8 (drop 0 b))) e ∙ start_in r is in
+    let value_is : value ≡ r.value = v ∙ ap (λ b. from_be_bytes w64 (take 8 (drop 8 b))) e ∙ value_in r is in
+    let place_is : place ≡ r.n_strx = p ∙ ap (λ b. from_be_bytes w32 (take 4 (drop 16 b))) e ∙ place_in r is in
+    let sect_is : sect ≡ r.sect = n ∙ ap (λ b. get_or b 20 0) e ∙ sect_in r in
+    λ i. record { start = start_is i; value = value_is i; n_strx = place_is i; sect = sect_is i }
+
+-- ---- the rows of a table, one after another
+
+pub row_here : (rows : List Row) (rest : List ℕ) (i : ℕ) (d : Row) → i < length rows → take 21 (drop (21 * i) (rows_bytes rows ++ rest)) ≡ row_bytes (slice_index_or rows i d)
+row_here [] rest i d h = absurd (omega arith)
+row_here (r ∷ rows) rest zero d h = ap (take 21) (append_assoc (row_bytes r) (rows_bytes rows) rest) ∙ take_at (row_bytes r) (rows_bytes rows ++ rest) 21 (length-row_bytes r)
+row_here (r ∷ rows) rest (suc i) d h =
+    let all : List ℕ = row_bytes r ++ (rows_bytes rows ++ rest) in
+    let behind : drop 21 all ≡ rows_bytes rows ++ rest = drop_at (row_bytes r) (rows_bytes rows ++ rest) 21 (length-row_bytes r) in
+    let far : 21 * suc i ≡ 21 + 21 * i = omega arith in
+    ap (λ b. take 21 (drop (21 * suc i) b)) (append_assoc (row_bytes r) (rows_bytes rows) rest)
+    ∙ ap (λ n. take 21 (drop n all)) far ∙ ap (take 21) (sym (drop-drop (21 * i) 21 all)) ∙ ap (λ b. take 21 (drop (21 * i) b)) behind ∙ row_here rows rest i d (omega arith)
+
+pub row_fits : (rows : List Row) (rest : List ℕ) (i : ℕ) → i < length rows → 21 * i + 21 ≤ length (rows_bytes rows ++ rest)
+row_fits rows rest i h = omega (arith, length-rows_bytes rows, length-append (rows_bytes rows) rest)
+
+-- ---- one row, and one table
+
+-- of two rows that are the last not above an address none stands before the other
+not_before : (rows : List Row) (address : ℕ) (r s : Row) (a : IsLastNotAbove rows address r) (b : IsLastNotAbove rows address s) → a.at < b.at → ⊥
+not_before rows address r s a b before =
+    let same : get_or rows b.at r ≡ s = get_or_from_slice_get rows b.at s r b.stands in
+    let above : address < s.start = subst (λ (t : Row). address < t.start) same (a.others b.at r before (slice_get_within rows b.at s b.stands)) in
+    omega (arith, above, b.not_above)
+
+one_last : (rows : List Row) (address : ℕ) (r s : Row) → IsLastNotAbove rows address r → IsLastNotAbove rows address s → r ≡ s
+one_last rows address r s a b = elim (cases_lt a.at b.at) [
+  | inl before ↦ absurd (not_before rows address r s a b before)
+  | inr l ↦ elim (cases_lt b.at a.at) [
+    | inl before ↦ absurd (not_before rows address s r b a before)
+    | inr k ↦
+        let same : a.at ≡ b.at = omega arith in
+        sym (get_or_from_slice_get rows a.at r r a.stands) ∙ ap (λ n. get_or rows n r) same ∙ get_or_from_slice_get rows b.at s r b.stands
+  ]
+]
+
+last_is_not_above : (rows : List Row) (address : ℕ) (r : Row) → IsLastNotAbove rows address r → AreAbove rows address → ⊥
+last_is_not_above rows address r a above =
+    let same : get_or rows a.at r ≡ r = get_or_from_slice_get rows a.at r r a.stands in
+    let is : address < r.start = subst (λ (t : Row). address < t.start) same (above a.at r (slice_get_within rows a.at r a.stands)) in
+    omega (arith, is, a.not_above)
+
+pub only_row : (rows : List Row) (address : ℕ) (found other : Option Row) → IsRowFor rows address found → IsRowFor rows address other → found ≡ other
+only_row rows address None None a b = refl
+only_row rows address None (Some s) a b = absurd (last_is_not_above rows address s b a)
+only_row rows address (Some r) None a b = absurd (last_is_not_above rows address r a b)
+only_row rows address (Some r) (Some s) a b = ap Some (one_last rows address r s a b)
+
+row_again : (r s : Row) → IsRow r → IsRow s → row_bytes r ≡ row_bytes s → r ≡ s
+row_again r s is other e = read_row (row_bytes s) r.start r.value r.n_strx r.sect s other refl (sym (start_in r is) ∙ ap (λ b. from_be_bytes w64 (take 8 (drop 0 b))) e) (sym (value_in r is) ∙ ap (λ b. from_be_bytes w64 (take 8 (drop 8 b))) e) (sym (place_in r is) ∙ ap (λ b. from_be_bytes w32 (take 4 (drop 16 b))) e) (sym (sect_in r) ∙ ap (λ b. get_or b 20 0) e)
+
+pub only_rows : (rows others : List Row) → All IsRow rows → All IsRow others → rows_bytes rows ≡ rows_bytes others → rows ≡ others
+only_rows [] [] are others_are same = refl
+only_rows [] (s ∷ others) are others_are same = absurd (omega (arith, ap length same, length-rows_bytes (s ∷ others)))
+only_rows (r ∷ rows) [] are others_are same = absurd (omega (arith, ap length same, length-rows_bytes (r ∷ rows)))
+only_rows (r ∷ rows) (s ∷ others) are others_are same =
+    let first : row_bytes r ≡ row_bytes s = sym (take_at (row_bytes r) (rows_bytes rows) 21 (length-row_bytes r)) ∙ ap (take 21) same ∙ take_at (row_bytes s) (rows_bytes others) 21 (length-row_bytes s) in
+    let rest : rows_bytes rows ≡ rows_bytes others = sym (drop_at (row_bytes r) (rows_bytes rows) 21 (length-row_bytes r)) ∙ ap (drop 21) same ∙ drop_at (row_bytes s) (rows_bytes others) 21 (length-row_bytes s) in
+    let head = row_again r s (All-head IsRow r rows are) (All-head IsRow s others others_are) first in
+    let tail = only_rows rows others (All-tail IsRow r rows are) (All-tail IsRow s others others_are) rest in
+    λ i. head i ∷ tail i
+
+-- ---- the search in a list
+
+reaches : (a s t : ℕ) → s < t → nat_le t a ≡ true → nat_le s a ≡ true
+reaches a s t l h = grind (arith, nat_tests)
+
+is_above : (a s : ℕ) → nat_le s a ≡ false → a < s
+is_above a s h = grind (arith, nat_tests)
+
+is_not_above : (a s : ℕ) → nat_le s a ≡ true → s ≤ a
+is_not_above a s h = grind (arith, nat_tests)
+
+pub partitioned : (rows : List Row) (address : ℕ) → AreRows rows → IsPartitionedBy (λ r. nat_le r.start address) rows
+partitioned rows address are i j d h l before = elim (cases_lt i j) [
+  | inl k ↦ reaches address (slice_index_or rows i d).start (slice_index_or rows j d).start (are.rising i j d k l) before
+  | inr k ↦
+      let same : j ≡ i = omega arith in
+      subst (λ n. nat_le (slice_index_or rows n d).start address ≡ true) same before
+]
+
+pub all_above : (rows : List Row) (address end : ℕ) → IsPartitionPoint (λ r. nat_le r.start address ≡ true) (λ r. nat_le r.start address ≡ false) rows end → end ≡ 0 → AreAbove rows address
+all_above rows address end point e j d l = is_above address (slice_index_or rows j d).start (point.1 j d (omega arith) l)
+
+pub last_before : (rows : List Row) (address end : ℕ) → IsPartitionPoint (λ r. nat_le r.start address ≡ true) (λ r. nat_le r.start address ≡ false) rows end → end ≤ length rows → 0 < end → (d : Row) → IsLastNotAbove rows address (slice_index_or rows (end - 1) d)
+last_before rows address end point within some d = record {
+  at = end - 1;
+  stands = slice_get-get_or rows (end - 1) d (omega arith);
+  not_above = is_not_above address (slice_index_or rows (end - 1) d).start (point.0 (end - 1) d (omega arith) (omega arith));
+  others = λ j e k l. is_above address (slice_index_or rows j e).start (point.1 j e (omega arith) l);
+}
+
+-- ---- the search in the bytes
+
+-- behind a row that begins above an address all rows do
+pub above_from : (rows : List Row) (address middle : ℕ) (row : Row) → AreRows rows → slice_get rows middle ≡ Some row → address < row.start
+    → (j : ℕ) (d : Row) → middle ≤ j → j < length rows → address < (slice_index_or rows j d).start
+above_from rows address middle row are stands above j d low l =
+    let here : (slice_index_or rows middle d).start ≡ row.start = ap (λ (r : Row). r.start) (get_or_from_slice_get rows middle row d stands) in
+    elim (cases_lt middle j) [
+      | inl k ↦ omega (arith, here, above, are.rising middle j d k l)
+      | inr k ↦
+          let same : middle ≡ j = omega arith in
+          subst (λ n. address < (slice_index_or rows n d).start) same (omega (arith, here, above))
+    ]
+
+-- ---- where the rows stand
+
+-- a part of bytes that stand among others
+pub part_stands : (all part : List ℕ) (first m n : ℕ) → Stands all first part → m + n ≤ length part → take n (drop (first + m) all) ≡ take n (drop m part)
+part_stands all part first m n stands within =
+    let rest : ℕ = length part - m in
+    let whole : length part ≡ m + rest = omega (arith, within) in
+    let here : drop m part ≡ take rest (drop (first + m) all) =
+    ap (drop m) (sym stands.1) ∙ ap (λ k. drop m (take k (drop first all))) whole ∙ drop-take m rest (drop first all) ∙ ap (take rest) (drop-drop m first all) in
+    sym (take-take n rest (drop (first + m) all) (omega (arith, within))) ∙ ap (take n) (sym here)
+
+-- the row that bytes are which were read
+pub row_read : (all bytes : List ℕ) (rows : List Row) (first index n : ℕ) (row d : Row) → AreRows rows → Stands all first (rows_bytes rows) → index < length rows
+    → n ≡ 21 → bytes ≡ take n (drop (first + 21 * index) all) → ((r : Row) → IsRow r → bytes ≡ row_bytes r → row ≡ r) → slice_get rows index ≡ Some row
+row_read all bytes rows first index n row d are stands within long came reads =
+    let here : Row = get_or rows index d in
+    let is_row : IsRow here = All-get_or IsRow rows index d within are.each in
+    let fits : 21 * index + 21 ≤ length (rows_bytes rows) = omega (arith, length-rows_bytes rows, within) in
+    let bytes_are : bytes ≡ row_bytes here =
+    came ∙ ap (λ k. take k (drop (first + 21 * index) all)) long ∙ part_stands all (rows_bytes rows) first (21 * index) 21 stands fits
+    ∙ ap (λ b. take 21 (drop (21 * index) b)) (sym (append-nil (rows_bytes rows))) ∙ row_here rows [] index d within in
+    slice_get-get_or rows index d within ∙ ap Some (sym (reads here is_row bytes_are))
+
+-- the row that is left when the halving ends
+pub row_of_best : (rows : List Row) (address low high : ℕ) (found : Option Row) → low ≤ high → high ≤ low
+    → ((j : ℕ) (d : Row) → high ≤ j → j < length rows → address < (slice_index_or rows j d).start)
+    → MatchOption found (low ≡ 0) (λ r. (at : ℕ) × (at + 1 ≡ low) × (slice_get rows at ≡ Some r) × (r.start ≤ address)) → IsRowFor rows address found
+row_of_best rows address low high None within ends above best = λ j d l. above j d (omega (arith, ends, within, best)) l
+row_of_best rows address low high (Some r) within ends above best = record {
+  at = best.0;
+  stands = best.2;
+  not_above = best.3;
+  others = λ j d l m. above j d (omega (arith, ends, within, best.1, l)) m;
+}

@@ -1,0 +1,5 @@
+use Rattle.symbol_tables.proofs.StepLemmas.{by_step}
+use Rattle.symbol_tables.proofs.laws.nearest_by_step.Goals as goal
+
+pub returns : goal.returns
+returns c = by_step

@@ -1,0 +1,6 @@
+pub mod Rows
+pub mod Steps
+pub mod Stored
+pub mod Asked
+pub mod Table
+pub mod Opened

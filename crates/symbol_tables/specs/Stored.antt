@@ -1,0 +1,6 @@
+-- What is read of a stored table.
+use Rattle.std.specs.Prelude.{◌≡◌, ◌+◌, ◌≤◌, ℕ, List, length, take, drop}
+
+-- these bytes stand among others from an offset on
+abbrev pub Stands : List ℕ → ℕ → List ℕ → Type 0
+Stands all offset part = (offset + length part ≤ length all) × (take (length part) (drop offset all) ≡ part)

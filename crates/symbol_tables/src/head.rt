@@ -1,0 +1,10 @@
+//! What the head of a table says.
+
+/// What the head of a table says.
+#[derive(Clone, Copy)]
+pub(crate) struct Head {
+    pub base: Option<u64>,
+    pub sections: u64,
+    pub rows: u64,
+    pub strings: u64,
+}

@@ -1,0 +1,79 @@
+//! Names among the strings of a stored table.
+
+ghost use Rattle.std.specs.Prelude.{◌≡◌, ◌+◌, ◌<◌, ◌≤◌, ◌^◌, ◌==◌, ◌++◌, ℕ, List, Some, IfErr, OnOk, length, drop};
+ghost use Rattle.std.specs.List.{before_first};
+ghost use Rattle.checked_pages.specs.Pages.{AreStored};
+ghost use Rattle.checked_pages.specs.Views.{ArePagesOf, claim_view};
+ghost use Rattle.checked_pages.specs.Reading.{ReadsStored};
+ghost use Rattle.symbol_tables.specs.Stored.{Stands};
+
+use checked_pages::{CheckFault, Pages};
+use memchr::memchr;
+use memory::Heap;
+use placed_bytes::Placed;
+
+/// How many bytes are read at once.
+const PIECE: usize = 64;
+
+/// What stands before the first NUL, or all.
+#[tactic(auto, using(crate::proofs::NameLemmas::parts_at_nul))]
+fn before_nul(bytes: &[u8]) -> &[u8]
+    ensures { result.now ≡ before_first (λ b. b == 0) bytes.now }
+{
+    match memchr(0, bytes) {
+        Some(end) => &bytes[..end],
+        None => bytes,
+    }
+}
+
+/// Adds bytes to a name.
+fn push_all(name: &mut Vec<u8, Heap>, bytes: &[u8]) -> Result<(), CheckFault>
+    ensures pushed { OnOk result (name.new.items ≡ name.old.items ++ bytes.now) }
+    ensures fault { IfErr result (λ fault. fault ≡ CheckFault.OutOfMemory) }
+{
+    match name.extend_from_slice(bytes) {
+        Ok(()) => Ok(()),
+        Err(_) => Err(CheckFault::OutOfMemory),
+    }
+}
+
+/// The name from an offset on of the strings, `size` bytes that stand in the table from `first` on. It ends before the
+/// first NUL, or with the strings; past their end there is none, and it is empty.
+///
+/// # Errors
+///
+/// Those of [`Pages::read`].
+pub fn name_from<P: Placed>(
+    heap: Heap,
+    device: &mut P,
+    table: &mut Pages,
+    first: u64,
+    size: u64,
+    offset: u64,
+) -> Result<Vec<u8, Heap>, CheckFault>
+    requires { first + size < 2 ^ 64 }
+    ensures claim { table.new.claim ≡ table.old.claim }
+    ensures keeps { (text all : List ℕ) → P.whole device.old ≡ Some text → ArePagesOf table.old text all
+        → ArePagesOf table.new text all }
+    ensures read { ReadsStored P.whole P.failures device.old device.new result
+        (λ text name. (all strings : List ℕ) → ArePagesOf table.old text all → Stands all first strings
+        → length strings ≡ size → name.items ≡ before_first (λ b. b == 0) (drop offset strings))
+        (λ text. (all : List ℕ) → AreStored text (claim_view table.old.claim) all → ArePagesOf table.old text all
+        → first + size ≤ length all → ⊥) }
+{
+    let mut name = Vec::new(heap);
+    let mut at = offset;
+    'pieces: while at < size {
+        let n = (size - at).min(PIECE as u64) as usize;
+        let mut room = [0; PIECE];
+        let piece = &mut room[..n];
+        table.read(device, first + at, piece)?;
+        let part = before_nul(piece);
+        push_all(&mut name, part)?;
+        if part.len() < n {
+            return Ok(name);
+        }
+        at += n as u64;
+    }
+    Ok(name)
+}

@@ -1,0 +1,14 @@
+//! A stored table, and where its parts stand.
+
+ghost use Rattle.std.specs.Prelude.{◌+◌, ◌*◌, ◌<◌, ◌^◌};
+
+use crate::head::Head;
+use checked_pages::Pages;
+
+/// The table of a slice, opened: its head was read.
+#[derive(Drop)]
+pub struct Table {
+    pub(crate) pages: Pages,
+    pub(crate) head: Head,
+    ghost size: { 40 + 32 * head.sections + 21 * head.rows + head.strings < 2 ^ 64 },
+}
