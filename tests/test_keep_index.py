@@ -236,7 +236,8 @@ class PutByHand(IndexCase):
         same("first error", errors[0], f"symarch-keep: {self.room.archive}: {told}")
         same("check after it", self.check(2)[0], [line])
         self.room.file("good.sym", archive(made))
-        same("repair", self.room.call("repair", self.room.archive, "good.sym")[0], [line.replace("changed", "repaired")])
+        said, _ = self.room.call("repair", self.room.archive, "good.sym")
+        same("repair", said, [line.replace("changed", "repaired")])
         self.is_indexed(archive(made))
 
     def test_one_as_long_as_it_was(self) -> None:
