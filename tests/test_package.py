@@ -117,6 +117,8 @@ def command(folder: Path, environment: Dict[str, str], name: str, does: str) -> 
 class Contents(PackageCase):
     """What is made, and what is in it."""
 
+    seconds = 8
+
     def test_names(self) -> None:
         packages = sorted(self.made.names.values())
         wanted = [*packages, "SHA256SUMS"]
@@ -180,7 +182,8 @@ class Contents(PackageCase):
     def test_documents(self) -> None:
         """Each has the words that it has in the repository, but for links to what is not packed."""
         tree = self.made.tree()
-        for it in ("README.md", "CHANGELOG.md", "docs/COMMANDS.md", "docs/FILES.md", "docs/OPERATING.md"):
+        below = ("COMMANDS", "FILES", "GLOSSARY", "OPERATING")
+        for it in ("README.md", "CHANGELOG.md", *(f"docs/{name}.md" for name in below)):
             packed, text = tree[f"{DOC}/{it}"].decode(), (TOP / it).read_text(encoding="utf-8")
             unlinked = re.compile(r"\[([^]]*)\]\([^)]*\)")
             self.assertEqual(unlinked.sub(r"\1", packed), unlinked.sub(r"\1", text), it)
@@ -249,6 +252,8 @@ class Contents(PackageCase):
 class Unpacked(PackageCase):
     """The tools of a package that is unpacked anywhere."""
 
+    seconds = 6
+
     @classmethod
     def setUpClass(cls) -> None:
         super().setUpClass()
@@ -284,7 +289,9 @@ class Unpacked(PackageCase):
             self.assertEqual((done.returncode, done.stdout, done.stderr), (0, f"{name} {self.made.version}\n", ""))
 
     def test_ctrl_c_at_any_moment(self) -> None:
-        """A tool that is ended as it begins says nothing of where it was."""
+        """A tool that is ended as it begins says nothing of where it was. An older env cannot make the signal wait."""
+        if ran("env", "--block-signal=INT", "true").returncode:
+            raise Without("env has no option --block-signal")
         words = [self.home / "bin/symbolicate-report", CRASHES / "arm64.crash", TOP / "examples/first/empty.sym"]
         for milliseconds in range(0, 60, 2):
             with subprocess.Popen(words, env=self.alone, stdout=subprocess.PIPE, stderr=subprocess.PIPE) as run:
@@ -346,6 +353,8 @@ def anchors_in(text: str) -> Set[str]:
 
 class Words(PackageCase):
     """Manual pages and completion."""
+
+    seconds = 6
 
     def test_forms_of_text(self) -> None:
         self.assertEqual(manual.body(TEXT), ROFF.strip("\n").split("\n"))
@@ -481,6 +490,8 @@ class Words(PackageCase):
 class Refusals(FolderCase):
     """Words with which nothing is made, and the beginning of what is said."""
 
+    seconds = 5
+
     def setUp(self) -> None:
         super().setUp()
         if not os.access(symarch, os.X_OK):
@@ -546,6 +557,8 @@ WHAT_IS_THERE = "for it in rt symarch man; do command -v $it || echo no $it; don
 
 class InRoot(PackageCase):
     """The packages in a fresh root, after the first three command lines of README."""
+
+    seconds = 15
 
     root: ClassVar[str]
     # What came of looking around before, and of the three lines.

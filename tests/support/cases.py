@@ -12,16 +12,15 @@ import hashlib
 import os
 import pathlib
 import subprocess
-import sys
 import tempfile
 import textwrap
 import unittest
-from typing import Any, Callable, Iterable, Iterator, List, Optional, Sequence, Tuple, Union
+from typing import Any, Iterable, Iterator, List, Optional, Sequence, Union
 
 from .program import NOT_ROOT, TOP, Ended, Word, call, is_done, symarch
 
 __all__ = ["TOP", "FolderCase", "ProgramCase", "Without", "Wrong", "digest_of", "is_done", "pieces_in"]
-__all__ += ["powerless_over", "same", "symarch", "try_all"]
+__all__ += ["powerless_over", "same", "symarch"]
 
 
 # The words of a command, in a list or with spaces between them; the lines of a text, in a list or as they stand, where
@@ -139,34 +138,3 @@ class ProgramCase(FolderCase):
         at OUT, and the line for people, which names its path and what is known of it."""
         tells = [f"symarch: {where}: {fault}", f"  {where} is {hint}"]
         self.expect(words, tells=tells, status=2, **how)
-
-
-# ---- the cases of tests/old: how one is tried, and the last line over all of them
-
-
-def outcome(name: str, case: Callable[[Any], None], room_at: Callable[[pathlib.Path], Any]) -> Any:
-    """Whether a case passed, or None where it was left out. It has a folder, which is removed."""
-    folder = pathlib.Path(tempfile.mkdtemp(prefix=f"{name}-"))
-    try:
-        case(room_at(folder))
-        return True
-    except Without as reason:
-        print(f"{name}: left out: {case.__name__}: {reason}", file=sys.stderr)
-        return None
-    except Exception as wrong:
-        print(f"{name}: {case.__name__}: {type(wrong).__name__}: {wrong}", file=sys.stderr)
-        return False
-    finally:
-        remove(folder)
-
-
-def try_all(name: str, cases: Tuple[Callable[[Any], None], ...], words: List[str], room_at: Any) -> int:
-    """Tries the cases that words name, without words all. Prints the last line, and returns the status."""
-    chosen = [case for case in cases if not words or case.__name__ in words]
-    outcomes = [False]
-    if not os.access(symarch, os.X_OK):
-        print(f"{name}: there is no program {symarch}", file=sys.stderr)
-    elif chosen:
-        outcomes = [outcome(name, case, room_at) for case in chosen]
-    print(f"{outcomes.count(True)} passed, {outcomes.count(False)} failed")
-    return 0 if True in outcomes and False not in outcomes else 1
