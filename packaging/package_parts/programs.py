@@ -7,7 +7,7 @@ import re
 import subprocess
 from typing import Iterable, List, NamedTuple, Sequence, Set, Tuple, Union
 
-# As `  admit        Take Mach-O images into an archive`.
+# As `  admit        Add Mach-O images to an archive`.
 COMMAND = re.compile(r" +([a-z][\w-]*)(?:  +(.*))?")
 # As `  <FILE>...  The Mach-O files to take`.
 ARGUMENT = re.compile(r"  <(\w+)>(\.\.\.)?(?:  +(.*))?")
