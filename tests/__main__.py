@@ -2,7 +2,8 @@
 several classes of tests at once, each by `unittest` in a process of its own. Prints what a class says if not all of it
 passed, and last `N passed, M failed`. The status is 0 if M is 0.
 
-A class with `is_alone = True` runs when no other does. The classes that take longest begin first, by their `seconds`."""
+Of a class with `is_side_by_side = True` each test has a process of its own; one with `is_alone = True` runs when no
+other does. Those that take longest begin first, by their `seconds`."""
 import argparse
 import os
 import re
@@ -44,6 +45,8 @@ def classes_in(suite: unittest.TestSuite) -> Iterator[Tuple[str, Type[unittest.T
             yield from classes_in(one)
         elif type(one).__module__ == "unittest.loader":
             yield one.id().partition("_FailedTest.")[2], type(one)
+        elif getattr(one, "is_side_by_side", False):
+            yield one.id(), type(one)
         else:
             yield f"{type(one).__module__}.{type(one).__qualname__}", type(one)
 

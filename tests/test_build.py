@@ -63,8 +63,8 @@ class BuildCase(FolderCase):
             self.file(f"top/crates/{name}/src/lib.rt", f"// {name}\n")
         self.file("top/crates.txt", "".join(f"{name}: {' '.join([*used, 'hex'])}\n" for name, used in CRATES.items()))
         self.file("top/HANDLES", "")
-        for script in ("symarch", BUILD):
-            self.file(f"top/{script}", (TOP / script).read_bytes()).chmod(0o755)
+        for path in ("symarch", BUILD, "packaging/crate_list.py", "packaging/proofs.py"):
+            self.file(f"top/{path}", (TOP / path).read_bytes()).chmod(0o755)
         self.file("bin/rt", RT).chmod(0o755)
         self.made = self.top / "crates/symarch/out/symarch"
         self.builds = self.cache / "symarch/builds.json"
@@ -78,7 +78,8 @@ class BuildCase(FolderCase):
 
     def ended(self, run: "subprocess.Popen[bytes]", status: int = 0, out: str = "") -> List[str]:
         """The lines of a run on standard error, after it has ended so."""
-        printed, said = run.communicate(timeout=60)
+        with run:
+            printed, said = run.communicate(timeout=60)
         self.assertEqual((run.returncode, printed.decode()), (status, out), said.decode())
         return lines_of(said)
 
@@ -160,7 +161,7 @@ class AtOnce(BuildCase):
         self.build(FROM_NOTHING)
         self.change("low", "// another\n")
         self.calls()
-        runs = [self.begin("word", script=it, PAUSE="0.25") for it in scripts]
+        runs = [self.begin(*(["word"] if it == "symarch" else []), script=it, PAUSE="0.25") for it in scripts]
         outs = {"symarch": "the program: word\n", BUILD: ""}
         lines = [line for run, it in zip(runs, scripts) for line in self.ended(run, out=outs[it])]
         self.assertEqual((self.calls(), lines.count(WAITS), lines.count(NOTHING_TO_DO)), (1, 1, 1), lines)
@@ -191,10 +192,21 @@ class Symarch(BuildCase):
 
     def test_no_rt(self) -> None:
         (self.folder / "bin/rt").unlink()
-        for tool in ("awk", "dirname", "env", "find", "python3", "realpath", "sh"):
+        for tool in ("dirname", "env", "find", "python3", "realpath", "sh"):
             (self.folder / "bin" / tool).symlink_to(str(shutil.which(tool)))
         lines = self.ended(self.begin(script="symarch", PATH=f"{self.folder}/bin"), status=126)
         self.assertEqual(lines[0], "symarch: there is no command rt")
+        self.assertEqual(lines[-1], "symarch: by Python 3.8 or later")
+
+    def test_a_crate_that_it_does_not_stand_on(self) -> None:
+        self.build(FROM_NOTHING)
+        self.calls()
+        with (self.top / "crates.txt").open("a") as file:
+            file.write("above: symarch\n")
+        os.utime(self.top / "crates.txt", (0, 0))
+        self.change("above", "// newer\n")
+        (self.folder / "bin/rt").unlink()
+        self.assertEqual(self.ended(self.begin("word", script="symarch"), out="the program: word\n"), [])
 
 
 class NotBuilt(BuildCase):

@@ -1,8 +1,10 @@
 """Archives whose bytes rest on their files alone: fixed times and owners, and the files in the order of their paths."""
+from __future__ import annotations
+
 import gzip
 import io
 import tarfile
-from typing import NamedTuple
+from typing import IO, Iterable, Mapping, NamedTuple, Sequence, Set, Tuple, cast
 
 
 class File(NamedTuple):
@@ -12,26 +14,26 @@ class File(NamedTuple):
     is_program: bool = False
 
 
-def folders_of(paths):
+def folders_of(paths: Iterable[str]) -> Set[str]:
     """The folders in which the files of these paths lie, each before what lies in it."""
-    found = set()
+    found: Set[str] = set()
     for path in paths:
         parts = path.split("/")[:-1]
         found.update("/".join(parts[: i + 1]) for i in range(len(parts)))
     return found
 
 
-def member(path, seconds, mode):
+def member(path: str, seconds: int, mode: int) -> tarfile.TarInfo:
     made = tarfile.TarInfo(path)
     made.mtime, made.mode, made.uname, made.gname = seconds, mode, "root", "root"
     return made
 
 
-def tar_gz(files, top, seconds):
+def tar_gz(files: Mapping[str, File], top: str, seconds: int) -> bytes:
     """The files below a folder, which stands in the archive too."""
     made = io.BytesIO()
     with gzip.GzipFile("", "wb", 9, made, mtime=seconds) as packed:
-        with tarfile.open(fileobj=packed, mode="w", format=tarfile.GNU_FORMAT) as tar:
+        with tarfile.open(fileobj=cast(IO[bytes], packed), mode="w", format=tarfile.GNU_FORMAT) as tar:
             folders = dict.fromkeys(["", *folders_of(files)])
             for path in sorted([*folders, *files]):
                 if path in folders:
@@ -45,7 +47,7 @@ def tar_gz(files, top, seconds):
     return made.getvalue()
 
 
-def ar(members, seconds):
+def ar(members: Sequence[Tuple[str, bytes]], seconds: int) -> bytes:
     """An archive of ar(1), which a package of Debian is."""
     made = b"!<arch>\n"
     for name, data in members:

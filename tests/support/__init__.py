@@ -10,4 +10,7 @@
 - traces            what a program asks of the system, by strace
 - second_lines      the second line of a fault
 - fresh_root        a system of Debian's essential packages
+- reports           cases over symbolicate-report, and archives of the images of examples/crash
+- packages          what packaging/package makes
+- command_table     the commands of the program and their arguments, by its table
 """

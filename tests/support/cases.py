@@ -2,7 +2,7 @@
 
     class New(ProgramCase):
         def test_an_empty_archive(self) -> None:
-            self.expect(["new", "out"], prints=["archive: 0 records, 17 bytes"])
+            self.expect("new out", prints="archive: 0 records, 17 bytes")
             self.has_bytes("out", EMPTY)
 
 `python3 -B -m unittest tests.test_words.New.test_an_empty_archive` runs this case alone. The program is the one that
@@ -12,15 +12,29 @@ import hashlib
 import os
 import pathlib
 import subprocess
-import sys
 import tempfile
+import textwrap
 import unittest
-from typing import Any, Callable, Iterable, Iterator, List, Sequence, Tuple, Union
+from typing import Any, Iterable, Iterator, List, Optional, Sequence, Union
 
 from .program import NOT_ROOT, TOP, Ended, Word, call, is_done, symarch
 
 __all__ = ["TOP", "FolderCase", "ProgramCase", "Without", "Wrong", "digest_of", "is_done", "pieces_in"]
-__all__ += ["powerless_over", "same", "symarch", "try_all"]
+__all__ += ["powerless_over", "same", "symarch"]
+
+
+# The words of a command, in a list or with spaces between them; the lines of a text, in a list or as they stand, where
+# the space before all of them does not count.
+Words = Union[str, Sequence[Word]]
+Text = Union[str, Sequence[str]]
+
+
+def words_of(words: Words) -> Sequence[Word]:
+    return words.split(" ") if isinstance(words, str) else words
+
+
+def text_lines(text: Text) -> List[str]:
+    return textwrap.dedent(text).strip("\n").splitlines() if isinstance(text, str) else list(text)
 
 
 class Wrong(AssertionError):
@@ -111,40 +125,16 @@ class ProgramCase(FolderCase):
         return call([*before, symarch, *words], cwd=self.folder, **how)
 
     def expect(
-        self, words: Sequence[Word], prints: Sequence[str] = (), tells: Sequence[str] = (), status: int = 0, **how: Any
+        self, words: Words, prints: Optional[Text] = "", tells: Text = "", status: int = 0, **how: Any
     ) -> None:
-        """Fails where the program ends with another status, or prints other lines, or others on standard error."""
-        came = self.call(*words, **how)
-        wanted = (status, list(prints), list(tells))
-        self.assertEqual((came.status, came.lines, came.error_lines), wanted, f"of {words}")
+        """Fails where the program ends with another status, or prints other lines, or others on standard error. None as
+        what it prints is anything."""
+        came = self.call(*words_of(words), **how)
+        wanted = (status, came.lines if prints is None else text_lines(prints), text_lines(tells))
+        self.assertEqual((came.status, came.lines, came.error_lines), wanted, f"of {words!r}")
 
-
-# ---- the cases of tests/old: how one is tried, and the last line over all of them
-
-
-def outcome(name: str, case: Callable[[Any], None], room_at: Callable[[pathlib.Path], Any]) -> Any:
-    """Whether a case passed, or None where it was left out. It has a folder, which is removed."""
-    folder = pathlib.Path(tempfile.mkdtemp(prefix=f"{name}-"))
-    try:
-        case(room_at(folder))
-        return True
-    except Without as reason:
-        print(f"{name}: left out: {case.__name__}: {reason}", file=sys.stderr)
-        return None
-    except Exception as wrong:
-        print(f"{name}: {case.__name__}: {type(wrong).__name__}: {wrong}", file=sys.stderr)
-        return False
-    finally:
-        remove(folder)
-
-
-def try_all(name: str, cases: Tuple[Callable[[Any], None], ...], words: List[str], room_at: Any) -> int:
-    """Tries the cases that words name, without words all. Prints the last line, and returns the status."""
-    chosen = [case for case in cases if not words or case.__name__ in words]
-    outcomes = [False]
-    if not os.access(symarch, os.X_OK):
-        print(f"{name}: there is no program {symarch}", file=sys.stderr)
-    elif chosen:
-        outcomes = [outcome(name, case, room_at) for case in chosen]
-    print(f"{outcomes.count(True)} passed, {outcomes.count(False)} failed")
-    return 0 if True in outcomes and False not in outcomes else 1
+    def expect_refusal(self, words: Words, where: str, fault: str, hint: str, **how: Any) -> None:
+        """Fails where a command is not refused so: nothing is printed, and standard error has the fault at an input or
+        at OUT, and the line for people, which names its path and what is known of it."""
+        tells = [f"symarch: {where}: {fault}", f"  {where} is {hint}"]
+        self.expect(words, tells=tells, status=2, **how)

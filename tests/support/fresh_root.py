@@ -3,6 +3,7 @@ import os
 import re
 import shutil
 import subprocess
+from typing import Dict, Iterable, List, Sequence, Set
 
 FIELDS = "${Package}\\t${Essential}\\t${Depends}, ${Pre-Depends}\\t${Provides}\\n"
 LINKED = ("bin", "sbin", "lib", "lib32", "lib64", "libx32")
@@ -23,27 +24,28 @@ class NotGranted(Exception):
     """What keeps a root from being made or entered here."""
 
 
-def said(words, **how):
-    return subprocess.run(words, stdout=subprocess.PIPE, check=True, **how).stdout.decode()
+def said(words: Sequence[str]) -> str:
+    return subprocess.run(words, stdout=subprocess.PIPE, check=True).stdout.decode()
 
 
-def names_in(text):
+def names_in(text: str) -> List[List[str]]:
     """For each dependency the packages of which one is enough."""
     wanted = filter(None, (it.strip() for it in text.split(",")))
     return [[re.split(r"[ :(]", it.strip())[0] for it in one.split("|")] for one in wanted]
 
 
-def chosen(names, depends, provided):
+def chosen(names: Sequence[str], depends: Dict[str, List[List[str]]], provided: Dict[str, str]) -> str:
     """The first of these packages that is there, by its own name or as what another one provides."""
     return next((it if it in depends else provided[it] for it in names if it in depends or it in provided), "")
 
 
-def closure():
+def closure() -> List[str]:
     """The essential packages and Python's, with all that they depend on."""
     rows = [it.split("\t") for it in said(["dpkg-query", "-W", "-f", FIELDS]).splitlines()]
     depends = {name: names_in(text) for name, _, text, _ in rows}
     provided = {one[0]: name for name, _, _, text in rows for one in names_in(text)}
-    left, found = [name for name, essential, _, _ in rows if essential == "yes"] + ["python3"], set()
+    left = [name for name, essential, _, _ in rows if essential == "yes"] + ["python3"]
+    found: Set[str] = set()
     while left:
         name = left.pop()
         if name in depends and name not in found:
@@ -54,7 +56,7 @@ def closure():
     return sorted(found)
 
 
-def files_of(packages):
+def files_of(packages: Iterable[str]) -> List[str]:
     """The paths of what the packages have, by the folders in which they are."""
     found = {f"/{it}" for it in LINKED if os.path.islink(f"/{it}")}
     for path in said(["dpkg-query", "-L", *packages]).splitlines():
@@ -64,7 +66,7 @@ def files_of(packages):
     return sorted(it for it in found if os.path.islink(it) or os.path.isfile(it) or os.path.isdir(it))
 
 
-def make(root):
+def make(root: str) -> None:
     """Makes the root. Its packages are those that dpkg is told of."""
     if not shutil.which("dpkg-query"):
         raise NotGranted("this is no system of Debian")
@@ -72,8 +74,8 @@ def make(root):
     listed = "\0".join(it.lstrip("/") for it in files_of(packages)).encode()
     words = ["tar", "-C", "/", "--no-recursion", "--null", "--ignore-failed-read", "-cf", "-", "-T", "-"]
     # What may not be read is of no use to the root's own commands.
-    streams = {"stdout": subprocess.PIPE, "stderr": subprocess.DEVNULL}
-    packed = subprocess.run(words, input=listed, check=True, **streams).stdout
+    nothing = subprocess.DEVNULL
+    packed = subprocess.run(words, input=listed, check=True, stdout=subprocess.PIPE, stderr=nothing).stdout
     subprocess.run(["tar", "-C", root, "--no-same-owner", "-xf", "-"], input=packed, check=True)
     for folder in FOLDERS:
         os.makedirs(f"{root}/{folder}", exist_ok=True)
@@ -88,14 +90,14 @@ def make(root):
         raise NotGranted("the rights to mount and to change the root are not granted")
 
 
-def run(root, script):
+def run(root: str, script: str) -> "subprocess.CompletedProcess[str]":
     """Runs the lines of a script in the root, as its own superuser, in the home of that one."""
     with open(f"{root}/root/.script", "w", encoding="utf-8") as file:
         file.write(script + "\n")
     alone = ["unshare", "--mount"] if os.geteuid() == 0 else ["unshare", "--mount", "--map-root-user"]
     words = [*alone, "sh", "-c", ENTER, "sh", root, PATH, ".script"]
-    streams = {"stdin": subprocess.DEVNULL, "stdout": subprocess.PIPE, "stderr": subprocess.PIPE}
+    nothing = subprocess.DEVNULL
     try:
-        return subprocess.run(words, errors="replace", text=True, check=False, **streams)
+        return subprocess.run(words, errors="replace", text=True, check=False, capture_output=True, stdin=nothing)
     except FileNotFoundError:
         raise NotGranted("there is no command unshare") from None

@@ -1,16 +1,18 @@
 """Trees of files of every kind, and the lines that `symarch-keep add` has to print of each."""
 import struct
+from typing import Dict, List, Optional, Tuple
 
 from .made_images import ARM64, ARM64_32, ARM64E, DYLIB, EXECUTE, OBJECT, UUID_COMMAND, X86_64, X86_64H
 from .made_images import image, line, symbols_outside, thirty_two_bit, universal, without_uuid
+from .rooms import Room
 
 
-def taken_files(room):
+def taken_files(room: Room) -> Tuple[List[bytes], List[str], List[str], List[str]]:
     """Files that have slices which go in: these, their lines, and the lines of the parts that stay out."""
     made = [image(number, more=b"%d" % number) for number in range(7)]
     made += [image(20, ARM64), image(21, ARM64_32), image(22, X86_64H), image(23, ARM64E), image(24, kind=OBJECT)]
     application, kit = "Shop.xcarchive/Products/Applications/Shop.app", "Frameworks/Kit.framework"
-    places = {
+    places: Dict[str, Tuple[Optional[bytes], List[int]]] = {
         "App.dSYM/Contents/Resources/DWARF/App": (made[0], [0]),
         f"{application}/{kit}/Versions/A/Kit": (made[3], []),
         f"{application}/{kit}/Kit": (None, [3]),
@@ -34,7 +36,7 @@ def taken_files(room):
     return made, lines, over, ["tree/lib/broken.dylib: Slice(1, Symbols(SymbolsOutside))"]
 
 
-def passed_over(room):
+def passed_over(room: Room) -> List[str]:
     """Files that are passed over, and the lines that say so."""
     library, bitcode = b"!<arch>\n" + bytes(100), b"BC\xc0\xde"
     objects = "object files without a UUID"
@@ -63,7 +65,7 @@ def passed_over(room):
     return [f"tree/over/{name}: passed over: {kind}".replace("over/../", "") for name, kind in kinds]
 
 
-def refused_files(room):
+def refused_files(room: Room) -> List[str]:
     """Files that `admit` refuses, and the lines that say so, by the tables of docs/FILES.md."""
     whole = image(40)
     with_two = struct.pack("<8I", 0xFEEDFACF, *X86_64, EXECUTE, 2, 48, 0, 0) + image(41)[32:] * 2

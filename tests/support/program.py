@@ -14,6 +14,7 @@ NOT_ROOT = ["setpriv", "--bounding-set=-dac_override,-dac_read_search"]
 MOST_SECONDS = 300
 
 Word = Union[str, bytes, "os.PathLike[str]"]
+Environment = Optional[Mapping[str, str]]
 
 
 class Ended(NamedTuple):
@@ -40,7 +41,7 @@ def lines_of(text: bytes) -> List[str]:
     return lines + ([f"{rest}(no end)"] if rest else [])
 
 
-def call(words: Sequence[Word], *, stdin: Any = b"", environment: Optional[Mapping[str, str]] = None, **how: Any) -> Ended:
+def call(words: Sequence[Word], *, stdin: Any = b"", environment: Environment = None, **how: Any) -> Ended:
     """Runs words to their end. `stdin` is the bytes of standard input, or an open file; `environment` is added to the
     one of the tests."""
     given = {"input": stdin} if isinstance(stdin, bytes) else {"stdin": stdin}

@@ -1,7 +1,11 @@
 """What a program asks of the system that makes, changes or removes a file, by strace."""
 import itertools
 import os
+import pathlib
 import re
+from typing import List, Optional, Tuple
+
+from .program import Word
 
 CALLS = {
     "open": ("open", "openat", "creat"),
@@ -20,45 +24,52 @@ QUOTED = re.compile(r'"(.*?)"')
 WRITES = ("O_WRONLY", "O_RDWR", "O_CREAT", "O_TRUNC")
 
 
-def words(trace):
+def words(trace: Word) -> List[Word]:
     """The words that run a program, and write to a file what it calls. Descriptors stand there with their paths."""
     return ["strace", "-y", "-s", "0", "-qq", "-o", trace, "-e", "trace=" + ",".join(KINDS)]
 
 
-def steps(text, folder):
+def steps(text: str, folder: pathlib.Path) -> List[str]:
     """The calls that were done, with paths from a folder on, where a draft is DRAFT. Several writes in turn are one.
     What is below /dev is left out, but for the standard streams."""
-    found = filter(None, (step(line, folder) for line in text.split("\n")))
-    return [it for it, _ in itertools.groupby(found)]
+    found = [step(line, folder) for line in text.split("\n")]
+    return [it for it, _ in itertools.groupby(found) if it]
 
 
-def step(line, folder):
+def step(line: str, folder: pathlib.Path) -> Optional[str]:
+    """The call of a line, if it was done and is one of these."""
     read = LINE.match(line)
     if not read or int(read[3]) < 0:
         return None
     kind, given = KINDS[read[1]], read[2]
     if kind in ("write", "sync"):
-        number, path = DESCRIPTOR.match(given).groups()
+        number, path = descriptor_in(given)
         return {"1": "report", "2": "fault"}.get(number) or f"{kind} {named(path, folder)}"
     paths = QUOTED.findall(given)
-    if kind == "open":
-        kind = opening(read[1], given)
-    if kind is None or paths[0].startswith("/dev/"):
+    what = opening(read[1], given) if kind == "open" else kind
+    if what is None or paths[0].startswith("/dev/"):
         return None
-    return " ".join([kind, *(named(path, folder) for path in paths)])
+    return " ".join([what, *(named(path, folder) for path in paths)])
 
 
-def input_in(line, folder):
+def descriptor_in(given: str) -> Tuple[str, str]:
+    """The number and the path of the descriptor that stands first."""
+    found = DESCRIPTOR.match(given)
+    assert found is not None, given
+    return found[1], found[2]
+
+
+def input_in(line: str, folder: pathlib.Path) -> Optional[str]:
     """The path of the file that is opened to be read in a line, or closed."""
     read = LINE.match(line)
     if not read or int(read[3]) < 0:
         return None
     if read[1] == "close":
-        return named(DESCRIPTOR.match(read[2])[2], folder)
-    return named(QUOTED.search(read[2])[1], folder) if opening(read[1], read[2]) is None else None
+        return named(descriptor_in(read[2])[1], folder)
+    return named(QUOTED.findall(read[2])[0], folder) if opening(read[1], read[2]) is None else None
 
 
-def opening(call, given):
+def opening(call: str, given: str) -> Optional[str]:
     """How a file is opened, unless it is only read."""
     flags = set(re.findall(r"O_\w+", given))
     if call == "creat" or "O_CREAT" in flags:
@@ -68,5 +79,5 @@ def opening(call, given):
     return "open" if flags.intersection(WRITES) else None
 
 
-def named(path, folder):
-    return DRAFT.sub("DRAFT", os.path.relpath(os.path.join(folder, path), folder))
+def named(path: str, folder: pathlib.Path) -> str:
+    return DRAFT.sub("DRAFT", os.path.relpath(folder / path, folder))

@@ -1,7 +1,7 @@
 """Keeps an archive of symarch: puts images and dSYMs into it, exchanges with other sites, checks and repairs it.
 
-The program is the one that SYMARCH names; else the one that ./symarch built beside this tool; else `symarch` in PATH.
-None is built here.
+The program is the one that SYMARCH names; else the one that ./symarch built, or that was installed with this tool; else
+`symarch` in PATH. None is built here: if SYMARCH names the script ./symarch, the program that it built is called.
 
 What comes in goes into ARCHIVE.today, a small archive beside ARCHIVE, and `fold` joins it into ARCHIVE. What a site has
 is what both have together: `symbolicate-report` asks both, and so does `symarch frames FRAMES ARCHIVE.today ARCHIVE`.
@@ -13,15 +13,18 @@ removes.
 
 Beside them stand their indexes, ARCHIVE.idx and ARCHIVE.today.idx, with the SHA-256 of each slice as it came in and
 where it stands; ARCHIVE.idx.sum and ARCHIVE.today.idx.sum, the SHA-256 of each index; ARCHIVE.log, the lines of the
-words with their dates; and ARCHIVE.asked, what `exchange` asked with. Keep them with ARCHIVE. An archive of version 1
-has no index, and becomes one of version 2."""
+words with their dates; ARCHIVE.asked, what `exchange` asked with; ARCHIVE.site, which tells this site from another one
+of its name; and ARCHIVE.lost, what was there and is not, if there is such. Keep them with ARCHIVE. An archive of
+version 1 has no index, and becomes one of version 2 by the next word that writes."""
 import argparse
 import os
 import sys
+from typing import NoReturn, Optional, Sequence
 
 from .keeping import adding, checking, exchanging, folding, repairing, retiring, stating
-from .keeping.screen import Failed, Screen, shown
-from .keeping.stopping import Stopped, answer_signals, end_by_signal, ignore_signals
+from .keeping.screen import Failed, Screen, system_text
+from .signals import Stopped, signals
+from .version import PrintVersion
 
 WORDS = {
     "add": adding,
@@ -37,23 +40,31 @@ WORDS = {
 class Parser(argparse.ArgumentParser):
     """Words. Others end with status 3, as with the program."""
 
-    def error(self, message):
+    def error(self, message: str) -> NoReturn:
         self.print_usage(sys.stderr)
         self.exit(3, f"{self.prog}: {message}\n")
 
 
-def parse(words):
-    shape = {"formatter_class": argparse.RawDescriptionHelpFormatter, "allow_abbrev": False}
-    parser = Parser("symarch-keep", description=__doc__, **shape)
+def parse(words: Sequence[str]) -> argparse.Namespace:
+    shape = argparse.RawDescriptionHelpFormatter
+    parser = Parser("symarch-keep", description=__doc__, formatter_class=shape, allow_abbrev=False)
+    parser.add_argument("--version", action=PrintVersion, nargs=0, help="print the version and exit")
     commands = parser.add_subparsers(metavar="WORD", required=True)
     for name, module in WORDS.items():
-        its = commands.add_parser(name, help=module.ABOUT, usage=module.USAGE, description=module.__doc__, **shape)
+        its = commands.add_parser(
+            name,
+            help=module.ABOUT,
+            usage=module.USAGE,
+            description=module.__doc__,
+            formatter_class=shape,
+            allow_abbrev=False,
+        )
         module.define(its)
         its.set_defaults(carry_out=module.carry_out)
     return parser.parse_args(words)
 
 
-def open_standard_streams():
+def open_standard_streams() -> None:
     """Keeps a file that is opened from standing in the place of a standard stream that is closed."""
     for descriptor in range(3):
         try:
@@ -62,34 +73,31 @@ def open_standard_streams():
             os.open(os.devnull, os.O_RDONLY)
 
 
-def carry_out(words):
+def carry_out(words: argparse.Namespace) -> int:
     """Carries out a word, and says why it failed."""
-    more = []
     try:
         return words.carry_out(words)
-    except Failed as failed:
-        text, status, *more = failed.args
+    except Failed as fault:
+        failed = fault
     except OSError as error:
-        path = f"{shown(os.fsencode(error.filename))}: " if isinstance(error.filename, (bytes, str)) else ""
-        text, status = f"{path}{error.strerror}", 4
-    Screen().line(f"{text}; the archive is as it was" if status == 4 else text)
-    for line in filter(None, more):
-        Screen().write(f"{line}\n")
-    return status
+        failed = Failed(system_text(error))
+    screen = Screen()
+    screen.line(f"{failed.text}; the archive is as it was" if failed.status == 4 else failed.text)
+    if failed.more:
+        screen.write(f"{failed.more}\n")
+    return failed.status
 
 
-def main(words=None):
+def main(given: Optional[Sequence[str]] = None) -> int:
     open_standard_streams()
-    words = parse(sys.argv[1:] if words is None else words)
+    words = parse(sys.argv[1:] if given is None else given)
     status = 4
     try:
-        answer_signals()
+        signals.answer()
         status = carry_out(words)
-        ignore_signals()
+        signals.ignore()
     except Stopped:
         # The exception is gone after this, and with it what it met.
         pass
-    if Stopped.number:
-        end_by_signal()
+    signals.end()
     return status
-

@@ -7,6 +7,9 @@
 - program           the program symarch
 - upgrading         what was kept before there were indexes
 - archive_file      an archive file, and what is known of it
+- lock              the lock of an archive
+- log               the lines of the words with their dates
+- losing            what was there and is not
 - archive           an archive in its folder, with what came in lately, and how a new one takes its place
 - adding            `add`
 - folding           `fold`

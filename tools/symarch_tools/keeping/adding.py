@@ -32,33 +32,36 @@ Status:
   3    the words have another form
   4    ARCHIVE could not be read or written, or memory ran out: ARCHIVE is as it was
   126  there is no program"""
+import argparse
 import collections
 import functools
 import os
+from typing import Dict, List, Sequence, Set, Union
 
 from .archive import Archive
 from .archive_file import NO_UUID
 from .contents import Content
 from .program import Program
-from .screen import Refused, Screen
-from .slices import Finder, compared
+from .screen import Screen, SliceRefused
+from .slices import Finder, Slice, compared
 
 USAGE = "symarch-keep add [--verbose] [--dry-run] ARCHIVE PATH..."
 ABOUT = "put images and dSYMs into it"
 
 
-def define(parser):
+def define(parser: argparse.ArgumentParser) -> None:
     parser.add_argument("--verbose", action="store_true", help="name what is passed over")
     parser.add_argument("--dry-run", action="store_true", help="print what would come of it, and write nothing")
     parser.add_argument("archive", metavar="ARCHIVE")
     parser.add_argument("paths", metavar="PATH", nargs="+", help="one that begins with - comes after the word --")
 
 
-def read_all(slices, screen):
+def read_all(slices: Sequence[Slice], screen: Screen) -> List[Slice]:
     """The slices that can be read, whose digests are known then."""
     files = len({one.path for one in slices})
     screen.begin(f"reading: {{}} of {files} files", sum(one.length for one in slices))
-    done, paths, kept = 0, set(), []
+    done, kept = 0, []
+    paths: Set[bytes] = set()
     for one in slices:
         paths.add(one.path)
         try:
@@ -66,12 +69,12 @@ def read_all(slices, screen):
                 done += len(chunk)
                 screen.progress(len(paths), done)
             kept.append(one)
-        except Refused as refused:
+        except SliceRefused as refused:
             screen.refuse(one.path, refused)
     return kept
 
 
-def mark(slices, content):
+def mark(slices: Sequence[Slice], content: Content) -> None:
     """Says of each slice whether it is retired, known or added."""
     held = set(content.held)
     for one in slices:
@@ -79,7 +82,9 @@ def mark(slices, content):
         held.add(one.entry())
 
 
-def put(archive, program, slices, screen, is_dry_run):
+def put(
+    archive: Archive, program: Program, slices: Sequence[Slice], screen: Screen, is_dry_run: bool
+) -> Sequence[Slice]:
     """Puts slices into the archive, and returns those that are in it or retired there."""
     content = archive.content(program, screen)
     while True:
@@ -88,7 +93,9 @@ def put(archive, program, slices, screen, is_dry_run):
         if not refused:
             return slices
         # What is wrong with the bytes of a slice is wrong with the same bytes in other files.
-        reasons = {each.one.entry() if each.is_of_bytes else each.one: each for each in refused}
+        reasons: Dict[Union[bytes, Slice], SliceRefused] = {
+            each.one.entry() if each.is_of_bytes else each.one: each for each in refused
+        }
         kept = []
         for one in slices:
             reason = reasons.get(one) or reasons.get(one.entry())
@@ -99,47 +106,54 @@ def put(archive, program, slices, screen, is_dry_run):
         slices = kept
 
 
-def put_new(archive, program, content, slices, screen, is_dry_run):
+def put_new(
+    archive: Archive,
+    program: Program,
+    content: Content,
+    slices: Sequence[Slice],
+    screen: Screen,
+    is_dry_run: bool,
+) -> List[SliceRefused]:
     """Puts those that are new into the archive, or returns why some of them are refused."""
-    new = []
+    new: List[Slice] = []
     try:
         new = sorted((one for one in slices if one.word == "added"), key=functools.cmp_to_key(compared))
         if is_dry_run:
             return refusals(program, new)
         lines = [one.line() for one in slices]
         if not new and archive.main.exists():
-            archive.note(lines, screen)
+            archive.log.note(lines, screen)
             return []
         news = Content((), {one.entry(): one.length for one in new})
         with archive.room() as room:
             archive.put(room, program, news, lines, screen, new)
         return []
-    except Refused as first:
+    except SliceRefused as first:
         return [first, *refusals(program, [one for one in new if one is not first.one])]
 
 
-def refusals(program, slices):
+def refusals(program: Program, slices: Sequence[Slice]) -> List[SliceRefused]:
     """Why the program refuses some of the slices, which are in the order of their records. It reads each once."""
-    found = []
+    found: List[SliceRefused] = []
     while slices:
         try:
             program.run(["find", "/dev/stdin", NO_UUID], slices)
             break
-        except Refused as refused:
+        except SliceRefused as refused:
             found.append(refused)
             slices = slices[slices.index(refused.one) + 1 :]
     return found
 
 
-def carry_out(words):
+def carry_out(words: argparse.Namespace) -> int:
     screen = Screen(words.verbose)
     program = Program()
     archive = Archive(os.fsencode(words.archive), is_made=True, writes=not words.dry_run)
     finder = Finder(screen)
     finder.find([os.fsencode(path) for path in words.paths])
-    slices = read_all(finder.slices, screen)
+    readable = read_all(finder.slices, screen)
     archive.take_lock(screen)
-    slices = put(archive, program, slices, screen, words.dry_run)
+    slices = put(archive, program, readable, screen, words.dry_run)
     screen.show([one.line() for one in slices])
     count = collections.Counter(one.word for one in slices)
     kinds = ", ".join(f"{kind} {number}" for kind, number in sorted(screen.passed_over.items()))

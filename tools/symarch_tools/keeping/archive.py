@@ -7,144 +7,141 @@ ARCHIVE.log, and FILE.idx.next becomes FILE.idx. Whoever comes after a kill sees
 and does the others. ARCHIVE.today is emptied after ARCHIVE has all of it, so at any moment both have together what they
 had."""
 import contextlib
-import fcntl
 import os
 import shutil
 import stat
 import tempfile
-import time
+from typing import Iterator, List, Optional, Sequence, Tuple
 
+from ..signals import signals
 from . import upgrading
 from .archive_file import INDEX, INDEX_SUM, NEXT_INDEX, ArchiveFile
-from .archive_file import append_synced, note_of, size_of, sync_folder, write_synced
-from .contents import EMPTY, Content, heads_in, kept_text, words_of
-from .indexes import held_against, index_by, index_in, index_of
-from .screen import Failed, shown
-from .stopping import AT_END, Later
+from .archive_file import note_of, size_of, sync_folder, write_synced
+from .contents import EMPTY, Content, heads_in, kept_text
+from .indexes import Index, Row, held_against, index_by, index_in, index_of
+from .lock import Lock
+from .log import Log, dated
+from .losing import LOST, Lost, counted, lost_lines
+from .program import DESCRIPTORS, Program
+from .screen import Failed, Screen, shown
+from .slices import Slice
 
-TODAY, LOG, NEXT_LOG, ASKED = b".today", b".log", b".log.next", b".asked"
+TODAY, ASKED = b".today", b".asked"
 # What a kill may leave; rooms are folders in which a word works.
 ROOM = b".making-"
-DATE = "%Y-%m-%dT%H:%M:%SZ"
 # ARCHIVE.today has grown if it has more than one of so many parts of ARCHIVE.
 PARTS = 10
 
 
 class Archive:
-    """The archive that a path names, also through links, with what came in since its last fold."""
+    """The archive that a path names, also through links, with what came in since its last fold. Who does not write
+    changes nothing."""
 
-    def __init__(self, path, is_made=False, writes=True, may_be_damaged=False):
+    def __init__(
+        self, path: bytes, is_made: bool = False, writes: bool = True, may_be_damaged: bool = False
+    ) -> None:
         self.path = os.path.realpath(path)
         self.folder, self.name = os.path.split(self.path)
-        self.writes, self.lock, self.rooms_made = writes, None, 0
+        self.writes, self.rooms_made = writes, 0
         self.main, self.today = ArchiveFile(self.path, b"main"), ArchiveFile(self.beside(TODAY), b"today")
         self.files = self.main, self.today
         if not is_made:
             os.stat(self.path)
         for file, named in zip(self.files, (path, path + TODAY)):
             if not may_be_damaged and not file.begins_as_archive():
-                raise Failed(f"{shown(named)} is no archive", 4)
-        try:
-            self.lock = os.open(self.beside(b".lock"), (os.O_RDWR | os.O_CREAT) if writes else os.O_RDONLY, 0o666)
-        except PermissionError:
-            # Another user made it.
-            self.lock = os.open(self.beside(b".lock"), os.O_RDONLY)
-        except FileNotFoundError:
-            if writes:
-                raise
+                raise Failed(f"{shown(named)} is no archive")
+        self.log = Log(self.path, self.room)
+        self.lock = Lock(self.path, writes)
+        self.lost = Lost(self.beside(LOST))
 
-    def beside(self, ending):
+    def beside(self, ending: bytes) -> bytes:
         return self.path + ending
 
-    def take_lock(self, screen):
+    def take_lock(self, screen: Screen) -> None:
         """Waits until no other call has the lock, and goes on where one was killed."""
-        if self.lock is None:
-            return
-        if not self.is_free():
-            screen.line(f"waiting for another symarch-keep at {shown(self.path)}")
-            fcntl.flock(self.lock, fcntl.LOCK_EX)
+        self.lock.take(screen)
         if self.writes:
             # A signal may come as a folder is made, or as it is removed.
-            AT_END.append(self.remove_rooms)
+            signals.at_end.append(self.remove_rooms)
             self.remove_rooms()
             self.go_on(screen)
+        self.lost = Lost(self.beside(LOST))
+        if self.lost.fault:
+            screen.fail(f"{shown(self.lost.path)}: {self.lost.fault}, so what is lost is not known")
 
-    def is_free(self):
-        """Whether nobody else has the lock. It is taken then."""
-        try:
-            fcntl.flock(self.lock, fcntl.LOCK_EX | fcntl.LOCK_NB)
-            return True
-        except BlockingIOError:
-            return False
+    def release_lock(self) -> None:
+        if self.remove_rooms in signals.at_end:
+            signals.at_end.remove(self.remove_rooms)
+        self.lock.release()
 
-    def release_lock(self):
-        if self.remove_rooms in AT_END:
-            AT_END.remove(self.remove_rooms)
-        fcntl.flock(self.lock, fcntl.LOCK_UN)
-
-    def rooms(self):
+    def rooms(self) -> List[bytes]:
         return sorted(name for name in os.listdir(self.folder) if name.startswith(self.name + ROOM))
 
-    def remove_rooms(self):
+    def remove_rooms(self) -> None:
         for name in self.rooms():
             shutil.rmtree(os.path.join(self.folder, name), ignore_errors=True)
 
     @contextlib.contextmanager
-    def room(self):
+    def room(self) -> Iterator[bytes]:
         """A folder beside the archive. Only who has the lock makes one. The outermost one removes all of them."""
         self.rooms_made += 1
         try:
             yield tempfile.mkdtemp(prefix=self.name + ROOM, dir=self.folder)
         finally:
-            with Later():
+            with signals.later():
                 self.rooms_made -= 1
                 if self.rooms_made == 0:
                     self.remove_rooms()
 
     # ---- what it has
 
-    def content(self, program, screen):
+    def content(self, program: Program, screen: Screen) -> Content:
         """What both files have together, as the last word left them. What is another file since is seen anew."""
         others = [file for file in self.files if not file.recall(screen)]
         if not self.writes:
             for file in others:
                 file.read(program, screen)
+                if file.index or file.doubt:
+                    file.vouch(index_by(file.content, file.path), screen)
             return self.joined()
         self.see_anew(others, program, screen)
         # Where a fold was killed before it did that.
         if len(self.today.content) and not len(self.today.content.beyond(self.main.content)):
             with self.room() as room:
                 self.empty_today(room, screen)
+        self.settle()
         return self.joined()
 
-    def joined(self):
+    def joined(self) -> Content:
         return self.main.content.joined(self.today.content)
 
-    def see_anew(self, others, program, screen, tells=True):
-        """Indexes files that are others since the last word, and returns the lines of what changed or is lost. Without
-        `tells` they are left untold, and then the files stay others."""
+    def see_anew(self, others: Sequence[ArchiveFile], program: Program, screen: Screen) -> None:
+        """Indexes files that are others since the last word, and says what changed or is lost."""
         if not others:
-            return []
+            return
         with self.room() as room:
-            lines = self.compare(others, room, program, screen)
-            if tells:
-                self.tell_lost(lines, screen)
-            if tells or not lines:
-                self.keep(others, room, screen)
-        return lines
+            changed, lost = self.compare(others, room, program, screen)
+            # What is lost is noted before the index goes that has it.
+            self.lose(lost, screen, changed)
+            self.keep(others, room, screen)
 
-    def compare(self, others, room, program, screen):
-        """Holds files against what is known of them, and takes what they have. A slice that changed keeps its entry."""
-        lines, lost = [], Content()
+    def compare(
+        self, others: Sequence[ArchiveFile], room: bytes, program: Program, screen: Screen
+    ) -> Tuple[List[str], Content]:
+        """Holds files against what is known of them, and takes what they have. A slice that changed keeps its entry.
+        Returns the lines of what changed, and what is lost."""
+        lines: List[str] = []
+        lost = Content()
         for file in others:
             made = self.indexed(file, room, program, screen)
-            file.index, changed, more = held_against(file.content or Content(), made)
+            file.vouch(made, screen)
+            file.index, changed, more = held_against(file.content, made)
             file.content, lost = file.index.content(), lost.joined(more)
             lines += [changed_line(row, file.path) for row in changed]
-        return lines + lost_lines(lost.beyond(self.joined()))
+        return lines, lost.beyond(self.joined())
 
     @staticmethod
-    def indexed(file, room, program, screen):
+    def indexed(file: ArchiveFile, room: bytes, program: Program, screen: Screen) -> Index:
         """The index of a file; of one of version 1 that of version 2 of it, which is made in the room."""
         if not file.exists():
             return index_of([])
@@ -155,30 +152,58 @@ class Archive:
             path = os.path.join(room, file.name)
         return index_made(path, room, program, screen)
 
-    def keep(self, others, room, screen):
+    def keep(self, others: Sequence[ArchiveFile], room: bytes, screen: Screen) -> None:
         """Keeps the indexes of files, and puts version 2 of those of version 1 in their place."""
         for file in others:
-            new = os.path.join(room, file.name)
+            new, index = os.path.join(room, file.name), file.index or index_of([])
             if os.path.exists(new):
                 os.replace(new, os.path.join(room, b"new"))
-                self.replace(room, file, file.index, [], screen)
+                self.replace(room, file, index, [], screen)
                 screen.line(f"{shown(file.path)}: was of version 1, and is of version 2 now")
             elif file.exists():
-                self.lay_index(room, file, INDEX, file.index, file.path)
+                self.lay_index(room, file, INDEX, index, file.path)
             else:
                 file.drop(INDEX, INDEX_SUM)
             file.drop(upgrading.SUM)
 
-    def tell_lost(self, lines, screen):
+    # ---- what is lost
+
+    def lose(self, lacking: Content, screen: Screen, changed: Sequence[str] = ()) -> None:
+        """Says and notes what changed, and what the archive had and lacks."""
+        lines = [*changed, *lost_lines(self.lost.add(lacking.beyond(self.joined())))]
         if lines:
-            retired = sum(line.startswith("lost retired ") for line in lines)
-            told = f"slices {len(lines) - retired}, retirements {retired}"
-            screen.line(f"{shown(self.path)}: changed or lost: {told}; its log names them")
-            self.note(lines, screen)
+            screen.fail(f"{shown(self.path)}: changed or lost: {counted(lines)}; its log names them")
+            self.log.note(lines, screen)
+        self.keep_lost()
+
+    def settle(self) -> None:
+        """Drops of what was lost what is back."""
+        self.lost.settle(self.joined())
+        self.keep_lost()
+
+    def keep_lost(self) -> None:
+        text = self.lost.text()
+        if not self.lost.is_changed():
+            return
+        if text:
+            with self.room() as room:
+                self.lay(room, self.lost.path, text)
+        else:
+            self.drop(LOST)
+        self.lost.written = text
 
     # ---- what comes in
 
-    def put(self, room, program, news, lines, screen, slices=(), more=None):
+    def put(
+        self,
+        room: bytes,
+        program: Program,
+        news: Content,
+        lines: Sequence[str],
+        screen: Screen,
+        slices: Sequence[Slice] = (),
+        more: Optional[bytes] = None,
+    ) -> None:
         """Joins news, which slices or an archive of the room have, to ARCHIVE.today; or to ARCHIVE, with all of
         ARCHIVE.today."""
         if not self.is_to_be_folded():
@@ -190,32 +215,51 @@ class Archive:
         self.join(room, program, self.main, news, lines, screen, slices, more)
         self.empty_today(room, screen)
 
-    def is_to_be_folded(self):
+    def is_to_be_folded(self) -> bool:
         """Whether ARCHIVE.today has grown, or there is no ARCHIVE."""
         return PARTS * self.today.size() >= self.main.size()
 
-    def fold(self, room, program, screen):
+    def fold(self, room: bytes, program: Program, screen: Screen) -> None:
         """Joins ARCHIVE.today into ARCHIVE, and empties it."""
         if len(self.today.content):
             self.join(room, program, self.main, self.today.content, [], screen, more=self.today.path)
         self.empty_today(room, screen)
 
-    def join(self, room, program, file, news, lines, screen, slices=(), more=None):
+    def join(
+        self,
+        room: bytes,
+        program: Program,
+        file: ArchiveFile,
+        news: Content,
+        lines: Sequence[str],
+        screen: Screen,
+        slices: Sequence[Slice] = (),
+        more: Optional[bytes] = None,
+    ) -> None:
         """Puts the join of a file with news in its place."""
         self.merge(room, program, file, b"new", screen, slices, more)
         self.replace(room, file, self.new_index(room, file, file.content.joined(news)), lines, screen)
 
     @staticmethod
-    def new_index(room, file, content):
+    def new_index(room: bytes, file: ArchiveFile, content: Content) -> Index:
         """The index of the new file of a room, which has a content but for slices that changed in the files of which it
         was made: these keep their entries, so that `check` finds them. No other slice is read for it."""
         new = os.path.join(room, b"new")
         with open(new, "rb") as written:
             if heads_in(written) != content.heads():
-                raise Failed(f"something in {shown(file.path)} changed; `symarch-keep check` says what", 4)
+                raise Failed(f"something in {shown(file.path)} changed; `symarch-keep check` says what")
         return index_by(content, new)
 
-    def merge(self, room, program, file, name, screen, slices, more):
+    def merge(
+        self,
+        room: bytes,
+        program: Program,
+        file: ArchiveFile,
+        name: bytes,
+        screen: Screen,
+        slices: Sequence[Slice],
+        more: Optional[bytes],
+    ) -> None:
         """Has the program write the join of a file with slices, or with another archive, into the room. No command
         writes a file that it reads."""
         old, new = file.path, os.path.join(room, name)
@@ -228,15 +272,15 @@ class Archive:
             # Words that are no UTF-8 are refused, so no word has the archive's path. The program holds the lock too,
             # since it may outlive this one for a moment.
             read = [opened.enter_context(open(path, "rb")).fileno() for path in filter(None, (old, more))]
-            first, *others = [f"/dev/fd/{number}" for number in read]
+            first, *others = [f"{DESCRIPTORS}/{number}" for number in read]
             words = ["merge", first, os.fsdecode(name), *(others or ["/dev/stdin"])]
             names = dict(zip(words[1:], map(shown, filter(None, (old, new, more)))))
-            moved = lambda done: screen.progress(done, written_in(room))
-            program.run(words, slices, room, (*read, self.lock), moved, names)
+            held = [*read, *filter(None, [self.lock.descriptor])]
+            program.run(words, slices, room, held, lambda done: screen.progress(done, written_in(room)), names)
         if not os.path.exists(new):
-            raise Failed(f"{program.path} wrote no archive", 4)
+            raise Failed(f"{program.path} wrote no archive")
 
-    def empty_today(self, room, screen):
+    def empty_today(self, room: bytes, screen: Screen) -> None:
         if self.today.exists() and not len(self.today.content):
             return
         try:
@@ -248,18 +292,18 @@ class Archive:
 
     # ---- what takes the place of a file
 
-    def replace(self, room, file, index, lines, screen):
+    def replace(self, room: bytes, file: ArchiveFile, index: Index, lines: Sequence[str], screen: Screen) -> None:
         """Gives the new file of a room, which is synced, the name of a file, and what it may have of the archive's
         owner and rights. Syncs the name. A signal waits until that is done."""
-        with Later():
+        with signals.later():
             self.put_in_place(os.path.join(room, b"new"), room, file, index, lines)
             file.index, file.content = index, index.content()
             self.finish(file, screen)
 
-    def put_in_place(self, new, room, file, index, lines):
-        before = self.pending()
+    def put_in_place(self, new: bytes, room: bytes, file: ArchiveFile, index: Index, lines: Sequence[str]) -> None:
+        before = self.log.pending()
         try:
-            self.lay(room, self.beside(NEXT_LOG), before + dated(lines))
+            self.lay(room, self.log.next, before + dated(lines))
             self.lay_index(room, file, NEXT_INDEX, index, new)
             self.give_rights(new)
             # What is known of the new archive is there before it.
@@ -267,11 +311,11 @@ class Archive:
             os.replace(new, file.path)
         except OSError:
             file.drop(NEXT_INDEX)
-            self.leave_pending(len(before))
+            self.log.leave_pending(len(before))
             raise
         sync_folder(self.folder)
 
-    def give_rights(self, path):
+    def give_rights(self, path: bytes) -> None:
         with contextlib.suppress(OSError):
             status = os.stat(self.path)
             for owner, group in ((-1, status.st_gid), (status.st_uid, -1)):
@@ -279,16 +323,17 @@ class Archive:
                     os.chown(path, owner, group)
             os.chmod(path, stat.S_IMODE(status.st_mode))
 
-    def finish(self, file, screen, following=NEXT_INDEX, last=INDEX):
+    def finish(
+        self, file: ArchiveFile, screen: Screen, following: bytes = NEXT_INDEX, last: bytes = INDEX
+    ) -> None:
         """The steps after the rename. The archive has all, also where one of them fails."""
         try:
-            self.append(self.left_of(self.pending()))
-            self.drop(NEXT_LOG)
+            self.log.add_pending()
             os.replace(file.beside(following), file.beside(last))
         except OSError as error:
-            screen.fail(f"{shown(self.beside(LOG))}: {error.strerror}; the archive has all, and the next call goes on")
+            screen.fail(f"{shown(self.log.path)}: {error.strerror}; the archive has all, and the next call goes on")
 
-    def go_on(self, screen):
+    def go_on(self, screen: Screen) -> None:
         """Does the steps that a kill left to do, and drops what is of a file that was not put in place."""
         following = [file for file in self.files if file.following() is not None]
         before = [file for file in self.files if upgrading.is_in_place(file)]
@@ -300,10 +345,10 @@ class Archive:
             else:
                 file.drop(NEXT_INDEX, upgrading.NEXT_SUM)
         if not following and not before:
-            self.drop(NEXT_LOG)
+            self.log.drop_pending()
         self.upgrade(screen)
 
-    def upgrade(self, screen):
+    def upgrade(self, screen: Screen) -> None:
         """Makes the indexes of files of which symarch-keep kept sums. Version 1 has none."""
         for file in self.files:
             if upgrading.has_sum(file) and not file.is_of_version_1():
@@ -311,83 +356,36 @@ class Archive:
                     self.index_by_sum(file, screen)
                 file.drop(upgrading.SUM)
 
-    def index_by_sum(self, file, screen):
+    def index_by_sum(self, file: ArchiveFile, screen: Screen) -> None:
         content = upgrading.old_content(file, screen)
         if content is not None:
             with self.room() as room:
                 # Nothing says whether the file is still that of its sum, so its heads are compared.
                 self.lay_index(room, file, INDEX, index_by(content, file.path))
 
-    def pending(self):
-        """The lines that are still to be added to the log."""
-        try:
-            with open(self.beside(NEXT_LOG), "rb") as file:
-                return file.read()
-        except FileNotFoundError:
-            return b""
-
-    def leave_pending(self, size):
-        """Drops the lines after so many bytes. It needs no room on the disk."""
-        if size:
-            os.truncate(self.beside(NEXT_LOG), size)
-        else:
-            self.drop(NEXT_LOG)
-
-    def left_of(self, text):
-        """What the log lacks of lines. Who wrote them to it may have been killed meanwhile."""
-        try:
-            with open(self.beside(LOG), "rb") as file:
-                file.seek(max(size_of(self.beside(LOG)) - len(text), 0))
-                end, at = file.read(), 0
-        except FileNotFoundError:
-            return text
-        while not text.startswith(end[at:]):
-            at = end.find(b"\n", at) + 1 or len(end)
-        return text[len(end) - at :]
-
-    def append(self, text):
-        """Adds lines to the log."""
-        if not text:
-            return
-        try:
-            append_synced(self.beside(LOG), text)
-        except PermissionError:
-            # Another user made it: it is replaced, as the archive is.
-            with self.room() as room:
-                copy = os.path.join(room, b"log")
-                shutil.copyfile(self.beside(LOG), copy)
-                append_synced(copy, text)
-                os.replace(copy, self.beside(LOG))
-
-    def note(self, lines, screen):
-        """Adds lines to the log where no archive is written."""
-        try:
-            if lines:
-                self.append(dated(lines))
-        except OSError as error:
-            screen.fail(f"{shown(self.beside(LOG))}: {error.strerror}")
-
-    def lay(self, room, path, data):
+    def lay(self, room: bytes, path: bytes, data: bytes) -> None:
         """Makes a file beside the archive, whole and synced."""
         kept = os.path.join(room, b"kept")
         write_synced(kept, [data])
         self.give_rights(kept)
         os.replace(kept, path)
 
-    def lay_index(self, room, file, ending, index, path=None):
+    def lay_index(
+        self, room: bytes, file: ArchiveFile, ending: bytes, index: Index, path: Optional[bytes] = None
+    ) -> None:
         """Makes an index beside a file, after what is noted of it and of the index before it: its SHA-256, and of which
         file it was made."""
         notes = [*file.notes_of_index(), note_of(index.text, path)]
         self.lay(room, file.beside(INDEX_SUM), kept_text(Content(), notes))
         self.lay(room, file.beside(ending), index.text)
 
-    def drop(self, *endings):
+    def drop(self, *endings: bytes) -> None:
         for ending in endings:
             with contextlib.suppress(FileNotFoundError):
                 os.unlink(self.beside(ending))
 
 
-def index_made(path, room, program, screen):
+def index_made(path: bytes, room: bytes, program: Program, screen: Screen) -> Index:
     """The index of an archive, by the program."""
     screen.begin("indexing the archive")
     program.run_over(path, "index", "index", folder=room)
@@ -395,22 +393,12 @@ def index_made(path, room, program, screen):
         return index_in(file.read())
 
 
-def changed_line(row, path, word="changed"):
+def changed_line(row: Row, path: bytes, word: str = "changed") -> str:
     """The line of a record that changed: what it was, and where in which file it stands."""
     return f"{word} {row.words()} {row.at} {shown(path)}"
 
 
-def lost_lines(lost):
-    lines = [f"lost {words_of(entry)}" for entry in sorted(lost.held)]
-    return lines + [f"lost retired {words_of(entry)}" for entry in sorted(lost.retired)]
-
-
-def dated(lines):
-    now = time.strftime(DATE, time.gmtime())
-    return "".join(f"{now} {line}\n" for line in lines).encode()
-
-
-def written_in(room):
+def written_in(room: bytes) -> int:
     """How many bytes the program has written of a new file. Until that is whole they are in a draft beside it."""
     names = (name for name in os.listdir(room) if name in (b"new", b"grown") or name.startswith(b".symarch-"))
     return sum(size_of(os.path.join(room, name)) for name in names)

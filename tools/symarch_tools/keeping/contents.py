@@ -6,6 +6,7 @@ import os
 import re
 import struct
 import uuid
+from typing import BinaryIO, Callable, Collection, Dict, Iterable, Iterator, List, Optional, Set, Tuple
 
 MAGICS = (b"MSYMARC2", b"MSYMARC1")
 SUMMARY = b"MSYMSUM1"
@@ -23,63 +24,79 @@ NUMBERED = re.compile("cpu:([0-9a-fA-F]{8})/([0-9a-fA-F]{8})")
 FIRST, LAST = "symarch-keep 1\n", "sha256 "
 
 
+# What is called for each piece of a file that is read, with its length.
+Moved = Callable[[int], None]
+
+
 class Malformed(Exception):
     """Why bytes are no archive, no summary, or no file that is kept beside an archive."""
+
+    def __init__(self, reason: str) -> None:
+        super().__init__(reason)
+        self.reason = reason
+
+
+def unmoved(_size: int) -> None:
+    """For a file of which nobody watches how far it is read."""
 
 
 class Content:
     """A set of retirements, by key and digest, and the slices that none of them withdraws, with their lengths."""
 
-    def __init__(self, retired=(), held=()):
-        self.retired, self.held = set(retired), dict(held)
+    def __init__(self, retired: Iterable[bytes] = (), held: Optional[Dict[bytes, int]] = None) -> None:
+        self.retired: Set[bytes] = set(retired)
+        self.held: Dict[bytes, int] = dict(held or {})
 
-    def __eq__(self, other):
-        return (self.retired, self.held) == (other.retired, other.held)
+    def __eq__(self, other: object) -> bool:
+        return isinstance(other, Content) and (self.retired, self.held) == (other.retired, other.held)
 
-    def __len__(self):
+    def __len__(self) -> int:
         return len(self.retired) + len(self.held)
 
-    def joined(self, other):
+    def joined(self, other: "Content") -> "Content":
         retired = self.retired | other.retired
         held = {**self.held, **other.held}
         return Content(retired, {entry: length for entry, length in held.items() if entry not in retired})
 
-    def beyond(self, other):
+    def beyond(self, other: "Content") -> "Content":
         """What `other` has neither as it is here nor withdrawn."""
-        is_new = lambda entry: entry not in other.held and entry not in other.retired
-        held = {entry: length for entry, length in self.held.items() if is_new(entry)}
+        held = {
+            entry: length
+            for entry, length in self.held.items()
+            if entry not in other.held and entry not in other.retired
+        }
         return Content(self.retired - other.retired, held)
 
-    def heads(self):
+    def heads(self) -> List[bytes]:
         """The records in their order, without the bytes of slices."""
         admissions = (head_of(entry[:KEY], length) for entry, length in self.held.items())
         return sorted(RETIREMENT + entry for entry in self.retired) + sorted(admissions)
 
-    def size(self):
+    def size(self) -> int:
         """How long its archive is."""
         return MAGIC + sum(map(record_size, self.heads())) + len(END) + LENGTH
 
-    def entries(self):
+    def entries(self) -> List[bytes]:
         return sorted([RETIREMENT + entry for entry in self.retired] + [ADMISSION + entry for entry in self.held])
 
-    def summary(self):
+    def summary(self) -> bytes:
         return summary_of(self.entries())
 
 
-def head_of(key, length):
+def head_of(key: bytes, length: int) -> bytes:
     return ADMISSION + key + length.to_bytes(LENGTH, "big")
 
 
-def record_size(head):
+def record_size(head: bytes) -> int:
     """How long a record is, by its head."""
     return len(head) + (int.from_bytes(head[-LENGTH:], "big") if head[:1] == ADMISSION else 0)
 
 
-def summary_of(entries):
+def summary_of(entries: Collection[bytes]) -> bytes:
     return SUMMARY + b"".join(entries) + END + len(entries).to_bytes(LENGTH, "big")
 
 
-def entries_in(summary):
+def entries_in(summary: bytes) -> List[bytes]:
     """The entries of a summary."""
     size = len(RETIREMENT) + ENTRY
     body = summary[MAGIC : -LENGTH - len(END)]
@@ -89,7 +106,7 @@ def entries_in(summary):
     return entries
 
 
-def content_of(entries):
+def content_of(entries: Iterable[bytes]) -> Content:
     """The content whose summary has these entries, where the lengths of slices are not known."""
     retired = [entry[1:] for entry in entries if entry[:1] == RETIREMENT]
     return Content(retired, {entry[1:]: 0 for entry in entries if entry[:1] == ADMISSION})
@@ -98,14 +115,14 @@ def content_of(entries):
 # ---- archives
 
 
-def exactly(file, size):
+def exactly(file: BinaryIO, size: int) -> bytes:
     data = file.read(size)
     if len(data) < size:
         raise Malformed("ends early")
     return data
 
 
-def records_in(file):
+def records_in(file: BinaryIO) -> Iterator[Tuple[bytes, int]]:
     """The head of each record of an archive, and where its slice begins; the file stands there. The bytes of slices are
     not looked at."""
     file.seek(0)
@@ -123,7 +140,7 @@ def records_in(file):
         raise Malformed("has no right end")
 
 
-def heads_in(file):
+def heads_in(file: BinaryIO) -> Optional[List[bytes]]:
     """The heads of an archive's records; None where it is none, or where retirements beside their slices have to be
     read together, as in version 1."""
     try:
@@ -134,12 +151,12 @@ def heads_in(file):
     return heads if file.read(MAGIC) == MAGICS[0] else None
 
 
-def chunks_in(file):
+def chunks_in(file: BinaryIO) -> Iterator[bytes]:
     """What is left of a file."""
     return iter(lambda: file.read(CHUNK), b"")
 
 
-def digest_in(file, at, length, moved=lambda size: None):
+def digest_in(file: BinaryIO, at: int, length: int, moved: Moved = unmoved) -> bytes:
     """The SHA-256 of so many bytes of a file, or of what there is of them."""
     digest = hashlib.sha256()
     file.seek(at)
@@ -150,7 +167,7 @@ def digest_in(file, at, length, moved=lambda size: None):
     return digest.digest()
 
 
-def content_in(file, moved=lambda size: None):
+def content_in(file: BinaryIO, moved: Moved = unmoved) -> Content:
     """The content of an archive, which is read to its end."""
     content = Content()
     for head, at in records_in(file):
@@ -165,39 +182,40 @@ def content_in(file, moved=lambda size: None):
 # ---- words
 
 
-def arch_of(numbers):
+def arch_of(numbers: Tuple[int, int]) -> str:
     return NAMES.get(numbers) or "cpu:{:08x}/{:08x}".format(*numbers)
 
 
-def words_of(entry):
+def words_of(entry: bytes) -> str:
     """UUID, ARCH and DIGEST of a slice."""
-    name, digits = entry[:16].hex(), entry[KEY:].hex()
-    hyphenated = f"{name[:8]}-{name[8:12]}-{name[12:16]}-{name[16:20]}-{name[20:]}"
-    return f"{hyphenated} {arch_in(entry[16:KEY])} {digits}"
+    return f"{uuid.UUID(bytes=entry[:16])} {arch_in(entry[16:KEY])} {entry[KEY:].hex()}"
 
 
 @functools.lru_cache(maxsize=None)
-def arch_in(numbers):
-    return arch_of(struct.unpack(">II", numbers))
+def arch_in(numbers: bytes) -> str:
+    cputype, cpusubtype = struct.unpack(">II", numbers)
+    return arch_of((cputype, cpusubtype))
 
 
 @functools.lru_cache(maxsize=None)
-def numbers_of(arch):
+def numbers_of(arch: str) -> bytes:
     """The bytes that an ARCH means; ValueError where it has another form."""
     numbered = NUMBERED.fullmatch(arch)
-    if arch not in NUMBERS and not numbered:
+    if numbered:
+        return struct.pack(">II", *(int(digits, 16) for digits in numbered.groups()))
+    if arch not in NUMBERS:
         raise ValueError("ARCH")
-    return struct.pack(">II", *([int(digits, 16) for digits in numbered.groups()] if numbered else NUMBERS[arch]))
+    return struct.pack(">II", *NUMBERS[arch])
 
 
-def entry_of(name, arch, digest):
+def entry_of(name: str, arch: str, digest: str) -> bytes:
     """The key and the digest that three words mean; ValueError where one has another form."""
     if len(digest) != 2 * DIGEST:
         raise ValueError("DIGEST")
     return uuid.UUID(name).bytes + numbers_of(arch) + bytes.fromhex(digest)
 
 
-def entry_in(name, arch, digest):
+def entry_in(name: str, arch: str, digest: str) -> bytes:
     """The same of the words that `words_of` writes."""
     return bytes.fromhex(name.replace("-", "")) + numbers_of(arch) + bytes.fromhex(digest)
 
@@ -205,7 +223,7 @@ def entry_in(name, arch, digest):
 # ---- files that are kept beside an archive
 
 
-def kept_text(content, notes=()):
+def kept_text(content: Content, notes: Iterable[str] = ()) -> bytes:
     """The text of a file that has a content, and lines of other words before it."""
     lines = [f"{note}\n" for note in notes]
     lines += [f"retired {words_of(entry)}\n" for entry in sorted(content.retired)]
@@ -217,17 +235,18 @@ def kept_text(content, notes=()):
 class Kept:
     """What a file has that is kept beside an archive: the lines of a content, and notes, which are its other lines."""
 
-    def __init__(self, data):
+    def __init__(self, data: bytes) -> None:
         text, last, digest = data.decode(errors="replace").rpartition(LAST)
         if not last or not text.startswith(FIRST) or digest != f"{hashlib.sha256(text.encode()).hexdigest()}\n":
             raise Malformed("is damaged")
         self.lines = text[len(FIRST) :].splitlines()
         self.notes = [line for line in self.lines if not line.startswith(("retired ", "slice "))]
 
-    def content(self):
+    def content(self, begins: str = "") -> Content:
+        """The content of the lines that begin so."""
         content = Content()
         for line in self.lines:
-            word, *more = line.split(" ")
+            word, *more = line[len(begins) :].split(" ") if line.startswith(begins) else [""]
             if word == "retired":
                 content.retired.add(entry_in(*more))
             elif word == "slice":

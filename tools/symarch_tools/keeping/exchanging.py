@@ -10,43 +10,59 @@ FOLDER copied between, all have the same, and after `symarch-keep fold` the same
 FOLDER has the questions and the answers of all sites. Their names say from whom to whom, and carry the SHA-256 of their
 bytes, so a file that is not copied to its end is told, and passed over. No file is ever rewritten.
 
-A question is made of ARCHIVE.idx and ARCHIVE.today.idx, and ARCHIVE.asked has what this site asked with. An answer is
-joined only if the site still has all of it, or its retirement: so one that was restored from a backup asks anew, and is
-never short of what the lost one had. A slice that changed is not sent. ARCHIVE is made if it does not exist; FOLDER is
-not, so a disk that is not mounted is told.
+FOLDER also has the mark of each site: what ARCHIVE.site has beside the archive of that name. If the mark of NAME is
+another one's, nothing is done: choose another NAME. --take-name takes NAME for this site all the same, as after it lost
+its disk; the other one is refused from then on.
+
+A question is made of ARCHIVE.idx and ARCHIVE.today.idx, and ARCHIVE.asked has what this site asked with. If the site
+lacks something of that, as one that was restored from a backup, the call says so and asks anew; each answer that is
+there is joined before it is removed. ARCHIVE.lost has what is lost, and each call ends with 2 until all of it is back,
+or `symarch-keep status --accept` takes it as lost. A slice that changed is not sent. ARCHIVE is made if it does not
+exist; FOLDER is not, so a disk that is not mounted is told.
 
 The lines, which are kept in ARCHIVE.log with the date:
 
   added UUID ARCH DIGEST SITE      the slice came from SITE
   retired UUID ARCH DIGEST SITE    the retirement came from SITE
+  took FILE                        the mark FILE was put into FOLDER by --take-name
   asked FILE                       a question was put into FOLDER
   answered SITE FILE               an answer was put into FOLDER
 
 Status:
   0    done, also if nothing was to do
-  2    some answer or question was refused, some file of FOLDER not read, written or removed, a slice changed, or some
-       line not printed or kept; the rest is done
+  2    some answer or question was refused, some file of FOLDER not read, written or removed, a slice changed, something
+       is lost, or some line not printed or kept; the rest is done
   3    the words have another form
-  4    ARCHIVE could not be read or written, there is no FOLDER, or memory ran out: ARCHIVE is as it was
+  4    ARCHIVE could not be read or written, there is no FOLDER, NAME is another site's, or memory ran out: ARCHIVE is
+       as it was
   126  there is no program"""
+import argparse
 import os
 import re
 import time
+import uuid
+from typing import Callable, Dict, List, Optional, Sequence, Set, Tuple
 
-from .archive import ASKED, DATE, Archive
+from .archive import ASKED, Archive
 from .contents import ADMISSION, Content, Malformed, chunks_in
 from .contents import content_in, content_of, digest_in, entries_in, kept_text, summary_of, words_of
+from .log import DATE
+from .losing import counted, lost_lines
 from .program import Program
-from .screen import Failed, Screen, shown
-from .shared_folder import SHORT, SITE, TIME, SharedFolder, digest_of, question_name, time_after
+from .screen import Failed, Screen, about, shown, system_text
+from .shared_folder import SHORT, SITE, TIME, Answer, Mark, Question, SharedFolder
+from .shared_folder import digest_of, mark_name, question_name, time_after
 
-USAGE = "symarch-keep exchange ARCHIVE FOLDER NAME"
+USAGE = "symarch-keep exchange [--take-name] ARCHIVE FOLDER NAME"
 ABOUT = "exchange with other sites over a folder"
+# What tells this site from another one of the same name.
+IDENTITY = b".site"
 # So many questions of this site may be answered late.
 MOST_ASKED = 1000
 
 
-def define(parser):
+def define(parser: argparse.ArgumentParser) -> None:
+    parser.add_argument("--take-name", action="store_true", help="take NAME, which another site has or had")
     parser.add_argument("archive", metavar="ARCHIVE")
     parser.add_argument("folder", metavar="FOLDER")
     parser.add_argument("name", metavar="NAME")
@@ -56,100 +72,138 @@ class Asked:
     """What this site asked: the times and digests of its questions, of which the last one has this content and all of
     the others; and the dates of what was done with each other site."""
 
-    def __init__(self, archive):
-        self.archive, self.kept, self.last = archive, archive.main.kept(ASKED), None
+    def __init__(self, archive: Archive) -> None:
+        self.archive, self.kept = archive, archive.main.kept(ASKED)
+        self.last: Optional[Content] = None
         notes = self.kept.notes if self.kept else []
-        self.questions = [tuple(note.split(" ")[1:]) for note in notes if note.startswith("asked ")]
-        self.sites = {}
+        self.questions: List[Tuple[str, str]] = []
+        self.sites: Dict[str, Dict[str, str]] = {}
         for note in notes:
-            if note.startswith("site "):
-                _, site, *words = note.split(" ")
-                self.sites[site] = dict(zip(words[::2], words[1::2]))
+            kind, first, *words = note.split(" ")
+            if kind == "asked":
+                self.questions.append((first, words[0]))
+            elif kind == "site":
+                self.sites[first] = dict(zip(words[::2], words[1::2]))
         self.written = self.notes()
 
-    def content(self):
+    def content(self) -> Content:
         """What the last question had."""
         if self.last is None:
             self.last = self.kept.content() if self.kept else Content()
         return self.last
 
-    def may_be_answered(self, content):
-        """Whether an archive with a content has all that was asked with."""
+    def lacking_in(self, content: Content) -> Content:
+        """What was asked with and a content lacks."""
         if self.questions and self.questions[-1][1] == digest_of(content.summary()):
             self.last = content
-        return not len(self.content().beyond(content))
+        return self.content().beyond(content)
 
-    def ask(self, question, content):
+    def ask(self, question: Tuple[str, str], content: Content) -> None:
         self.questions.append(question)
         self.last = content
 
-    def notes(self):
+    def notes(self) -> List[str]:
         notes = [f"asked {at} {digest}" for at, digest in self.questions[-MOST_ASKED:]]
         for site, dates in sorted(self.sites.items()):
             notes.append(" ".join(["site", site, *(word for one in sorted(dates.items()) for word in one)]))
         return notes
 
-    def note(self, site, word, date):
+    def note(self, site: str, word: str, date: time.struct_time) -> None:
         self.sites.setdefault(site, {})[word] = time.strftime(DATE, date)
 
-    def save(self, room):
+    def save(self, room: bytes) -> None:
         if self.notes() != self.written:
             self.written = self.notes()
             self.archive.lay(room, self.archive.beside(ASKED), kept_text(self.content(), self.written))
 
 
+class Identity:
+    """What tells a site from others: random digits, which are made once and kept in ARCHIVE.site."""
+
+    def __init__(self, archive: Archive) -> None:
+        self.archive, self.path = archive, archive.beside(IDENTITY)
+        try:
+            with open(self.path, "rb") as file:
+                self.text, self.is_kept = file.read(), True
+        except FileNotFoundError:
+            self.text, self.is_kept = f"{uuid.uuid4().hex}\n".encode(), False
+
+    def digest(self) -> str:
+        return digest_of(self.text)
+
+    def keep(self, room: bytes) -> None:
+        if not self.is_kept:
+            self.archive.lay(room, self.path, self.text)
+            self.is_kept = True
+
+
 class Exchange:
     """One call, with the lock of its archive."""
 
-    def __init__(self, archive, folder, program, screen):
+    def __init__(self, archive: Archive, folder: SharedFolder, program: Program, screen: Screen) -> None:
         self.archive, self.folder, self.program, self.screen = archive, folder, program, screen
         self.content, self.asked = archive.content(program, screen), Asked(archive)
         # Names that stay in the folder, and those that are done with; sites of which no answer is removed.
-        self.kept, self.done, self.unsure = set(), set(), set()
-        self.lines, self.not_whole = [], 0
+        self.kept: Set[str] = set()
+        self.done: Set[str] = set()
+        self.unsure: Set[str] = set()
+        self.lines: List[str] = []
+        self.not_whole = 0
+        archive.lose(self.lacking(), screen)
+
+    def lacking(self) -> Content:
+        """What this site asked with and lacks, by ARCHIVE.asked, and by its questions in the folder that it does not
+        know any more."""
+        lacking = self.asked.lacking_in(self.content)
+        known = {digest for _, digest in self.asked.questions}
+        for question in self.folder.questions:
+            if question.site == self.folder.site and question.digest not in known:
+                data = self.folder.question(question)
+                if data is not None and is_summary(data):
+                    lacking = lacking.joined(content_of(entries_in(data)).beyond(self.content))
+        return lacking
 
     # ---- what came
 
-    def join(self, room):
-        """Joins the answers to what was asked, where the archive has all that it was asked with."""
-        if not self.asked.may_be_answered(self.content):
-            self.asked.questions = []
+    def join(self, room: bytes) -> None:
+        """Joins the answers that are there, whatever this site asked since."""
         prefixes = {digest[:SHORT] for _, digest in self.asked.questions}
-        origins = {}
+        origins: Dict[bytes, str] = {}
         for answer in self.folder.answers:
             if answer.to != self.folder.site:
                 continue
-            if answer.question not in prefixes:
-                self.done.add(answer.name)
-            elif self.folder.fetch(answer, os.path.join(room, b"answer")):
+            if self.folder.fetch(answer, os.path.join(room, b"answer")):
                 self.take(room, answer, origins)
-            else:
+            elif answer.question in prefixes or len(self.archive.lost.content):
                 self.pass_over(answer.name)
+            else:
+                self.done.add(answer.name)
         if not self.archive.main.exists():
             self.make_total(room)
         if os.path.exists(os.path.join(room, b"total")):
             self.put(room, origins)
+        self.archive.settle()
 
-    def make_total(self, room):
+    def make_total(self, room: bytes) -> None:
         if not os.path.exists(os.path.join(room, b"total")):
             self.program.run(["new", "total"], folder=room)
 
-    def pass_over(self, name):
+    def pass_over(self, name: str) -> None:
         """A file that is not whole may come to be so, for a day."""
         self.not_whole += 1
         if self.folder.is_old(name):
             self.done.add(name)
 
-    def take(self, room, answer, origins):
+    def take(self, room: bytes, answer: Answer, origins: Dict[bytes, str]) -> None:
         """Joins one answer with those before it, and notes of each entry from where it came."""
         try:
             with open(os.path.join(room, b"answer"), "rb") as file:
                 came = content_in(file)
-            names = {"answer": shown(self.folder.at(answer.name))}
             self.make_total(room)
+            names = {"answer": shown(self.folder.at(answer.name))}
             self.program.run(["merge", "total", "joined", "answer"], folder=room, names=names)
         except (Failed, Malformed) as fault:
-            self.screen.refuse(self.folder.at(answer.name), fault.args[0])
+            self.screen.refuse(self.folder.at(answer.name), fault)
             return
         os.replace(os.path.join(room, b"joined"), os.path.join(room, b"total"))
         self.asked.note(answer.site, "joined", time.gmtime())
@@ -157,7 +211,7 @@ class Exchange:
         for entry in [*came.retired, *came.held]:
             origins.setdefault(entry, answer.site)
 
-    def put(self, room, origins):
+    def put(self, room: bytes, origins: Dict[bytes, str]) -> None:
         """Puts what the archive lacks of the answers into it."""
         write_file(room, b"ours", self.content.summary())
         self.program.run(["delta", "total", "ours", "missing"], folder=room)
@@ -173,14 +227,28 @@ class Exchange:
             self.content = content
             self.lines += lines
 
+    # ---- what it is called
+
+    def mark(self, room: bytes, identity: Identity, takes: bool) -> None:
+        """Puts the mark of this site into the folder, unless the last one of its name is this."""
+        last = last_mark(self.folder)
+        if last != identity.digest():
+            name = mark_name(self.folder.site, time_after(one.time for one in self.folder.marks), identity.digest())
+            identity.keep(room)
+            self.folder.put([identity.text], name)
+            self.kept.add(name)
+            self.lines += [f"took {name}"] * (takes and bool(last))
+        else:
+            self.kept.add(max(self.folder.marks, key=when_marked).name)
+
     # ---- what is asked
 
-    def ask(self, room):
+    def ask(self, room: bytes) -> None:
         """Asks with what the archive has, unless the last question in the folder has that."""
         own = [one for one in self.folder.questions if one.site == self.folder.site]
         summary = self.content.summary()
         digest, times = digest_of(summary), [one.time for one in own] + [at for at, _ in self.asked.questions]
-        last = self.asked.questions[-1] if self.asked.questions else (None, None)
+        last = self.asked.questions[-1] if self.asked.questions else ("", "")
         if last[1] != digest or last[0] < max(times):
             last = (time_after(times), digest)
             self.asked.ask(last, self.content)
@@ -194,9 +262,9 @@ class Exchange:
 
     # ---- what others ask
 
-    def answer(self, room):
+    def answer(self, room: bytes) -> None:
         """Answers the last question of each site that is whole."""
-        latest = {}
+        latest: Dict[str, Tuple[Question, bytes]] = {}
         for question in self.folder.questions:
             if question.site != self.folder.site:
                 data = self.folder.question(question)
@@ -206,13 +274,24 @@ class Exchange:
                 elif question.site not in latest or question.time > latest[question.site][0].time:
                     latest[question.site] = (question, data)
         for question, data in latest.values():
-            try:
-                self.answer_one(room, question, content_of(entries_in(data)))
-            except (Failed, Malformed, OSError) as fault:
+            if is_summary(data):
+                self.answer_if_possible(room, question, content_of(entries_in(data)))
+            else:
                 self.unsure.add(question.site)
-                self.screen.refuse(self.folder.at(question.name), getattr(fault, "strerror", None) or fault.args[0])
+                self.screen.refuse(self.folder.at(question.name), "is no summary")
 
-    def answer_one(self, room, question, theirs):
+    def answer_if_possible(self, room: bytes, question: Question, theirs: Content) -> None:
+        """Answers, or says why that failed. The question is not to blame."""
+        try:
+            self.answer_one(room, question, theirs)
+        except OSError as error:
+            self.unsure.add(question.site)
+            self.screen.fail(system_text(error, self.folder.path))
+        except Failed as failed:
+            self.unsure.add(question.site)
+            self.screen.fail(failed.text, failed.more)
+
+    def answer_one(self, room: bytes, question: Question, theirs: Content) -> None:
         """Answers with what the site lacks, unless the folder has this answer."""
         lacking = self.content.beyond(theirs)
         self.asked.note(question.site, "asked", time.strptime(question.time, TIME))
@@ -234,7 +313,7 @@ class Exchange:
         self.asked.note(question.site, "answered", time.gmtime())
         self.lines.append(f"answered {question.site} {name}")
 
-    def make_answer(self, room, theirs, lacking):
+    def make_answer(self, room: bytes, theirs: Content, lacking: Content) -> None:
         """Makes the archive of what is lacking, of those files that have some of it. What the other site withdrew it
         does not lack."""
         gone = [ADMISSION + entry for entry in theirs.retired if entry not in theirs.held]
@@ -248,52 +327,100 @@ class Exchange:
             self.program.run(["merge", *names[:1], "both", *names[1:]], folder=room)
             names = ["both"]
         os.replace(os.path.join(room, os.fsencode(names[0])), os.path.join(room, b"answer"))
-        with open(os.path.join(room, b"answer"), "rb") as file:
-            if content_in(file) != lacking:
+        with open(os.path.join(room, b"answer"), "rb") as made:
+            if content_in(made) != lacking:
                 raise Failed(f"a slice of {shown(self.archive.path)} changed; `symarch-keep check` says which")
 
     # ---- what is done with
 
-    def clear(self, _room):
+    def clear(self) -> None:
         """Removes answers that were joined or are late, this site's files that are no longer right, and what a kill
         left."""
         self.folder.remove_part()
         mine = [one.name for one in self.folder.questions if one.site == self.folder.site]
+        mine += [one.name for one in self.folder.marks]
         own = (one for one in self.folder.answers if one.site == self.folder.site and one.to not in self.unsure)
         for name in sorted(self.done.union(mine, (one.name for one in own)) - self.kept):
             self.folder.remove(name)
 
-    def save(self, room):
-        self.asked.save(room)
+    def say_what_is_lost(self) -> None:
+        lost = lost_lines(self.archive.lost.content)
+        if lost:
+            how = "`symarch-keep status` names them, and `status --accept` takes as lost what no site has"
+            self.screen.fail(f"{shown(self.archive.path)}: lost: {counted(lost)}; {how}")
 
 
-def write_file(room, name, data):
-    with open(os.path.join(room, name), "wb") as file:
+def is_summary(data: bytes) -> bool:
+    try:
+        entries_in(data)
+        return True
+    except Malformed:
+        return False
+
+
+def when_marked(mark: Mark) -> Tuple[str, str]:
+    return mark.time, mark.digest
+
+
+def last_mark(folder: SharedFolder) -> str:
+    """The digest of the mark that counts, or nothing."""
+    return max(folder.marks, key=when_marked).digest if folder.marks else ""
+
+
+def write_file(room: bytes, name: bytes, data: bytes) -> None:
+    path = os.path.join(room, name)
+    with about(path), open(path, "wb") as file:
         file.write(data)
 
 
-def carry_out(words):
+def refuse_name(folder: SharedFolder, identity: Identity) -> None:
+    """Fails if another site has the name."""
+    if last_mark(folder) not in ("", identity.digest()):
+        mark = max(folder.marks, key=when_marked)
+        told = f"{shown(folder.at(mark.name))}: another site is called {folder.site} since {mark.time}"
+        raise Failed(f"{told}; choose another NAME, or take this one by --take-name if the other is gone")
+
+
+def carry_out(words: argparse.Namespace) -> int:
     if not re.fullmatch(SITE, words.name):
         raise Failed(f"NAME is {shown(os.fsencode(words.name))}, and has other letters than a-z, 0-9, - and _", 3)
     screen = Screen()
     program = Program()
     archive = Archive(os.fsencode(words.archive), is_made=True)
     archive.take_lock(screen)
-    folder = SharedFolder(os.fsencode(words.folder), words.name)
+    folder, identity = SharedFolder(os.fsencode(words.folder), words.name), Identity(archive)
+    if not words.take_name:
+        refuse_name(folder, identity)
     exchange = Exchange(archive, folder, program, screen)
     with archive.room() as room:
         exchange.join(room)
         # ARCHIVE has all now, so what fails is told, and the rest goes on.
-        for step in (exchange.ask, exchange.answer, exchange.clear, exchange.save):
-            try:
-                step(room)
-            except (OSError, Failed) as fault:
-                screen.fail(f"{shown(folder.path)}: {getattr(fault, 'strerror', None) or fault.args[0]}")
-    told = [line for line in exchange.lines if line.startswith(("asked ", "answered "))]
-    archive.note(told, screen)
+        for step in (
+            lambda: exchange.mark(room, identity, words.take_name),
+            lambda: exchange.ask(room),
+            lambda: exchange.answer(room),
+            exchange.clear,
+            lambda: exchange.asked.save(room),
+        ):
+            carry_out_step(step, folder, screen)
+    told = [line for line in exchange.lines if line.startswith(("took ", "asked ", "answered "))]
+    archive.log.note(told, screen)
     screen.show(exchange.lines)
-    counts = {word: sum(line.startswith(f"{word} ") for line in exchange.lines) for word in ("added", "retired")}
-    counts["answered"] = len(told) - any(line.startswith("asked ") for line in told)
-    told = ", ".join(f"{count} {word}" for word, count in counts.items())
-    screen.line(f"{told}; {exchange.not_whole} not whole, {screen.refused} refused")
+    exchange.say_what_is_lost()
+    screen.line(f"{counts_of(exchange.lines)}; {exchange.not_whole} not whole, {screen.refused} refused")
     return screen.status()
+
+
+def carry_out_step(step: Callable[[], None], folder: SharedFolder, screen: Screen) -> None:
+    try:
+        step()
+    except OSError as error:
+        screen.fail(system_text(error, folder.path))
+    except Failed as failed:
+        screen.fail(failed.text, failed.more)
+
+
+def counts_of(lines: Sequence[str]) -> str:
+    """How many slices and retirements came, and how many answers went."""
+    words = ("added", "retired", "answered")
+    return ", ".join(f"{sum(line.startswith(f'{word} ') for line in lines)} {word}" for word in words)

@@ -15,6 +15,7 @@ Status:
   3    the words have another form
   4    ARCHIVE could not be read or written, or memory ran out: both are as they were
   126  there is no program"""
+import argparse
 import os
 
 from .archive import Archive
@@ -25,11 +26,11 @@ USAGE = "symarch-keep fold ARCHIVE"
 ABOUT = "join what came in lately into it"
 
 
-def define(parser):
+def define(parser: argparse.ArgumentParser) -> None:
     parser.add_argument("archive", metavar="ARCHIVE")
 
 
-def carry_out(words):
+def carry_out(words: argparse.Namespace) -> int:
     screen = Screen()
     program = Program()
     archive = Archive(os.fsencode(words.archive))

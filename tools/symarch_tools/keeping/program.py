@@ -2,70 +2,101 @@
 import contextlib
 import os
 import re
-import shutil
 import subprocess
+from typing import Callable, Dict, Iterable, Optional, Sequence, Union
 
+from ..program import candidates, named
+from ..signals import signals
 from .contents import END, LENGTH, MAGIC, MAGICS
-from .screen import Failed, Refused, shown, write
-from .stopping import Later
+from .screen import Failed, SliceRefused, shown, write
+from .slices import Slice
 
-BUILT = os.path.join("crates", "symarch", "out", "symarch")
+# By what the program gets the files that this tool has open, also those whose paths are no UTF-8.
+DESCRIPTORS = "/dev/fd"
+Word = Union[str, bytes]
+Moved = Callable[[int], None]
+
+
+def not_moved(_done: int) -> None:
+    """For a program of which nobody watches how far it is."""
 
 
 class Program:
     """The program symarch."""
 
-    def __init__(self):
-        named = os.environ.get("SYMARCH")
-        built = os.path.join(os.path.dirname(os.path.realpath(__file__)), "..", "..", "..", BUILT)
-        for word in [named] if named else [built, "symarch"]:
-            self.path = os.path.abspath(shutil.which(word) or os.devnull)
-            beside = os.path.dirname(os.path.realpath(self.path))
-            if os.path.exists(os.path.join(beside, "packaging", "build-program")):
-                # The script ./symarch would begin a build.
-                self.path = os.path.join(beside, BUILT)
-            with contextlib.suppress(OSError), Later():
-                words, nothing = [self.path, "--version"], subprocess.DEVNULL
-                if subprocess.run(words, stdin=nothing, capture_output=True, check=False).stdout[:8] == b"symarch ":
-                    return
-        which = f"SYMARCH is {shown(os.fsencode(named))}, which is no" if named else "there is no"
-        raise Failed(f"{which} program symarch; `./symarch --version` in its sources builds one", 126)
+    def __init__(self) -> None:
+        self.path = answering_program()
+        if not os.path.exists(os.path.join(DESCRIPTORS, "0")):
+            raise Failed(f"there is no {DESCRIPTORS}, by which the program gets its files: /proc is not mounted")
 
-    def run(self, words, slices=(), folder=None, open_files=(), moved=lambda done: None, names=()):
-        """Runs words, with the archive of some slices on standard input, and returns what is printed. A fault names
-        a path of `names` by what that has for it."""
-        streams = dict.fromkeys(("stdin", "stdout", "stderr"), subprocess.PIPE)
-        words = [self.path, *words]
+    def run(
+        self,
+        words: Sequence[Word],
+        slices: Sequence[Slice] = (),
+        folder: Optional[bytes] = None,
+        open_files: Iterable[int] = (),
+        moved: Moved = not_moved,
+        names: Optional[Dict[str, str]] = None,
+    ) -> bytes:
+        """Runs words, in a folder if there is one, with the archive of some slices on standard input, and returns what
+        is printed. A fault names a path of `names` by what that has for it."""
         with contextlib.ExitStack() as ends:
             # A signal waits until what ends the program is on the stack: one that goes on writes into a folder that is
             # being removed.
-            with Later():
-                process = subprocess.Popen(words, bufsize=0, cwd=folder, pass_fds=open_files, **streams)
+            with signals.later():
+                process = subprocess.Popen(
+                    [self.path, *words],
+                    bufsize=0,
+                    cwd=folder,
+                    pass_fds=tuple(open_files),
+                    stdin=subprocess.PIPE,
+                    stdout=subprocess.PIPE,
+                    stderr=subprocess.PIPE,
+                )
                 ends.enter_context(process)
-                ends.push(lambda failed, *_: failed and process.kill())
+                ends.push(lambda failed, *_: process.kill() if failed else None)
+            assert process.stdin
             with contextlib.suppress(BrokenPipeError):
                 give(process.stdin.fileno(), slices, moved)
-            printed = None
+            printed, said = None, b""
             while printed is None:
                 # What is raised within would leave its lock.
-                with contextlib.suppress(subprocess.TimeoutExpired), Later():
+                with contextlib.suppress(subprocess.TimeoutExpired), signals.later():
                     printed, said = process.communicate(timeout=0.2)
                 moved(len(slices))
         if process.returncode not in (0, 1):
-            raise fault(words[1], said.decode(errors="replace").strip(), process.returncode, slices, names)
-        return printed
+            places = {**in_folder(words, folder), **(names or {})}
+            told = said.decode(errors="replace").strip()
+            raise fault(os.fsdecode(words[0]), told, process.returncode, slices, places)
+        return printed or b""
 
-    def run_over(self, path, command, *more, folder=None):
+    def run_over(self, path: bytes, command: str, *more: str, folder: Optional[bytes] = None) -> bytes:
         """Runs a command over the archive of a path. Words that are no UTF-8 are refused, so it gets another word."""
         with open(path, "rb") as file:
-            words = [command, f"/dev/fd/{file.fileno()}", *more]
-            names = {words[1]: shown(path)}
-            if folder:
-                names.update((name, shown(os.path.join(folder, os.fsencode(name)))) for name in more)
-            return self.run(words, folder=folder, open_files=(file.fileno(),), names=names)
+            words = [command, f"{DESCRIPTORS}/{file.fileno()}", *more]
+            return self.run(words, folder=folder, open_files=(file.fileno(),), names={words[1]: shown(path)})
 
 
-def give(descriptor, slices, moved, retirements=()):
+def answering_program() -> str:
+    """The first program that answers as symarch does."""
+    for path in candidates():
+        with contextlib.suppress(OSError), signals.later():
+            words, nothing = [path, "--version"], subprocess.DEVNULL
+            if subprocess.run(words, stdin=nothing, capture_output=True, check=False).stdout[:8] == b"symarch ":
+                return path
+    word = named()
+    which = f"SYMARCH is {shown(word)}, which is no" if word else "there is no"
+    raise Failed(f"{which} program symarch; `./symarch --version` in its sources builds one", 126)
+
+
+def in_folder(words: Sequence[Word], folder: Optional[bytes]) -> Dict[str, str]:
+    """How the words after a command are shown, if they name files of a folder."""
+    if folder is None:
+        return {}
+    return {os.fsdecode(word): shown(os.path.join(folder, os.fsencode(word))) for word in words[1:]}
+
+
+def give(descriptor: int, slices: Sequence[Slice], moved: Moved, retirements: Sequence[bytes] = ()) -> None:
     """Writes the archive of retirements and slices, which are in the order of their records."""
     write(descriptor, MAGICS[0] + b"".join(retirements))
     for done, one in enumerate(slices):
@@ -76,7 +107,7 @@ def give(descriptor, slices, moved, retirements=()):
     write(descriptor, END + (len(retirements) + len(slices)).to_bytes(LENGTH, "big"))
 
 
-def fault(command, said, status, slices, names):
+def fault(command: str, said: str, status: int, slices: Sequence[Slice], names: Dict[str, str]) -> Exception:
     """What the program says of a slice that it was given, or else of the whole: its line, and the one for people."""
     line, _, more = said.partition("\n")
     found = re.fullmatch("symarch: archive ([01]): (.*) at ([0-9]+)", line)
@@ -84,10 +115,11 @@ def fault(command, said, status, slices, names):
         at = MAGIC
         for one in slices:
             if at == int(found[3]):
-                return Refused(re.sub(r"BadSlice\((.*)\)", r"\1", found[2]), one, True)
+                return SliceRefused(re.sub(r"BadSlice\((.*)\)", r"\1", found[2]), one, True)
             at += len(one.head) + one.length
     where, _, path = more.partition(" is ")
     for name in names:
         if re.match(f"{re.escape(name)}([:,]|$)", path):
             more = f"{where} is {names[name]}{path[len(name):]}"
-    return Failed(line, 4, more) if status > 0 else Failed(f"symarch ended by signal {-status}", 4)
+            break
+    return Failed(line, 4, more) if status > 0 else Failed(f"symarch ended by signal {-status}")

@@ -16,8 +16,10 @@ Status:
   3    the words have another form
   4    ARCHIVE could not be read or written, or memory ran out: ARCHIVE is as it was
   126  there is no program"""
+import argparse
 import contextlib
 import os
+from typing import Sequence
 
 from .archive import Archive
 from .contents import Content, entry_of, words_of
@@ -29,13 +31,13 @@ ABOUT = "withdraw a slice for good"
 HIGH_BYTE = 20
 
 
-def define(parser):
+def define(parser: argparse.ArgumentParser) -> None:
     parser.add_argument("--before-it-comes", action="store_true", help="retire a slice that is not there")
     for name in ("ARCHIVE", "UUID", "ARCH", "DIGEST"):
         parser.add_argument(name.lower(), metavar=name)
 
 
-def entry_in(words):
+def entry_in(words: argparse.Namespace) -> bytes:
     """The key and the digest that the words mean. No slice has a bit in the high byte of its cpusubtype."""
     with contextlib.suppress(ValueError):
         entry = entry_of(words.uuid, words.arch, words.digest)
@@ -44,7 +46,7 @@ def entry_in(words):
     raise Failed("UUID, ARCH and DIGEST have the forms that `symarch find` prints", 3)
 
 
-def carry_out(words):
+def carry_out(words: argparse.Namespace) -> int:
     entry = entry_in(words)
     screen = Screen()
     program = Program()
@@ -60,7 +62,7 @@ def carry_out(words):
     return screen.status()
 
 
-def retire(archive, program, entry, lines, screen):
+def retire(archive: Archive, program: Program, entry: bytes, lines: Sequence[str], screen: Screen) -> None:
     """The retirement comes in by an archive of its own."""
     with archive.room() as room:
         program.run(["new", "none"], folder=room)

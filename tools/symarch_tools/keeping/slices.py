@@ -4,9 +4,10 @@ import hashlib
 import os
 import stat
 import struct
+from typing import BinaryIO, Iterable, Iterator, List, Optional, Set, Tuple
 
 from .contents import CHUNK, KEY, TOO_LARGE, head_of, words_of
-from .screen import Refused, shown
+from .screen import Screen, SliceRefused, shown
 
 # mach-o/fat.h: an entry of each table, of which offset and size count. mach-o/loader.h: the header and its commands.
 UNIVERSAL = {bytes.fromhex("cafebabe"): struct.Struct(">8xII4x"), bytes.fromhex("cafebabf"): struct.Struct(">8xQQ8x")}
@@ -32,12 +33,13 @@ NOTHING_THERE = (errno.ENOENT, errno.ELOOP, errno.ENOTDIR)
 class Slice:
     """The bytes of an image for one architecture: a file of `size` bytes, or its part of a number."""
 
-    def __init__(self, path, part, offset, length, size, key):
+    def __init__(self, path: bytes, part: Optional[int], offset: int, length: int, size: int, key: bytes) -> None:
         self.path, self.part, self.offset, self.length, self.size = path, part, offset, length, size
         self.head = head_of(key, length)
-        self.digest = self.word = None
+        self.digest: Optional[bytes] = None
+        self.word = ""
 
-    def chunks(self):
+    def chunks(self) -> Iterator[bytes]:
         """The bytes, which have to be those of the first time."""
         left, digest = self.length, hashlib.sha256()
         try:
@@ -48,23 +50,23 @@ class Slice:
                     left -= len(chunk)
                     digest.update(chunk)
                     if not chunk or left == 0 and os.fstat(file.fileno()).st_size != self.size:
-                        raise Refused(CHANGED, self)
+                        raise SliceRefused(CHANGED, self)
                     yield chunk
         except OSError as error:
-            raise Refused(error.strerror, self) from None
+            raise SliceRefused(str(error.strerror), self) from None
         if self.digest not in (None, digest.digest()):
-            raise Refused(CHANGED, self)
+            raise SliceRefused(CHANGED, self)
         self.digest = digest.digest()
 
-    def entry(self):
-        """The key and the digest."""
-        return self.head[1 : 1 + KEY] + self.digest
+    def entry(self) -> bytes:
+        """The key and the digest, which is known once its bytes were read."""
+        return self.head[1 : 1 + KEY] + (self.digest or b"")
 
-    def line(self):
+    def line(self) -> str:
         return f"{self.word} {words_of(self.entry())} {shown(self.path)}"
 
 
-def compared(one, other):
+def compared(one: Slice, other: Slice) -> int:
     """The order of two records, by their heads, then by the bytes of their slices."""
     if one.head != other.head:
         return -1 if one.head < other.head else 1
@@ -77,10 +79,11 @@ def compared(one, other):
 class Finder:
     """Finds the slices that paths have, and says what is passed over or refused."""
 
-    def __init__(self, screen):
-        self.screen, self.slices, self.files = screen, [], 0
+    def __init__(self, screen: Screen) -> None:
+        self.screen, self.files = screen, 0
+        self.slices: List[Slice] = []
 
-    def find(self, paths):
+    def find(self, paths: Iterable[bytes]) -> None:
         self.screen.begin("finding: {} files")
         for path, size in self.walk(paths):
             self.files += 1
@@ -88,12 +91,15 @@ class Finder:
             try:
                 with open(path, "rb") as file:
                     self.take_file(file, path, size)
-            except (OSError, Refused) as fault:
-                self.screen.refuse(path, getattr(fault, "strerror", fault))
+            except OSError as error:
+                self.screen.refuse(path, error.strerror)
+            except SliceRefused as refused:
+                self.screen.refuse(path, refused)
 
-    def walk(self, paths):
+    def walk(self, paths: Iterable[bytes]) -> Iterator[Tuple[bytes, int]]:
         """Each regular file that a path is or has, once, and its size. Those of a folder come in the order of names."""
-        left, seen = [(path, True) for path in reversed(paths)], set()
+        left = [(path, True) for path in reversed(list(paths))]
+        seen: Set[Tuple[int, int]] = set()
         while left:
             path, is_word = left.pop()
             try:
@@ -117,7 +123,7 @@ class Finder:
                 else:
                     self.screen.pass_over(path, "links that lead nowhere")
 
-    def take_file(self, file, path, size):
+    def take_file(self, file: BinaryIO, path: bytes, size: int) -> None:
         first = file.read(8)
         layout, count = UNIVERSAL.get(first[:4]), int.from_bytes(first[4:].ljust(4, b"\0"), "big")
         if layout is None:
@@ -131,40 +137,46 @@ class Finder:
             if not parts:
                 self.screen.pass_over(path, "universal files without a part")
 
-    def take_part(self, file, path, part, offset, length, size):
+    def take_part(
+        self, file: BinaryIO, path: bytes, part: Optional[int], offset: int, length: int, size: int
+    ) -> None:
         file.seek(offset)
         front = file.read(min(length, HEADER.size))
-        key, kind = None, KINDS.get(front[:4], "other files" if part is None else "other parts")
-        if front[:4] == THIN:
-            key = key_of(front, file, length - len(front))
-            kind = ("object files" if front[12] == MH_OBJECT else "images") + " without a UUID" if key is None else None
-        if key is None:
-            self.screen.pass_over(path, kind, part)
-        else:
+        key = key_of(front, file, length - len(front)) if front[:4] == THIN else None
+        if key is not None:
             self.slices.append(Slice(path, part, offset, length, size, key))
+        elif front[:4] == THIN:
+            kind = "object files" if front[12] == MH_OBJECT else "images"
+            self.screen.pass_over(path, f"{kind} without a UUID", part)
+        else:
+            self.screen.pass_over(path, KINDS.get(front[:4], "other files" if part is None else "other parts"), part)
 
 
-def table(file, first, layout, count, size):
+def table(
+    file: BinaryIO, first: bytes, layout: struct.Struct, count: int, size: int
+) -> List[Tuple[int, int]]:
     """The offset and size of each part of a universal file. The faults are those of docs/FILES.md, in its order."""
     entries = file.read(count * layout.size) if count <= MOST_PARTS else b""
-    parts = list(layout.iter_unpack(entries)) if len(entries) == count * layout.size else []
+    is_whole = len(entries) == count * layout.size
+    parts = [(offset, length) for offset, length in layout.iter_unpack(entries)] if is_whole else []
     faults = [(len(first) < 8, "HeaderTruncated"), (count > MOST_PARTS, f"TooManyArches({count})")]
     faults.append((len(parts) < count, "TableTruncated"))
     faults += [(sum(part) > size, f"SliceOutside({number})") for number, part in enumerate(parts)]
     faults += [(part[1] >= TOO_LARGE, f"TooLarge({number})") for number, part in enumerate(parts)]
     for is_there, fault in faults:
         if is_there:
-            raise Refused(f"Fat({fault})")
+            raise SliceRefused(f"Fat({fault})")
     return parts
 
 
-def key_of(front, file, left):
+def key_of(front: bytes, file: BinaryIO, left: int) -> Optional[bytes]:
     """The key of an image, or None where it names no UUID. Where its header or commands are faulty, the UUID is of
     zeros: the program is given the slice, and says which fault it is."""
     if len(front) < HEADER.size:
         return bytes(KEY)
     cputype, cpusubtype, _, count, size = HEADER.unpack(front)
-    commands, at, found = file.read(min(size, left, MOST_OF_COMMANDS)), 0, None
+    commands, at = file.read(min(size, left, MOST_OF_COMMANDS)), 0
+    found: Optional[bytes] = None
     while count > 0 and found is None:
         command, length = COMMAND.unpack(commands[at : at + COMMAND.size].ljust(COMMAND.size, b"\0"))
         if length < COMMAND.size or at + length > len(commands):

@@ -1,6 +1,9 @@
 """Names as people write them: without the underscore that C puts before them, and demangled."""
+from __future__ import annotations
+
 import shutil
 import subprocess
+from typing import List, Sequence
 
 from .streams import note
 
@@ -8,7 +11,7 @@ from .streams import note
 DEMANGLERS = (("swift", "demangle"), ("llvm-cxxfilt", "-n"))
 
 
-def demangled(names):
+def demangled(names: Sequence[str]) -> List[str]:
     """The names, by each demangler that is there, which is called once for all of them."""
     shown = [name[1:] if name.startswith("_") else name for name in names]
     found = [words for words in DEMANGLERS if shutil.which(words[0])]
@@ -19,7 +22,7 @@ def demangled(names):
     return shown
 
 
-def changed(words, names):
+def changed(words: Sequence[str], names: List[str]) -> List[str]:
     """What a demangler makes of the names; the names, where it fails."""
     text = "".join(name + "\n" for name in names).encode(errors="surrogateescape")
     try:

@@ -1,5 +1,8 @@
 """The bytes of a report: a byte-order mark and UTF-16 are read, and written again as they were."""
+from __future__ import annotations
+
 import codecs
+from typing import Iterator, Tuple
 
 UTF_8, UTF_16_LE, UTF_16_BE = "utf-8", "utf-16-le", "utf-16-be"
 MARKS = ((codecs.BOM_UTF8, UTF_8), (codecs.BOM_UTF16_LE, UTF_16_LE), (codecs.BOM_UTF16_BE, UTF_16_BE))
@@ -12,10 +15,10 @@ PIECE = 1 << 20
 class Encoding:
     """How the bytes of a report stand in its file: after a mark, in a codec, and before the half of a character."""
 
-    def __init__(self, mark, codec, half=b""):
+    def __init__(self, mark: bytes, codec: str, half: bytes = b"") -> None:
         self.mark, self.codec, self.half = mark, codec, half
 
-    def written(self, data):
+    def written(self, data: bytes) -> Iterator[bytes]:
         """The bytes of a file for a piece of UTF-8 that is cut within no character."""
         if self.codec == UTF_8:
             yield data
@@ -24,15 +27,14 @@ class Encoding:
             text = piece.decode(UTF_8, "surrogatepass")
             yield text.encode(self.codec, "surrogatepass")
 
-    def byte_of(self, data, place):
+    def byte_of(self, data: bytes, place: int) -> int:
         """The byte of the file that a byte of the UTF-8 comes from."""
-        before = memoryview(data)[:place]
         if self.codec == UTF_8:
             return len(self.mark) + place
-        return len(self.mark) + sum(len(part) for part in self.written(before))
+        return len(self.mark) + sum(len(part) for part in self.written(data[:place]))
 
 
-def whole_pieces(data):
+def whole_pieces(data: bytes) -> Iterator[bytes]:
     """Pieces that end where a character ends."""
     begin = 0
     while begin < len(data):
@@ -43,7 +45,7 @@ def whole_pieces(data):
         begin = end
 
 
-def codec_of(raw):
+def codec_of(raw: bytes) -> Tuple[bytes, str]:
     """The mark and the codec of a file."""
     for mark, codec in MARKS:
         if raw.startswith(mark):
@@ -57,7 +59,7 @@ def codec_of(raw):
     return b"", UTF_8
 
 
-def decoded(raw):
+def decoded(raw: bytes) -> Tuple[bytes, Encoding]:
     """The UTF-8 of the bytes of a file, and how they stood there. What is no UTF-8 stays as it is."""
     mark, codec = codec_of(raw)
     if codec == UTF_8:

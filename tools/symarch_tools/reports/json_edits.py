@@ -1,9 +1,18 @@
 """What is written into the JSON of a report: names as members of frames, in the layout that the frames have."""
+from __future__ import annotations
+
 import json
 import re
 from array import array
+from typing import Any, Dict, List, Mapping, Match, Optional, Sequence, Set, Tuple
 
-from .json_walk import FLAT, KEY, STRING, loaded
+from .answers import Symbol
+from .json_walk import FLAT, KEY, STRING, Member, loaded
+
+# The different answers to a frame, each with the digests of its slices; and a change: where it begins and ends, and
+# what stands there then.
+FrameAnswers = Mapping[Optional[Symbol], List[str]]
+Change = Tuple[int, int, bytes]
 
 # The members of an object without others in it; and the first two numbers of an array, with what is between them.
 VALUE = STRING.pattern + rb"|[^\s,}]+"
@@ -23,19 +32,21 @@ class Place:
 
     __slots__ = ("name", "key_begin", "begin", "end")
 
-    def __init__(self, name, key_begin, begin, end):
+    def __init__(self, name: str, key_begin: int, begin: int, end: int) -> None:
         self.name, self.key_begin, self.begin, self.end = name, key_begin, begin, end
 
 
 class Members:
     """Where the members of many objects stand, in arrays: an object for each member needs many times the memory."""
 
-    def __init__(self, data):
-        self.data, self.names, self.numbers = data, [], {}
+    def __init__(self, data: bytes) -> None:
+        self.data = data
+        self.names: List[str] = []
+        self.numbers: Dict[str, int] = {}
         self.firsts, self.counts = array("Q"), array("I")
         self.name_numbers, self.places = array("I"), array("I" if len(data) < 2**32 else "Q")
 
-    def keep(self, number, members):
+    def keep(self, number: int, members: Mapping[str, Member]) -> None:
         """Keeps the members of the object with a number."""
         missing = number + 1 - len(self.firsts)
         if missing > 0:
@@ -50,10 +61,10 @@ class Members:
             self.name_numbers.append(self.numbers[name])
             self.places.extend((member.key_begin, member.begin, member.end))
 
-    def are_kept(self, number):
+    def are_kept(self, number: int) -> bool:
         return number < len(self.counts) and self.counts[number] > 0
 
-    def of(self, number):
+    def of(self, number: int) -> List[Place]:
         """The members of the object with a number; none where they were not kept."""
         if not self.are_kept(number):
             return []
@@ -61,9 +72,9 @@ class Members:
         kept = range(first, first + self.counts[number] - 1)
         return [Place(self.names[self.name_numbers[it]], *self.places[3 * it : 3 * it + 3]) for it in kept]
 
-    def values(self, number):
+    def values(self, number: int) -> Dict[str, Any]:
         """The values among the members of an object, but for objects and arrays."""
-        found = {}
+        found: Dict[str, Any] = {}
         for place in self.of(number):
             value = self.data[place.begin : min(place.end, place.begin + MOST_OF_VALUE)]
             if not value.startswith((b"{", b"[")):
@@ -74,18 +85,22 @@ class Members:
         return found
 
 
-def changes(data, place, members, answers):
+def changes(data: bytes, place: int, members: List[Place], answers: FrameAnswers) -> List[Change]:
     """The changes of the frame that stands at a place and has these answers, in ascending order: each a place, the end
     of what stands there, and what stands there then. Members are given where others are in the frame."""
     one = next(iter(answers)) if len(answers) == 1 else None
-    flat = None if members else FLAT.match(data, place)
-    if flat and flat[0].startswith(b"["):
-        return [array_change(flat, one, answers)]
-    found = members or places_in(flat)
+    found = members
+    if not members:
+        flat = FLAT.match(data, place)
+        assert flat is not None
+        if flat[0].startswith(b"["):
+            return [array_change(flat, one, answers)]
+        found = places_in(flat)
     anchor = next((it for it in found if it.name == OFFSET), None) or found[-1]
     if members and anchor.name != OFFSET:
         anchor = [it for it in found if it.name in INDEXED][-1]
     layout = Layout(data, found)
+    gone: Set[str]
     if one:
         values, gone = {SYMBOL: text_of(one[0]), LOCATION: b"%d" % one[1]}, {CONFLICT}
     else:
@@ -93,7 +108,7 @@ def changes(data, place, members, answers):
     return member_changes(found, anchor, layout, values, gone)
 
 
-def places_in(flat):
+def places_in(flat: Match[bytes]) -> List[Place]:
     found = []
     for member in MEMBER.finditer(flat[0]):
         begin, end = (flat.start() + at for at in member.span("value"))
@@ -104,19 +119,21 @@ def places_in(flat):
 class Layout:
     """How the members of an object are written: what is between two of them, and between a name and its value."""
 
-    def __init__(self, data, found):
+    def __init__(self, data: bytes, found: Sequence[Place]) -> None:
         first = found[0]
         if len(found) > 1:
             self.between = data[first.end : found[1].key_begin]
         else:
             before = data[max(first.key_begin - MOST_SPACE, 0) : first.key_begin]
             self.between = b"," + before[len(before.rstrip(b" \t\r\n")) :]
-        self.colon = data[KEY.match(data, first.key_begin).end(1) : first.begin]
+        key = KEY.match(data, first.key_begin)
+        assert key is not None
+        self.colon = data[key.end(1) : first.begin]
 
-    def member(self, name, value):
+    def member(self, name: str, value: bytes) -> bytes:
         return self.between + text_of(name) + self.colon + value
 
-    def conflict(self, answers):
+    def conflict(self, answers: FrameAnswers) -> bytes:
         """The answers of a frame, in lines of their own where members are."""
         said = conflict_of(answers)
         if b"\n" not in self.between:
@@ -125,7 +142,9 @@ class Layout:
         return text_of(said, indent=2, separators=(",", self.colon.decode())).replace(b"\n", line_end)
 
 
-def member_changes(found, anchor, layout, values, gone):
+def member_changes(
+    found: Sequence[Place], anchor: Place, layout: Layout, values: Mapping[str, bytes], gone: Set[str]
+) -> List[Change]:
     """The changes by which an object has these values, and others are gone. New ones stand after the anchor."""
     made = [(it.begin, it.end, values[it.name]) for it in found if it.name in values]
     here = {it.name for it in found}
@@ -140,9 +159,10 @@ def member_changes(found, anchor, layout, values, gone):
     return sorted(made)
 
 
-def array_change(flat, one, answers):
+def array_change(flat: Match[bytes], one: Optional[Symbol], answers: FrameAnswers) -> Change:
     """The change of a frame that is an array: what is said of it follows its two numbers."""
     first = ARRAY.match(flat[0])
+    assert first is not None
     between = first[1]
     if one:
         added = between + text_of(one[0]) + between + b"%d" % one[1]
@@ -152,7 +172,7 @@ def array_change(flat, one, answers):
     return flat.start() + first.end(), flat.start() + end, added
 
 
-def conflict_of(answers):
+def conflict_of(answers: FrameAnswers) -> List[Dict[str, Any]]:
     found = []
     for symbol, digests in answers.items():
         name, offset = symbol or (None, None)
@@ -160,5 +180,5 @@ def conflict_of(answers):
     return found
 
 
-def text_of(value, **layout):
+def text_of(value: object, **layout: Any) -> bytes:
     return json.dumps(value, ensure_ascii=False, **layout).encode(errors="surrogateescape")

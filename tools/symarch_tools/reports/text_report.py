@@ -1,10 +1,21 @@
 """Reports as lines: crashes, the call trees of sample, spindump and hang reports, and their other lists of frames."""
+from __future__ import annotations
+
 import bisect
 import itertools
 import re
 from array import array
+from typing import Any, Dict, Iterator, List, Mapping, Match, Optional, Pattern, Sequence, Set, Tuple
 
-from .images import ARCHITECTURES, CANNOT_BE_ASKED, HAD_NAME, IS_RETURN, NO_IMAGE, PROCESSORS, Frames, different
+from .answers import Symbol
+from .images import ARCHITECTURES, CANNOT_BE_ASKED, HAD_NAME, IS_RETURN, NO_IMAGE, PROCESSORS, Frames, Images
+from .images import different
+
+# What was found in a line, by the names of a form; the answers to the frames of a line, one for each; and a line of a
+# tree that is held back: where it begins, its bytes, and the column of its number.
+Found = Mapping[str, Any]
+LineAnswers = Mapping[Tuple[Optional[Symbol], ...], List[str]]
+Held = Tuple[int, bytes, Optional[int]]
 
 PROCESSOR = re.compile(rb"^Code Type:\s+([\w-]+)", re.MULTILINE)
 LINE = re.compile(rb"([^\r\n]*)(\r\n|\r|\n|\Z)")
@@ -58,13 +69,13 @@ NOT_SAID, NOWHERE = 2**64 - 1, 2**64 - 2
 class LoadedImages:
     """The images of a list, by where they were loaded."""
 
-    def __init__(self, found, images, processor):
+    def __init__(self, found: Sequence[Mapping[str, bytes]], images: Images, processor: Optional[str]) -> None:
         loaded = [self.loaded(one, images, processor) for one in found]
         self.sorted = sorted((one for one in loaded if one[2] != NO_IMAGE), key=lambda one: one[:2])
         self.starts = [start for start, _, _ in self.sorted]
 
     @staticmethod
-    def loaded(found, images, processor):
+    def loaded(found: Mapping[str, bytes], images: Images, processor: Optional[str]) -> Tuple[int, int, int]:
         """The first address of an image and its last one, the first again where it is not known, and its number."""
         start = int(found["start"], 16)
         name, _, last = found["name"].decode(errors="surrogateescape").rpartition(" ")
@@ -74,7 +85,7 @@ class LoadedImages:
         number = images.number(found["uuid"].decode(), arch, said.strip("?"), processor)
         return start, int(found["end"], 16) if found["end"] else start, number
 
-    def placed(self, address, is_return):
+    def placed(self, address: int, is_return: int) -> Tuple[int, int]:
         """The number of the image that has an address, and the offset in it. An address that a call returns to lies in
         the image of the call."""
         asked = address - 1 if is_return else address
@@ -84,7 +95,7 @@ class LoadedImages:
         start, _, number = self.sorted[place]
         return number, address - start
 
-    def placed_from(self, start, address):
+    def placed_from(self, start: int, address: int) -> Tuple[int, int]:
         """The same of an address of the image that was loaded at `start`."""
         place = bisect.bisect_left(self.starts, start)
         is_there = place < len(self.starts) and self.starts[place] == start
@@ -95,15 +106,17 @@ class Part:
     """Some lines of a text, up to the end of the list of their images. The list stands after the frames, which are put
     into the images then."""
 
-    def __init__(self, frames, processor):
+    def __init__(self, frames: Frames, processor: Optional[str]) -> None:
         self.frames, self.images, self.processor = frames, frames.images, processor
         self.first, self.starts = len(frames), array("Q")
         self.heading = b""
         self.is_after_first = False
-        self.callers, self.leaves = set(), set()
-        self.listed, self.is_list = [], False
+        self.callers: Set[int] = set()
+        self.leaves: Set[int] = set()
+        self.listed: List[Dict[str, bytes]] = []
+        self.is_list = False
 
-    def ends_before(self, line):
+    def ends_before(self, line: bytes) -> bool:
         """Whether a line ends the list of the images, after which another part begins."""
         if line.strip().startswith(IMAGES):
             self.is_list = True
@@ -113,7 +126,7 @@ class Part:
             self.listed.append(found.groupdict())
         return self.is_list and not found and not line.lstrip(b" *").startswith(b"0x")
 
-    def take(self, place, line, column, below):
+    def take(self, place: int, line: bytes, column: Optional[int], below: Optional[int]) -> None:
         """Takes the frames of a line, if it has any. The columns are those of the tree's numbers in it and in the next
         line, which are None where there are none."""
         if not line.strip():
@@ -121,6 +134,8 @@ class Part:
         elif line.strip().startswith(HEADINGS):
             self.heading = line.strip()
         kind, found = frames_in(line)
+        if found is None:
+            return
         if kind == BACKTRACE and self.heading.startswith(EXCEPTION):
             for number, address in enumerate(found["addresses"].split()):
                 self.add(place, int(address, 16), NOT_SAID, IS_RETURN if number else 0)
@@ -129,7 +144,7 @@ class Part:
         elif kind in (SAMPLE, SPINDUMP):
             self.take_tree(place, found.groupdict(), column, below)
 
-    def take_crash(self, place, found):
+    def take_crash(self, place: int, found: Match[bytes]) -> None:
         is_return = self.is_after_first = self.is_after_first and found["number"] != b"0"
         if INLINED in found.string:
             return
@@ -138,8 +153,8 @@ class Part:
         has_name = not NO_NAME.fullmatch(said) and not said.startswith(found["image"].strip() + b" + ")
         self.add(place, int(found["addresses"], 16), NOT_SAID, is_return * IS_RETURN | has_name * HAD_NAME)
 
-    def take_tree(self, place, found, column, below):
-        addresses = addresses_of(found)
+    def take_tree(self, place: int, found: Found, column: Optional[int], below: Optional[int]) -> None:
+        addresses = addresses_of(found["addresses"])
         kind = self.is_return(addresses, column, below) * IS_RETURN
         if not NO_NAME.fullmatch(found["said"]):
             kind |= HAD_NAME
@@ -153,7 +168,7 @@ class Part:
             else:
                 self.add(place, address, int(found["start"], 16) if found.get("start") else NOT_SAID, kind)
 
-    def is_return(self, addresses, column, below):
+    def is_return(self, addresses: Sequence[int], column: Optional[int], below: Optional[int]) -> bool:
         """Whether the addresses of a line of a tree are those that calls return to."""
         if self.heading.startswith(LISTS) or column is None:
             return self.callers.issuperset(addresses) and self.leaves.isdisjoint(addresses)
@@ -163,17 +178,17 @@ class Part:
         (self.callers if is_return else self.leaves).update(addresses)
         return is_return
 
-    def add(self, place, address, start, kind):
+    def add(self, place: int, address: int, start: int, kind: int) -> None:
         """Adds a frame that is put into its image at the end of the part."""
         self.frames.add(place, NO_IMAGE, address, kind)
         self.starts.append(start if 0 <= start <= NOT_SAID else NOWHERE)
 
-    def add_known(self, place, number, offset, kind):
+    def add_known(self, place: int, number: int, offset: int, kind: int) -> None:
         self.frames.add(place, NO_IMAGE, 0, kind)
         self.frames.put(len(self.frames) - 1, number, offset)
         self.starts.append(NOWHERE)
 
-    def end(self):
+    def end(self) -> None:
         """Puts the frames into the images of the list."""
         loaded = LoadedImages(self.listed, self.images, self.processor)
         frames = self.frames
@@ -184,7 +199,7 @@ class Part:
                 frames.put(at, *placed)
 
 
-def frames_in(line):
+def frames_in(line: bytes) -> Tuple[Optional[Pattern[bytes]], Optional[Match[bytes]]]:
     """The form of a line with frames, and what was found in it; None for both where it has none."""
     if b"0x" not in line or len(line) > MOST_OF_LINE:
         return None, None
@@ -198,31 +213,40 @@ def frames_in(line):
     return (CRASH, found) if found else (None, None)
 
 
-def addresses_of(found):
-    return [int(address, 16) for address in re.split(rb", ?0x|\s+", found["addresses"])]
+def addresses_of(text: bytes) -> List[int]:
+    return [int(address, 16) for address in re.split(rb", ?0x|\s+", text)]
 
 
 class TextReport:
     """A report, or a part of one, as lines. `is_whole` says whether images are listed after its last frames."""
 
-    def __init__(self, data, begin, end, images):
+    def __init__(self, data: bytes, begin: int, end: int, images: Images) -> None:
         self.data, self.begin, self.end = data, begin, end
+        # Where the heading of a full report stands that follows the text, or else its end.
+        self.heading = end
         self.frames = Frames(images)
         found = PROCESSOR.search(data, begin, end)
         self.processor = PROCESSORS.get(found[1].decode()) if found else None
         self.is_whole = True
         self.read()
 
-    def lines(self):
+    def line_at(self, place: int) -> Match[bytes]:
+        """The line that begins at a place, and its end."""
+        found = LINE.match(self.data, place, self.end)
+        assert found is not None
+        return found
+
+    def lines(self) -> Iterator[Tuple[int, bytes]]:
         """The place of each line, and the line without its end."""
         place = self.begin
         while place < self.end:
-            found = LINE.match(self.data, place, self.end)
+            found = self.line_at(place)
             yield place, found[1]
             place = found.end()
 
-    def read(self):
-        part, held = Part(self.frames, self.processor), None
+    def read(self) -> None:
+        part = Part(self.frames, self.processor)
+        held: Optional[Held] = None
         for place, line in self.lines():
             if part.ends_before(line):
                 self.end_part(part, held)
@@ -234,35 +258,37 @@ class TextReport:
         self.end_part(part, held)
 
     @staticmethod
-    def take(part, held, below):
+    def take(part: Part, held: Optional[Held], below: Optional[int]) -> None:
         """Gives a line to its part when the next one is known."""
         if held:
             part.take(*held, below)
 
-    def end_part(self, part, held):
+    def end_part(self, part: Part, held: Optional[Held]) -> None:
         self.take(part, held, None)
         if len(self.frames) > part.first:
             self.is_whole = bool(part.listed)
         part.end()
 
-    def pieces(self):
+    def pieces(self) -> Iterator[bytes]:
         """The bytes of the report with names in it."""
         done, at = self.begin, 0
         while at < len(self.frames):
             place, first = self.frames.places[at], at
             while at < len(self.frames) and self.frames.places[at] == place:
                 at += 1
-            found = LINE.match(self.data, place, self.end)
+            found = self.line_at(place)
             yield self.data[done:place]
             yield self.line(range(first, at), found[1], found[2])
             done = found.end()
         yield self.data[done : self.end]
 
-    def line(self, places, line, end):
+    def line(self, places: range, line: bytes, end: bytes) -> bytes:
         """A line with the names of its frames, or as it was."""
         form, found = frames_in(line)
+        if found is None:
+            return line + end
         if form == BACKTRACE:
-            return self.backtrace(places, addresses_of(found), end) or line + end
+            return self.backtrace(places, addresses_of(found["addresses"]), end) or line + end
         answers = self.answers(places)
         if form == CRASH:
             source = SOURCE.search(line)
@@ -271,7 +297,7 @@ class TextReport:
             around = found["head"], found.groupdict().get("middle", b""), found["tail"]
         return named_line(answers, *around, end) or line + end
 
-    def answers(self, places):
+    def answers(self, places: Sequence[int]) -> LineAnswers:
         """The different answers to the frames of a line. Each is one for every frame."""
         if len(places) == 1:
             return {(symbol,): digests for symbol, digests in self.frames.answers(places[0]).items()}
@@ -280,14 +306,14 @@ class TextReport:
         is_one_image = all(one.keys() == slices for one in symbols)
         return different({digest: tuple(one[digest] for one in symbols) for digest in slices if is_one_image})
 
-    def backtrace(self, places, addresses, end):
+    def backtrace(self, places: range, addresses: Sequence[int], end: bytes) -> Optional[bytes]:
         """A line for each address of a line of addresses, as crashes have them, where one of them has a name."""
         if not any(self.frames.answers(at).keys() - {None} for at in places):
             return None
         lines = [self.backtrace_line(*one) for one in zip(itertools.count(), places, addresses)]
         return (end or b"\n").join(lines) + end
 
-    def backtrace_line(self, number, at, address):
+    def backtrace_line(self, number: int, at: int, address: int) -> bytes:
         image, offset = self.frames.image(at), self.frames.offset(at)
         name = (image.name if image else "") or "???"
         head = b"%-4d%-30s\t0x%016x " % (number, name.encode(errors="surrogateescape"), address)
@@ -295,7 +321,7 @@ class TextReport:
         return named_line(self.answers([at]), head, b"", b"", b"") or head + said
 
 
-def named_line(answers, head, middle, tail, end):
+def named_line(answers: LineAnswers, head: bytes, middle: bytes, tail: bytes, end: bytes) -> Optional[bytes]:
     """A line with its names, between what stands around them; None where no slice has a name."""
     if len(answers) > 1:
         lines = [b"%b!%d%b%b" % (head, len(answers), middle, tail)]
@@ -309,7 +335,7 @@ def named_line(answers, head, middle, tail, end):
     return b"%b%b%b + %b%b%b" % (head, names, middle, offsets, tail, end)
 
 
-def names_and_offsets(symbols):
+def names_and_offsets(symbols: Sequence[Optional[Symbol]]) -> Tuple[str, str]:
     """The names of the symbols of a line, once where all have one name, and their offsets."""
     names, offsets = zip(*[symbol or ("-", "-") for symbol in symbols])
     return ",".join(names if len(set(names)) > 1 else names[:1]), ",".join(map(str, offsets))
