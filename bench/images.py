@@ -1,8 +1,13 @@
 """Large images with many symbols, and archives of them, for the benchmarks that ask for addresses."""
+import hashlib
+import io
+import pathlib
 import random
 import struct
+from typing import Iterable, List
 
-from measure import HEADER, LC_UUID, MEGABYTE
+from measure import HEADER, LC_UUID, MEGABYTE, write_image
+from tests.support.made_images import pieces_of_archive
 
 X86_64 = struct.pack(">II", 0x01000007, 3)
 IMAGE_SIZE = 5 * MEGABYTE
@@ -12,9 +17,9 @@ FUNCTION = 64
 IN_EACH = b"_symbol_in_each"
 
 
-def image(number, length=IMAGE_SIZE):
-    """An image of 30,000 functions that follow one another in one section, and bytes behind them up to its length. The name
-    of the first is in each image, and each other one in this image alone."""
+def image(number: int, length: int = IMAGE_SIZE) -> bytes:
+    """An image of 30,000 functions that follow one another in one section, and bytes behind them up to its length. The
+    name of the first is in each image, and each other one in this image alone."""
     size = SYMBOLS * FUNCTION
     own = (b"_symbol%02d_%05d" % (number, place) for place in range(1, SYMBOLS))
     names = b"\0" + b"".join(name + b"\0" for name in (IN_EACH, *own))
@@ -34,24 +39,34 @@ def image(number, length=IMAGE_SIZE):
     return made + random.randbytes(length - len(made))
 
 
-def admission(number, slice_bytes):
+def random_image(number: int, size: int) -> bytes:
+    """The bytes of an image that is the same each time, under a UUID that rises with the number."""
+    random.seed(number)
+    file = io.BytesIO()
+    write_image(file, size, number.to_bytes(16, "big"))
+    return file.getvalue()
+
+
+def admission(number: int, slice_bytes: bytes) -> bytes:
+    """The record of a slice whose UUID is this number."""
     return b"\x02" + number.to_bytes(16, "big") + X86_64 + struct.pack(">Q", len(slice_bytes)) + slice_bytes
 
 
-def retirement(number, digest=bytes(32)):
+def retirement(number: int, digest: bytes = bytes(32)) -> bytes:
+    """The record that retires the slice of a UUID with this digest."""
     return b"\x01" + number.to_bytes(16, "big") + X86_64 + digest
 
 
-def write_archive(path, records):
+def retirement_of(number: int, slice_bytes: bytes) -> bytes:
+    """The record that retires a slice whose UUID is this number."""
+    return retirement(number, hashlib.sha256(slice_bytes).digest())
+
+
+def write_archive(path: pathlib.Path, records: Iterable[bytes], version: int = 2) -> None:
     """Writes records, which ascend, as an archive."""
     with path.open("wb") as file:
-        file.write(b"MSYMARC2")
-        count = 0
-        for record in records:
-            file.write(record)
-            count += 1
-        file.write(b"\x03" + struct.pack(">Q", count))
+        file.writelines(pieces_of_archive(records, b"MSYMARC%d" % version))
 
 
-def addresses(count):
+def addresses(count: int) -> List[str]:
     return [hex(TEXT + random.randrange(SYMBOLS * FUNCTION)) for _ in range(count)]

@@ -11,6 +11,11 @@ import sys
 import tempfile
 import time
 
+top = pathlib.Path(__file__).resolve().parents[1]
+sys.path[:0] = [str(top), str(top / "packaging")]
+from crate_list import CrateList  # noqa: E402
+from tests.support.program import symarch as program  # noqa: E402
+
 MEGABYTE = 1_000_000
 RUNS = int(os.environ.get("RUNS", 5))
 
@@ -18,16 +23,14 @@ HEADER = bytes.fromhex("cffaedfe0700000103000000020000000100000018000000" "00000
 LC_UUID = bytes.fromhex("1b00000018000000")
 UUID = bytes.fromhex("00112233445566778899aabbccddeeff")
 
-top = pathlib.Path(__file__).resolve().parent.parent
 folder = top / "bench" / "out"
-given = os.environ.get("SYMARCH")
-symarch = pathlib.Path(given).absolute() if given else top / "crates" / "symarch" / "out" / "symarch"
+symarch = pathlib.Path(program)
 
 
 def prepare():
     """Makes the folder of the files, and has the program of this tree built."""
     folder.mkdir(exist_ok=True)
-    if not given:
+    if not os.environ.get("SYMARCH"):
         subprocess.run([top / "symarch", "--help"], stdout=subprocess.DEVNULL, check=True)
 
 
@@ -91,10 +94,12 @@ def beside_aim(what, value, aim):
 
 
 def compare(name, words, inputs, most_time, most_memory):
-    """Runs a command, whose OUT is the word behind IN, and sha256sum on its inputs in turn, and prints their medians."""
+    """Runs a command, whose OUT is the word behind IN, and sha256sum on its inputs in turn, and prints their
+    medians."""
     (seconds, peak), (digest, _) = medians(words, ["sha256sum", *inputs], out=words[3])
     size = sum(path.stat().st_size for path in inputs)
-    print(f"{name}: {words[1]} {seconds:.2f} s, sha256sum {digest:.2f} s,", beside_aim("ratio", seconds / digest, most_time))
+    times = f"{words[1]} {seconds:.2f} s, sha256sum {digest:.2f} s,"
+    print(f"{name}: {times}", beside_aim("ratio", seconds / digest, most_time))
     print(f"{name}: peak memory {peak / MEGABYTE:.0f} MB,", beside_aim("over the inputs", peak / size, most_memory))
 
 
@@ -102,22 +107,14 @@ def rt(words, at):
     subprocess.run(["rt", *words], cwd=at, stdout=subprocess.DEVNULL, check=True)
 
 
-def with_below(crates):
-    """These crates, and those that they stand on, as crates.txt names them: the lowest first."""
-    lines = [line.partition("#")[0].partition(":") for line in (top / "crates.txt").read_text().splitlines()]
-    uses = {name.strip(): used.split() for name, colon, used in lines if colon}
-    needed = set(crates)
-    for name in reversed([*uses]):
-        needed.update(uses[name] if name in needed else ())
-    return [name for name in uses if name in needed]
-
-
 def build(name, crates, kit, words):
     """The program of bench/NAME over these crates, those that they stand on and libraries of the kit, proved and built
-    where there is none or a source is newer, and then run on the words. It is built by `rt run`, which has LLVM optimise
-    it: under `rt try` checks make it hundreds of times as slow. It stands over copies of the crates in a folder of its
-    own, since `rt ci` refuses a second crates.txt below the repository, and an .rt file that is no crate's."""
-    crates = with_below(crates)
+    where there is none or a source is newer, and then run on the words. It is built by `rt run`, which has LLVM
+    optimise it: under `rt try` checks make it hundreds of times as slow. It stands over copies of the crates in a
+    folder of its own, since `rt ci` refuses a second crates.txt below the repository, and an .rt file that is no
+    crate's."""
+    listed = CrateList()
+    crates = listed.with_below(crates)
     program, source = folder / name, top / "bench" / name / "main.rattle"
     sources = [source, *(file for crate in crates for file in (top / "crates" / crate / "src").iterdir())]
     if program.exists() and all(file.stat().st_mtime < program.stat().st_mtime for file in sources):
@@ -131,9 +128,8 @@ def build(name, crates, kit, words):
         place = copies / name
         (place / "src").mkdir(parents=True)
         shutil.copy(source, place / "src" / "main.rt")
-        lines = (top / "crates.txt").read_text().splitlines(keepends=True)
-        used = [line for line in lines if line.split(":")[0] in crates]
-        (copies.parent / "crates.txt").write_text("".join(used) + f"{name}: {' '.join((*crates, *kit))}\n")
+        text = listed.text_of(crates) + f"{name}: {' '.join((*crates, *kit))}\n"
+        (copies.parent / "crates.txt").write_text(text)
         rt(["run", "--", *words], place)
         shutil.copy(place / "out" / name, program)
     return program

@@ -1,0 +1,15 @@
+"""A model of archives and commands that shares nothing with the program. In reading order:
+
+- images            images and universal files
+- contents          the content of archives, and the texts of files
+- lines             the lines that commands print, and the words that they take
+- worlds            scripts of rehearsals, their sites, and frames
+- plans             the words of commands
+- commands          what commands read, write and print
+- hints             the second line of a fault
+- parts             the words of cases that spell bytes
+- calls             the calls of cases below the commands
+- cases             the language of crates/acceptance/data/cases, carried out
+- checking          the cases beside what the model computes
+- take_growths      takes over the numbers of refused growths, which the model does not compute
+"""

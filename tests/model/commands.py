@@ -1,0 +1,402 @@
+"""What commands read, write and print, told a second time by docs/COMMANDS.md."""
+from __future__ import annotations
+
+from typing import Any, Callable, Iterable, List, NamedTuple, Optional, Sequence, Tuple, TypeVar
+
+from .contents import OLD_ARCHIVE, Content, Fault, MergeFault, Placed, Source, Stale, admission, copy_unnamed, covering
+from .contents import index_text, magic_fault, merge_streams, merged_by_definition, parts_at, read_archive, read_index
+from .contents import read_ops, read_summary, retirement, summary_text, test_length
+from .images import parts_of_file, sha
+from .lines import answer_lines, find_lines, find_rows, index_rows, key_text, name_lines
+from .parts import Store
+from .plans import Plan
+from .worlds import World, read_frames, read_script
+
+UNLIMITED = 1 << 62
+Read = TypeVar("Read")
+# What opens an input by its path; None where it cannot be opened.
+Open = Callable[[str], Optional[Source]]
+# The lines of a command over the content of its archive.
+Lines = Callable[[Content], List[str]]
+
+
+class CommandFault(Exception):
+    """What ends a command: the place of an input or of the output, and what is wrong there."""
+
+    def __init__(self, place: Optional[str], text: str) -> None:
+        super().__init__(place, text)
+        self.place, self.text = place, text
+
+
+class NoMemory(CommandFault):
+    """There is no memory to open an input."""
+
+    def __init__(self) -> None:
+        super().__init__(None, "out of memory")
+
+
+class Short:
+    """An output that takes so many bytes."""
+
+    def __init__(self, most: int) -> None:
+        self.most, self.data = most, bytearray()
+
+    def push(self, b: bytes, place: str) -> None:
+        room = self.most - len(self.data)
+        self.data += b[:room]
+        if len(b) > room:
+            raise CommandFault(place, f"failed after {self.most} bytes")
+
+
+class Out(Short):
+    """OUT's draft, which is put in place once, where there is a place."""
+
+    def __init__(self, most: int, places: int) -> None:
+        super().__init__(most)
+        self.places, self.is_draft = places, True
+
+    def place(self) -> None:
+        if not self.places:
+            raise CommandFault("output", f"failed after {len(self.data)} bytes")
+        self.is_draft = False
+
+
+class Limits(NamedTuple):
+    """How many bytes OUT and the report take, how many inputs are opened and drafts put in place; and of which input
+    how many bytes are there, or are read before it fails."""
+
+    out: int = UNLIMITED
+    report: int = UNLIMITED
+    opened: int = UNLIMITED
+    places: int = UNLIMITED
+    cut: Optional[Tuple[str, int]] = None
+    read: Optional[Tuple[str, int]] = None
+
+    def but(self, **changes: Any) -> Limits:
+        return self._replace(**changes)
+
+    def bytes(self, store: Store, name: str) -> Optional[bytes]:
+        content = store.get(name)
+        return content[: self.cut[1]] if content is not None and self.cut and self.cut[0] == name else content
+
+    def source(self, store: Store, name: str) -> Optional[Source]:
+        content = self.bytes(store, name)
+        if content is None:
+            return None
+        return Source(content, self.read[1] if self.read and self.read[0] == name else None)
+
+
+class End(NamedTuple):
+    """How a command or a call ended: `done` with a status, `refused`, `wanting` or `fault` with a text, or `given`."""
+
+    kind: str
+    text: str = ""
+    status: int = 0
+
+
+class Left(NamedTuple):
+    """What a command or a call leaves: how it ended, OUT or the draft of it, the report, and notes."""
+
+    end: End
+    out: bytes
+    report: bytes
+    is_draft: bool = False
+    notes: Sequence[str] = ()
+
+
+class Run:
+    """A command: what opens its inputs, OUT and the report."""
+
+    def __init__(self, open_source: Open, out: Out, report: Short) -> None:
+        self.open, self.out, self.report = open_source, out, report
+        self.notes: List[str] = []
+
+    # ---- inputs
+
+    def opened(self, path: str, place: str) -> Source:
+        source = self.open(path)
+        if source is None:
+            raise CommandFault(place, "cannot open")
+        return source
+
+    def read(self, path: str, place: str, read: Callable[[Source], Read]) -> Read:
+        source = self.opened(path, place)
+        try:
+            return read(source)
+        except Fault as fault:
+            raise CommandFault(place, fault.text) from None
+
+    def archive(self, path: str, place: str) -> Content:
+        return self.read(path, place, read_archive)
+
+    def join(self, paths: Iterable[str], first: int = 0) -> Content:
+        """The join of archives, in the order of the words."""
+        made = Content()
+        for number, path in enumerate(paths, first):
+            made.join(self.archive(path, f"archive {number}"))
+        return made
+
+    def by_index(self, path: str, index: str, number: int, read: Callable[[List[bytes], Placed], Read]) -> Read:
+        """What is read of the archive of a path by its index, which have this number."""
+        entries = self.read(index, f"index {number}", read_index)
+        placed = Placed(self.opened(path, f"archive {number}"))
+        try:
+            test_length(entries, placed)
+            return read(entries, placed)
+        except Fault:
+            raise CommandFault(f"archive {number}", "Device") from None
+        except Stale as stale:
+            raise CommandFault(f"index {number}", stale.text) from None
+
+    @staticmethod
+    def test_indexes(archives: Sequence[str], indexes: Sequence[str]) -> None:
+        if len(indexes) > len(archives):
+            raise CommandFault(f"index {len(archives)}", "NoArchive")
+
+    def entries(self, plan: Plan) -> List[bytes]:
+        return self.by_index(plan.one["archive"], plan.indexes[0], 0, lambda entries, placed: entries)
+
+    def asked(self, archives: Sequence[str], indexes: Sequence[str], fronts: Sequence[bytes]) -> Content:
+        """The join of archives, of which the first are read by their indexes, and the others whole."""
+        self.test_indexes(archives, indexes)
+        made = Content()
+        for number, path in enumerate(archives):
+            if number < len(indexes):
+                read: Callable[[List[bytes], Placed], Content] = lambda some, placed: parts_at(some, placed, fronts)
+                made.join(self.by_index(path, indexes[number], number, read))
+            else:
+                made.join(self.archive(path, f"archive {number}"))
+        return made
+
+    def asked_of(self, plan: Plan, front: bytes) -> Content:
+        return self.asked([plan.one["archive"], *plan.more], plan.indexes, [front])
+
+    def whole(self, path: str, place: str) -> bytes:
+        source = self.opened(path, place)
+        content = source.rest()
+        if source.fails:
+            raise CommandFault(place, "Device")
+        return content
+
+    def before(self, path: str, read: Callable[[], Read]) -> Read:
+        """What is read of inputs before the archive of a path, whose own fault is told if one of them is refused."""
+        try:
+            return read()
+        except CommandFault:
+            self.archive(path, "archive 0")
+            raise
+
+    # ---- outputs
+
+    def tell(self, lines: Sequence[str]) -> None:
+        if lines:
+            self.report.push(("\n".join(lines) + "\n").encode("latin-1"), "report")
+
+    def told(self, lines: Sequence[str]) -> int:
+        """The status of a command that prints what it finds."""
+        self.tell(lines)
+        return 0 if lines else 1
+
+    def write(self, text: bytes) -> None:
+        self.out.push(text, "output")
+        self.out.place()
+
+    def push(self, b: bytes) -> None:
+        self.out.push(b, "output")
+
+    def end(self, records: int, lines: Sequence[str]) -> int:
+        """The end of a command whose draft has taken a whole text of so many records."""
+        self.out.place()
+        self.tell([*lines, f"archive: {records} records, {len(self.out.data)} bytes"])
+        return 0
+
+    def merge(self, path: str, right: bytes, lines_of: Lines = lambda content: []) -> int:
+        """The archive of a path, merged with the text of another one as it comes; the lines are those of its
+        content."""
+        source = self.opened(path, "archive 0")
+        try:
+            records = merge_streams(source, Source(right), self.push)
+        except MergeFault as fault:
+            raise CommandFault("archive 0", fault.text) from None
+        return self.end(records, lines_of(read_archive(Source(source.data))))
+
+    # ---- commands
+
+    def run(self, plan: Plan) -> int:
+        command: Callable[[Plan], int] = getattr(self, f"run_{plan.command}")
+        return command(plan)
+
+    def run_new(self, plan: Plan) -> int:
+        self.push(Content().text())
+        return self.end(0, [])
+
+    def slices(self, paths: Sequence[str]) -> List[Tuple[int, int, Optional[bytes]]]:
+        """The numbers of file and slice of each part of files, and its bytes; none of one that is skipped."""
+        found: List[Tuple[int, int, Optional[bytes]]] = []
+        for file, path in enumerate(paths):
+            parts = parts_of_file(self.whole(path, f"file {file}"))
+            if isinstance(parts, str):
+                raise CommandFault(f"file {file}", parts)
+            found += [(file, number, part) for number, part in enumerate(parts)]
+        return found
+
+    def run_admit(self, plan: Plan) -> int:
+        parts = self.before(plan.one["in"], lambda: self.slices(plan.files))
+        came = Content([admission(part) for _, _, part in parts if part is not None])
+
+        def lines_of(content: Content) -> List[str]:
+            retired = [it for it in came.records() if covering(it) in content.rets]
+            words = [f"{key_text(it[1:25])} {sha(it[33:]).hex()}" for it in retired]
+            self.notes = [f"{it} is retired in IN, and does not come in" for it in words]
+            lines = []
+            for file, number, part in parts:
+                what = f"file {file} slice {number}"
+                if part is None:
+                    lines.append(f"{what} skipped")
+                    continue
+                record = admission(part)
+                word = "added" if content.take(record) else "known"
+                lines.append(f"{what} {word} {key_text(record[1:25])} {sha(part).hex()}")
+            return lines
+
+        return self.merge(plan.one["in"], came.text(), lines_of)
+
+    def run_retire(self, plan: Plan) -> int:
+        record, words = retirement(plan.key, plan.digest), f"{key_text(plan.key)} {plan.digest.hex()}"
+
+        def lines_of(content: Content) -> List[str]:
+            if record not in content.adms:
+                self.notes = [f"IN has no slice {words}"]
+            return [f"{'known' if content.holds(record) else 'retired'} {words}"]
+
+        return self.merge(plan.one["in"], Content([record]).text(), lines_of)
+
+    def run_merge(self, plan: Plan) -> int:
+        if len(plan.files) == 1:
+            return self.merge_two(plan.one["in"], plan.files[0])
+        files = self.before(plan.one["in"], lambda: self.join(plan.files, 1))
+        return self.merge(plan.one["in"], files.text())
+
+    def merge_two(self, path: str, other: str) -> int:
+        """Both are read as OUT is written. FILE is opened after the magic of IN."""
+        left = self.opened(path, "archive 0")
+        try:
+            right = self.opened(other, "archive 1")
+        except CommandFault:
+            fault = magic_fault(left)
+            if fault:
+                raise CommandFault("archive 0", fault) from None
+            raise
+        records, stopped = 0, None
+        try:
+            records = merge_streams(left, right, self.push)
+        except MergeFault as told:
+            stopped = told
+        if not left.fails and not right.fails:
+            wanted = merged_by_definition(left.data, right.data)
+            assert (bytes(self.out.data), stopped and (stopped.side, stopped.text)) == wanted, "merge"
+        if stopped:
+            raise CommandFault(f"archive {stopped.side}", stopped.text)
+        return self.end(records, [])
+
+    def run_migrate(self, plan: Plan) -> int:
+        return self.merge(plan.one["in"], Content().text())
+
+    def run_apply(self, plan: Plan) -> int:
+        records = self.before(plan.one["in"], lambda: self.read(plan.one["ops"], "ops", read_ops))
+
+        def lines_of(content: Content) -> List[str]:
+            new = sum([content.take(it) for it in records])
+            return [f"applied: {new} new, {len(records) - new} known"]
+
+        return self.merge(plan.one["in"], Content(records).text(), lines_of)
+
+    def run_find(self, plan: Plan) -> int:
+        if len(plan.indexes) == 1 and not plan.more:
+            rows = index_rows(self.entries(plan), plan.uuid)
+        else:
+            rows = find_rows(self.asked_of(plan, plan.uuid), plan.uuid)
+        return self.told(find_lines(rows, False))
+
+    def run_list(self, plan: Plan) -> int:
+        if plan.indexes:
+            rows = index_rows(self.entries(plan))
+        else:
+            rows = find_rows(self.archive(plan.one["archive"], "archive 0"))
+        return self.told(find_lines(rows, True))
+
+    def run_name(self, plan: Plan) -> int:
+        content = self.join([plan.one["archive"], *plan.more])
+        return self.told(name_lines(content, plan.one["name"].encode()))
+
+    def run_symbolicate(self, plan: Plan) -> int:
+        images = self.asked_of(plan, plan.key).answering(plan.key)
+        return self.answered([answer_lines(images, it, plan.load) for it in plan.addresses])
+
+    def answered(self, answers: Sequence[Tuple[List[str], bool]]) -> int:
+        self.tell([line for lines, _ in answers for line in lines])
+        return 0 if all(is_one for _, is_one in answers) else 1
+
+    def run_frames(self, plan: Plan) -> int:
+        self.test_indexes(plan.archives, plan.indexes)
+        frames = read_frames(self.whole(plan.one["frames"], "frames"))
+        if isinstance(frames, str):
+            raise CommandFault("frames", frames)
+        keys = sorted({frame.key for frame in frames})
+        content = self.asked(plan.archives, plan.indexes, keys)
+        images = {key: content.answering(key) for key in keys}
+        return self.answered([answer_lines(images[it.key], it.address, it.load) for it in frames])
+
+    def run_summary(self, plan: Plan) -> int:
+        if plan.indexes:
+            entries = {it[:57] for it in self.entries(plan)}
+        else:
+            entries = self.archive(plan.one["archive"], "archive 0").summary()
+        text = summary_text(entries)
+        self.write(text)
+        self.tell([f"summary: {len(entries)} entries, {len(text)} bytes"])
+        return 0
+
+    def run_index(self, plan: Plan) -> int:
+        source = self.open(plan.one["archive"])
+        if source and source.data[: source.end][:8] == OLD_ARCHIVE:
+            raise CommandFault("archive 0", "OldArchive")
+        content = self.archive(plan.one["archive"], "archive 0")
+        text = index_text(content)
+        self.write(text)
+        self.tell([f"index: {content.len()} entries, {len(text)} bytes"])
+        return 0
+
+    def run_delta(self, plan: Plan) -> int:
+        entries = self.before(plan.one["archive"], lambda: self.read(plan.one["summary"], "summary", read_summary))
+        source = self.opened(plan.one["archive"], "archive 0")
+        try:
+            records = copy_unnamed(source, entries, self.push)
+        except Fault as fault:
+            raise CommandFault("archive 0", fault.text) from None
+        return self.end(records, [])
+
+    def run_rehearse(self, plan: Plan) -> int:
+        script = read_script(self.whole(plan.one["script"], "script"))
+        if isinstance(script, str):
+            raise CommandFault("script", script)
+        world = World(script.sites)
+        world.run(script.events)
+        lines = [f"{number} {it}" for number, it in enumerate(world.lines)]
+        for number, content in enumerate(world.held):
+            text = content.text()
+            lines.append(f"site {number} {content.len()} {len(text)} {sha(text).hex()}")
+        self.tell(lines)
+        return 0
+
+
+def run_plan(plan: Plan, open_source: Open, limits: Limits) -> Left:
+    out, report = Out(limits.out, limits.places), Short(limits.report)
+    command = Run(open_source, out, report)
+    try:
+        end = End("done", status=command.run(plan))
+    except NoMemory as fault:
+        end = End("wanting", fault.text)
+    except CommandFault as fault:
+        end = End("refused", f"{fault.place}: {fault.text}")
+    return Left(end, bytes(out.data), bytes(report.data), out.is_draft, command.notes)

@@ -1,0 +1,112 @@
+"""The words of commands, told a second time by docs/COMMANDS.md."""
+from typing import Dict, List, Optional, Sequence, Tuple, TypeVar
+
+from .lines import address_word, arch_word, digest_word, uuid_word
+
+# The words that each command takes, in their order; a star is after the last one, which may stand several times.
+WORDS = {
+    **{"new": "out", "find": "archive uuid", "list": "archive", "name": "archive name", "summary": "archive out"},
+    **{"index": "archive out", "delta": "archive summary out", "rehearse": "script", "apply": "in out ops"},
+    **{"retire": "in out uuid arch digest", "admit": "in out file*", "merge": "in out file*", "migrate": "in out"},
+    **{"symbolicate": "archive uuid arch address*", "frames": "frames archives*"},
+}
+# The commands that ask several archives by `--with`; those that read an archive by its index, and those of them that
+# read one alone.
+ASKING = ("find", "symbolicate", "name")
+INDEXED = ("find", "symbolicate", "frames", "list", "summary")
+ALONE = ("list", "summary")
+# The words that name one input, in the order of a plan's inputs.
+INPUTS = ("in", "frames", "archive", "summary", "ops", "script")
+
+
+class Copy(Exception):
+    """What the model does not tell: the lines of the text are left as they are."""
+
+
+Value = TypeVar("Value")
+
+
+def told(value: Optional[Value]) -> Value:
+    """A value that has its form. Refused words are not told here."""
+    if value is None:
+        raise Copy
+    return value
+
+
+class Plan:
+    """What words ask for: a command, its single words by their names, and those that may stand several times."""
+
+    def __init__(self, words: Sequence[str]) -> None:
+        if not words or words[0] not in WORDS:
+            raise Copy
+        self.command = words[0]
+        self.load: Optional[int] = None
+        self.more: List[str] = []
+        self.indexes: List[str] = []
+        self.one: Dict[str, str] = {}
+        self.several: Dict[str, List[str]] = {}
+        self.name(self.positional(words[1:]))
+        self.uuid = told(uuid_word(self.one["uuid"])) if "uuid" in self.one else b""
+        self.arch = told(arch_word(self.one["arch"])) if "arch" in self.one else b""
+        self.digest = told(digest_word(self.one["digest"])) if "digest" in self.one else b""
+        self.addresses = [told(address_word(it)) for it in self.several.get("address", [])]
+        self.files, self.archives = self.several.get("file", []), self.several.get("archives", [])
+        inputs = [self.one[it] for it in ("in", "archive", "summary", "ops") if it in self.one]
+        if self.one.get("out") in [*inputs, *self.files, *self.indexes]:
+            raise Copy
+
+    @property
+    def key(self) -> bytes:
+        return self.uuid + self.arch
+
+    def positional(self, words: Sequence[str]) -> List[str]:
+        """The words that are no options, which are taken."""
+        found: List[str] = []
+        left = list(words)
+        while left:
+            word = left.pop(0)
+            if not word.startswith("-") or word == "-":
+                found.append(word)
+            elif word == "--":
+                return found + left
+            else:
+                self.take_option(*self.option(word, left))
+        return found
+
+    @staticmethod
+    def option(word: str, left: List[str]) -> Tuple[str, str]:
+        """An option and its value, which may be the next word."""
+        name, equals, value = word.partition("=")
+        if not equals and not left:
+            raise Copy
+        return name, value if equals else left.pop(0)
+
+    def take_option(self, name: str, value: str) -> None:
+        if name == "--load" and self.command == "symbolicate" and self.load is None:
+            self.load = told(address_word(value))
+        elif name == "--with" and self.command in ASKING:
+            self.more.append(value)
+        elif name == "--index" and self.command in INDEXED and not (self.indexes and self.command in ALONE):
+            self.indexes.append(value)
+        else:
+            raise Copy
+
+    def name(self, found: List[str]) -> None:
+        """Takes the words by their names."""
+        names = WORDS[self.command].split()
+        for place, name in enumerate(names):
+            if name.endswith("*"):
+                self.several[name[:-1]] = found[place:]
+            if place >= len(found):
+                raise Copy
+            if not name.endswith("*"):
+                self.one[name] = found[place]
+        if not names[-1].endswith("*") and len(found) != len(names):
+            raise Copy
+
+    def inputs(self) -> List[str]:
+        """The paths of the inputs, in the order of the words."""
+        first = [self.one[it] for it in INPUTS if it in self.one]
+        if self.archives:
+            return [*first, *self.indexes, *self.archives, *self.more, *self.files]
+        return [*first, *self.more, *self.indexes, *self.files]

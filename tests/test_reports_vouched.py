@@ -1,0 +1,249 @@
+"""symbolicate-report by the indexes beside archives: no name is printed that they do not vouch for."""
+import os
+import re
+import shutil
+import struct
+from pathlib import Path
+from typing import Any, List, Optional
+
+from .support.cases import powerless_over
+from .support.made_images import records_in
+from .support.program import TOP, call, symarch
+from .support.reports import CRASHES, DYLD, FIXTURES, KERNEL, SPOOL, SPOOL_2, ReportCase, named, source
+from .support.rooms import change
+
+KEEP = TOP / "tools" / "symarch-keep"
+ARM64, MH_DSYM = struct.pack(">II", 0x0100000C, 0), struct.pack("<I", 10)
+NONE_NAMED = "0 of 4 frames named, 0 named before, 4 not named"
+ALL_NAMED = f"4 of 4 frames named, 0 named before, 0 not named; by dSYM: spool {SPOOL} arm64"
+CHANGED = f"changed since it came in: spool {SPOOL} arm64"
+
+
+def advice(uuid: str, kept: object, arch: str = "arm64") -> str:
+    return f"symbolicate-report: {uuid} {arch} changed since it came in: run symarch-keep check {kept}"
+
+
+class VouchedCase(ReportCase):
+    """Cases over `site.sym`, an archive with an index."""
+
+    def setUp(self) -> None:
+        super().setUp()
+        self.site = self.archive("site.sym", "shipped")
+
+    def archive(self, name: str, like: str, is_indexed: bool = True) -> Path:
+        path = self.file(name, (self.archives / like).read_bytes())
+        if is_indexed:
+            self.assertEqual(self.call("index", path, f"{path}.idx").status, 0)
+        return path
+
+    def change(self, path: Path, uuid: str = SPOOL, arch: bytes = ARM64, of_dsym: bool = True) -> None:
+        """Changes the last byte of the slices of a key, of its companion or of its image."""
+        at = 8
+        for record in records_in(path.read_bytes()):
+            key = bytes.fromhex(uuid.replace("-", "")) + arch
+            at += len(record)
+            if record[1:25] == key and (record[45:49] == MH_DSYM) == of_dsym:
+                change(path, at - 1)
+
+    def says(
+        self, *lines: str, words: Optional[List[Any]] = None, status: int = 2, printed: Optional[bytes] = None
+    ) -> None:
+        """Fails where other lines stand on standard error, in which paths have no folder; where the status is another
+        one, or something else is printed than the report as it stands."""
+        came = self.report(*(words or [CRASHES / "arm64.crash", "site.sym"]))
+        self.assertEqual((came.status, self.shortened(came)), (status, list(lines)))
+        self.is_printed(came, source("crash") if printed is None else printed)
+
+
+class ChangedSlices(VouchedCase):
+    """A slice that has not the SHA-256 that it came in with."""
+
+    def test_no_name_is_printed(self) -> None:
+        self.says(ALL_NAMED, status=0, printed=named("crash"))
+        self.change(self.site)
+        self.says(advice(SPOOL, "site.sym"), f"{NONE_NAMED}; {CHANGED}")
+
+    def test_the_image_beside_its_dsym(self) -> None:
+        """The dSYM would answer without it, and nothing says which of the two is meant."""
+        self.change(self.site, of_dsym=False)
+        self.says(advice(SPOOL, "site.sym"), f"{NONE_NAMED}; {CHANGED}")
+
+    def test_the_names_that_the_report_has_stay(self) -> None:
+        self.change(self.site)
+        words = [self.file("named.crash", named("crash")), "site.sym"]
+        counts = "0 of 4 frames named, 4 named before, 0 not named"
+        self.says(advice(SPOOL, "site.sym"), f"{counts}; {CHANGED}", words=words, printed=named("crash"))
+
+    def test_other_images_are_named(self) -> None:
+        both = self.archive("both.sym", "both")
+        self.change(both)
+        came = self.report(FIXTURES / "spool.spindump.txt", "both.sym")
+        self.assertEqual((came.status, self.shortened(came)[0]), (2, advice(SPOOL, "both.sym")))
+        counts, *origins = came.error_lines[1].split("; ")
+        self.assertEqual(counts, "2 of 15 frames named, 5 named before, 8 not named")
+        absent = f"not in the archive: dyld {DYLD}, kernel {KERNEL}"
+        self.assertEqual(origins, [f"by dSYM: spool {SPOOL_2}", f"changed since it came in: spool {SPOOL}", absent])
+        lines = named("spindump").splitlines()
+        wanted = [line for line in lines if re.search(rb"_copy_body \+ 0|_start \+ 48", line)]
+        self.assertEqual([line for line in came.out.splitlines() if line in wanted], wanted)
+
+    def test_another_image_than_those_of_the_report(self) -> None:
+        both = self.archive("both.sym", "both")
+        self.change(both, SPOOL_2)
+        self.says(ALL_NAMED, words=[CRASHES / "arm64.crash", "both.sym"], status=0, printed=named("crash"))
+
+    def test_several_slices_at_once(self) -> None:
+        """The program is called once more, however many slices changed."""
+        both = self.archive("both.sym", "both")
+        self.change(both)
+        self.change(both, SPOOL_2)
+        program = self.script("counting", f'echo >>"{self.folder}/calls"; exec "$symarch" "$@"')
+        came = self.report(FIXTURES / "spool.spindump.txt", "both.sym", environment={"SYMARCH": program})
+        self.assertEqual(sorted(came.error_lines[:2]), sorted([advice(SPOOL, "both.sym"), advice(SPOOL_2, "both.sym")]))
+        self.assertEqual((came.status, (self.folder / "calls").read_text().count("\n")), (2, 2))
+
+    def test_an_architecture_that_is_not_stated(self) -> None:
+        """The image for another architecture under its UUID does not answer in its place."""
+        two = self.archive("two.sym", "two")
+        self.change(two)
+        path = self.file("unstated", source("crash").replace(b" arm64 <", b" <"))
+        changed = f"changed since it came in: spool {SPOOL}"
+        self.says(advice(SPOOL, "two.sym"), f"{NONE_NAMED}; {changed}", words=[path, two], printed=path.read_bytes())
+
+    def test_the_same_key_in_another_archive(self) -> None:
+        self.change(self.site)
+        for others in (["shipped", "site.sym"], ["site.sym", "shipped"]):
+            words = [CRASHES / "arm64.crash", *others]
+            self.says(advice(SPOOL, "site.sym"), f"{NONE_NAMED}; {CHANGED}", words=words)
+
+    def test_what_came_in_lately(self) -> None:
+        """The advice names the archive that symarch-keep has it for."""
+        empty = self.archive("late.sym", "empty")
+        shutil.copy(self.site, f"{empty}.today")
+        shutil.copy(f"{self.site}.idx", f"{empty}.today.idx")
+        self.says(ALL_NAMED, words=[CRASHES / "arm64.crash", "late.sym"], status=0, printed=named("crash"))
+        self.change(Path(f"{empty}.today"))
+        words = [CRASHES / "arm64.crash", "late.sym"]
+        self.says(advice(SPOOL, "late.sym"), f"{NONE_NAMED}; {CHANGED}", words=words)
+
+    def test_a_link_to_an_archive(self) -> None:
+        (self.folder / "other").mkdir()
+        (self.folder / "other/link.sym").symlink_to(self.site)
+        self.change(self.site)
+        link = self.folder / "other/link.sym"
+        self.says(advice(SPOOL, "other/link.sym"), f"{NONE_NAMED}; {CHANGED}", words=[CRASHES / "arm64.crash", link])
+
+    def test_missing(self) -> None:
+        """The slice is there, so its dSYM is not missing."""
+        self.change(self.site)
+        words = ["--missing", CRASHES / "arm64.ips", "site.sym"]
+        self.says(advice(SPOOL, "site.sym"), words=words, printed=f"{DYLD}\n".encode())
+
+    def test_several_reports(self) -> None:
+        self.change(self.site)
+        paths = [self.file("one/crash", source("crash")), self.file("one/ips", source("ips"))]
+        made, came = self.written(paths, "site.sym")
+        self.assertEqual((came.status, made["crash"], made["ips"]), (2, source("crash"), source("ips")))
+        self.assertIn(CHANGED, came.error_lines[1])
+
+    def test_an_archive_of_symarch_keep(self) -> None:
+        """From `add` to the word that the advice names, which says the same of the slice."""
+        kept = self.folder / "kept.sym"
+        environment = {"SYMARCH": symarch}
+        self.assertEqual(call([KEEP, "add", kept, CRASHES / "spool-1.dSYM"], environment=environment).status, 0)
+        self.assertEqual(call([KEEP, "fold", kept], environment=environment).status, 0)
+        self.change(kept)
+        words = [CRASHES / "arm64.crash", "kept.sym"]
+        self.says(advice(SPOOL, "kept.sym"), f"{NONE_NAMED}; {CHANGED}", words=words)
+        checked = call([KEEP, "check", kept], environment=environment)
+        self.assertEqual(checked.status, 2)
+        self.assertIn(f"changed {SPOOL} arm64", checked.out.decode())
+        self.says(advice(SPOOL, "kept.sym"), f"{NONE_NAMED}; {CHANGED}", words=words)
+
+    def test_without_an_index_the_archive_alone_answers(self) -> None:
+        plain = self.archive("plain.sym", "shipped", is_indexed=False)
+        self.change(plain)
+        self.says(ALL_NAMED, words=[CRASHES / "arm64.crash", "plain.sym"], status=0, printed=named("crash"))
+
+
+class OtherArchives(VouchedCase):
+    """Archives that were written since their index was, and indexes that are damaged."""
+
+    since = "site.sym was written since site.sym.idx was, which does not vouch for it: run symarch-keep check site.sym"
+    since += ", and if that ends with 0 symarch-keep fold site.sym, which indexes it anew"
+
+    def is_not_asked(self, why: str, archive: str = "site.sym") -> None:
+        """Nothing is printed, since nothing vouches for a name, and the word that finds out more is named."""
+        line = f"symbolicate-report: {why}: run symarch-keep check {archive}"
+        self.is_refused([CRASHES / "arm64.crash", archive], line)
+
+    def test_an_archive_that_was_written_since(self) -> None:
+        """What is said of it helps."""
+        shutil.copy(self.archives / "both", self.site)
+        self.is_refused([CRASHES / "arm64.crash", "site.sym"], f"symbolicate-report: {self.since}")
+        for word in ("check", "fold"):
+            came = call([KEEP, word, self.site], environment={"SYMARCH": symarch})
+            self.assertEqual(came.status, 0, came.errors)
+        self.says(ALL_NAMED, status=0, printed=named("crash"))
+
+    def test_one_of_two_archives(self) -> None:
+        """It may retire what the other one has."""
+        shutil.copy(self.archives / "both", self.site)
+        words = [CRASHES / "arm64.crash", "shipped", "site.sym"]
+        self.is_refused(words, f"symbolicate-report: {self.since}")
+
+    def test_a_word_that_puts_an_archive_in_place_now(self) -> None:
+        """Its index stands there already, under another name."""
+        both = self.archive("both.sym", "both")
+        os.replace(both, self.site)
+        os.replace(f"{both}.idx", f"{self.site}.idx.next")
+        self.says(ALL_NAMED, status=0, printed=named("crash"))
+
+    def test_an_index_that_comes_meanwhile(self) -> None:
+        """The program is given an index that is an old one by then, and asked again."""
+        both = self.archive("both.sym", "both")
+        shutil.copy(both, self.site)
+        moved = f'mv "{both}.idx" "{self.site}.idx" 2>>"{self.folder}/moves"'
+        program = self.script("moving", f'"$symarch" "$@"; status=$?; {moved}; exit $status')
+        came = self.report(CRASHES / "arm64.crash", "site.sym", environment={"SYMARCH": program})
+        self.assertEqual((came.status, came.error_lines), (0, [ALL_NAMED]))
+        self.is_printed(came, "crash")
+
+    def test_an_index_that_is_cut(self) -> None:
+        index = self.folder / "site.sym.idx"
+        index.write_bytes(index.read_bytes()[:-1])
+        self.is_not_asked(f"site.sym.idx is not read: Truncated at {index.stat().st_size - 8}")
+
+    def test_an_index_of_which_a_byte_changed(self) -> None:
+        """symarch-keep has its SHA-256. By the index alone the dSYM would have another UUID, and the image answer."""
+        kept = self.folder / "kept.sym"
+        files = [CRASHES / "spool-1", CRASHES / "spool-1.dSYM"]
+        self.assertEqual(call([KEEP, "add", kept, *files], environment={"SYMARCH": symarch}).status, 0)
+        self.assertEqual(call([KEEP, "fold", kept], environment={"SYMARCH": symarch}).status, 0)
+        words = [CRASHES / "arm64.crash", "kept.sym"]
+        self.says(ALL_NAMED, words=words, status=0, printed=named("crash"))
+        change(Path(f"{kept}.idx"), 8 + 74 * 2 + 9)
+        self.is_not_asked("kept.sym.idx is damaged", "kept.sym")
+
+
+class WhatCameLately(VouchedCase):
+    """ARCHIVE.today, which may retire what ARCHIVE has."""
+
+    def test_one_that_is_no_archive(self) -> None:
+        self.file("site.sym.today", "no archive\n")
+        came = self.report(CRASHES / "arm64.crash", "site.sym")
+        self.assertEqual((came.status, came.out), (2, b""))
+        self.assertEqual(came.error_lines[0].partition(": ")[2].partition(": ")[2], "BadMagic at 0")
+        self.assertIn("site.sym.today", came.error_lines[1])
+
+    def test_one_that_cannot_be_read(self) -> None:
+        today = self.archive("site.sym.today", "both", is_indexed=False)
+        today.chmod(0)
+        before = powerless_over(today)
+        came = self.report(CRASHES / "arm64.crash", "site.sym", before=before)
+        self.assertEqual((came.status, came.out), (2, b""))
+        self.assertTrue(any("site.sym.today: Permission denied" in line for line in came.error_lines), came.errors)
+
+    def test_one_without_records(self) -> None:
+        self.archive("site.sym.today", "empty", is_indexed=False)
+        self.says(ALL_NAMED, status=0, printed=named("crash"))

@@ -1,0 +1,103 @@
+"""Keeps an archive of symarch: puts images and dSYMs into it, exchanges with other sites, checks and repairs it.
+
+The program is the one that SYMARCH names; else the one that ./symarch built, or that was installed with this tool; else
+`symarch` in PATH. None is built here: if SYMARCH names the script ./symarch, the program that it built is called.
+
+What comes in goes into ARCHIVE.today, a small archive beside ARCHIVE, and `fold` joins it into ARCHIVE. What a site has
+is what both have together: `symbolicate-report` asks both, and so does `symarch frames FRAMES ARCHIVE.today ARCHIVE`.
+
+Each word replaces one of the two by a new file that is synced and then renamed. Killed at any moment, it leaves the old
+one or the new one. One call works at a time, by a lock on the file ARCHIVE.lock, which stays; others wait. The new file
+is written in a folder ARCHIVE.making-*, so the disk needs room for a second ARCHIVE. What a kill leaves the next call
+removes.
+
+Beside them stand their indexes, ARCHIVE.idx and ARCHIVE.today.idx, with the SHA-256 of each slice as it came in and
+where it stands; ARCHIVE.idx.sum and ARCHIVE.today.idx.sum, the SHA-256 of each index; ARCHIVE.log, the lines of the
+words with their dates; ARCHIVE.asked, what `exchange` asked with; ARCHIVE.site, which tells this site from another one
+of its name; and ARCHIVE.lost, what was there and is not, if there is such. Keep them with ARCHIVE. An archive of
+version 1 has no index, and becomes one of version 2 by the next word that writes."""
+import argparse
+import os
+import sys
+from typing import NoReturn, Optional, Sequence
+
+from .keeping import adding, checking, exchanging, folding, repairing, retiring, stating
+from .keeping.screen import Failed, Screen, system_text
+from .signals import Stopped, signals
+from .version import PrintVersion
+
+WORDS = {
+    "add": adding,
+    "fold": folding,
+    "retire": retiring,
+    "exchange": exchanging,
+    "status": stating,
+    "check": checking,
+    "repair": repairing,
+}
+
+
+class Parser(argparse.ArgumentParser):
+    """Words. Others end with status 3, as with the program."""
+
+    def error(self, message: str) -> NoReturn:
+        self.print_usage(sys.stderr)
+        self.exit(3, f"{self.prog}: {message}\n")
+
+
+def parse(words: Sequence[str]) -> argparse.Namespace:
+    shape = argparse.RawDescriptionHelpFormatter
+    parser = Parser("symarch-keep", description=__doc__, formatter_class=shape, allow_abbrev=False)
+    parser.add_argument("--version", action=PrintVersion, nargs=0, help="print the version and exit")
+    commands = parser.add_subparsers(metavar="WORD", required=True)
+    for name, module in WORDS.items():
+        its = commands.add_parser(
+            name,
+            help=module.ABOUT,
+            usage=module.USAGE,
+            description=module.__doc__,
+            formatter_class=shape,
+            allow_abbrev=False,
+        )
+        module.define(its)
+        its.set_defaults(carry_out=module.carry_out)
+    return parser.parse_args(words)
+
+
+def open_standard_streams() -> None:
+    """Keeps a file that is opened from standing in the place of a standard stream that is closed."""
+    for descriptor in range(3):
+        try:
+            os.fstat(descriptor)
+        except OSError:
+            os.open(os.devnull, os.O_RDONLY)
+
+
+def carry_out(words: argparse.Namespace) -> int:
+    """Carries out a word, and says why it failed."""
+    try:
+        return words.carry_out(words)
+    except Failed as fault:
+        failed = fault
+    except OSError as error:
+        failed = Failed(system_text(error))
+    screen = Screen()
+    screen.line(f"{failed.text}; the archive is as it was" if failed.status == 4 else failed.text)
+    if failed.more:
+        screen.write(f"{failed.more}\n")
+    return failed.status
+
+
+def main(given: Optional[Sequence[str]] = None) -> int:
+    open_standard_streams()
+    words = parse(sys.argv[1:] if given is None else given)
+    status = 4
+    try:
+        signals.answer()
+        status = carry_out(words)
+        signals.ignore()
+    except Stopped:
+        # The exception is gone after this, and with it what it met.
+        pass
+    signals.end()
+    return status

@@ -1,0 +1,22 @@
+"""The words of symarch-keep. In reading order:
+
+- screen            what is said, and the faults
+- contents          what an archive has, and the bytes of archives, summaries and the files beside an archive
+- indexes           the index of an archive: its bytes, and what changed by it
+- slices            what files and folders have
+- program           the program symarch
+- upgrading         what was kept before there were indexes
+- archive_file      an archive file, and what is known of it
+- lock              the lock of an archive
+- log               the lines of the words with their dates
+- losing            what was there and is not
+- archive           an archive in its folder, with what came in lately, and how a new one takes its place
+- adding            `add`
+- folding           `fold`
+- retiring          `retire`
+- stating           `status`
+- checking          `check`, and what changed
+- repairing         `repair`
+- shared_folder     the questions and answers of sites, by their names
+- exchanging        `exchange`
+"""

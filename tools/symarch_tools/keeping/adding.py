@@ -1,0 +1,163 @@
+r"""Puts the Mach-O images and dSYMs of files and folders into ARCHIVE, and makes ARCHIVE if it does not exist.
+
+What goes in is found by its first bytes, whatever a file is called: each 64-bit slice that has a UUID, in dSYM
+bundles, .xcarchive, .app, frameworks, dylibs and all else that a PATH has at any depth. The slices of a universal
+file go in one by one, so a part that stays out keeps no other part out.
+
+These are passed over: object files and images without a UUID, static libraries, 32-bit and big-endian images, all
+other files, links to folders, links that lead nowhere. The last line on standard error counts them; --verbose names
+each. A PATH that is a link is followed, and so is a link to a file. A file that has several names is read once.
+
+A file that cannot be read, that changes while it is read, or that symarch refuses is reported by its path, and the
+others go in. There may be any number of files; few are open at a time. The largest slice has to fit in memory twice.
+
+For each slice a line is printed after ARCHIVE is in place, in the order in which they were found:
+
+  added UUID ARCH DIGEST PATH
+  known UUID ARCH DIGEST PATH      ARCHIVE or ARCHIVE.today had it, or it was found before
+  retired UUID ARCH DIGEST PATH    it is withdrawn in one of them, so it stays out
+
+DIGEST is the SHA-256 that `symarch find` prints. PATH is printed as UTF-8; the backslash, each byte that is no UTF-8
+and each byte of a character that does not print, as a newline, stand as \x and two hex digits.
+
+The lines are kept in ARCHIVE.log too, with the date. If no slice is new, ARCHIVE is not touched, and what it has is
+not read again. What is new goes into ARCHIVE.today, so that ARCHIVE is not written anew, and is asked together with it;
+`symarch-keep fold` joins the two. An `add` does so by itself where it finds more than a tenth of ARCHIVE in
+ARCHIVE.today, or no ARCHIVE.
+
+Status:
+  0    each slice that was found is in ARCHIVE or ARCHIVE.today, or is retired there
+  1    no slice was found
+  2    some file was refused or not read, or some line not printed; each other slice is there, or is retired there
+  3    the words have another form
+  4    ARCHIVE could not be read or written, or memory ran out: ARCHIVE is as it was
+  126  there is no program"""
+import argparse
+import collections
+import functools
+import os
+from typing import Dict, List, Sequence, Set, Union
+
+from .archive import Archive
+from .archive_file import NO_UUID
+from .contents import Content
+from .program import Program
+from .screen import Screen, SliceRefused
+from .slices import Finder, Slice, compared
+
+USAGE = "symarch-keep add [--verbose] [--dry-run] ARCHIVE PATH..."
+ABOUT = "put images and dSYMs into it"
+
+
+def define(parser: argparse.ArgumentParser) -> None:
+    parser.add_argument("--verbose", action="store_true", help="name what is passed over")
+    parser.add_argument("--dry-run", action="store_true", help="print what would come of it, and write nothing")
+    parser.add_argument("archive", metavar="ARCHIVE")
+    parser.add_argument("paths", metavar="PATH", nargs="+", help="one that begins with - comes after the word --")
+
+
+def read_all(slices: Sequence[Slice], screen: Screen) -> List[Slice]:
+    """The slices that can be read, whose digests are known then."""
+    files = len({one.path for one in slices})
+    screen.begin(f"reading: {{}} of {files} files", sum(one.length for one in slices))
+    done, kept = 0, []
+    paths: Set[bytes] = set()
+    for one in slices:
+        paths.add(one.path)
+        try:
+            for chunk in one.chunks():
+                done += len(chunk)
+                screen.progress(len(paths), done)
+            kept.append(one)
+        except SliceRefused as refused:
+            screen.refuse(one.path, refused)
+    return kept
+
+
+def mark(slices: Sequence[Slice], content: Content) -> None:
+    """Says of each slice whether it is retired, known or added."""
+    held = set(content.held)
+    for one in slices:
+        one.word = "retired" if one.entry() in content.retired else "known" if one.entry() in held else "added"
+        held.add(one.entry())
+
+
+def put(
+    archive: Archive, program: Program, slices: Sequence[Slice], screen: Screen, is_dry_run: bool
+) -> Sequence[Slice]:
+    """Puts slices into the archive, and returns those that are in it or retired there."""
+    content = archive.content(program, screen)
+    while True:
+        mark(slices, content)
+        refused = put_new(archive, program, content, slices, screen, is_dry_run)
+        if not refused:
+            return slices
+        # What is wrong with the bytes of a slice is wrong with the same bytes in other files.
+        reasons: Dict[Union[bytes, Slice], SliceRefused] = {
+            each.one.entry() if each.is_of_bytes else each.one: each for each in refused
+        }
+        kept = []
+        for one in slices:
+            reason = reasons.get(one) or reasons.get(one.entry())
+            if reason:
+                screen.refuse(one.path, f"Slice({one.part or 0}, {reason})" if reason.is_of_bytes else reason)
+            else:
+                kept.append(one)
+        slices = kept
+
+
+def put_new(
+    archive: Archive,
+    program: Program,
+    content: Content,
+    slices: Sequence[Slice],
+    screen: Screen,
+    is_dry_run: bool,
+) -> List[SliceRefused]:
+    """Puts those that are new into the archive, or returns why some of them are refused."""
+    new: List[Slice] = []
+    try:
+        new = sorted((one for one in slices if one.word == "added"), key=functools.cmp_to_key(compared))
+        if is_dry_run:
+            return refusals(program, new)
+        lines = [one.line() for one in slices]
+        if not new and archive.main.exists():
+            archive.log.note(lines, screen)
+            return []
+        news = Content((), {one.entry(): one.length for one in new})
+        with archive.room() as room:
+            archive.put(room, program, news, lines, screen, new)
+        return []
+    except SliceRefused as first:
+        return [first, *refusals(program, [one for one in new if one is not first.one])]
+
+
+def refusals(program: Program, slices: Sequence[Slice]) -> List[SliceRefused]:
+    """Why the program refuses some of the slices, which are in the order of their records. It reads each once."""
+    found: List[SliceRefused] = []
+    while slices:
+        try:
+            program.run(["find", "/dev/stdin", NO_UUID], slices)
+            break
+        except SliceRefused as refused:
+            found.append(refused)
+            slices = slices[slices.index(refused.one) + 1 :]
+    return found
+
+
+def carry_out(words: argparse.Namespace) -> int:
+    screen = Screen(words.verbose)
+    program = Program()
+    archive = Archive(os.fsencode(words.archive), is_made=True, writes=not words.dry_run)
+    finder = Finder(screen)
+    finder.find([os.fsencode(path) for path in words.paths])
+    readable = read_all(finder.slices, screen)
+    archive.take_lock(screen)
+    slices = put(archive, program, readable, screen, words.dry_run)
+    screen.show([one.line() for one in slices])
+    count = collections.Counter(one.word for one in slices)
+    kinds = ", ".join(f"{kind} {number}" for kind, number in sorted(screen.passed_over.items()))
+    told = ", ".join(f"{count[word]} {word}" for word in ("added", "known", "retired")) + f", {screen.refused} refused"
+    told += f", passed over {sum(screen.passed_over.values())}{f' ({kinds})' if kinds else ''}"
+    screen.line(f"{told}; nothing was written" if words.dry_run else told)
+    return screen.status(0 if slices else 1)

@@ -1,0 +1,404 @@
+"""An archive in its folder: ARCHIVE and ARCHIVE.today, which are asked as their join; their lock; the files that are
+kept beside them; and how a new archive takes the place of one.
+
+What comes in goes into ARCHIVE.today, and `fold` joins that into ARCHIVE. A new archive goes in by four steps:
+ARCHIVE.log.next, FILE.idx.sum and FILE.idx.next are written, the archive is renamed, the lines are added to
+ARCHIVE.log, and FILE.idx.next becomes FILE.idx. Whoever comes after a kill sees by the file which of these were done,
+and does the others. ARCHIVE.today is emptied after ARCHIVE has all of it, so at any moment both have together what they
+had."""
+import contextlib
+import os
+import shutil
+import stat
+import tempfile
+from typing import Iterator, List, Optional, Sequence, Tuple
+
+from ..signals import signals
+from . import upgrading
+from .archive_file import INDEX, INDEX_SUM, NEXT_INDEX, ArchiveFile
+from .archive_file import note_of, size_of, sync_folder, write_synced
+from .contents import EMPTY, Content, heads_in, kept_text
+from .indexes import Index, Row, held_against, index_by, index_in, index_of
+from .lock import Lock
+from .log import Log, dated
+from .losing import LOST, Lost, counted, lost_lines
+from .program import DESCRIPTORS, Program
+from .screen import Failed, Screen, shown
+from .slices import Slice
+
+TODAY, ASKED = b".today", b".asked"
+# What a kill may leave; rooms are folders in which a word works.
+ROOM = b".making-"
+# ARCHIVE.today has grown if it has more than one of so many parts of ARCHIVE.
+PARTS = 10
+
+
+class Archive:
+    """The archive that a path names, also through links, with what came in since its last fold. Who does not write
+    changes nothing."""
+
+    def __init__(
+        self, path: bytes, is_made: bool = False, writes: bool = True, may_be_damaged: bool = False
+    ) -> None:
+        self.path = os.path.realpath(path)
+        self.folder, self.name = os.path.split(self.path)
+        self.writes, self.rooms_made = writes, 0
+        self.main, self.today = ArchiveFile(self.path, b"main"), ArchiveFile(self.beside(TODAY), b"today")
+        self.files = self.main, self.today
+        if not is_made:
+            os.stat(self.path)
+        for file, named in zip(self.files, (path, path + TODAY)):
+            if not may_be_damaged and not file.begins_as_archive():
+                raise Failed(f"{shown(named)} is no archive")
+        self.log = Log(self.path, self.room)
+        self.lock = Lock(self.path, writes)
+        self.lost = Lost(self.beside(LOST))
+
+    def beside(self, ending: bytes) -> bytes:
+        return self.path + ending
+
+    def take_lock(self, screen: Screen) -> None:
+        """Waits until no other call has the lock, and goes on where one was killed."""
+        self.lock.take(screen)
+        if self.writes:
+            # A signal may come as a folder is made, or as it is removed.
+            signals.at_end.append(self.remove_rooms)
+            self.remove_rooms()
+            self.go_on(screen)
+        self.lost = Lost(self.beside(LOST))
+        if self.lost.fault:
+            screen.fail(f"{shown(self.lost.path)}: {self.lost.fault}, so what is lost is not known")
+
+    def release_lock(self) -> None:
+        if self.remove_rooms in signals.at_end:
+            signals.at_end.remove(self.remove_rooms)
+        self.lock.release()
+
+    def rooms(self) -> List[bytes]:
+        return sorted(name for name in os.listdir(self.folder) if name.startswith(self.name + ROOM))
+
+    def remove_rooms(self) -> None:
+        for name in self.rooms():
+            shutil.rmtree(os.path.join(self.folder, name), ignore_errors=True)
+
+    @contextlib.contextmanager
+    def room(self) -> Iterator[bytes]:
+        """A folder beside the archive. Only who has the lock makes one. The outermost one removes all of them."""
+        self.rooms_made += 1
+        try:
+            yield tempfile.mkdtemp(prefix=self.name + ROOM, dir=self.folder)
+        finally:
+            with signals.later():
+                self.rooms_made -= 1
+                if self.rooms_made == 0:
+                    self.remove_rooms()
+
+    # ---- what it has
+
+    def content(self, program: Program, screen: Screen) -> Content:
+        """What both files have together, as the last word left them. What is another file since is seen anew."""
+        others = [file for file in self.files if not file.recall(screen)]
+        if not self.writes:
+            for file in others:
+                file.read(program, screen)
+                if file.index or file.doubt:
+                    file.vouch(index_by(file.content, file.path), screen)
+            return self.joined()
+        self.see_anew(others, program, screen)
+        # Where a fold was killed before it did that.
+        if len(self.today.content) and not len(self.today.content.beyond(self.main.content)):
+            with self.room() as room:
+                self.empty_today(room, screen)
+        self.settle()
+        return self.joined()
+
+    def joined(self) -> Content:
+        return self.main.content.joined(self.today.content)
+
+    def see_anew(self, others: Sequence[ArchiveFile], program: Program, screen: Screen) -> None:
+        """Indexes files that are others since the last word, and says what changed or is lost."""
+        if not others:
+            return
+        with self.room() as room:
+            changed, lost = self.compare(others, room, program, screen)
+            # What is lost is noted before the index goes that has it.
+            self.lose(lost, screen, changed)
+            self.keep(others, room, screen)
+
+    def compare(
+        self, others: Sequence[ArchiveFile], room: bytes, program: Program, screen: Screen
+    ) -> Tuple[List[str], Content]:
+        """Holds files against what is known of them, and takes what they have. A slice that changed keeps its entry.
+        Returns the lines of what changed, and what is lost."""
+        lines: List[str] = []
+        lost = Content()
+        for file in others:
+            made = self.indexed(file, room, program, screen)
+            file.vouch(made, screen)
+            file.index, changed, more = held_against(file.content, made)
+            file.content, lost = file.index.content(), lost.joined(more)
+            lines += [changed_line(row, file.path) for row in changed]
+        return lines, lost.beyond(self.joined())
+
+    @staticmethod
+    def indexed(file: ArchiveFile, room: bytes, program: Program, screen: Screen) -> Index:
+        """The index of a file; of one of version 1 that of version 2 of it, which is made in the room."""
+        if not file.exists():
+            return index_of([])
+        path = file.path
+        if file.is_of_version_1():
+            screen.begin("migrating the archive")
+            program.run_over(path, "migrate", os.fsdecode(file.name), folder=room)
+            path = os.path.join(room, file.name)
+        return index_made(path, room, program, screen)
+
+    def keep(self, others: Sequence[ArchiveFile], room: bytes, screen: Screen) -> None:
+        """Keeps the indexes of files, and puts version 2 of those of version 1 in their place."""
+        for file in others:
+            new, index = os.path.join(room, file.name), file.index or index_of([])
+            if os.path.exists(new):
+                os.replace(new, os.path.join(room, b"new"))
+                self.replace(room, file, index, [], screen)
+                screen.line(f"{shown(file.path)}: was of version 1, and is of version 2 now")
+            elif file.exists():
+                self.lay_index(room, file, INDEX, index, file.path)
+            else:
+                file.drop(INDEX, INDEX_SUM)
+            file.drop(upgrading.SUM)
+
+    # ---- what is lost
+
+    def lose(self, lacking: Content, screen: Screen, changed: Sequence[str] = ()) -> None:
+        """Says and notes what changed, and what the archive had and lacks."""
+        lines = [*changed, *lost_lines(self.lost.add(lacking.beyond(self.joined())))]
+        if lines:
+            screen.fail(f"{shown(self.path)}: changed or lost: {counted(lines)}; its log names them")
+            self.log.note(lines, screen)
+        self.keep_lost()
+
+    def settle(self) -> None:
+        """Drops of what was lost what is back."""
+        self.lost.settle(self.joined())
+        self.keep_lost()
+
+    def keep_lost(self) -> None:
+        text = self.lost.text()
+        if not self.lost.is_changed():
+            return
+        if text:
+            with self.room() as room:
+                self.lay(room, self.lost.path, text)
+        else:
+            self.drop(LOST)
+        self.lost.written = text
+
+    # ---- what comes in
+
+    def put(
+        self,
+        room: bytes,
+        program: Program,
+        news: Content,
+        lines: Sequence[str],
+        screen: Screen,
+        slices: Sequence[Slice] = (),
+        more: Optional[bytes] = None,
+    ) -> None:
+        """Joins news, which slices or an archive of the room have, to ARCHIVE.today; or to ARCHIVE, with all of
+        ARCHIVE.today."""
+        if not self.is_to_be_folded():
+            self.join(room, program, self.today, news, lines, screen, slices, more)
+            return
+        if len(self.today.content):
+            self.merge(room, program, self.today, b"grown", screen, slices, more)
+            news, slices, more = self.today.content.joined(news), (), os.path.join(room, b"grown")
+        self.join(room, program, self.main, news, lines, screen, slices, more)
+        self.empty_today(room, screen)
+
+    def is_to_be_folded(self) -> bool:
+        """Whether ARCHIVE.today has grown, or there is no ARCHIVE."""
+        return PARTS * self.today.size() >= self.main.size()
+
+    def fold(self, room: bytes, program: Program, screen: Screen) -> None:
+        """Joins ARCHIVE.today into ARCHIVE, and empties it."""
+        if len(self.today.content):
+            self.join(room, program, self.main, self.today.content, [], screen, more=self.today.path)
+        self.empty_today(room, screen)
+
+    def join(
+        self,
+        room: bytes,
+        program: Program,
+        file: ArchiveFile,
+        news: Content,
+        lines: Sequence[str],
+        screen: Screen,
+        slices: Sequence[Slice] = (),
+        more: Optional[bytes] = None,
+    ) -> None:
+        """Puts the join of a file with news in its place."""
+        self.merge(room, program, file, b"new", screen, slices, more)
+        self.replace(room, file, self.new_index(room, file, file.content.joined(news)), lines, screen)
+
+    @staticmethod
+    def new_index(room: bytes, file: ArchiveFile, content: Content) -> Index:
+        """The index of the new file of a room, which has a content but for slices that changed in the files of which it
+        was made: these keep their entries, so that `check` finds them. No other slice is read for it."""
+        new = os.path.join(room, b"new")
+        with open(new, "rb") as written:
+            if heads_in(written) != content.heads():
+                raise Failed(f"something in {shown(file.path)} changed; `symarch-keep check` says what")
+        return index_by(content, new)
+
+    def merge(
+        self,
+        room: bytes,
+        program: Program,
+        file: ArchiveFile,
+        name: bytes,
+        screen: Screen,
+        slices: Sequence[Slice],
+        more: Optional[bytes],
+    ) -> None:
+        """Has the program write the join of a file with slices, or with another archive, into the room. No command
+        writes a file that it reads."""
+        old, new = file.path, os.path.join(room, name)
+        if not file.exists():
+            old = os.path.join(room, b"old")
+            program.run(["new", "old"], folder=room, names={"old": shown(old)})
+        size = size_of(old) + (size_of(more) if more else sum(one.length for one in slices))
+        screen.begin(f"writing: {{}} of {len(slices)} slices" if slices else "writing", size)
+        with contextlib.ExitStack() as opened:
+            # Words that are no UTF-8 are refused, so no word has the archive's path. The program holds the lock too,
+            # since it may outlive this one for a moment.
+            read = [opened.enter_context(open(path, "rb")).fileno() for path in filter(None, (old, more))]
+            first, *others = [f"{DESCRIPTORS}/{number}" for number in read]
+            words = ["merge", first, os.fsdecode(name), *(others or ["/dev/stdin"])]
+            names = dict(zip(words[1:], map(shown, filter(None, (old, new, more)))))
+            held = [*read, *filter(None, [self.lock.descriptor])]
+            program.run(words, slices, room, held, lambda done: screen.progress(done, written_in(room)), names)
+        if not os.path.exists(new):
+            raise Failed(f"{program.path} wrote no archive")
+
+    def empty_today(self, room: bytes, screen: Screen) -> None:
+        if self.today.exists() and not len(self.today.content):
+            return
+        try:
+            write_synced(os.path.join(room, b"new"), [EMPTY])
+            self.replace(room, self.today, index_of([]), [], screen)
+        except OSError as error:
+            told = f"{error.strerror}; the archive has all, and the next call goes on"
+            screen.fail(f"{shown(self.today.path)}: {told}")
+
+    # ---- what takes the place of a file
+
+    def replace(self, room: bytes, file: ArchiveFile, index: Index, lines: Sequence[str], screen: Screen) -> None:
+        """Gives the new file of a room, which is synced, the name of a file, and what it may have of the archive's
+        owner and rights. Syncs the name. A signal waits until that is done."""
+        with signals.later():
+            self.put_in_place(os.path.join(room, b"new"), room, file, index, lines)
+            file.index, file.content = index, index.content()
+            self.finish(file, screen)
+
+    def put_in_place(self, new: bytes, room: bytes, file: ArchiveFile, index: Index, lines: Sequence[str]) -> None:
+        before = self.log.pending()
+        try:
+            self.lay(room, self.log.next, before + dated(lines))
+            self.lay_index(room, file, NEXT_INDEX, index, new)
+            self.give_rights(new)
+            # What is known of the new archive is there before it.
+            sync_folder(self.folder)
+            os.replace(new, file.path)
+        except OSError:
+            file.drop(NEXT_INDEX)
+            self.log.leave_pending(len(before))
+            raise
+        sync_folder(self.folder)
+
+    def give_rights(self, path: bytes) -> None:
+        with contextlib.suppress(OSError):
+            status = os.stat(self.path)
+            for owner, group in ((-1, status.st_gid), (status.st_uid, -1)):
+                with contextlib.suppress(PermissionError):
+                    os.chown(path, owner, group)
+            os.chmod(path, stat.S_IMODE(status.st_mode))
+
+    def finish(
+        self, file: ArchiveFile, screen: Screen, following: bytes = NEXT_INDEX, last: bytes = INDEX
+    ) -> None:
+        """The steps after the rename. The archive has all, also where one of them fails."""
+        try:
+            self.log.add_pending()
+            os.replace(file.beside(following), file.beside(last))
+        except OSError as error:
+            screen.fail(f"{shown(self.log.path)}: {error.strerror}; the archive has all, and the next call goes on")
+
+    def go_on(self, screen: Screen) -> None:
+        """Does the steps that a kill left to do, and drops what is of a file that was not put in place."""
+        following = [file for file in self.files if file.following() is not None]
+        before = [file for file in self.files if upgrading.is_in_place(file)]
+        for file in self.files:
+            if file in following:
+                self.finish(file, screen)
+            elif file in before:
+                self.finish(file, screen, upgrading.NEXT_SUM, upgrading.SUM)
+            else:
+                file.drop(NEXT_INDEX, upgrading.NEXT_SUM)
+        if not following and not before:
+            self.log.drop_pending()
+        self.upgrade(screen)
+
+    def upgrade(self, screen: Screen) -> None:
+        """Makes the indexes of files of which symarch-keep kept sums. Version 1 has none."""
+        for file in self.files:
+            if upgrading.has_sum(file) and not file.is_of_version_1():
+                if file.kept_index(INDEX) is None:
+                    self.index_by_sum(file, screen)
+                file.drop(upgrading.SUM)
+
+    def index_by_sum(self, file: ArchiveFile, screen: Screen) -> None:
+        content = upgrading.old_content(file, screen)
+        if content is not None:
+            with self.room() as room:
+                # Nothing says whether the file is still that of its sum, so its heads are compared.
+                self.lay_index(room, file, INDEX, index_by(content, file.path))
+
+    def lay(self, room: bytes, path: bytes, data: bytes) -> None:
+        """Makes a file beside the archive, whole and synced."""
+        kept = os.path.join(room, b"kept")
+        write_synced(kept, [data])
+        self.give_rights(kept)
+        os.replace(kept, path)
+
+    def lay_index(
+        self, room: bytes, file: ArchiveFile, ending: bytes, index: Index, path: Optional[bytes] = None
+    ) -> None:
+        """Makes an index beside a file, after what is noted of it and of the index before it: its SHA-256, and of which
+        file it was made."""
+        notes = [*file.notes_of_index(), note_of(index.text, path)]
+        self.lay(room, file.beside(INDEX_SUM), kept_text(Content(), notes))
+        self.lay(room, file.beside(ending), index.text)
+
+    def drop(self, *endings: bytes) -> None:
+        for ending in endings:
+            with contextlib.suppress(FileNotFoundError):
+                os.unlink(self.beside(ending))
+
+
+def index_made(path: bytes, room: bytes, program: Program, screen: Screen) -> Index:
+    """The index of an archive, by the program."""
+    screen.begin("indexing the archive")
+    program.run_over(path, "index", "index", folder=room)
+    with open(os.path.join(room, b"index"), "rb") as file:
+        return index_in(file.read())
+
+
+def changed_line(row: Row, path: bytes, word: str = "changed") -> str:
+    """The line of a record that changed: what it was, and where in which file it stands."""
+    return f"{word} {row.words()} {row.at} {shown(path)}"
+
+
+def written_in(room: bytes) -> int:
+    """How many bytes the program has written of a new file. Until that is whole they are in a draft beside it."""
+    names = (name for name in os.listdir(room) if name in (b"new", b"grown") or name.startswith(b".symarch-"))
+    return sum(size_of(os.path.join(room, name)) for name in names)

@@ -1,0 +1,243 @@
+"""An archive file, and what is known of it: FILE.idx beside it is the index that the last word left, FILE.idx.next that
+of a new file which takes its place, by the steps of `Archive.replace`, and FILE.idx.sum has the SHA-256 of each."""
+import contextlib
+import hashlib
+import operator
+import os
+from typing import Iterable, List, Optional, Tuple
+
+from .contents import MAGIC, MAGICS, RETIREMENT, Content, Kept, Malformed, content_in, heads_in
+from .indexes import Index, changes, index_in
+from .program import Program
+from .screen import Failed, Screen, about, shown, write
+from .upgrading import old_content
+
+INDEX, NEXT_INDEX, INDEX_SUM = b".idx", b".idx.next", b".idx.sum"
+NO_UUID = "00000000-0000-0000-0000-000000000000"
+# So many bytes of a retirement may differ where it changed: half of its digest.
+MOST_CHANGED = 16
+
+
+class ArchiveFile:
+    """The file of a path, which need not be there: it has nothing then. It has a name of its own in a room."""
+
+    def __init__(self, path: bytes, name: bytes) -> None:
+        self.path, self.name = path, name
+        # As the last word left it, and whether anything says that.
+        self.index: Optional[Index] = None
+        self.content, self.is_known = Content(), False
+        # What is wrong with FILE.idx, if something is.
+        self.doubt: Optional[str] = None
+
+    def beside(self, ending: bytes) -> bytes:
+        return self.path + ending
+
+    def exists(self) -> bool:
+        return os.path.exists(self.path)
+
+    def size(self) -> int:
+        return size_of(self.path)
+
+    def magic(self) -> Optional[bytes]:
+        """Its first bytes; None where it is not there."""
+        try:
+            with open(self.path, "rb") as file:
+                return file.read(MAGIC)
+        except FileNotFoundError:
+            return None
+
+    def begins_as_archive(self) -> bool:
+        return self.magic() in (None, *MAGICS)
+
+    def is_of_version_1(self) -> bool:
+        return self.magic() == MAGICS[1]
+
+    def heads(self) -> Optional[List[bytes]]:
+        try:
+            with open(self.path, "rb") as file:
+                return heads_in(file)
+        except FileNotFoundError:
+            return []
+
+    # ---- what is known of it
+
+    def kept(self, ending: bytes, screen: Optional[Screen] = None) -> Optional[Kept]:
+        """What a file beside it has; None where it is not there, or is damaged."""
+        try:
+            with open(self.beside(ending), "rb") as file:
+                return Kept(file.read())
+        except FileNotFoundError:
+            return None
+        except Malformed as fault:
+            if screen:
+                screen.line(f"{shown(self.beside(ending))}: {fault}, and is passed over")
+            return None
+
+    def notes(self, screen: Optional[Screen] = None) -> List[str]:
+        """What FILE.idx.sum has of each index: its SHA-256, and which file it is of."""
+        kept = self.kept(INDEX_SUM, screen)
+        return kept.notes if kept else []
+
+    def has_damaged_sum(self) -> bool:
+        return os.path.exists(self.beside(INDEX_SUM)) and self.kept(INDEX_SUM) is None
+
+    def has_note_of(self, index: Index) -> bool:
+        """Whether FILE.idx.sum has the SHA-256 of an index."""
+        begins = note_of(index.text)
+        return any(note.startswith(begins) for note in self.notes())
+
+    def kept_index(self, ending: bytes) -> Optional[Index]:
+        """The index that a file beside it is; None where it is not there, or is another one than FILE.idx.sum says."""
+        with contextlib.suppress(FileNotFoundError, Malformed), open(self.beside(ending), "rb") as file:
+            text = file.read()
+            if not self.notes():
+                return index_in(text)
+            return Index(text) if self.has_note_of(Index(text)) else None
+        return None
+
+    def notes_of_index(self) -> List[str]:
+        """The notes of FILE.idx as it is."""
+        with contextlib.suppress(FileNotFoundError), open(self.beside(INDEX), "rb") as file:
+            begins = note_of(file.read())
+            return [note for note in self.notes() if note.startswith(begins)]
+        return []
+
+    def following(self) -> Optional[Index]:
+        """The index that FILE.idx.next is, where the file is the one of which that was made; else None."""
+        index = self.kept_index(NEXT_INDEX)
+        if not index or not self.exists() or index.size() != self.size():
+            return None
+        # The last note is of the new file. One that was mended has the same index as before.
+        return index if self.notes()[-1:] == [note_of(index.text, self.path)] else None
+
+    def known(self) -> Tuple[Optional[Index], bool]:
+        """The index that the last word left, or None; and whether the file is the one that it is of."""
+        following = self.following()
+        if following is not None:
+            return following, True
+        index = self.kept_index(INDEX)
+        return index, index is not None and self.is_of(index)
+
+    def is_of(self, index: Index) -> bool:
+        """Whether it is the archive of its index: by its length if it is the file of which that was made, and nobody
+        wrote to it since; else by its heads too."""
+        if not self.exists() or self.size() != index.size():
+            return False
+        is_that = note_of(index.text, self.path) in self.notes() and time_of(self.path) <= time_of(self.beside(INDEX))
+        return is_that or self.heads() == index.heads()
+
+    def recall(self, screen: Screen) -> bool:
+        """Takes what the last word left, and returns whether the file has that still."""
+        self.notes(screen)
+        self.index, is_same = self.known()
+        if self.index:
+            self.content, self.is_known, self.doubt = self.index.content(), True, None
+            return is_same
+        content = old_content(self, screen)
+        self.doubt = self.fault_of_index() if content is None else None
+        self.is_known = content is not None or self.doubt is None and not self.exists()
+        self.content = content or Content()
+        return self.is_known and self.content.heads() == self.heads()
+
+    def fault_of_index(self) -> Optional[str]:
+        """What is wrong with FILE.idx, which says nothing; None if nobody made one."""
+        path = shown(self.beside(INDEX))
+        if os.path.exists(self.beside(INDEX)):
+            return f"{path} is not as symarch-keep wrote it"
+        # What was killed before the file was put in place leaves the sum of its index alone.
+        return f"{path} is lost" if self.notes() and self.exists() else None
+
+    def vouch(self, made: Index, screen: Screen) -> None:
+        """Fails if the index by the bytes of the file, which were read, has other digests than the last word left, and
+        nothing says which bytes changed: so no index takes the place of one that has others."""
+        if self.doubt and not self.has_note_of(made):
+            told = f"nothing says whether {shown(self.path)} is as it was; `symarch-keep check` says more"
+            raise Failed(f"{self.doubt}, and {told}")
+        if self.doubt:
+            screen.line(f"{self.doubt}, and is made anew: {shown(self.path)} is as it was")
+        elif self.index and self.exists() and is_same_but_for_retirements(self.index.heads(), made.heads()):
+            raise Failed(f"something in {shown(self.path)} changed; `symarch-keep check` says what")
+
+    def drop(self, *endings: bytes) -> None:
+        for ending in endings:
+            with contextlib.suppress(FileNotFoundError):
+                os.unlink(self.beside(ending))
+
+    # ---- what it has by its bytes
+
+    def read(self, program: Program, screen: Screen) -> None:
+        """Takes what it has by its bytes; a slice that changed is what it was. The program says why it is no
+        archive."""
+        try:
+            with open(self.path, "rb") as file:
+                screen.begin("reading the archive", os.fstat(file.fileno()).st_size)
+                came = content_in(file, screen.moved)
+        except FileNotFoundError:
+            came = Content()
+        except Malformed as fault:
+            self.look_through(program)
+            raise Failed(f"{shown(self.path)}: {fault}") from None
+        for entry, before in changes(self.content, came)[0].items():
+            came.held[before] = came.held.pop(entry)
+        self.content = came
+
+    def look_through(self, program: Program) -> None:
+        """Has the program read it, which says whether it is an archive."""
+        program.run_over(self.path, "find", NO_UUID)
+
+
+def is_same_but_for_retirements(heads: List[bytes], others: List[bytes]) -> bool:
+    """Whether two archives have the same heads of records in the same places, but for a few bytes of retirements: these
+    changed then. A retirement of another slice has another digest, of which nearly all bytes differ."""
+    if heads == others or len(heads) != len(others):
+        return False
+    pairs = [(one, other) for one, other in zip(heads, others) if one != other]
+    return all(
+        one[:1] == other[:1] == RETIREMENT and sum(map(operator.ne, one, other)) <= MOST_CHANGED for one, other in pairs
+    )
+
+
+def note_of(text: bytes, path: Optional[bytes] = None) -> str:
+    """What is noted of an index, and of the file that it is of, so that a new archive is told from one that is the
+    same but for bytes that changed."""
+    return f"index {hashlib.sha256(text).hexdigest()} file {os.stat(path).st_ino if path else ''}"
+
+
+def write_synced(path: bytes, chunks: Iterable[bytes]) -> None:
+    with about(path), open(path, "wb", buffering=0) as file:
+        for chunk in chunks:
+            write(file.fileno(), chunk)
+        os.fsync(file.fileno())
+
+
+def append_synced(path: bytes, text: bytes) -> None:
+    """Adds all of a text to a file, or nothing."""
+    with about(path), open(path, "ab", buffering=0) as file:
+        size = os.fstat(file.fileno()).st_size
+        try:
+            write(file.fileno(), text)
+            os.fsync(file.fileno())
+        except OSError:
+            os.ftruncate(file.fileno(), size)
+            raise
+
+
+def sync_folder(path: bytes) -> None:
+    # Not every file system can sync a folder.
+    with contextlib.suppress(OSError):
+        descriptor = os.open(path, os.O_RDONLY)
+        try:
+            os.fsync(descriptor)
+        finally:
+            os.close(descriptor)
+
+
+def size_of(path: bytes) -> int:
+    try:
+        return os.stat(path).st_size
+    except FileNotFoundError:
+        return 0
+
+
+def time_of(path: bytes) -> int:
+    return os.stat(path).st_mtime_ns

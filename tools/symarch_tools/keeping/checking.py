@@ -1,0 +1,193 @@
+"""Reads all of ARCHIVE and ARCHIVE.today, each record at the place that its index names, and holds it against the
+SHA-256 that the index has of it as it came in. So it finds each byte that changed, also those that leave an archive an
+archive. It changes nothing, so it may be called on a disk that is read-only.
+
+  changed UUID ARCH DIGEST OFFSET FILE            the slice that had this SHA-256 has not, or its head has other bytes
+  changed retired UUID ARCH DIGEST OFFSET FILE    the retirement has other bytes
+  changed ends FILE                               the first 8 or the last 9 bytes are others
+  lost UUID ARCH DIGEST                           the slice was there, and neither it nor its retirement is
+  lost retired UUID ARCH DIGEST                   the retirement was there, and is not
+  damaged FILE                                    an index, or what is kept of it, is not as symarch-keep wrote it
+  unknown FILE                                    nothing says whether the file is as it was
+
+FILE is ARCHIVE, ARCHIVE.today or a file beside them, and OFFSET where in it the record stands, in bytes from the first.
+Something is lost if ARCHIVE was replaced, as by an older one. `symarch-keep repair` mends what changed, and
+`symarch-keep exchange` brings back what is lost. An index that is damaged is made anew by the next word that writes, if
+the file is as it was. A file is unknown before the first word that writes, and if its index is lost or damaged and the
+file is another one. While it reads, other words may write; it reads on in the files that were there.
+
+Status:
+  0    all is as it was
+  2    something changed, is lost, damaged or unknown, or some line could not be printed
+  3    the words have another form
+  4    ARCHIVE could not be read
+  126  there is no program"""
+import argparse
+import os
+from typing import BinaryIO, Iterable, List, Set, Tuple
+
+from .archive import Archive, changed_line
+from .archive_file import INDEX, INDEX_SUM, ArchiveFile, is_same_but_for_retirements
+from .contents import ADMISSION, DIGEST, END, KEY, LENGTH, MAGIC, MAGICS, Content, Malformed, Moved
+from .contents import digest_in, record_size, records_in
+from .indexes import HEAD, TAIL, Index, Row, held_against, index_by, index_of, is_companion
+from .losing import lost_lines
+from .program import Program
+from .screen import Failed, Screen, shown
+
+USAGE = "symarch-keep check ARCHIVE"
+ABOUT = "find each byte that changed"
+
+
+def define(parser: argparse.ArgumentParser) -> None:
+    parser.add_argument("archive", metavar="ARCHIVE")
+
+
+class Findings:
+    """What a file has of an index, record by record."""
+
+    def __init__(self, path: bytes, index: Index) -> None:
+        self.path, self.rows, self.size = path, index.in_places(), index.size()
+        # The rows of records that changed; the entries of slices whose bytes are good; the first and last bytes.
+        self.changed: List[Row] = []
+        self.good: Set[bytes] = set()
+        self.has_ends = False
+
+    def look_through(self, opened: BinaryIO, moved: Moved) -> None:
+        for row in self.rows:
+            opened.seek(row.at)
+            is_good = opened.read(len(row.head())) == row.head()
+            if row.is_slice() and not self.has_good_slice(opened, row, moved) or not is_good:
+                self.changed.append(row)
+        opened.seek(0)
+        begins = opened.read(MAGIC) == MAGICS[0]
+        opened.seek(self.size - TAIL)
+        self.has_ends = begins and opened.read(TAIL + 1) == END + len(self.rows).to_bytes(LENGTH, "big")
+
+    def has_good_slice(self, opened: BinaryIO, row: Row, moved: Moved) -> bool:
+        is_good = digest_in(opened, row.at + HEAD, row.length - HEAD, moved) == row.entry[-DIGEST:]
+        if is_good:
+            self.good.add(row.entry)
+        return is_good
+
+    def lines(self) -> List[str]:
+        return self.lines_of("changed", self.changed, self.has_ends)
+
+    def lines_of(self, word: str, rows: Iterable[Row], has_ends: bool = True) -> List[str]:
+        """The lines of rows: slices first, then retirements, then the ends."""
+        rows = sorted(rows, key=lambda row: (not row.is_slice(), row))
+        lines = [changed_line(row, self.path, word) for row in rows]
+        return lines + ([] if has_ends else [f"{word} ends {shown(self.path)}"])
+
+
+def is_damaged(file: ArchiveFile, index: Index, program: Program) -> bool:
+    """Whether an archive with other heads than its index has is damaged. Else somebody put it there."""
+    try:
+        file.look_through(program)
+    except Failed as failed:
+        if not failed.text.startswith("symarch: archive 0: ") or "cannot open" in failed.text:
+            raise
+        return True
+    return is_same_but_for_retirements(index.heads(), file.heads() or [])
+
+
+def told_apart(archive: Archive, program: Program, screen: Screen) -> Tuple[List[ArchiveFile], List[ArchiveFile]]:
+    """The files in which each byte can be held against what is known, and others."""
+    same, others = [], []
+    for file in archive.files:
+        file.recall(screen)
+        if not file.index and file.is_known and file.exists() and not file.is_of_version_1():
+            # By the sums that an earlier symarch-keep kept.
+            file.index = index_by(file.content, file.path)
+        index = file.index
+        if index and file.exists() and (file.heads() == index.heads() or is_damaged(file, index, program)):
+            same.append(file)
+        elif file.exists() or len(file.content) or file.doubt:
+            others.append(file)
+    return same, others
+
+
+def index_read(file: ArchiveFile, program: Program, screen: Screen) -> Index:
+    """The index of a file by its bytes, which are read. Nothing is written for it."""
+    rows: List[Row] = []
+    try:
+        with open(file.path, "rb") as opened:
+            screen.begin("reading", os.fstat(opened.fileno()).st_size)
+            for head, after in records_in(opened):
+                at, size = after - len(head), record_size(head)
+                if head[:1] == ADMISSION:
+                    entry = head[: 1 + KEY] + digest_in(opened, after, size - len(head), screen.moved)
+                    rows.append(Row(entry, is_companion(opened, at), at, size))
+                else:
+                    rows.append(Row(head, 0, at, size))
+    except FileNotFoundError:
+        pass
+    except Malformed as fault:
+        file.look_through(program)
+        raise Failed(f"{shown(file.path)}: {fault}") from None
+    # Version 1 has slices beside their retirements.
+    retired = {row.entry[1:] for row in rows if not row.is_slice()}
+    return index_of(row for row in rows if not row.is_slice() or row.entry[1:] not in retired)
+
+
+def held(file: ArchiveFile, program: Program, screen: Screen) -> Tuple[List[str], Content]:
+    """Holds a file that is not the one of its index against what is known of it, and takes what it has. Returns the
+    lines, and what is lost."""
+    made = index_read(file, program, screen)
+    is_unknown = not file.has_note_of(made) if file.doubt else not file.is_known
+    file.index, changed, lost = held_against(file.content, made)
+    file.content = file.index.content()
+    lines = [changed_line(row, file.path) for row in changed]
+    return lines + [f"unknown {shown(file.path)}"] * is_unknown, lost
+
+
+def damaged_lines(archive: Archive) -> List[str]:
+    """The lines of what is kept beside an archive and is damaged."""
+    paths = [file.beside(INDEX) for file in archive.files if file.doubt]
+    paths += [file.beside(INDEX_SUM) for file in archive.files if file.has_damaged_sum()]
+    paths += [archive.lost.path] * bool(archive.lost.fault)
+    return [f"damaged {shown(path)}" for path in paths]
+
+
+def look_through(archive: Archive, files: List[ArchiveFile], screen: Screen) -> List[str]:
+    """The lines of what changed in files, by their indexes. Other words may write meanwhile."""
+    found = [(open(file.path, "rb"), Findings(file.path, file.index)) for file in files if file.index]
+    lines: List[str] = []
+    archive.release_lock()
+    for opened, findings in found:
+        with opened:
+            screen.begin("reading", os.fstat(opened.fileno()).st_size)
+            findings.look_through(opened, screen.moved)
+        lines += findings.lines()
+    return lines
+
+
+def carry_out(words: argparse.Namespace) -> int:
+    screen = Screen()
+    program = Program()
+    archive = Archive(os.fsencode(words.archive), writes=False, may_be_damaged=True)
+    archive.take_lock(screen)
+    same, others = told_apart(archive, program, screen)
+    more, lost = damaged_lines(archive), archive.lost.content
+    for file in others:
+        lines, its_lost = held(file, program, screen)
+        more, lost = more + lines, lost.joined(its_lost)
+    content = archive.joined()
+    lines = look_through(archive, same, screen) + more + lost_lines(lost.beyond(content))
+    screen.show(lines)
+    for file in archive.files:
+        if f"unknown {shown(file.path)}" in lines:
+            screen.line(advice(file))
+    told = "all is there that was known" if others else "all is as it was"
+    counts = f"{len(content.held)} slices, {len(content.retired)} retirements"
+    wrong = f"{len(lines)} changed, lost, damaged or unknown"
+    screen.line(f"{shown(archive.path)}: {counts}: {wrong if lines else told}")
+    return screen.status(2 if lines else 0)
+
+
+def advice(file: ArchiveFile) -> str:
+    """What takes a file of which nothing is known as it stands."""
+    if not file.doubt:
+        return f"{shown(file.path)}: nothing is known of it; the next word that writes takes it as it stands"
+    index, kept = shown(file.beside(INDEX)), shown(file.beside(INDEX_SUM))
+    return f"{shown(file.path)}: to take it as it stands, remove {index} and {kept}, and call `symarch-keep fold`"

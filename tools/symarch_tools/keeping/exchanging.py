@@ -1,0 +1,426 @@
+"""Exchanges with the other sites over FOLDER, which may be a disk that all mount, a folder that rsync copies, a stick,
+or a bucket that `rclone` or `aws s3 sync` mirrors. NAME is the name of this site, which no other one has: lower-case
+letters, digits, `-` and `_`.
+
+One call joins what others answered, asks anew if something changed, answers what others ask, and removes what is done
+with. What comes in goes into ARCHIVE.today, as by `add`, and what is asked and answered is of both. Call it at each
+site, at any time and as often as you like, as by cron: when each site was called three times after the last change, and
+FOLDER copied between, all have the same, and after `symarch-keep fold` the same bytes. Two at once wait for each other.
+
+FOLDER has the questions and the answers of all sites. Their names say from whom to whom, and carry the SHA-256 of their
+bytes, so a file that is not copied to its end is told, and passed over. No file is ever rewritten.
+
+FOLDER also has the mark of each site: what ARCHIVE.site has beside the archive of that name. If the mark of NAME is
+another one's, nothing is done: choose another NAME. --take-name takes NAME for this site all the same, as after it lost
+its disk; the other one is refused from then on.
+
+A question is made of ARCHIVE.idx and ARCHIVE.today.idx, and ARCHIVE.asked has what this site asked with. If the site
+lacks something of that, as one that was restored from a backup, the call says so and asks anew; each answer that is
+there is joined before it is removed. ARCHIVE.lost has what is lost, and each call ends with 2 until all of it is back,
+or `symarch-keep status --accept` takes it as lost. A slice that changed is not sent. ARCHIVE is made if it does not
+exist; FOLDER is not, so a disk that is not mounted is told.
+
+The lines, which are kept in ARCHIVE.log with the date:
+
+  added UUID ARCH DIGEST SITE      the slice came from SITE
+  retired UUID ARCH DIGEST SITE    the retirement came from SITE
+  took FILE                        the mark FILE was put into FOLDER by --take-name
+  asked FILE                       a question was put into FOLDER
+  answered SITE FILE               an answer was put into FOLDER
+
+Status:
+  0    done, also if nothing was to do
+  2    some answer or question was refused, some file of FOLDER not read, written or removed, a slice changed, something
+       is lost, or some line not printed or kept; the rest is done
+  3    the words have another form
+  4    ARCHIVE could not be read or written, there is no FOLDER, NAME is another site's, or memory ran out: ARCHIVE is
+       as it was
+  126  there is no program"""
+import argparse
+import os
+import re
+import time
+import uuid
+from typing import Callable, Dict, List, Optional, Sequence, Set, Tuple
+
+from .archive import ASKED, Archive
+from .contents import ADMISSION, Content, Malformed, chunks_in
+from .contents import content_in, content_of, digest_in, entries_in, kept_text, summary_of, words_of
+from .log import DATE
+from .losing import counted, lost_lines
+from .program import Program
+from .screen import Failed, Screen, about, shown, system_text
+from .shared_folder import SHORT, SITE, TIME, Answer, Mark, Question, SharedFolder
+from .shared_folder import digest_of, mark_name, question_name, time_after
+
+USAGE = "symarch-keep exchange [--take-name] ARCHIVE FOLDER NAME"
+ABOUT = "exchange with other sites over a folder"
+# What tells this site from another one of the same name.
+IDENTITY = b".site"
+# So many questions of this site may be answered late.
+MOST_ASKED = 1000
+
+
+def define(parser: argparse.ArgumentParser) -> None:
+    parser.add_argument("--take-name", action="store_true", help="take NAME, which another site has or had")
+    parser.add_argument("archive", metavar="ARCHIVE")
+    parser.add_argument("folder", metavar="FOLDER")
+    parser.add_argument("name", metavar="NAME")
+
+
+class Asked:
+    """What this site asked: the times and digests of its questions, of which the last one has this content and all of
+    the others; and the dates of what was done with each other site."""
+
+    def __init__(self, archive: Archive) -> None:
+        self.archive, self.kept = archive, archive.main.kept(ASKED)
+        self.last: Optional[Content] = None
+        notes = self.kept.notes if self.kept else []
+        self.questions: List[Tuple[str, str]] = []
+        self.sites: Dict[str, Dict[str, str]] = {}
+        for note in notes:
+            kind, first, *words = note.split(" ")
+            if kind == "asked":
+                self.questions.append((first, words[0]))
+            elif kind == "site":
+                self.sites[first] = dict(zip(words[::2], words[1::2]))
+        self.written = self.notes()
+
+    def content(self) -> Content:
+        """What the last question had."""
+        if self.last is None:
+            self.last = self.kept.content() if self.kept else Content()
+        return self.last
+
+    def lacking_in(self, content: Content) -> Content:
+        """What was asked with and a content lacks."""
+        if self.questions and self.questions[-1][1] == digest_of(content.summary()):
+            self.last = content
+        return self.content().beyond(content)
+
+    def ask(self, question: Tuple[str, str], content: Content) -> None:
+        self.questions.append(question)
+        self.last = content
+
+    def notes(self) -> List[str]:
+        notes = [f"asked {at} {digest}" for at, digest in self.questions[-MOST_ASKED:]]
+        for site, dates in sorted(self.sites.items()):
+            notes.append(" ".join(["site", site, *(word for one in sorted(dates.items()) for word in one)]))
+        return notes
+
+    def note(self, site: str, word: str, date: time.struct_time) -> None:
+        self.sites.setdefault(site, {})[word] = time.strftime(DATE, date)
+
+    def save(self, room: bytes) -> None:
+        if self.notes() != self.written:
+            self.written = self.notes()
+            self.archive.lay(room, self.archive.beside(ASKED), kept_text(self.content(), self.written))
+
+
+class Identity:
+    """What tells a site from others: random digits, which are made once and kept in ARCHIVE.site."""
+
+    def __init__(self, archive: Archive) -> None:
+        self.archive, self.path = archive, archive.beside(IDENTITY)
+        try:
+            with open(self.path, "rb") as file:
+                self.text, self.is_kept = file.read(), True
+        except FileNotFoundError:
+            self.text, self.is_kept = f"{uuid.uuid4().hex}\n".encode(), False
+
+    def digest(self) -> str:
+        return digest_of(self.text)
+
+    def keep(self, room: bytes) -> None:
+        if not self.is_kept:
+            self.archive.lay(room, self.path, self.text)
+            self.is_kept = True
+
+
+class Exchange:
+    """One call, with the lock of its archive."""
+
+    def __init__(self, archive: Archive, folder: SharedFolder, program: Program, screen: Screen) -> None:
+        self.archive, self.folder, self.program, self.screen = archive, folder, program, screen
+        self.content, self.asked = archive.content(program, screen), Asked(archive)
+        # Names that stay in the folder, and those that are done with; sites of which no answer is removed.
+        self.kept: Set[str] = set()
+        self.done: Set[str] = set()
+        self.unsure: Set[str] = set()
+        self.lines: List[str] = []
+        self.not_whole = 0
+        archive.lose(self.lacking(), screen)
+
+    def lacking(self) -> Content:
+        """What this site asked with and lacks, by ARCHIVE.asked, and by its questions in the folder that it does not
+        know any more."""
+        lacking = self.asked.lacking_in(self.content)
+        known = {digest for _, digest in self.asked.questions}
+        for question in self.folder.questions:
+            if question.site == self.folder.site and question.digest not in known:
+                data = self.folder.question(question)
+                if data is not None and is_summary(data):
+                    lacking = lacking.joined(content_of(entries_in(data)).beyond(self.content))
+        return lacking
+
+    # ---- what came
+
+    def join(self, room: bytes) -> None:
+        """Joins the answers that are there, whatever this site asked since."""
+        prefixes = {digest[:SHORT] for _, digest in self.asked.questions}
+        origins: Dict[bytes, str] = {}
+        for answer in self.folder.answers:
+            if answer.to != self.folder.site:
+                continue
+            if self.folder.fetch(answer, os.path.join(room, b"answer")):
+                self.take(room, answer, origins)
+            elif answer.question in prefixes or len(self.archive.lost.content):
+                self.pass_over(answer.name)
+            else:
+                self.done.add(answer.name)
+        if not self.archive.main.exists():
+            self.make_total(room)
+        if os.path.exists(os.path.join(room, b"total")):
+            self.put(room, origins)
+        self.archive.settle()
+
+    def make_total(self, room: bytes) -> None:
+        if not os.path.exists(os.path.join(room, b"total")):
+            self.program.run(["new", "total"], folder=room)
+
+    def pass_over(self, name: str) -> None:
+        """A file that is not whole may come to be so, for a day."""
+        self.not_whole += 1
+        if self.folder.is_old(name):
+            self.done.add(name)
+
+    def take(self, room: bytes, answer: Answer, origins: Dict[bytes, str]) -> None:
+        """Joins one answer with those before it, and notes of each entry from where it came."""
+        try:
+            with open(os.path.join(room, b"answer"), "rb") as file:
+                came = content_in(file)
+            self.make_total(room)
+            names = {"answer": shown(self.folder.at(answer.name))}
+            self.program.run(["merge", "total", "joined", "answer"], folder=room, names=names)
+        except (Failed, Malformed) as fault:
+            self.screen.refuse(self.folder.at(answer.name), fault)
+            return
+        os.replace(os.path.join(room, b"joined"), os.path.join(room, b"total"))
+        self.asked.note(answer.site, "joined", time.gmtime())
+        self.done.add(answer.name)
+        for entry in [*came.retired, *came.held]:
+            origins.setdefault(entry, answer.site)
+
+    def put(self, room: bytes, origins: Dict[bytes, str]) -> None:
+        """Puts what the archive lacks of the answers into it."""
+        write_file(room, b"ours", self.content.summary())
+        self.program.run(["delta", "total", "ours", "missing"], folder=room)
+        with open(os.path.join(room, b"missing"), "rb") as file:
+            missing = content_in(file)
+        content = self.content.joined(missing)
+        news = content.beyond(self.content)
+        lines = [f"added {words_of(entry)} {origins[entry]}" for entry in sorted(news.held)]
+        lines += [f"retired {words_of(entry)} {origins[entry]}" for entry in sorted(news.retired)]
+        if lines or not self.archive.main.exists():
+            more = os.path.join(room, b"missing")
+            self.archive.put(room, self.program, missing, lines, self.screen, more=more)
+            self.content = content
+            self.lines += lines
+
+    # ---- what it is called
+
+    def mark(self, room: bytes, identity: Identity, takes: bool) -> None:
+        """Puts the mark of this site into the folder, unless the last one of its name is this."""
+        last = last_mark(self.folder)
+        if last != identity.digest():
+            name = mark_name(self.folder.site, time_after(one.time for one in self.folder.marks), identity.digest())
+            identity.keep(room)
+            self.folder.put([identity.text], name)
+            self.kept.add(name)
+            self.lines += [f"took {name}"] * (takes and bool(last))
+        else:
+            self.kept.add(max(self.folder.marks, key=when_marked).name)
+
+    # ---- what is asked
+
+    def ask(self, room: bytes) -> None:
+        """Asks with what the archive has, unless the last question in the folder has that."""
+        own = [one for one in self.folder.questions if one.site == self.folder.site]
+        summary = self.content.summary()
+        digest, times = digest_of(summary), [one.time for one in own] + [at for at, _ in self.asked.questions]
+        last = self.asked.questions[-1] if self.asked.questions else ("", "")
+        if last[1] != digest or last[0] < max(times):
+            last = (time_after(times), digest)
+            self.asked.ask(last, self.content)
+        # What is asked with is kept before it is asked.
+        self.asked.save(room)
+        name = question_name(self.folder.site, *last)
+        if not any(one.name == name and self.folder.question(one) for one in own):
+            self.folder.put([summary], name)
+            self.lines.append(f"asked {name}")
+        self.kept.add(name)
+
+    # ---- what others ask
+
+    def answer(self, room: bytes) -> None:
+        """Answers the last question of each site that is whole."""
+        latest: Dict[str, Tuple[Question, bytes]] = {}
+        for question in self.folder.questions:
+            if question.site != self.folder.site:
+                data = self.folder.question(question)
+                if data is None:
+                    self.not_whole += 1
+                    self.unsure.add(question.site)
+                elif question.site not in latest or question.time > latest[question.site][0].time:
+                    latest[question.site] = (question, data)
+        for question, data in latest.values():
+            if is_summary(data):
+                self.answer_if_possible(room, question, content_of(entries_in(data)))
+            else:
+                self.unsure.add(question.site)
+                self.screen.refuse(self.folder.at(question.name), "is no summary")
+
+    def answer_if_possible(self, room: bytes, question: Question, theirs: Content) -> None:
+        """Answers, or says why that failed. The question is not to blame."""
+        try:
+            self.answer_one(room, question, theirs)
+        except OSError as error:
+            self.unsure.add(question.site)
+            self.screen.fail(system_text(error, self.folder.path))
+        except Failed as failed:
+            self.unsure.add(question.site)
+            self.screen.fail(failed.text, failed.more)
+
+    def answer_one(self, room: bytes, question: Question, theirs: Content) -> None:
+        """Answers with what the site lacks, unless the folder has this answer."""
+        lacking = self.content.beyond(theirs)
+        self.asked.note(question.site, "asked", time.strptime(question.time, TIME))
+        if not len(lacking):
+            return
+        has = digest_of(lacking.summary())[:SHORT]
+        for answer in self.folder.answers:
+            is_this = (self.folder.site, question.site, question.digest[:SHORT], has) == answer[1:5]
+            if is_this and self.folder.size(answer.name) == lacking.size():
+                self.kept.add(answer.name)
+                return
+        self.make_answer(room, theirs, lacking)
+        with open(os.path.join(room, b"answer"), "rb") as file:
+            digest = digest_in(file, 0, lacking.size()).hex()
+            name = f"{self.folder.site}.answers.{question.site}.{question.digest[:SHORT]}.{has}.{digest}.sym"
+            file.seek(0)
+            self.folder.put(chunks_in(file), name)
+        self.kept.add(name)
+        self.asked.note(question.site, "answered", time.gmtime())
+        self.lines.append(f"answered {question.site} {name}")
+
+    def make_answer(self, room: bytes, theirs: Content, lacking: Content) -> None:
+        """Makes the archive of what is lacking, of those files that have some of it. What the other site withdrew it
+        does not lack."""
+        gone = [ADMISSION + entry for entry in theirs.retired if entry not in theirs.held]
+        write_file(room, b"theirs", summary_of(sorted(theirs.entries() + gone)))
+        names = []
+        for name, file in (("answer", self.archive.main), ("more", self.archive.today)):
+            if len(file.content.beyond(theirs)):
+                self.program.run_over(file.path, "delta", "theirs", name, folder=room)
+                names.append(name)
+        if len(names) == 2:
+            self.program.run(["merge", *names[:1], "both", *names[1:]], folder=room)
+            names = ["both"]
+        os.replace(os.path.join(room, os.fsencode(names[0])), os.path.join(room, b"answer"))
+        with open(os.path.join(room, b"answer"), "rb") as made:
+            if content_in(made) != lacking:
+                raise Failed(f"a slice of {shown(self.archive.path)} changed; `symarch-keep check` says which")
+
+    # ---- what is done with
+
+    def clear(self) -> None:
+        """Removes answers that were joined or are late, this site's files that are no longer right, and what a kill
+        left."""
+        self.folder.remove_part()
+        mine = [one.name for one in self.folder.questions if one.site == self.folder.site]
+        mine += [one.name for one in self.folder.marks]
+        own = (one for one in self.folder.answers if one.site == self.folder.site and one.to not in self.unsure)
+        for name in sorted(self.done.union(mine, (one.name for one in own)) - self.kept):
+            self.folder.remove(name)
+
+    def say_what_is_lost(self) -> None:
+        lost = lost_lines(self.archive.lost.content)
+        if lost:
+            how = "`symarch-keep status` names them, and `status --accept` takes as lost what no site has"
+            self.screen.fail(f"{shown(self.archive.path)}: lost: {counted(lost)}; {how}")
+
+
+def is_summary(data: bytes) -> bool:
+    try:
+        entries_in(data)
+        return True
+    except Malformed:
+        return False
+
+
+def when_marked(mark: Mark) -> Tuple[str, str]:
+    return mark.time, mark.digest
+
+
+def last_mark(folder: SharedFolder) -> str:
+    """The digest of the mark that counts, or nothing."""
+    return max(folder.marks, key=when_marked).digest if folder.marks else ""
+
+
+def write_file(room: bytes, name: bytes, data: bytes) -> None:
+    path = os.path.join(room, name)
+    with about(path), open(path, "wb") as file:
+        file.write(data)
+
+
+def refuse_name(folder: SharedFolder, identity: Identity) -> None:
+    """Fails if another site has the name."""
+    if last_mark(folder) not in ("", identity.digest()):
+        mark = max(folder.marks, key=when_marked)
+        told = f"{shown(folder.at(mark.name))}: another site is called {folder.site} since {mark.time}"
+        raise Failed(f"{told}; choose another NAME, or take this one by --take-name if the other is gone")
+
+
+def carry_out(words: argparse.Namespace) -> int:
+    if not re.fullmatch(SITE, words.name):
+        raise Failed(f"NAME is {shown(os.fsencode(words.name))}, and has other letters than a-z, 0-9, - and _", 3)
+    screen = Screen()
+    program = Program()
+    archive = Archive(os.fsencode(words.archive), is_made=True)
+    archive.take_lock(screen)
+    folder, identity = SharedFolder(os.fsencode(words.folder), words.name), Identity(archive)
+    if not words.take_name:
+        refuse_name(folder, identity)
+    exchange = Exchange(archive, folder, program, screen)
+    with archive.room() as room:
+        exchange.join(room)
+        # ARCHIVE has all now, so what fails is told, and the rest goes on.
+        for step in (
+            lambda: exchange.mark(room, identity, words.take_name),
+            lambda: exchange.ask(room),
+            lambda: exchange.answer(room),
+            exchange.clear,
+            lambda: exchange.asked.save(room),
+        ):
+            carry_out_step(step, folder, screen)
+    told = [line for line in exchange.lines if line.startswith(("took ", "asked ", "answered "))]
+    archive.log.note(told, screen)
+    screen.show(exchange.lines)
+    exchange.say_what_is_lost()
+    screen.line(f"{counts_of(exchange.lines)}; {exchange.not_whole} not whole, {screen.refused} refused")
+    return screen.status()
+
+
+def carry_out_step(step: Callable[[], None], folder: SharedFolder, screen: Screen) -> None:
+    try:
+        step()
+    except OSError as error:
+        screen.fail(system_text(error, folder.path))
+    except Failed as failed:
+        screen.fail(failed.text, failed.more)
+
+
+def counts_of(lines: Sequence[str]) -> str:
+    """How many slices and retirements came, and how many answers went."""
+    words = ("added", "retired", "answered")
+    return ", ".join(f"{sum(line.startswith(f'{word} ') for line in lines)} {word}" for word in words)

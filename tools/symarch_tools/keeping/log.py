@@ -1,0 +1,80 @@
+"""ARCHIVE.log, the lines of the words with their dates; and ARCHIVE.log.next, the lines of a new archive that is being
+put in place, which are added to it once that is there."""
+import contextlib
+import os
+import shutil
+import time
+from typing import Callable, ContextManager, Iterable
+
+from .archive_file import append_synced, size_of
+from .screen import Screen, system_text
+
+LOG, NEXT_LOG = b".log", b".log.next"
+DATE = "%Y-%m-%dT%H:%M:%SZ"
+
+
+class Log:
+    """The log of an archive of a path, beside which `room` makes a folder."""
+
+    def __init__(self, archive: bytes, room: Callable[[], ContextManager[bytes]]) -> None:
+        self.path, self.next, self.room = archive + LOG, archive + NEXT_LOG, room
+
+    def pending(self) -> bytes:
+        """The lines that are still to be added."""
+        try:
+            with open(self.next, "rb") as file:
+                return file.read()
+        except FileNotFoundError:
+            return b""
+
+    def leave_pending(self, size: int) -> None:
+        """Drops the lines after so many bytes. It needs no room on the disk."""
+        if size:
+            os.truncate(self.next, size)
+        else:
+            self.drop_pending()
+
+    def drop_pending(self) -> None:
+        with contextlib.suppress(FileNotFoundError):
+            os.unlink(self.next)
+
+    def add_pending(self) -> None:
+        self.append(self.lacking_of(self.pending()))
+        self.drop_pending()
+
+    def lacking_of(self, text: bytes) -> bytes:
+        """What the log lacks of lines. Who wrote them to it may have been killed meanwhile."""
+        try:
+            with open(self.path, "rb") as file:
+                file.seek(max(size_of(self.path) - len(text), 0))
+                end, at = file.read(), 0
+        except FileNotFoundError:
+            return text
+        while not text.startswith(end[at:]):
+            at = end.find(b"\n", at) + 1 or len(end)
+        return text[len(end) - at :]
+
+    def append(self, text: bytes) -> None:
+        if not text:
+            return
+        try:
+            append_synced(self.path, text)
+        except PermissionError:
+            # Another user made it: it is replaced, as the archive is.
+            with self.room() as room:
+                copy = os.path.join(room, b"log")
+                shutil.copyfile(self.path, copy)
+                append_synced(copy, text)
+                os.replace(copy, self.path)
+
+    def note(self, lines: Iterable[str], screen: Screen) -> None:
+        """Adds lines where no archive is written."""
+        try:
+            self.append(dated(lines))
+        except OSError as error:
+            screen.fail(system_text(error, self.path))
+
+
+def dated(lines: Iterable[str]) -> bytes:
+    now = time.strftime(DATE, time.gmtime())
+    return "".join(f"{now} {line}\n" for line in lines).encode()

@@ -1,0 +1,66 @@
+"""ARCHIVE.lost: what an archive had and lacks, as after a restore, until it is back or is taken as lost."""
+from typing import Iterable, List, Optional
+
+from .contents import Content, Kept, Malformed, kept_text, words_of
+
+LOST = b".lost"
+# How the lines begin of what is taken as lost: a question that this site asked long ago may still name it.
+ACCEPTED = "accepted "
+
+
+class Lost:
+    """What the file of a path has: what is lost, and what is taken as lost."""
+
+    def __init__(self, path: bytes) -> None:
+        self.path, self.fault = path, ""
+        self.content, self.accepted = Content(), Content()
+        kept = self.kept()
+        if kept:
+            self.content, self.accepted = kept.content(), kept.content(ACCEPTED)
+        self.written = self.text()
+
+    def kept(self) -> Optional[Kept]:
+        try:
+            with open(self.path, "rb") as file:
+                return Kept(file.read())
+        except FileNotFoundError:
+            return None
+        except Malformed as malformed:
+            self.fault = malformed.reason
+            return None
+
+    def text(self) -> bytes:
+        """What the file has to have; nothing if it need not be there."""
+        notes = [f"{ACCEPTED}retired {words_of(entry)}" for entry in sorted(self.accepted.retired)]
+        notes += [f"{ACCEPTED}slice {words_of(entry)} {it}" for entry, it in sorted(self.accepted.held.items())]
+        return kept_text(self.content, notes) if notes or len(self.content) else b""
+
+    def is_changed(self) -> bool:
+        return self.text() != self.written
+
+    def add(self, lacking: Content) -> Content:
+        """Notes what an archive had and lacks, and returns what of that is not noted yet."""
+        new = lacking.beyond(self.content).beyond(self.accepted)
+        self.content = self.content.joined(new)
+        return new
+
+    def settle(self, content: Content) -> None:
+        """Drops what is back."""
+        self.content, self.accepted = self.content.beyond(content), self.accepted.beyond(content)
+
+    def accept(self) -> List[str]:
+        """Takes all as lost, and returns the lines of it."""
+        lines = lost_lines(self.content)
+        self.content, self.accepted = Content(), self.accepted.joined(self.content)
+        return lines
+
+
+def lost_lines(lost: Content) -> List[str]:
+    lines = [f"lost {words_of(entry)}" for entry in sorted(lost.held)]
+    return lines + [f"lost retired {words_of(entry)}" for entry in sorted(lost.retired)]
+
+
+def counted(lines: Iterable[str]) -> str:
+    """How many slices and retirements lines name, each of which begins with a word."""
+    kinds = [line.split(" ", 2)[1] == "retired" for line in lines]
+    return f"slices {kinds.count(False)}, retirements {kinds.count(True)}"

@@ -1,0 +1,125 @@
+"""The program symarch, which reads and writes archives."""
+import contextlib
+import os
+import re
+import subprocess
+from typing import Callable, Dict, Iterable, Optional, Sequence, Union
+
+from ..program import candidates, named
+from ..signals import signals
+from .contents import END, LENGTH, MAGIC, MAGICS
+from .screen import Failed, SliceRefused, shown, write
+from .slices import Slice
+
+# By what the program gets the files that this tool has open, also those whose paths are no UTF-8.
+DESCRIPTORS = "/dev/fd"
+Word = Union[str, bytes]
+Moved = Callable[[int], None]
+
+
+def not_moved(_done: int) -> None:
+    """For a program of which nobody watches how far it is."""
+
+
+class Program:
+    """The program symarch."""
+
+    def __init__(self) -> None:
+        self.path = answering_program()
+        if not os.path.exists(os.path.join(DESCRIPTORS, "0")):
+            raise Failed(f"there is no {DESCRIPTORS}, by which the program gets its files: /proc is not mounted")
+
+    def run(
+        self,
+        words: Sequence[Word],
+        slices: Sequence[Slice] = (),
+        folder: Optional[bytes] = None,
+        open_files: Iterable[int] = (),
+        moved: Moved = not_moved,
+        names: Optional[Dict[str, str]] = None,
+    ) -> bytes:
+        """Runs words, in a folder if there is one, with the archive of some slices on standard input, and returns what
+        is printed. A fault names a path of `names` by what that has for it."""
+        with contextlib.ExitStack() as ends:
+            # A signal waits until what ends the program is on the stack: one that goes on writes into a folder that is
+            # being removed.
+            with signals.later():
+                process = subprocess.Popen(
+                    [self.path, *words],
+                    bufsize=0,
+                    cwd=folder,
+                    pass_fds=tuple(open_files),
+                    stdin=subprocess.PIPE,
+                    stdout=subprocess.PIPE,
+                    stderr=subprocess.PIPE,
+                )
+                ends.enter_context(process)
+                ends.push(lambda failed, *_: process.kill() if failed else None)
+            assert process.stdin
+            with contextlib.suppress(BrokenPipeError):
+                give(process.stdin.fileno(), slices, moved)
+            printed, said = None, b""
+            while printed is None:
+                # What is raised within would leave its lock.
+                with contextlib.suppress(subprocess.TimeoutExpired), signals.later():
+                    printed, said = process.communicate(timeout=0.2)
+                moved(len(slices))
+        if process.returncode not in (0, 1):
+            places = {**in_folder(words, folder), **(names or {})}
+            told = said.decode(errors="replace").strip()
+            raise fault(os.fsdecode(words[0]), told, process.returncode, slices, places)
+        return printed or b""
+
+    def run_over(self, path: bytes, command: str, *more: str, folder: Optional[bytes] = None) -> bytes:
+        """Runs a command over the archive of a path. Words that are no UTF-8 are refused, so it gets another word."""
+        with open(path, "rb") as file:
+            words = [command, f"{DESCRIPTORS}/{file.fileno()}", *more]
+            return self.run(words, folder=folder, open_files=(file.fileno(),), names={words[1]: shown(path)})
+
+
+def answering_program() -> str:
+    """The first program that answers as symarch does."""
+    for path in candidates():
+        with contextlib.suppress(OSError), signals.later():
+            words, nothing = [path, "--version"], subprocess.DEVNULL
+            if subprocess.run(words, stdin=nothing, capture_output=True, check=False).stdout[:8] == b"symarch ":
+                return path
+    word = named()
+    which = f"SYMARCH is {shown(word)}, which is no" if word else "there is no"
+    raise Failed(f"{which} program symarch; `./symarch --version` in its sources builds one", 126)
+
+
+def in_folder(words: Sequence[Word], folder: Optional[bytes]) -> Dict[str, str]:
+    """How the words after a command are shown, if they name files of a folder."""
+    if folder is None:
+        return {}
+    return {os.fsdecode(word): shown(os.path.join(folder, os.fsencode(word))) for word in words[1:]}
+
+
+def give(descriptor: int, slices: Sequence[Slice], moved: Moved, retirements: Sequence[bytes] = ()) -> None:
+    """Writes the archive of retirements and slices, which are in the order of their records."""
+    write(descriptor, MAGICS[0] + b"".join(retirements))
+    for done, one in enumerate(slices):
+        write(descriptor, one.head)
+        for chunk in one.chunks():
+            write(descriptor, chunk)
+            moved(done)
+    write(descriptor, END + (len(retirements) + len(slices)).to_bytes(LENGTH, "big"))
+
+
+def fault(command: str, said: str, status: int, slices: Sequence[Slice], names: Dict[str, str]) -> Exception:
+    """What the program says of a slice that it was given, or else of the whole: its line, and the one for people."""
+    line, _, more = said.partition("\n")
+    found = re.fullmatch("symarch: archive ([01]): (.*) at ([0-9]+)", line)
+    if found and found[1] == ("1" if command == "merge" else "0"):
+        at = MAGIC
+        for one in slices:
+            if at == int(found[3]):
+                return SliceRefused(re.sub(r"BadSlice\((.*)\)", r"\1", found[2]), one, True)
+            at += len(one.head) + one.length
+    where, _, path = more.partition(" is ")
+    for name in names:
+        if re.match(f"{re.escape(name)}([:,]|$)", path):
+            more = f"{where} is {names[name]}{path[len(name):]}"
+            break
+    return Failed(line, 4, more) if status > 0 else Failed(f"symarch ended by signal {-status}")

@@ -1,0 +1,187 @@
+"""The slices that files and folders have: which of them go in, and what is passed over or refused."""
+import errno
+import hashlib
+import os
+import stat
+import struct
+from typing import BinaryIO, Iterable, Iterator, List, Optional, Set, Tuple
+
+from .contents import CHUNK, KEY, TOO_LARGE, head_of, words_of
+from .screen import Screen, SliceRefused, shown
+
+# mach-o/fat.h: an entry of each table, of which offset and size count. mach-o/loader.h: the header and its commands.
+UNIVERSAL = {bytes.fromhex("cafebabe"): struct.Struct(">8xII4x"), bytes.fromhex("cafebabf"): struct.Struct(">8xQQ8x")}
+MOST_PARTS = 32
+# A Java class file begins as a universal file, and has its version in the place of the number of parts.
+JAVA, LEAST_OF_JAVA = bytes.fromhex("cafebabe"), 45
+THIN = bytes.fromhex("cffaedfe")
+HEADER, COMMAND = struct.Struct("<4x5I8x"), struct.Struct("<II")
+MH_OBJECT, LC_UUID = 1, 0x1B
+# Commands after these bytes are not looked at here.
+MOST_OF_COMMANDS = 16 << 20
+KINDS = {
+    bytes.fromhex("cefaedfe"): "32-bit images",
+    bytes.fromhex("feedface"): "32-bit images",
+    bytes.fromhex("feedfacf"): "big-endian images",
+    b"!<ar": "static libraries",
+    b"!<th": "static libraries",
+}
+CHANGED = "changed while it was read"
+NOTHING_THERE = (errno.ENOENT, errno.ELOOP, errno.ENOTDIR)
+
+
+class Slice:
+    """The bytes of an image for one architecture: a file of `size` bytes, or its part of a number."""
+
+    def __init__(self, path: bytes, part: Optional[int], offset: int, length: int, size: int, key: bytes) -> None:
+        self.path, self.part, self.offset, self.length, self.size = path, part, offset, length, size
+        self.head = head_of(key, length)
+        self.digest: Optional[bytes] = None
+        self.word = ""
+
+    def chunks(self) -> Iterator[bytes]:
+        """The bytes, which have to be those of the first time."""
+        left, digest = self.length, hashlib.sha256()
+        try:
+            with open(self.path, "rb", buffering=0) as file:
+                file.seek(self.offset)
+                while left > 0:
+                    chunk = file.read(min(left, CHUNK))
+                    left -= len(chunk)
+                    digest.update(chunk)
+                    if not chunk or left == 0 and os.fstat(file.fileno()).st_size != self.size:
+                        raise SliceRefused(CHANGED, self)
+                    yield chunk
+        except OSError as error:
+            raise SliceRefused(str(error.strerror), self) from None
+        if self.digest not in (None, digest.digest()):
+            raise SliceRefused(CHANGED, self)
+        self.digest = digest.digest()
+
+    def entry(self) -> bytes:
+        """The key and the digest, which is known once its bytes were read."""
+        return self.head[1 : 1 + KEY] + (self.digest or b"")
+
+    def line(self) -> str:
+        return f"{self.word} {words_of(self.entry())} {shown(self.path)}"
+
+
+def compared(one: Slice, other: Slice) -> int:
+    """The order of two records, by their heads, then by the bytes of their slices."""
+    if one.head != other.head:
+        return -1 if one.head < other.head else 1
+    for chunk, other_chunk in zip(one.chunks(), other.chunks()):
+        if chunk != other_chunk:
+            return -1 if chunk < other_chunk else 1
+    return 0
+
+
+class Finder:
+    """Finds the slices that paths have, and says what is passed over or refused."""
+
+    def __init__(self, screen: Screen) -> None:
+        self.screen, self.files = screen, 0
+        self.slices: List[Slice] = []
+
+    def find(self, paths: Iterable[bytes]) -> None:
+        self.screen.begin("finding: {} files")
+        for path, size in self.walk(paths):
+            self.files += 1
+            self.screen.progress(self.files)
+            try:
+                with open(path, "rb") as file:
+                    self.take_file(file, path, size)
+            except OSError as error:
+                self.screen.refuse(path, error.strerror)
+            except SliceRefused as refused:
+                self.screen.refuse(path, refused)
+
+    def walk(self, paths: Iterable[bytes]) -> Iterator[Tuple[bytes, int]]:
+        """Each regular file that a path is or has, once, and its size. Those of a folder come in the order of names."""
+        left = [(path, True) for path in reversed(list(paths))]
+        seen: Set[Tuple[int, int]] = set()
+        while left:
+            path, is_word = left.pop()
+            try:
+                status = os.stat(path)
+                place, is_folder = (status.st_dev, status.st_ino), stat.S_ISDIR(status.st_mode)
+                if is_folder and not is_word and os.path.islink(path):
+                    self.screen.pass_over(path, "links to folders")
+                elif place not in seen:
+                    seen.add(place)
+                    if is_folder:
+                        left += [(os.path.join(path, name), False) for name in sorted(os.listdir(path), reverse=True)]
+                    elif stat.S_ISREG(status.st_mode):
+                        yield path, status.st_size
+                    elif is_word:
+                        self.screen.refuse(path, "neither a file nor a folder")
+                    else:
+                        self.screen.pass_over(path, "devices and pipes")
+            except OSError as error:
+                if is_word or error.errno not in NOTHING_THERE:
+                    self.screen.refuse(path, error.strerror)
+                else:
+                    self.screen.pass_over(path, "links that lead nowhere")
+
+    def take_file(self, file: BinaryIO, path: bytes, size: int) -> None:
+        first = file.read(8)
+        layout, count = UNIVERSAL.get(first[:4]), int.from_bytes(first[4:].ljust(4, b"\0"), "big")
+        if layout is None:
+            self.take_part(file, path, None, 0, size, size)
+        elif first[:4] == JAVA and count >= LEAST_OF_JAVA:
+            self.screen.pass_over(path, "other files")
+        else:
+            parts = table(file, first, layout, count, size)
+            for part, (offset, length) in enumerate(parts):
+                self.take_part(file, path, part, offset, length, size)
+            if not parts:
+                self.screen.pass_over(path, "universal files without a part")
+
+    def take_part(
+        self, file: BinaryIO, path: bytes, part: Optional[int], offset: int, length: int, size: int
+    ) -> None:
+        file.seek(offset)
+        front = file.read(min(length, HEADER.size))
+        key = key_of(front, file, length - len(front)) if front[:4] == THIN else None
+        if key is not None:
+            self.slices.append(Slice(path, part, offset, length, size, key))
+        elif front[:4] == THIN:
+            kind = "object files" if front[12] == MH_OBJECT else "images"
+            self.screen.pass_over(path, f"{kind} without a UUID", part)
+        else:
+            self.screen.pass_over(path, KINDS.get(front[:4], "other files" if part is None else "other parts"), part)
+
+
+def table(
+    file: BinaryIO, first: bytes, layout: struct.Struct, count: int, size: int
+) -> List[Tuple[int, int]]:
+    """The offset and size of each part of a universal file. The faults are those of docs/FILES.md, in its order."""
+    entries = file.read(count * layout.size) if count <= MOST_PARTS else b""
+    is_whole = len(entries) == count * layout.size
+    parts = [(offset, length) for offset, length in layout.iter_unpack(entries)] if is_whole else []
+    faults = [(len(first) < 8, "HeaderTruncated"), (count > MOST_PARTS, f"TooManyArches({count})")]
+    faults.append((len(parts) < count, "TableTruncated"))
+    faults += [(sum(part) > size, f"SliceOutside({number})") for number, part in enumerate(parts)]
+    faults += [(part[1] >= TOO_LARGE, f"TooLarge({number})") for number, part in enumerate(parts)]
+    for is_there, fault in faults:
+        if is_there:
+            raise SliceRefused(f"Fat({fault})")
+    return parts
+
+
+def key_of(front: bytes, file: BinaryIO, left: int) -> Optional[bytes]:
+    """The key of an image, or None where it names no UUID. Where its header or commands are faulty, the UUID is of
+    zeros: the program is given the slice, and says which fault it is."""
+    if len(front) < HEADER.size:
+        return bytes(KEY)
+    cputype, cpusubtype, _, count, size = HEADER.unpack(front)
+    commands, at = file.read(min(size, left, MOST_OF_COMMANDS)), 0
+    found: Optional[bytes] = None
+    while count > 0 and found is None:
+        command, length = COMMAND.unpack(commands[at : at + COMMAND.size].ljust(COMMAND.size, b"\0"))
+        if length < COMMAND.size or at + length > len(commands):
+            found = bytes(16)
+        elif command == LC_UUID:
+            found = commands[at + 8 : at + min(length, 24)].ljust(16, b"\0")
+        at, count = at + length, count - 1
+    return found and found + struct.pack(">II", cputype, cpusubtype & 0xFFFFFF)

@@ -1,0 +1,141 @@
+"""The archives of a call, as the program reads them: as their join. What it answers by an index the index vouches for,
+by the SHA-256 that each slice came in with."""
+from __future__ import annotations
+
+import os
+from array import array
+from typing import Dict, Iterable, List, Sequence, Set, Tuple
+
+from ..keeping.contents import KEY
+from .answers import Answers, Key, Names, Origin
+from .faults import Failure, Status
+from .images import Image, unique
+from .kept import IndexFile, Kept, changed_keys, is_damaged, key_in
+from .program import IndexFault, Program
+from .streams import note, say
+
+# What `symarch-keep` has beside an archive: what came in lately, the index, the index of a file that takes the place of
+# the archive just now, and the SHA-256 of both.
+TODAY, INDEX, NEXT_INDEX, SUMS = ".today", ".idx", ".idx.next", ".idx.sum"
+
+
+def beside(path: str, ending: str) -> str:
+    """The path of what stands beside an archive. A link stands elsewhere."""
+    return (os.path.realpath(path) if os.path.islink(path) else path) + ending
+
+
+class ArchiveFile:
+    """An archive, and the index beside it, if there is one. `kept` is the archive that `symarch-keep` has it for."""
+
+    def __init__(self, path: str, kept: str) -> None:
+        self.path, self.kept, self.index = path, kept, ""
+        # A word of symarch-keep that ends just now has put a new archive in place, and then the index of that.
+        self.others = [beside(path, INDEX), beside(path, NEXT_INDEX)]
+        if os.path.lexists(self.others[0]):
+            self.index = self.others[0]
+            if is_damaged(self.index, beside(path, SUMS)):
+                self.refuse(f"{self.index} is damaged")
+
+    def refuse(self, why: str, more: str = "") -> None:
+        raise Failure(f"{why}: run symarch-keep check {self.kept}{more}", Status.REFUSED)
+
+    def take_other_index(self) -> None:
+        """Takes another index, since the archive has not the length that this one says."""
+        while self.others:
+            other = self.others.pop()
+            if os.path.exists(other):
+                self.index = other
+                return
+        why = f"{self.path} was written since {beside(self.path, INDEX)} was, which does not vouch for it"
+        self.refuse(why, f", and if that ends with 0 symarch-keep fold {self.kept}, which indexes it anew")
+
+    def key_of(self, entry: int) -> Key:
+        with IndexFile(self.index) as rows:
+            return key_in(rows.row(entry).entry[1 : 1 + KEY])
+
+
+class Archives:
+    """The archives of a call. `has_changed` says whether a slice was refused by its digest."""
+
+    def __init__(self, files: Sequence[ArchiveFile]) -> None:
+        self.files, self.names, self.has_changed = files, Names(), False
+        self.program = Program()
+
+    def look_up(self, images: Sequence[Image]) -> None:
+        """Asks for all offsets of all images at once, for each of them once."""
+        wanted: Dict[Key, List[Image]] = {}
+        for image in images:
+            for arch in image.architectures():
+                wanted.setdefault((image.uuid, arch), []).append(image)
+        once: Dict[Tuple[int, ...], array[int]] = {}
+        answers = {key: Answers(key, offsets_of(some, once), self.names) for key, some in wanted.items()}
+        for image in images:
+            image.asked = array("Q")
+        self.ask(list(answers.values()))
+        self.look_for_companions(list(answers.values()))
+        for image in images:
+            found = {arch: answers[image.uuid, arch] for arch in image.architectures()}
+            image.take({arch: one for arch, one in found.items() if one.origin is not Origin.ABSENT})
+
+    def ask(self, answers: List[Answers]) -> None:
+        """Asks the archives, by the index beside each that has one, and again without what these do not vouch for."""
+        while True:
+            indexed = [file for file in self.files if file.index]
+            plain = [file.path for file in self.files if not file.index]
+            reply = self.program.frames([(file.path, file.index) for file in indexed], plain, answers)
+            fault = reply.fault_of_index()
+            if fault is None or fault.number >= len(indexed):
+                break
+            answers = self.without_changed(indexed[fault.number], fault, answers)
+        say(reply.said.decode(errors="surrogateescape"))
+        self.program.judge(reply)
+
+    def without_changed(self, file: ArchiveFile, fault: IndexFault, answers: List[Answers]) -> List[Answers]:
+        """What is asked again after a fault of an index: all, by another index, or all but the slices that changed."""
+        if fault.is_of_length():
+            file.take_other_index()
+            return answers
+        if fault.entry is None:
+            file.refuse(f"{file.index} is not read: {fault.text}")
+        changed = self.changed(answers) or {file.key_of(fault.entry or 0): file}
+        for one in answers:
+            if one.key in changed:
+                uuid, arch = one.key
+                why = "changed since it came in: run symarch-keep check"
+                note(f"{uuid} {arch} {why} {changed[one.key].kept}")
+                one.origin = Origin.CHANGED
+        left = [one for one in answers if one.key not in changed]
+        if len(left) == len(answers):
+            file.refuse(f"{file.path} is not that of {file.index}")
+        self.has_changed = True
+        return left
+
+    def changed(self, answers: Iterable[Answers]) -> Dict[Key, ArchiveFile]:
+        """The keys of which a slice changed since it came in, and where."""
+        keys = [one.key for one in answers]
+        indexed = [file for file in self.files if file.index]
+        return {key: file for file in indexed for key in changed_keys(file.index, file.path, keys)}
+
+    def look_for_companions(self, answers: Sequence[Answers]) -> None:
+        """Finds out whether a companion answered for each key that has an answer."""
+        asked = [one for one in answers if one.origin is Origin.UNKNOWN]
+        kept = Kept(one.key for one in asked)
+        for file in self.files:
+            kept.take(file.path, file.index)
+        companions: Set[Key] = kept.with_companions()
+        for one in asked:
+            if one.key in companions:
+                one.origin = Origin.DSYM
+            elif kept.is_known:
+                one.origin = Origin.IMAGE
+
+
+def offsets_of(images: Sequence[Image], once: Dict[Tuple[int, ...], array[int]]) -> array[int]:
+    """The offsets that images of one UUID ask for, or the first one if they ask for none."""
+    key = tuple(map(id, images))
+    if key not in once:
+        asked = images[0].asked
+        for image in images[1:]:
+            asked = asked + image.asked
+        once[key] = unique(asked or array("Q", [0]))
+    return once[key]

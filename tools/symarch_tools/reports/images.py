@@ -1,0 +1,187 @@
+"""The images of a report, and the frames that lie in them."""
+from __future__ import annotations
+
+import enum
+import heapq
+import itertools
+import re
+import uuid
+from array import array
+from typing import Dict, Hashable, List, Mapping, Optional, Sequence, Tuple, TypeVar
+
+from .answers import Answers, Origin, Symbol
+
+# The architectures that a report may name, and what reports call the processors that run them.
+ARCHITECTURES = ("x86_64", "x86_64h", "arm64", "arm64e")
+PROCESSORS = {"X86-64": "x86_64", "ARM-64": "arm64", "ARM64": "arm64"}
+DIGITS = re.compile("[0-9a-f]{32}")
+# So many offsets are sorted at once.
+MOST_SORTED = 200_000
+# The answers of so many frames are kept.
+MOST_KNOWN = 20_000
+# The number of no image.
+NO_IMAGE = -1
+
+
+class Kind(enum.IntFlag):
+    """What a frame is, as bits of a byte, of which there is one for each frame of a report."""
+
+    # Its address is a return address.
+    IS_RETURN = enum.auto()
+    # The report had a name for it.
+    HAD_NAME = enum.auto()
+    # Its offset cannot be asked for.
+    CANNOT_BE_ASKED = enum.auto()
+    # In the trees of MetricKit: it is no root, and it has others below it.
+    IS_BELOW = enum.auto()
+    HAS_BELOW = enum.auto()
+    # Its function was inlined.
+    IS_INLINED = enum.auto()
+
+
+# As plain numbers: an operation on a flag takes ten times as long, and a report may have a million frames.
+IS_RETURN, HAD_NAME, CANNOT_BE_ASKED, IS_BELOW, HAS_BELOW, IS_INLINED = map(int, Kind)
+
+
+class Image:
+    """An image of a report, and what its frames ask for: offsets from where it was loaded, and the answers to them."""
+
+    def __init__(
+        self, number: uuid.UUID, arch: Optional[str], name: Optional[str], processor: Optional[str]
+    ) -> None:
+        self.uuid, self.arch, self.name, self.processor = number, arch, name, processor
+        self.has_frames, self.origin = False, Origin.ABSENT
+        self.asked: array[int] = array("Q")
+        self.answers: Optional[Answers] = None
+
+    def label(self) -> str:
+        return " ".join(filter(None, [self.name, str(self.uuid), self.arch]))
+
+    def architectures(self) -> Sequence[str]:
+        """Those under which the archive is asked for the image."""
+        return [self.arch] if self.arch in ARCHITECTURES else [] if self.arch else ARCHITECTURES
+
+    def take(self, answers: Mapping[str, Answers]) -> None:
+        """Takes the answers under its architecture, among those under each that the archive has of its UUID."""
+        arch = self.arch or (min(answers) if len(answers) == 1 else self.processor)
+        self.answers = answers.get(arch) if arch else None
+        self.origin = self.answers.origin if self.answers else Origin.ABSENT
+
+    def symbols(self, asked: int) -> Dict[str, Optional[Symbol]]:
+        """By the digest of each slice that answers a name and an offset, or None where it has no symbol."""
+        return self.answers.at(asked) if self.answers else {}
+
+
+def unique(offsets: array[int]) -> array[int]:
+    """Each offset once, in ascending order. Python's own numbers need much more memory than an array."""
+    parts = []
+    for begin in range(0, len(offsets), MOST_SORTED):
+        parts.append(array("Q", sorted(set(offsets[begin : begin + MOST_SORTED]))))
+    if len(parts) == 1:
+        return parts[0]
+    return array("Q", (offset for offset, _ in itertools.groupby(heapq.merge(*parts))))
+
+
+class Images:
+    """The images of a report by their numbers, each of them once, however often the report lists it."""
+
+    def __init__(self) -> None:
+        self.listed: List[Image] = []
+        self.numbers: Dict[Tuple[str, Optional[str]], int] = {}
+
+    def number(self, told: object, arch: object, name: object, processor: Optional[str] = None) -> int:
+        """The number of the image of a UUID; NO_IMAGE where there is none. Reports write one of zeros for what lies in
+        no image."""
+        digits = str(told).replace("-", "").lower()
+        if not DIGITS.fullmatch(digits) or not digits.strip("0"):
+            return NO_IMAGE
+        key = digits, arch if isinstance(arch, str) else None
+        if key not in self.numbers:
+            self.numbers[key] = len(self.listed)
+            name = name if isinstance(name, str) else None
+            self.listed.append(Image(uuid.UUID(digits), key[1], name, processor))
+        return self.numbers[key]
+
+    def with_frames(self) -> List[Image]:
+        return [image for image in self.listed if image.has_frames]
+
+
+class Frames:
+    """The frames of a part of a report, in its order: where each stands, the number of its image, the offset that is
+    asked for, and what it is. Arrays need much less memory than an object a frame."""
+
+    def __init__(self, images: Images) -> None:
+        self.images = images
+        self.places, self.numbers, self.asked, self.kinds = array("Q"), array("i"), array("Q"), bytearray()
+        self.known: Dict[Tuple[int, int, int], Dict[Optional[Symbol], List[str]]] = {}
+
+    def __len__(self) -> int:
+        return len(self.kinds)
+
+    def add(self, place: int, number: int, offset: int, kind: int) -> None:
+        """Adds a frame, which asks for nothing before it is placed."""
+        self.places.append(place)
+        self.numbers.append(number)
+        if not 0 <= offset < 2**64:
+            offset, kind = 0, kind | CANNOT_BE_ASKED
+        self.asked.append(offset)
+        self.kinds.append(kind)
+
+    def put(self, at: int, number: int, offset: int) -> None:
+        """Puts a frame into an image, at an offset. A return address lies after the call."""
+        self.numbers[at] = number
+        asked = offset - (self.kinds[at] & IS_RETURN)
+        if not 0 <= asked < 2**64:
+            self.kinds[at] |= CANNOT_BE_ASKED
+            asked = 0
+        self.asked[at] = asked
+        if number != NO_IMAGE and not self.kinds[at] & IS_INLINED:
+            image = self.images.listed[number]
+            image.has_frames = True
+            if not self.kinds[at] & CANNOT_BE_ASKED:
+                image.asked.append(asked)
+
+    def image(self, at: int) -> Optional[Image]:
+        return self.images.listed[self.numbers[at]] if self.numbers[at] != NO_IMAGE else None
+
+    def offset(self, at: int) -> int:
+        """The offset of the frame itself in its image."""
+        return self.asked[at] + (self.kinds[at] & IS_RETURN)
+
+    def symbols(self, at: int) -> Dict[str, Optional[Symbol]]:
+        """What each slice says of a frame, by its digest, with the offset of the frame itself."""
+        image, kind = self.image(at), self.kinds[at]
+        said = image.symbols(self.asked[at]) if image and not kind & (CANNOT_BE_ASKED | IS_INLINED) else {}
+        if kind & IS_RETURN:
+            return {digest: symbol and (symbol[0], symbol[1] + 1) for digest, symbol in said.items()}
+        return said
+
+    def answers(self, at: int) -> Dict[Optional[Symbol], List[str]]:
+        """The different answers to a frame, each with the digests of its slices. Frames come again and again."""
+        key = self.numbers[at], self.asked[at], self.kinds[at]
+        found = self.known.get(key)
+        if found is None:
+            found = different(self.symbols(at))
+            if len(self.known) < MOST_KNOWN:
+                self.known[key] = found
+        return found
+
+    def name(self, at: int) -> Optional[Symbol]:
+        """The name and the offset, where there is one answer, else None."""
+        return one_of(self.answers(at))
+
+
+Answer = TypeVar("Answer", bound=Hashable)
+
+
+def one_of(answers: Mapping[Optional[Answer], List[str]]) -> Optional[Answer]:
+    """The answer, where it is one, else None."""
+    return next(iter(answers)) if len(answers) == 1 else None
+
+
+def different(answers: Mapping[str, Answer]) -> Dict[Answer, List[str]]:
+    """The different answers among those of slices, each with the digests of its slices."""
+    found: Dict[Answer, List[str]] = {}
+    for digest, answer in answers.items():
+        found.setdefault(answer, []).append(digest)
+    return found

@@ -1,0 +1,197 @@
+"""JSON of any size, piece by piece: a document that is loaded whole needs ten times its bytes, and more."""
+from __future__ import annotations
+
+import json
+import re
+from typing import Any, Dict, Match, Optional, Protocol
+
+# A string; and an object or an array without others in it.
+STRING = re.compile(rb'"[^"\\]*(?:\\.[^"\\]*)*"', re.DOTALL)
+INSIDE = rb'[^][{}"]*(?:' + STRING.pattern + rb'[^][{}"]*)*'
+FLAT = re.compile(rb"\{" + INSIDE + rb"\}|\[" + INSIDE + rb"\]", re.DOTALL)
+LITERAL = re.compile(rb"(?:-?[0-9]+(?:\.[0-9]+)?(?:[eE][-+]?[0-9]+)?|true|false|null|NaN|-?Infinity)(?=[ \t\r\n,\]}])")
+KEY = re.compile(rb"(" + STRING.pattern + rb")[ \t\r\n]*:[ \t\r\n]*", re.DOTALL)
+SPACE = re.compile(rb"[ \t\r\n]*")
+# What may be the beginning of a value, a key or what stands between them, where the bytes end within it.
+UNENDED = re.compile(rb'(?:[-+.0-9a-zA-Z]*|"[^"\\]*(?:\\.[^"\\]*)*\\?|' + STRING.pattern + rb"[ \t\r\n]*)", re.DOTALL)
+# An object or an array of more bytes is read member by member, and a longer string is not kept.
+MOST_FLAT = 4_000
+LOADER = json.JSONDecoder(strict=False)
+# The value of a member that has others in it.
+NESTED = object()
+
+
+class Broken(Exception):
+    """Bytes that are no JSON, from a place on; or that end within a document."""
+
+    def __init__(self, place: int, is_cut: bool) -> None:
+        super().__init__(place)
+        self.place, self.is_cut = place, is_cut
+
+
+class Member:
+    """A member of an object: its value, and where its name and its value stand."""
+
+    __slots__ = ("value", "key_begin", "begin", "end")
+
+    def __init__(self, value: object, key_begin: int, begin: int, end: int) -> None:
+        self.value, self.key_begin, self.begin, self.end = value, key_begin, begin, end
+
+
+class Node:
+    """An object or an array that is being read, the name under which it stands or its number in an array, and how many
+    values it has so far. A visitor may keep with it what it is for, and what it has."""
+
+    __slots__ = "parent", "key", "key_begin", "number", "is_list", "begin", "members", "count", "role", "kept", "first"
+
+    def __init__(self, parent: Optional[Node], key: Optional[str], key_begin: int, is_list: bool, begin: int) -> None:
+        self.parent, self.key, self.key_begin, self.is_list, self.begin = parent, key, key_begin, is_list, begin
+        self.number: int = parent.count - 1 if parent else 0
+        self.members: Dict[str, Member] = {}
+        self.role: Optional[int] = None
+        self.kept: Any = None
+        self.count: int = 0
+        self.first: int = 0
+
+    def value(self, name: str) -> Any:
+        """The value of a member that has no others in it."""
+        member = self.members.get(name)
+        return member.value if member and member.value is not NESTED else None
+
+    def values(self) -> Dict[str, Any]:
+        return {name: member.value for name, member in self.members.items() if member.value is not NESTED}
+
+
+def loaded(data: bytes) -> Any:
+    """The value of some JSON that has no others around it."""
+    text = data.decode(errors="surrogateescape")
+    value, end = LOADER.raw_decode(text)
+    if end != len(text):
+        raise ValueError
+    return value
+
+
+class Visitor(Protocol):
+    """What a walker calls."""
+
+    def opened(self, node: Node) -> None: ...
+
+    def leaf(self, node: Optional[Node], value: Any, begin: int) -> None: ...
+
+    def closed(self, node: Node) -> None: ...
+
+
+class Walker:
+    """Tells a visitor of each value of a document: `opened` and `closed` with the node of an object or an array, and
+    `leaf` with the node that a value stands in, the value and its place. Small objects and arrays without others are
+    leaves. A document that is a leaf stands in no node."""
+
+    def __init__(self, data: bytes, begin: int, visitor: Visitor) -> None:
+        self.data, self.place, self.visitor = data, begin, visitor
+        self.node: Optional[Node] = None
+        self.key, self.key_begin = "", begin
+
+    def walk(self) -> int:
+        """Where the document ends. What is open where the bytes are broken is closed there."""
+        try:
+            self.take_value()
+            while self.node:
+                self.step(self.node)
+        except Broken as broken:
+            self.place = broken.place
+            while self.node:
+                self.close(self.node)
+            raise
+        return self.place
+
+    def step(self, node: Node) -> None:
+        """Goes on after a value, or after the beginning of an object or an array."""
+        self.pass_space()
+        byte = self.data[self.place : self.place + 1]
+        if byte == (b"]" if node.is_list else b"}"):
+            self.place += 1
+            self.close(node)
+            return
+        if node.count:
+            if byte != b",":
+                raise self.broken()
+            self.place += 1
+            self.pass_space()
+        node.count += 1
+        if not node.is_list:
+            self.take_key()
+        self.take_value()
+
+    def pass_space(self) -> None:
+        found = SPACE.match(self.data, self.place)
+        assert found is not None
+        self.place = found.end()
+
+    def take_key(self) -> None:
+        found = KEY.match(self.data, self.place)
+        if not found:
+            raise self.broken()
+        self.key, self.key_begin, self.place = self.text(found[1]), self.place, found.end()
+
+    def text(self, string: bytes) -> str:
+        try:
+            return loaded(string) if len(string) <= MOST_FLAT else ""
+        except ValueError:
+            raise self.broken() from None
+
+    def take_value(self) -> None:
+        byte = self.data[self.place : self.place + 1]
+        if byte == b"{" or byte == b"[":
+            found = FLAT.match(self.data, self.place, self.place + MOST_FLAT)
+            if not (found and self.take_flat(found)):
+                self.open(byte == b"[")
+            return
+        found = STRING.match(self.data, self.place) if byte == b'"' else None
+        if found:
+            self.leaf(self.text(found[0]), found.end())
+            return
+        found = LITERAL.match(self.data, self.place)
+        if not found:
+            raise self.broken()
+        self.leaf(self.literal(found[0]), found.end())
+
+    def take_flat(self, found: Match[bytes]) -> bool:
+        """Whether an object or an array without others could be read at once."""
+        try:
+            value = loaded(found[0])
+        except ValueError:
+            return False
+        self.leaf(value, found.end())
+        return True
+
+    def literal(self, literal: bytes) -> Any:
+        """None for a number that is too long to be read."""
+        try:
+            return loaded(literal)
+        except ValueError:
+            if len(literal) <= MOST_FLAT:
+                raise self.broken() from None
+            return None
+
+    def leaf(self, value: Any, end: int) -> None:
+        node, begin = self.node, self.place
+        if node and not node.is_list:
+            node.members[self.key] = Member(value, self.key_begin, begin, end)
+        self.place = end
+        self.visitor.leaf(node, value, begin)
+
+    def open(self, is_list: bool) -> None:
+        key, key_begin = (None, self.place) if self.node is None or self.node.is_list else (self.key, self.key_begin)
+        self.node = Node(self.node, key, key_begin, is_list, self.place)
+        self.place += 1
+        self.visitor.opened(self.node)
+
+    def close(self, node: Node) -> None:
+        self.node = node.parent
+        if self.node and not self.node.is_list:
+            self.node.members[node.key or ""] = Member(NESTED, node.key_begin, node.begin, self.place)
+        self.visitor.closed(node)
+
+    def broken(self) -> Broken:
+        """What is wrong here. Bytes that end within a value are cut."""
+        return Broken(self.place, bool(UNENDED.fullmatch(self.data, self.place)))

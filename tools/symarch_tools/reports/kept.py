@@ -1,0 +1,159 @@
+"""What stands in the files of archives under the keys of a report: which slices changed since they came in, and which
+are companions. Of an archive with an index that is looked up, of another one the heads of its records are read."""
+from __future__ import annotations
+
+import hashlib
+import os
+import stat
+import uuid
+from typing import BinaryIO, Dict, Iterable, Iterator, List, NamedTuple, Optional, Set
+
+from ..keeping.contents import ADMISSION, DIGEST, KEY, MAGIC, RETIREMENT, Malformed, arch_in, digest_in, numbers_of
+from ..keeping.contents import record_size, records_in
+from ..keeping.indexes import FILETYPE, HEAD, MH_DSYM, ROW, TAIL, Row
+from .answers import Key
+
+CHUNK = 1 << 20
+
+
+def key_bytes(key: Key) -> bytes:
+    """A key as records have it."""
+    number, arch = key
+    return number.bytes + numbers_of(arch)
+
+
+def key_in(data: bytes) -> Key:
+    return uuid.UUID(bytes=data[:16]), arch_in(data[16:KEY])
+
+
+class Slice(NamedTuple):
+    """A slice in a file of archives, and its digest if an index has it."""
+
+    path: str
+    at: int
+    length: int
+    is_companion: bool
+    digest: Optional[bytes]
+
+
+class IndexFile:
+    """The index of an archive, of which the rows under a key are found by halving."""
+
+    def __init__(self, path: str) -> None:
+        self.descriptor = os.open(path, os.O_RDONLY)
+        self.count = (os.fstat(self.descriptor).st_size - MAGIC - TAIL) // ROW.size
+
+    def __enter__(self) -> IndexFile:
+        return self
+
+    def __exit__(self, *_: object) -> None:
+        os.close(self.descriptor)
+
+    def row(self, number: int) -> Row:
+        data = os.pread(self.descriptor, ROW.size, MAGIC + number * ROW.size)
+        if len(data) < ROW.size:
+            raise Malformed("ends early")
+        return Row._make(ROW.unpack(data))
+
+    def rows_under(self, begins: bytes) -> Iterator[Row]:
+        """The rows whose entries begin with these bytes."""
+        low, high = 0, self.count
+        while low < high:
+            middle = (low + high) // 2
+            if self.row(middle).entry < begins:
+                low = middle + 1
+            else:
+                high = middle
+        while low < self.count and self.row(low).entry.startswith(begins):
+            yield self.row(low)
+            low += 1
+
+
+def is_damaged(index: str, sums: str) -> bool:
+    """Whether a file has the SHA-256 of an index, but another one. An index of which none is noted may be any."""
+    try:
+        with open(sums, "rb") as file:
+            noted = file.read()
+    except FileNotFoundError:
+        return False
+    digest = hashlib.sha256()
+    with open(index, "rb") as file:
+        for chunk in iter(lambda: file.read(CHUNK), b""):
+            digest.update(chunk)
+    return f"\nindex {digest.hexdigest()} ".encode() not in noted
+
+
+def changed_keys(index: str, archive: str, keys: Iterable[Key]) -> Set[Key]:
+    """The keys of which a slice is another one in an archive than its index has."""
+    found = set()
+    with IndexFile(index) as rows, open(archive, "rb") as file:
+        for key in keys:
+            admitted = rows.rows_under(ADMISSION + key_bytes(key))
+            if any(not is_as_it_came(file, row) for row in admitted):
+                found.add(key)
+    return found
+
+
+def is_as_it_came(file: BinaryIO, row: Row) -> bool:
+    """Whether the record of a row stands in an archive, with the slice that has its digest."""
+    file.seek(row.at)
+    head = file.read(HEAD)
+    return head == row.head() and digest_in(file, row.at + HEAD, row.length - HEAD) == row.entry[-DIGEST:]
+
+
+class Kept:
+    """What several archives have under some keys: their retirements and slices. `is_known` says whether each of them
+    could be looked through: one that is no file cannot be read twice."""
+
+    def __init__(self, keys: Iterable[Key]) -> None:
+        self.keys = {key_bytes(key): key for key in keys}
+        self.retired: Dict[bytes, Set[bytes]] = {key: set() for key in self.keys}
+        self.slices: Dict[bytes, List[Slice]] = {key: [] for key in self.keys}
+        self.is_known = True
+
+    def take(self, archive: str, index: str) -> None:
+        """Takes what an archive has under the keys, by its index unless that is empty."""
+        try:
+            if index:
+                self.take_indexed(archive, index)
+            elif stat.S_ISREG(os.stat(archive).st_mode):
+                self.take_plain(archive)
+            else:
+                self.is_known = False
+        except (OSError, Malformed):
+            self.is_known = False
+
+    def take_indexed(self, archive: str, index: str) -> None:
+        with IndexFile(index) as rows:
+            for key in self.keys:
+                self.retired[key].update(row.entry[-DIGEST:] for row in rows.rows_under(RETIREMENT + key))
+                for row in rows.rows_under(ADMISSION + key):
+                    place = archive, row.at + HEAD, row.length - HEAD
+                    self.slices[key].append(Slice(*place, row.is_companion == 1, row.entry[-DIGEST:]))
+
+    def take_plain(self, archive: str) -> None:
+        with open(archive, "rb") as file:
+            for head, at in records_in(file):
+                key = head[1 : 1 + KEY]
+                if key not in self.keys:
+                    continue
+                if head[:1] == RETIREMENT:
+                    self.retired[key].add(head[-DIGEST:])
+                else:
+                    file.seek(at + FILETYPE)
+                    is_companion = file.read(len(MH_DSYM)) == MH_DSYM
+                    self.slices[key].append(Slice(archive, at, record_size(head) - len(head), is_companion, None))
+
+    def with_companions(self) -> Set[Key]:
+        """The keys under which a companion answers: one that no retirement withdraws."""
+        return {name for key, name in self.keys.items() if self.has_companion(key)}
+
+    def has_companion(self, key: bytes) -> bool:
+        retired = self.retired[key]
+        companions = [one for one in self.slices[key] if one.is_companion]
+        return any(not retired or (one.digest or digest_of(one)) not in retired for one in companions)
+
+
+def digest_of(one: Slice) -> bytes:
+    with open(one.path, "rb") as file:
+        return digest_in(file, one.at, one.length)

@@ -1,0 +1,127 @@
+"""The program, which is called by `frames`."""
+from __future__ import annotations
+
+import contextlib
+import re
+import subprocess
+import tempfile
+from typing import IO, List, NamedTuple, Optional, Sequence, Tuple
+
+from ..program import found_program, named
+from ..signals import signals
+from .answers import Answers
+from .faults import Failure, Status
+
+# The lines of so many questions are written at once.
+MOST_LINES = 10_000
+# The program begins its first line on standard error so; more than this of all is not read.
+OWN_WORDS = b"symarch: "
+MOST_SAID = 100_000
+# What it says of an index; and of an entry of one at whose place the archive has something else.
+OF_AN_INDEX = re.compile(rb"symarch: index ([0-9]{1,9}): ([^\n]*)")
+AT_ENTRY = re.compile("Stale at entry ([0-9]{1,18})")
+
+
+class IndexFault(NamedTuple):
+    """What the program says of an index: of which of those it was given, what, and at which entry it is stale."""
+
+    number: int
+    text: str
+    entry: Optional[int]
+
+    def is_of_length(self) -> bool:
+        """Whether the archive has another length than the index says."""
+        return self.text == "Stale"
+
+
+class Reply(NamedTuple):
+    """What came of a call: what the program said on standard error, its status, and whether it answered as `frames`
+    does; None if it said nothing."""
+
+    said: bytes
+    status: int
+    is_answered: Optional[bool]
+
+    def fault_of_index(self) -> Optional[IndexFault]:
+        found = OF_AN_INDEX.match(self.said) if self.status == Status.REFUSED else None
+        if not found:
+            return None
+        text = found[2].decode(errors="replace")
+        entry = AT_ENTRY.fullmatch(text)
+        return IndexFault(int(found[1]), text, int(entry[1]) if entry else None)
+
+
+class Program:
+    """The program."""
+
+    def __init__(self) -> None:
+        self.path, self.named = found_program(), named()
+
+    def frames(self, indexed: Sequence[Tuple[str, str]], plain: Sequence[str], answers: Sequence[Answers]) -> Reply:
+        """Asks archives with their indexes and archives without. The questions are in a file of their own: a standard
+        input has no path where /proc is not mounted."""
+        options = [word for _, index in indexed for word in ("--index", index)]
+        archives = [path for path, _ in indexed] + list(plain)
+        with tempfile.NamedTemporaryFile(prefix="symbolicate-report.") as asked, tempfile.TemporaryFile() as errors:
+            write_questions(asked, answers)
+            with contextlib.ExitStack() as ends:
+                # A program that has begun is ended before the file that it reads is removed.
+                with signals.later():
+                    run = ends.enter_context(self.start([self.path, "frames", asked.name, *options, *archives], errors))
+                    ends.push(lambda failed, *_: run.kill() if failed else None)
+                is_answered = take(answers, run)
+            errors.seek(0)
+            return Reply(errors.read(MOST_SAID), run.returncode, is_answered)
+
+    def start(self, words: List[str], errors: IO[bytes]) -> subprocess.Popen[bytes]:
+        try:
+            return subprocess.Popen(words, stdin=subprocess.DEVNULL, stdout=subprocess.PIPE, stderr=errors)
+        except OSError as error:
+            raise self.not_started(error) from None
+
+    def judge(self, reply: Reply) -> None:
+        """Refuses what is not all answers, after what the program said on standard error."""
+        if reply.is_answered and 0 <= reply.status <= Status.NONE_NAMED:
+            return
+        if reply.status > Status.NONE_NAMED and reply.said.startswith(OWN_WORDS):
+            raise Failure("", reply.status)
+        if reply.status < 0 and reply.is_answered is not False:
+            raise Failure(f"{self.path}: ended by signal {-reply.status}", Status.REFUSED)
+        which = f"SYMARCH names {self.named}, which" if self.named else f"the program {self.path}"
+        raise Failure(f"{which} does not answer as symarch does", Status.NO_PROGRAM)
+
+    def not_started(self, error: OSError) -> Failure:
+        if self.named:
+            why = f"there is no program {self.path}" if isinstance(error, FileNotFoundError) else error.strerror
+            return Failure(f"SYMARCH names {self.named}: {why}", Status.NO_PROGRAM)
+        how = "SYMARCH may name one, and in the repository ./symarch --version builds it"
+        return Failure(f"there is no program {self.path}: {how}", Status.NO_PROGRAM)
+
+
+def take(answers: Sequence[Answers], run: subprocess.Popen[bytes]) -> Optional[bool]:
+    """Whether the program answers as `frames` does; None if it says nothing more. What does is ended, since it may
+    never end."""
+    assert run.stdout is not None
+    try:
+        for one in answers:
+            one.take(run.stdout)
+        if not run.stdout.readline():
+            return True
+    except ValueError:
+        pass
+    if not run.stdout.readline():
+        return None
+    run.kill()
+    return False
+
+
+def write_questions(file: IO[bytes], answers: Sequence[Answers]) -> None:
+    lines = []
+    for one in answers:
+        for line in one.questions():
+            lines.append(line)
+            if len(lines) == MOST_LINES:
+                file.write("".join(lines).encode())
+                lines = []
+    file.write("".join(lines).encode())
+    file.flush()

@@ -1,0 +1,222 @@
+"""Reports as JSON, as people read them: what happened, the threads with names and offsets, and the images."""
+from __future__ import annotations
+
+import uuid
+from typing import Any, Dict, Iterable, Iterator, List, Optional, Sequence, Tuple, Union
+
+from .images import IS_INLINED
+from .json_report import Calls, JsonReport, Stack
+from .json_walk import MOST_FLAT, NESTED, SPACE, Node, loaded
+from .readable_header import header_lines, labelled, of, state_lines
+from .streams import encoded
+from .text_report import LineAnswers, TextReport, named_line
+
+# Values of more bytes are left away, and a tree is set in no further than so many calls.
+MOST_OF_VALUE = 100_000
+MOST_SET_IN = 200
+EXCEPTION = "lastExceptionBacktrace"
+
+
+def parts(found: Iterable[Union[JsonReport, TextReport]], notes: List[str]) -> List[Union[TextReport, ReadableReport]]:
+    """The parts of a report as people read them: text as it stands, and each JSON document that has frames, after what
+    the document before it says. The full report after a text says the same as the text, and is left out."""
+    made: List[Union[TextReport, ReadableReport]] = []
+    header: Dict[str, Any] = {}
+    for part in found:
+        if isinstance(part, TextReport):
+            space = SPACE.match(part.data, part.begin, part.end)
+            assert space is not None
+            if space.end() < part.end:
+                part.begin = space.end() if part.begin else 0
+                made.append(part)
+            continue
+        before = made[-1] if made else None
+        if not len(part.frames):
+            header = part.value if isinstance(part.value, dict) else {}
+        elif part.is_full and isinstance(before, TextReport) and len(before.frames):
+            before.end = before.heading
+            notes.append("its Full Report is left out, since the text before it says the same")
+        else:
+            made.append(ReadableReport(part, header))
+    return made
+
+
+def values_of(data: bytes, node: Node) -> Dict[str, Any]:
+    """The members of an object. One with others in it is read if it is small, and so is a long string."""
+    found: Dict[str, Any] = {}
+    for name, member in node.members.items():
+        is_long = member.value == "" and member.end - member.begin > MOST_FLAT
+        is_left = member.value is NESTED or is_long
+        found[name] = nested(data[member.begin : member.end]) if is_left else member.value
+    return found
+
+
+def nested(data: bytes) -> Any:
+    try:
+        return loaded(data) if len(data) <= MOST_OF_VALUE else None
+    except (ValueError, RecursionError):
+        return None
+
+
+class ReadableReport:
+    """A JSON document that has frames, after a header that stood before it."""
+
+    def __init__(self, document: JsonReport, header: Dict[str, Any]) -> None:
+        self.document, self.header = document, header
+        self.data, self.frames, self.end = document.data, document.frames, document.end
+        self.bases: Dict[uuid.UUID, Tuple[int, Optional[str]]] = {}
+
+    def pieces(self) -> Iterator[bytes]:
+        """The bytes of the report."""
+        for line in self.lines():
+            yield (encoded(line) if isinstance(line, str) else line) + b"\n"
+
+    def lines(self) -> Iterator[Union[str, bytes]]:
+        if self.document.stacks:
+            yield from self.crash()
+        for calls in self.document.calls:
+            yield from self.diagnostic(calls)
+        yield from self.image_lines()
+
+    # ---- .ips
+
+    def crash(self) -> Iterator[Union[str, bytes]]:
+        node = self.document.report or self.document.root
+        top = values_of(self.data, node) if node else {}
+        yield from header_lines(self.header, top)
+        stacks = self.document.stacks
+        for stack in sorted(stacks, key=lambda stack: stack.name != EXCEPTION):
+            yield self.heading(stack, top)
+            yield from self.frame_lines(range(stack.first, stack.end))
+            yield ""
+        for stack in stacks:
+            thread = values_of(self.data, stack.owner)
+            if thread.get("triggered") and isinstance(thread.get("threadState"), dict):
+                yield from state_lines(stack.owner.number, thread["threadState"])
+
+    def heading(self, stack: Stack, top: Dict[str, Any]) -> str:
+        """The line above a list of frames."""
+        owner = stack.owner
+        if stack.name == EXCEPTION:
+            return "Last Exception Backtrace:"
+        thread = owner.members
+        names = [str(owner.value("name"))] if owner.value("name") else []
+        names += [f"Dispatch queue: {owner.value('queue')}"] if owner.value("queue") else []
+        is_list = owner.parent is not None and owner.parent.is_list
+        number = owner.number if is_list else owner.value("id") if "id" in thread else owner.key
+        process = process_of(owner)
+        names += [process] if process else []
+        names += [] if stack.name == "frames" else [str(stack.name)]
+        is_crashed = owner.value("triggered") or (is_list and top.get("faultingThread") == number)
+        return f"Thread {number}{' Crashed' if is_crashed else ''}:{': ' if names else ''}{', '.join(names)}"
+
+    def frame_lines(self, places: range) -> Iterator[bytes]:
+        for number, at in enumerate(places):
+            said = self.document.said(at)
+            index, offset = (said["imageIndex"], said["imageOffset"]) if isinstance(said, dict) else said[:2]
+            listed = self.document.listed[index] if 0 <= index < len(self.document.listed) else None
+            base, name = base_of(listed), name_of(listed)
+            symbol = [said.get("symbol"), said.get("symbolLocation")] if isinstance(said, dict) else said[2:4]
+            yield self.frame_line(number, at, name, base, offset, symbol, source_of(said))
+
+    def frame_line(self, number: int, at: int, name: Optional[str], base: Optional[int], offset: int,
+                   symbol: Sequence[Any], source: str) -> bytes:
+        """A line of a crash: the image, the address, the name and its offset, or where the image was loaded."""
+        address = "???" if base is None else f"0x{base + offset:x}"
+        head = encoded(f"{number:<4}{name or '???':<30}\t{address:>18} ")
+        said = f"0x{base:x} + {offset}" if base is not None and self.frames.image(at) else "???"
+        if symbol and symbol[0]:
+            said = f"{symbol[0]} + {symbol[1]}" if len(symbol) > 1 and symbol[1] is not None else f"{symbol[0]}"
+        if self.frames.kinds[at] & IS_INLINED:
+            said += " [inlined]"
+        tail = encoded(source)
+        return named_line(self.answers(at), head, b"", tail, b"") or head + encoded(said) + tail
+
+    def answers(self, at: int) -> LineAnswers:
+        """The answers to a frame, as those of a line."""
+        return {(symbol,): digests for symbol, digests in self.frames.answers(at).items()}
+
+    # ---- MetricKit
+
+    def diagnostic(self, calls: Calls) -> Iterator[Union[str, bytes]]:
+        yield from labelled(self.data, calls.owner, values_of)
+        for number, (owner, first, end) in enumerate(calls.stacks):
+            is_crashed = calls.is_thread and owner.value("threadAttributed")
+            yield f"Thread {number}{' Crashed' if is_crashed else ''}:"
+            for place, at in enumerate(range(first, end)):
+                yield self.call_line(place, at, calls.is_thread)
+            yield ""
+
+    def call_line(self, number: int, at: int, is_thread: bool) -> bytes:
+        said = self.document.said(at)
+        address, offset = number_in(said.get("address")), number_in(said.get("offsetIntoBinaryTextSegment"))
+        image, name = self.frames.image(at), text_in(said.get("binaryName"))
+        is_placed = address is not None and offset is not None
+        base = address - offset if address is not None and offset is not None else address
+        if image and is_placed and base is not None:
+            self.bases.setdefault(image.uuid, (base, name))
+        symbol = (said.get("symbol"), said.get("symbolLocation"))
+        if is_thread:
+            return self.frame_line(number, at, name, base, offset if is_placed and offset else 0, symbol, "")
+        inset = "  " * (1 + min(self.document.depths[at], MOST_SET_IN))
+        samples = number_in(said.get("sampleCount"))
+        head = f"{inset}{1 if samples is None else samples:<4} ".encode()
+        place = f" ({name or '???'} + {offset})" if is_placed else ""
+        tail = encoded(f"{place} [0x{address or 0:x}]")
+        before = f"{symbol[0]} + {symbol[1]}" if symbol[0] else "???"
+        return named_line(self.answers(at), head, b"", tail, b"") or head + encoded(before) + tail
+
+    # ---- images
+
+    def image_lines(self) -> Iterator[str]:
+        yield "Binary Images:"
+        for listed in self.document.listed:
+            base, name = base_of(listed), name_of(listed)
+            size, arch, path = (of(listed, one) for one in ("size", "arch", "path"))
+            end = f"0x{base + size - 1:x}" if base is not None and type(size) is int and size > 0 else "???"
+            told = listed[0] if isinstance(listed, list) and listed else of(listed, "uuid")
+            yield image_line(base, end, f"{name or '???'}{f' {arch}' if arch else ''}", told, path)
+        for number, (base, name) in self.bases.items():
+            yield image_line(base, "???", name or "???", number, None)
+
+
+def image_line(base: Optional[int], end: str, name: str, told: object, path: object) -> str:
+    begin = "0x0" if base is None else f"0x{base:x}"
+    return f"{begin:>18} - {end:>18} {name} <{told}> {path or ''}".rstrip()
+
+
+def base_of(listed: Any) -> Optional[int]:
+    """Where an image of a list was loaded, if it is said."""
+    base = listed[1] if isinstance(listed, list) and len(listed) > 1 else of(listed, "base")
+    found = number_in(base)
+    return found if found is not None and found >= 0 else None
+
+
+def name_of(listed: Any) -> Optional[str]:
+    return text_in(of(listed, "name")) or (text_in(of(listed, "path")) or "").rpartition("/")[2] or None
+
+
+def text_in(value: object) -> Optional[str]:
+    return value if isinstance(value, str) else None
+
+
+def number_in(value: object) -> Optional[int]:
+    """The whole number that a value is, which `true` is not."""
+    return value if type(value) is int else None
+
+
+def source_of(said: Any) -> str:
+    """The source file and line that a frame states."""
+    if not isinstance(said, dict) or not said.get("sourceFile"):
+        return ""
+    return f" ({said['sourceFile']}:{said.get('sourceLine', 0)})"
+
+
+def process_of(node: Optional[Node]) -> Optional[str]:
+    """The process that a thread is of, where the report has several."""
+    while node is not None:
+        name = node.value("procname")
+        if name:
+            return f"{name} [{node.value('pid')}]"
+        node = node.parent
+    return None

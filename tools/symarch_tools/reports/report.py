@@ -1,0 +1,154 @@
+"""A whole report: JSON documents and text, one after another, and what is said of it."""
+from __future__ import annotations
+
+import pathlib
+import re
+from typing import Iterator, List, Optional, Union
+
+from . import readable
+from .encodings import decoded
+from .faults import Failure, Status
+from .images import HAD_NAME, IS_INLINED, Frames, Images, one_of
+from .json_report import JsonReport
+from .json_walk import Broken
+from .text_report import TextReport
+
+DOCUMENT = re.compile(rb"\s*(?=[{\[])")
+# What stands in the first lines of a report, and so many bytes of them.
+BEGINNING = re.compile(
+    rb'^(?:Process|Identifier|Incident Identifier|Date/Time|Code Type|Analysis of sampling)\b'
+    rb'|"(?:bug_type|app_name|timeStampBegin)" *:',
+    re.MULTILINE,
+)
+MOST_OF_BEGINNING = 10_000
+# A heading between lines of hyphens, after which the same report stands as JSON.
+FULL = re.compile(rb"^-+[ \t]*\r?\nFull Report[ \t]*\r?\n-+[ \t]*\r?\n\s*(?=[{\[])", re.MULTILINE)
+
+
+# What a report is made of.
+Part = Union[JsonReport, TextReport, readable.ReadableReport]
+
+
+class Count:
+    """How many frames have a name from the archive, had one before and keep it, have several answers, or have no name;
+    and how many are of no image that the report lists."""
+
+    def __init__(self) -> None:
+        self.named = self.named_before = self.several = self.not_named = self.not_listed = 0
+
+    def add(self, frames: Frames) -> None:
+        for at in range(len(frames)):
+            kind = frames.kinds[at]
+            if kind & IS_INLINED:
+                continue
+            answers = frames.answers(at)
+            if one_of(answers):
+                self.named += 1
+            elif len(answers) > 1:
+                self.several += 1
+            elif kind & HAD_NAME:
+                self.named_before += 1
+            else:
+                self.not_named += 1
+            self.not_listed += frames.image(at) is None
+
+    def add_count(self, other: Count) -> None:
+        for name, number in vars(other).items():
+            setattr(self, name, getattr(self, name) + number)
+
+    def text(self) -> str:
+        every = self.named + self.named_before + self.several + self.not_named
+        said = f"{self.named} of {every} frames named, {self.named_before} named before, {self.not_named} not named"
+        said += f", {self.several} with several answers" if self.several else ""
+        return said + (f"; {self.not_listed} of images that the report does not list" if self.not_listed else "")
+
+
+class Report:
+    """A whole report. With `is_text` its JSON is printed as people read it."""
+
+    def __init__(self, path: str, is_text: bool = False) -> None:
+        self.path, self.is_text = path, is_text
+        self.data, self.encoding = decoded(pathlib.Path(path).read_bytes())
+        self.images = Images()
+        self.notes: List[str] = []
+        found = list(self.read())
+        self.parts: List[Part] = [*readable.parts(found, self.notes)] if is_text else [*found]
+        if not any(len(part.frames) for part in self.parts):
+            has_images = "images, but " if self.images.listed else ""
+            if not self.notes and not has_images and BEGINNING.search(self.data, 0, MOST_OF_BEGINNING):
+                self.notes.append(f"it ends at {self.last()}, before its first frame")
+            raise self.refusal(f"no report that is read here: {has_images}no stack frames")
+        if not self.images.listed:
+            raise self.refusal("frames, but no binary images with UUIDs")
+
+    def refusal(self, why: str) -> Failure:
+        return Failure("; ".join([f"{self.path}: {why}", *self.notes]), Status.REFUSED)
+
+    def read(self) -> Iterator[Union[JsonReport, TextReport]]:
+        """The parts of the report. JSON without frames that ends within a document is text."""
+        begin, is_full = 0, False
+        while begin < len(self.data):
+            part: Union[JsonReport, TextReport, None] = self.read_json(begin, is_full)
+            if part is None:
+                part = self.read_text(begin)
+                is_full = part.heading < part.end
+            yield part
+            begin = part.end
+
+    def read_json(self, begin: int, is_full: bool) -> Optional[JsonReport]:
+        """The JSON document that begins at a place, if one does."""
+        found = DOCUMENT.match(self.data, begin)
+        if not found:
+            return None
+        part = JsonReport(self.data, found.end(), self.images, self.is_text)
+        if part.broken and not part.broken.is_cut and not len(part.frames):
+            if is_full:
+                self.notes.append(f"its Full Report is left as it is: no JSON at {self.place(part.broken.place)}")
+            return None
+        part.begin, part.is_full = begin, is_full
+        self.note_broken(part.broken)
+        return part
+
+    def read_text(self, begin: int) -> TextReport:
+        """The text from a place on, up to a full report."""
+        full = FULL.search(self.data, begin)
+        part = TextReport(self.data, begin, full.end() if full else len(self.data), self.images)
+        part.heading = full.start() if full else part.end
+        self.note_cut(part)
+        return part
+
+    def note_broken(self, broken: Optional[Broken]) -> None:
+        if broken and broken.is_cut:
+            self.notes.append(f"it ends at {self.last()}, within its JSON")
+        elif broken:
+            self.notes.append(f"it is no JSON from {self.place(broken.place)} on")
+
+    def note_cut(self, part: TextReport) -> None:
+        if part.end < len(self.data):
+            return
+        if not part.is_whole:
+            self.notes.append(f"it ends at {self.last()}, before the images of its last frames")
+        elif not self.data.endswith((b"\n", b"\r")):
+            self.notes.append(f"it ends at {self.last()}, within a line")
+
+    def place(self, place: int) -> str:
+        line = self.data.count(b"\n", 0, place) + 1
+        return f"line {line}, byte {self.encoding.byte_of(self.data, place) + 1}"
+
+    def last(self) -> str:
+        line = self.data.count(b"\n", 0, len(self.data) - 1) + 1
+        return f"line {line}, byte {self.encoding.byte_of(self.data, len(self.data)) + len(self.encoding.half)}"
+
+    def pieces(self) -> Iterator[bytes]:
+        """The bytes of the report with names in it, as they stand in its file."""
+        yield self.encoding.mark
+        for part in self.parts:
+            for piece in part.pieces():
+                yield from self.encoding.written(piece)
+        yield self.encoding.half
+
+    def count(self) -> Count:
+        count = Count()
+        for part in self.parts:
+            count.add(part.frames)
+        return count

@@ -1,0 +1,385 @@
+"""Prints reports of crashes and hangs with the names that an archive has for their frames.
+
+What is read, whatever the file is called:
+
+- text (.crash): numbered frames, and the images after `Binary Images:`; a line of addresses in parentheses after
+  `Last Exception Backtrace:`; and the JSON after a heading `Full Report`;
+- the call trees of `sample`, `???  (in NAME)  load address A + B  [C]`, and of `spindump` and of hang and resource
+  reports, `??? (NAME + B) [C]`, and their other lists of frames. The images are those after the next `Binary Images:`;
+  a spindump has these for each process;
+- JSON (.ips): frames with `imageIndex` and `imageOffset`, or arrays of these two numbers in `userFrames` and
+  `kernelFrames`, and the images in `usedImages` or `binaryImages`. A first line of JSON, and text after it, is an
+  older .ips;
+- JSON of MetricKit, one payload or several: each `callStacks`, with frames by `binaryUUID`, `address` and
+  `offsetIntoBinaryTextSegment`.
+
+Each of them may begin with a byte-order mark, may be UTF-8 or UTF-16, and is printed in the encoding that it has.
+
+All is printed as it stands, byte for byte, but for
+
+- frames that have one answer: its name and offset stand in the place of what stood there, in JSON as `symbol` and
+  `symbolLocation`, or after the two numbers. Slices that answer alike are one answer;
+- frames for which the slices have N different answers: `!N`, and below it each answer, after the SHA-256 of each slice
+  that gives it; in JSON `conflict`;
+- a line of addresses of which one has an answer: it becomes a numbered frame for each address.
+
+Frames that stay as they are: those of functions that were inlined, of images that the archive does not have, and where
+it has no symbol, so that the names that Apple wrote stay; and backtraces that are strings in JSON.
+
+If a report is cut, standard error says where it ends, by line and byte: within its JSON or a line, before its first
+frame, or before its images. The frames before that place are named. A text that is cut after a line of its images looks
+whole, and the frames of the others are counted as of images that it does not list. JSON that goes wrong is named up to
+there, and the rest stays as it is.
+
+The last line on standard error counts the frames: those that have one name now, those that were named before and keep
+that name, those without a name, and those with several answers. Then it counts the frames of images that the report
+does not list, and says of each image with frames what answered for it, by its name, its UUID and, if the report states
+it, its architecture:
+
+- `by dSYM`: its dSYM;
+- `without dSYM`: the image alone. If that was stripped, its frames may have the names of exported neighbours;
+- `changed since it came in`: nothing, since its slice has not the SHA-256 that the index has of it;
+- `not in the archive`: nothing;
+- `with or without dSYM`: an archive that is no file, as a pipe, which cannot be read twice to find that out.
+
+Inlined functions do not count as frames. With --out each report has such a line after its path, and the last line is
+for all reports.
+
+A return address may lie after its function's end, so the address before it is asked for; the offset printed is that of
+the frame. Return addresses are:
+
+- in a list of frames of one thread, with the innermost first, each frame after the first. So are the frames of
+  MetricKit where `callStackPerThread` is true or absent: the root is the innermost one;
+- in a call tree each frame that has one below it. A frame with none below it is where the thread was. So it is in the
+  trees of MetricKit where `callStackPerThread` is false;
+- in the `Heaviest stack` of a spindump each frame but the last. In the lists after the tree of `sample` an address
+  that the tree has with frames below it, and never without.
+
+Where the report does not state the architecture of an image, it is the one of x86_64, x86_64h, arm64 and arm64e under
+which the archive has its UUID; where there are several, that of the report's processor.
+
+Several archives are asked as their join, as `symarch merge` writes it: each last name that begins as an archive is one.
+ARCHIVE.today, if `symarch-keep` has one beside an archive, is asked too, and has to be an archive.
+
+If an index stands beside an archive, as ARCHIVE.idx, the archive is read by it, and each name that is printed is one
+that the index vouches for:
+
+- a slice that has another SHA-256 than the index says answers nothing. Standard error says
+  `UUID ARCH changed since it came in: run symarch-keep check ARCHIVE`, the other images are named, and the status is 2;
+- an archive that was written since, so that it has another length than the index says, is refused, and so is an index
+  that is damaged: nothing is printed, and the status is 2.
+
+An archive without an index answers by itself, and nothing vouches for its bytes.
+
+The program is called by `frames`, once for all reports unless a slice changed. It is the one that the environment
+variable SYMARCH names; else the one that ./symarch built, or that was installed with this tool; else `symarch` in PATH.
+None is built here: if SYMARCH names the script ./symarch, the program that it built is called.
+
+This tool needs two to four times the size of a large report as memory, and room for 60 bytes for each different offset
+in a folder for temporary files, as TMPDIR names it. The program needs about 200 bytes for each different offset in an
+image. Both need four times that if the report does not state the image's architecture.
+
+The status is 0; 1 where no frame has one name (with --missing: never); 2 where a REPORT cannot be read or is none of
+these, which prints nothing of it, where a slice changed, or a file cannot be written; 3 where the words are others; 126
+where there is no program, or it does not answer as `symarch`; or that of `symarch` where it refuses the archive, with
+its line on standard error. Names are those of the symbol tables."""
+from __future__ import annotations
+
+import argparse
+import os
+import sys
+import tempfile
+from typing import Any, Dict, Iterable, List, NoReturn, Optional, Sequence, Tuple
+
+from .reports.answers import Origin
+from .reports.archives import TODAY, ArchiveFile, Archives, beside
+from .reports.demangling import demangled
+from .reports.faults import Failure, Status
+from .reports.report import Count, Report
+from .reports.streams import note, output, say
+from .signals import Stopped, signals
+from .version import PrintVersion
+
+NAME = "symbolicate-report"
+USAGE = f"{NAME} [--missing | [--text] [--demangle] [--out FOLDER]] REPORT... ARCHIVE..."
+MAGICS = (b"MSYMARC1", b"MSYMARC2")
+# How long an archive without records is.
+EMPTY_SIZE = 17
+
+
+# ---- words
+
+
+class Parser(argparse.ArgumentParser):
+    """Words. Others end with status 3, as with the program."""
+
+    def error(self, message: str) -> NoReturn:
+        say(f"{self.format_usage()}{NAME}: {message}\n")
+        raise Failure("", Status.BAD_WORDS)
+
+    def print_help(self, file: object = None) -> None:
+        output().write(self.format_help().encode())
+        output().flush()
+
+
+class Once(argparse.Action):
+    """An option that stands once at most."""
+
+    def __call__(self, parser: argparse.ArgumentParser, namespace: argparse.Namespace, value: Any,
+                 option: Optional[str] = None) -> None:
+        if getattr(namespace, self.dest) not in (None, False):
+            parser.error(f"{option} stands twice")
+        setattr(namespace, self.dest, True if self.nargs == 0 else value)
+
+
+def parser_of_words() -> Parser:
+    shape = argparse.RawDescriptionHelpFormatter
+    parser = Parser(NAME, usage=USAGE, description=__doc__, formatter_class=shape, allow_abbrev=False)
+    parser.add_argument("names", nargs="*", metavar="REPORT... ARCHIVE...", help="the reports, and after them archives")
+    flag: Dict[str, Any] = {"action": Once, "nargs": 0, "default": False}
+    parser.add_argument("--missing", help=MISSING, **flag)
+    parser.add_argument("--text", help=TEXT, **flag)
+    parser.add_argument("--demangle", help=DEMANGLE, **flag)
+    parser.add_argument("--out", metavar="FOLDER", action=Once, help=OUT)
+    parser.add_argument("--version", action=PrintVersion, nargs=0, help="print the version and exit")
+    return parser
+
+
+MISSING = """print the UUIDs of the images with frames of which the archive has no dSYM, whether it has the image or
+not, a line each, and nothing else"""
+TEXT = """print a JSON report as people read a crash: its header, what the system said of its end, the threads with
+names and offsets, the images. It leaves out a `Full Report` that repeats the text before it"""
+DEMANGLE = """drop one leading underscore from each name, as `atos` does, and run `swift demangle` and `llvm-cxxfilt`,
+if they are installed, once each for all names"""
+OUT = """write each report to FOLDER under the name of its own file, whole or not at all, and make FOLDER if it is not
+there. It replaces a file that is there, but never one that this call reads. Several reports need it; two reports of
+one name are refused"""
+
+
+class Words:
+    """What the command line asks for."""
+
+    def __init__(self, words: Sequence[str]) -> None:
+        parser = parser_of_words()
+        # What stands after the word `--` is no option.
+        end = words.index("--") if "--" in words else len(words)
+        asked = parser.parse_intermixed_args(words[:end])
+        self.is_missing: bool = asked.missing
+        self.is_text: bool = asked.text
+        self.is_demangled: bool = asked.demangle
+        self.out: Optional[str] = asked.out
+        self.reports, archives = reports_and_archives([*asked.names, *words[end + 1 :]])
+        if not self.reports:
+            parser.error("there is no report before the archive")
+        if self.is_missing and (self.is_text or self.is_demangled or self.out is not None):
+            parser.error("--missing stands alone")
+        if len(self.reports) > 1 and self.out is None and not self.is_missing:
+            parser.error("several reports are written by --out FOLDER")
+        self.archives = with_today(archives)
+
+
+def is_archive(path: str) -> bool:
+    """Whether a file begins as an archive."""
+    try:
+        with open(path, "rb") as file:
+            return file.read(8) in MAGICS
+    except OSError:
+        return False
+
+
+def reports_and_archives(names: Sequence[str]) -> Tuple[List[str], List[str]]:
+    """The last name is an archive, and so are those right before it that begin as one; the others are reports, of which
+    there is one at least."""
+    first = max(len(names) - 1, 0)
+    while first > 1 and is_archive(names[first - 1]):
+        first -= 1
+    return list(names[:first]), list(names[first:])
+
+
+def with_today(archives: Iterable[str]) -> List[ArchiveFile]:
+    """The archives, each after what `symarch-keep` has beside it of what came in lately, unless that has no record. A
+    fold empties that once the archive has all of it, so who opens it first misses nothing."""
+    found = []
+    for path in archives:
+        today = beside(path, TODAY)
+        if os.path.lexists(today) and not is_empty_archive(today):
+            found.append(ArchiveFile(today, path))
+        found.append(ArchiveFile(path, path[: -len(TODAY)] if path.endswith(TODAY) else path))
+    return found
+
+
+def is_empty_archive(path: str) -> bool:
+    return is_archive(path) and os.path.getsize(path) == EMPTY_SIZE
+
+
+# ---- what is printed
+
+
+def read(paths: Iterable[str], is_text: bool) -> Tuple[List[Report], int]:
+    """The reports that can be read, and the status of those that cannot, which are said."""
+    found, status = [], int(Status.DONE)
+    for path in paths:
+        try:
+            found.append(Report(path, is_text))
+        except Failure as failure:
+            note(failure.reason)
+            status = failure.status
+        except OSError as error:
+            note(error)
+            status = Status.REFUSED
+    return found, status
+
+
+def print_missing(reports: Iterable[Report]) -> None:
+    """Prints the UUID of each image for which no dSYM answers."""
+    lacking = [image for report in reports for image in report.images.with_frames()]
+    uuids = [image.uuid for image in lacking if image.origin in (Origin.IMAGE, Origin.ABSENT)]
+    output().write("".join(f"{it}\n" for it in dict.fromkeys(uuids)).encode())
+    output().flush()
+
+
+def print_report(report: Report) -> None:
+    stream = output()
+    for piece in report.pieces():
+        stream.write(piece)
+    stream.flush()
+
+
+def write_report(report: Report, folder: str) -> None:
+    """Writes a report under its own name, whole or not at all."""
+    file, made = tempfile.mkstemp(prefix=f".{NAME}.", dir=folder)
+    try:
+        with open(file, "wb") as stream:
+            os.fchmod(file, 0o666 & ~mask())
+            for piece in report.pieces():
+                stream.write(piece)
+            stream.flush()
+            os.fsync(file)
+        os.replace(made, os.path.join(folder, os.path.basename(report.path)))
+    except BaseException:
+        os.unlink(made)
+        raise
+
+
+def mask() -> int:
+    """The rights that new files do not have."""
+    found = os.umask(0)
+    os.umask(found)
+    return found
+
+
+def clash(words: Words, out: str) -> Optional[str]:
+    """What would be written twice, or over a file that is read, if anything would be."""
+    read_files = {identity(path): path for path in [*words.reports, *(file.path for file in words.archives)]}
+    read_files.pop(None, None)
+    seen: Dict[str, str] = {}
+    for path in words.reports:
+        name = os.path.basename(path)
+        target = os.path.join(out, name)
+        if not name:
+            return f"{path}: no file"
+        if name in seen:
+            return f"{seen[name]} and {path} would both be written to {target}"
+        if identity(target) in read_files:
+            return f"{path} would be written over {read_files[identity(target)]}, which is read"
+        seen[name] = path
+    return None
+
+
+def identity(path: str) -> Optional[Tuple[int, int]]:
+    """What is one for all paths of a file; None where there is none."""
+    try:
+        found = os.stat(path)
+    except OSError:
+        return None
+    return found.st_dev, found.st_ino
+
+
+# ---- what is said
+
+
+def say_counts(reports: Iterable[Report], is_each: bool) -> bool:
+    """Says what came of each report where they are written to files, and of all of them; and whether a frame has a
+    name."""
+    every, labels = Count(), labels_of([])
+    for report in reports:
+        for text in report.notes:
+            note(f"{report.path}: {text}")
+        count, its = report.count(), labels_of([report])
+        every.add_count(count)
+        for origin, some in its.items():
+            labels[origin].update(some)
+        if is_each:
+            say(f"{report.path}: {count.text()}{by_origin(its)}\n")
+    say(f"{every.text()}{by_origin(labels)}\n")
+    return every.named > 0
+
+
+def labels_of(reports: Iterable[Report]) -> Dict[Origin, Dict[str, None]]:
+    """The images of reports, each of them once, by what answered for them."""
+    labels: Dict[Origin, Dict[str, None]] = {origin: {} for origin in Origin}
+    for report in reports:
+        for image in report.images.with_frames():
+            labels[image.origin][image.label()] = None
+    return labels
+
+
+def by_origin(labels: Dict[Origin, Dict[str, None]]) -> str:
+    return "".join(f"; {origin.value}: {', '.join(some)}" for origin, some in labels.items() if some)
+
+
+# ---- the whole
+
+
+def carry_out(words: Words) -> int:
+    fault = clash(words, words.out) if words.out is not None else None
+    if fault:
+        raise Failure(fault, Status.BAD_WORDS)
+    reports, status = read(words.reports, words.is_text)
+    if not reports:
+        return status
+    archives = Archives(words.archives)
+    archives.look_up([image for report in reports for image in report.images.with_frames()])
+    status = status or (Status.REFUSED if archives.has_changed else Status.DONE)
+    if words.is_missing:
+        print_missing(reports)
+        return status
+    if words.is_demangled:
+        archives.names.shown = demangled(archives.names.shown)
+    if words.out is None:
+        print_report(reports[0])
+    else:
+        os.makedirs(words.out, exist_ok=True)
+        for report in reports:
+            write_report(report, words.out)
+    has_names = say_counts(reports, words.out is not None)
+    return status or (Status.DONE if has_names else Status.NONE_NAMED)
+
+
+def carry_out_words(words: Sequence[str]) -> int:
+    try:
+        return carry_out(Words(words))
+    except Failure as failure:
+        if failure.reason:
+            note(failure.reason)
+        return failure.status
+    except OSError as error:
+        note(error)
+    except MemoryError:
+        note("out of memory")
+        return Status.NO_MEMORY
+    return Status.REFUSED
+
+
+def main(words: Optional[Sequence[str]] = None) -> int:
+    """Carries out the words. A signal ends the tool, unless it is ignored, once its files are removed."""
+    try:
+        signals.answer()
+        status = carry_out_words(sys.argv[1:] if words is None else words)
+        signals.leave()
+        return status
+    except Stopped as stopped:
+        number = stopped.number
+    # The exception is gone after this, and with it what it met.
+    signals.end()
+    return 128 + number
