@@ -56,8 +56,6 @@ def found(pattern: str, text: str, flags: int = 0) -> "re.Match[str]":
 class Links(unittest.TestCase):
     """Each file that a document links is there, and has the heading that it names."""
 
-    is_side_by_side = True
-
     def test_each_leads_somewhere(self) -> None:
         count = 0
         for document in DOCUMENTS:
@@ -109,8 +107,6 @@ def links_of(document: Path) -> List[str]:
 class Crates(unittest.TestCase):
     """ARCHITECTURE has the layers of crates.txt, and a line for each crate, in its order."""
 
-    is_side_by_side = True
-
     def test_layers(self) -> None:
         came = call([TOP / "docs/draw-layers", "--check"])
         self.assertEqual(came.status, 0, came.out + came.errors)
@@ -123,7 +119,6 @@ class Crates(unittest.TestCase):
 class Commands(unittest.TestCase):
     """What is said of the program's commands and their arguments is what its table has."""
 
-    is_side_by_side = True
     commands = program_commands()
 
     def test_all_are_read(self) -> None:
@@ -194,7 +189,6 @@ class Commands(unittest.TestCase):
 class Readme(unittest.TestCase):
     """README is short, names a crash before it has a word of the join, and its commands are there."""
 
-    is_side_by_side = True
     text = text_of("README.md")
 
     def test_length(self) -> None:
@@ -224,8 +218,6 @@ class Readme(unittest.TestCase):
 
 class Texts(unittest.TestCase):
     """What documents show, and what more than one of them says."""
-
-    is_side_by_side = True
 
     def test_listed_bytes(self) -> None:
         """Each listing of a file in FILES has the bytes of this file, or of an archive of it."""

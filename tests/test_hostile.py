@@ -436,7 +436,7 @@ class LadderCase(LargeCase):
         return [*range(least, least + 512, 4), *range(least + 512, least + 8193, 64)]
 
     def at(self, limit: int, words: str) -> Any:
-        return self.call(*words.split(" "), preexec_fn=limited(resource.RLIMIT_AS, limit << 10))
+        return self.call(*words.split(" "), before=["prlimit", f"--as={limit << 10}", "--"])
 
     def climb(self, *commands: str) -> None:
         limits = self.limits()

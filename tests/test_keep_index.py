@@ -221,6 +221,25 @@ class PutByHand(IndexCase):
         same("errors", errors, [f"symarch-keep: {self.room.archive}: all is as it was"])
         self.is_indexed(archive([made[0], *made[2:]], retired=made[1:2]))
 
+    def test_with_a_slice_that_changed(self) -> None:
+        """It keeps its entry, so that each later check names it, and it is not sent."""
+        made = [image(number, more=b"some bytes") for number in range(3)]
+        self.room.archive.write_bytes(archive(made[:2]))
+        self.room.index()
+        changed = made[1][:-1] + b"x"
+        text = archive([made[0], changed, made[2]])
+        self.room.archive.write_bytes(text)
+        line = f"changed {words_of(made[1])} {text.index(changed) - HEAD} {self.room.archive}"
+        same("check", self.check(2)[0], [line])
+        _, errors = self.room.call("fold", self.room.archive, status=2)
+        told = "changed or lost: slices 1, retirements 0; its log names them"
+        same("first error", errors[0], f"symarch-keep: {self.room.archive}: {told}")
+        same("check after it", self.check(2)[0], [line])
+        self.room.file("good.sym", archive(made))
+        said, _ = self.room.call("repair", self.room.archive, "good.sym")
+        same("repair", said, [line.replace("changed", "repaired")])
+        self.is_indexed(archive(made))
+
     def test_one_as_long_as_it_was(self) -> None:
         """Its index is not taken for the new one's: each word takes it as it is, and names what it lacks."""
         made = [image(number) for number in range(6)]

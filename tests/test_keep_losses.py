@@ -10,7 +10,7 @@ import subprocess
 import time
 from typing import Callable, Dict, List, Optional, Tuple
 
-from .support.cases import Without, is_done, powerless_over
+from .support.cases import Without, digest_of, is_done, pieces_in, powerless_over
 from .support.kills import Left, interrupted
 from .support.made_images import EMPTY, archive, image, index_of, retirement, slice_words
 from .support.program import TOP, call, symarch
@@ -510,6 +510,8 @@ class Faults(LossCase):
             self.assertTrue(re.fullmatch(wanted, errors[0]), errors)
             self.assertEqual(len(errors), 2)
             self.assertTrue(errors[-1].endswith("; 0 not whole, 0 refused"), errors)
+            halves = [path.name for path in disk.iterdir() if digest_of(pieces_in(path)) not in path.name]
+            self.assertEqual(halves, [])
 
     def test_a_full_disk_names_the_file(self) -> None:
         with Mounted(self.folder / "disk", "64k") as disk:

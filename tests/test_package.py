@@ -18,8 +18,8 @@ from .support.packages import CRASHES, DOC, KIT, NAMES, PACKAGE, TOOLS, ZSH, Pac
 from .support.packages import ar_members, needs, ran, said, sha256
 from .support.program import TOP, symarch
 
-from package_parts import archives, links, manual  # isort: skip
-from symarch_tools.version import edition_of  # isort: skip
+from package_parts import archives, links, manual
+from symarch_tools.version import edition_of
 
 # Marks of Markdown that a manual page has no use for.
 MARKS = ("](", "**", "```", "|---")

@@ -9,7 +9,7 @@ from typing import Any, Callable, Dict, Iterator, List, Optional, Sequence, Tupl
 
 from .cases import ProgramCase, Without, is_done, same
 from .made_images import EMPTY, archive, image, index, operations, slice_words, summary, universal
-from .program import Word, symarch
+from .program import MOST_SECONDS, Word, symarch
 from .second_lines import second_line
 
 CANNOT_CREATE, CANNOT_REPLACE = "output: cannot create", "output: cannot replace"
@@ -139,7 +139,7 @@ class OutCase(ProgramCase):
         """The status, what was printed, and what stands on standard error."""
         with self.start(words, out, **more) as process:
             try:
-                printed, told = process.communicate(timeout=60)
+                printed, told = process.communicate(timeout=MOST_SECONDS)
             except subprocess.TimeoutExpired:
                 process.kill()
                 raise

@@ -96,7 +96,7 @@ from .reports.archives import TODAY, ArchiveFile, Archives, beside
 from .reports.demangling import demangled
 from .reports.faults import Failure, Status
 from .reports.report import Count, Report
-from .reports.streams import note, output, say
+from .reports.streams import drop_output, note, output, say
 from .signals import Stopped, signals
 from .version import PrintVersion
 
@@ -365,6 +365,7 @@ def carry_out_words(words: Sequence[str]) -> int:
         return failure.status
     except OSError as error:
         note(error)
+        drop_output()
     except MemoryError:
         note("out of memory")
         return Status.NO_MEMORY

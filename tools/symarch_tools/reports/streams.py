@@ -1,6 +1,8 @@
 """The standard streams of the tool, each of which may be closed."""
 from __future__ import annotations
 
+import contextlib
+import os
 import re
 import sys
 from typing import BinaryIO
@@ -29,3 +31,9 @@ def output() -> BinaryIO:
     if sys.stdout is None:
         raise OSError("standard output is closed")
     return sys.stdout.buffer
+
+
+def drop_output() -> None:
+    """Drops what standard output did not take, which Python would try to write again at the end."""
+    with contextlib.suppress(OSError), open(os.devnull, "wb") as nothing:
+        os.dup2(nothing.fileno(), 1)
