@@ -10,7 +10,8 @@
 - lock              the lock of an archive
 - log               the lines of the words with their dates
 - losing            what was there and is not
-- archive           an archive in its folder, with what came in lately, and how a new one takes its place
+- placing           the folder of an archive, and how a new file takes the place of one
+- archive           an archive with what came in lately, and how more comes in
 - adding            `add`
 - folding           `fold`
 - retiring          `retire`
