@@ -71,6 +71,17 @@ class Links(unittest.TestCase):
                         self.assertIn(anchor, anchors_of(target))
         self.assertGreater(count, 100)
 
+    def test_packaged_documents_link_each_other(self) -> None:
+        """And nothing that is not in the packages."""
+        named = found(r"^DOCUMENTS = \(([^)]*)\)", text_of("packaging/package"), re.M)[1]
+        packed = [TOP / it for it in re.findall(r'"([^"]+)"', named)]
+        self.assertGreater(len(packed), 1)
+        for document in packed:
+            for link in links_of(document):
+                path = link.partition("#")[0]
+                with self.subTest(f"{name_of(document)}: {link}"):
+                    self.assertIn((document.parent / path).resolve() if path else document, packed)
+
     def test_each_file_of_definitions_is_linked(self) -> None:
         """By PROOFS, but for those that have the words of inner functions."""
         proofs = text_of("docs/PROOFS.md")

@@ -334,17 +334,20 @@ class Killed(RoomCase):
 # Runs the tool. Once that made its folder and called a function of C, it sends SIGTERM at a call or at a return from C,
 # as a signal comes. (At the return of a function it would skip what that does in the end.)
 SENDS_SIGTERM = """import os, runpy, signal, sys
-left, made, begun = int(os.environ["MOMENT"]), False, False
+left, called, mkdir = int(os.environ["MOMENT"]), os.environ["CALLED"], os.mkdir
+begun = called == "mkdir"
 def count(_, event, function):
-    global left, made, begun
-    made = made or any(".making-" in name for name in os.listdir())
-    begun = begun or made and event == "c_return" and function.__name__ == os.environ["CALLED"]
+    global left, begun
+    begun = begun or event == "c_return" and function.__name__ == called
     left -= begun and event != "return"
     if left < 0:
         sys.setprofile(None)
         os.kill(os.getpid(), signal.SIGTERM)
+def watched(*words, **more):
+    mkdir(*words, **more)
+    sys.setprofile(count)
+os.mkdir = watched
 sys.argv = sys.argv[1:]
-sys.setprofile(count)
 runpy.run_path(sys.argv[0], run_name="__main__")
 """
 

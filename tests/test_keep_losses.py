@@ -392,6 +392,21 @@ class Lost(LossCase):
                 self.word("fold", status=None)
                 self.assertEqual(self.word("check", status=2)[0], lost, step)
 
+    def test_another_retirement_in_the_place_of_one(self) -> None:
+        """An archive of today that is restored is no changed one: what it lacks is lost, and what it has counts."""
+        self.word("retire", "--before-it-comes", *slice_words(image(30)))
+        older = today_of(self.room.archive).read_bytes()
+        self.word("fold")
+        self.word("retire", "--before-it-comes", *slice_words(image(31)))
+        self.room.archive.write_bytes(self.text)
+        today_of(self.room.archive).write_bytes(older)
+        lost = [f"lost retired {words_of(image(31))}"]
+        self.assertEqual(self.word("check", status=2)[0], lost)
+        _, errors = self.word("fold", status=2)
+        self.assertIn("changed or lost: slices 0, retirements 1; ", errors[0])
+        self.room.has(archive(self.made, retired=[*self.retired, image(30)]))
+        self.assertEqual(self.word("check", status=2)[0], lost)
+
     def test_a_slice_that_is_retired_is_not_lost(self) -> None:
         self.room.archive.write_bytes(archive(self.made[1:], retired=self.retired))
         self.word("fold", status=2)

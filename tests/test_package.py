@@ -182,7 +182,8 @@ class Contents(PackageCase):
     def test_documents(self) -> None:
         """Each has the words that it has in the repository, but for links to what is not packed."""
         tree = self.made.tree()
-        for it in ("README.md", "CHANGELOG.md", "docs/COMMANDS.md", "docs/FILES.md", "docs/OPERATING.md"):
+        below = ("COMMANDS", "FILES", "GLOSSARY", "OPERATING")
+        for it in ("README.md", "CHANGELOG.md", *(f"docs/{name}.md" for name in below)):
             packed, text = tree[f"{DOC}/{it}"].decode(), (TOP / it).read_text(encoding="utf-8")
             unlinked = re.compile(r"\[([^]]*)\]\([^)]*\)")
             self.assertEqual(unlinked.sub(r"\1", packed), unlinked.sub(r"\1", text), it)

@@ -103,7 +103,7 @@ class ReportCase(ProgramCase):
         """What comes of the tool with these words. A word that is the name of an archive is its path."""
         whole = [self.archives / word if (self.archives / word).is_file() else word for word in words]
         environment = {"SYMARCH": symarch, **environment}
-        return call([*before, sys.executable, "-B", TOOL, *whole], cwd=self.folder, environment=environment, **how)
+        return call([*before, sys.executable, "-BIS", TOOL, *whole], cwd=self.folder, environment=environment, **how)
 
     def prints(self, words: Sequence[Any], wanted: Union[bytes, str], *counts: str, status: int = 0) -> None:
         """Fails where something else is printed than these bytes, or than a file of expected/reports has; where the

@@ -2,10 +2,11 @@
 of a new file which takes its place, by the steps of `Archive.replace`, and FILE.idx.sum has the SHA-256 of each."""
 import contextlib
 import hashlib
+import operator
 import os
 from typing import Iterable, List, Optional, Tuple
 
-from .contents import ADMISSION, MAGIC, MAGICS, Content, Kept, Malformed, content_in, heads_in
+from .contents import MAGIC, MAGICS, RETIREMENT, Content, Kept, Malformed, content_in, heads_in
 from .indexes import Index, changes, index_in
 from .program import Program
 from .screen import Failed, Screen, about, shown, write
@@ -13,6 +14,8 @@ from .upgrading import old_content
 
 INDEX, NEXT_INDEX, INDEX_SUM = b".idx", b".idx.next", b".idx.sum"
 NO_UUID = "00000000-0000-0000-0000-000000000000"
+# So many bytes of a retirement may differ where it changed: half of its digest.
+MOST_CHANGED = 16
 
 
 class ArchiveFile:
@@ -184,10 +187,14 @@ class ArchiveFile:
 
 
 def is_same_but_for_retirements(heads: List[bytes], others: List[bytes]) -> bool:
-    """Whether two archives with as many records have the same heads of slices, and different retirements: bytes of
-    these changed then, since nothing takes a retirement away."""
-    slices = [[head for head in some if head[:1] == ADMISSION] for some in (heads, others)]
-    return heads != others and len(heads) == len(others) and slices[0] == slices[1]
+    """Whether two archives have the same heads of records in the same places, but for a few bytes of retirements: these
+    changed then. A retirement of another slice has another digest, of which nearly all bytes differ."""
+    if heads == others or len(heads) != len(others):
+        return False
+    pairs = [(one, other) for one, other in zip(heads, others) if one != other]
+    return all(
+        one[:1] == other[:1] == RETIREMENT and sum(map(operator.ne, one, other)) <= MOST_CHANGED for one, other in pairs
+    )
 
 
 def note_of(text: bytes, path: Optional[bytes] = None) -> str:
