@@ -1,0 +1,2 @@
+mod SectionLemmas
+mod NameLemmas

@@ -1,0 +1,5 @@
+pub mod DebugSections
+pub mod SectionsViews
+pub mod DebugUnits
+pub mod UnitViews
+pub mod Names
