@@ -1,2 +1,3 @@
 mod SectionLemmas
 mod NameLemmas
+mod ChainLemmas

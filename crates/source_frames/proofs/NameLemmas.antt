@@ -1,5 +1,5 @@
 -- Steps on the way to a name.
-use Rattle.std.proofs.Common.{◌≡◌, ℕ, zero, suc, ◌-◌, ◌<◌, List, Option, Some, None, MatchOption, refl, sym, ap, subst, arith}
+use Rattle.std.proofs.Common.{◌≡◌, ℕ, zero, suc, ◌-◌, ◌<◌, List, Option, Some, None, refl, subst, arith}
 use Rattle.std.specs.Option.{option_map, option_or}
 use Rattle.source_frames.specs.DebugSections.{DebugSectionsRecord}
 use Rattle.source_frames.specs.DebugUnits.{UnitEntryRecord}

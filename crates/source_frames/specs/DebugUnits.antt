@@ -1,6 +1,6 @@
 -- The units that are read, and the entries at their places (DWARF 5, sections 7.5.1 and 7.5.5).
 use Rattle.std.specs.Prelude.{ℕ, List, ◌≡◌, ◌+◌, ◌-◌, ◌%◌, ◌^◌, Option, Some, None}
-use Rattle.std.specs.Option.{option_map, option_and_then, option_or}
+use Rattle.std.specs.Option.{option_map, option_and_then}
 use Rattle.dwarf_numbers.specs.Units.{IsUnitWith}
 use Rattle.dwarf_numbers.specs.Values.{ValueRecord, SectionOffset, UnitReference, SectionReference}
 use Rattle.dwarf_numbers.specs.TextSections.{TextSectionsRecord}

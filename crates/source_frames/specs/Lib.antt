@@ -3,3 +3,6 @@ pub mod SectionsViews
 pub mod DebugUnits
 pub mod UnitViews
 pub mod Names
+pub mod UnitLines
+pub mod Frames
+pub mod FrameViews

@@ -1,5 +1,5 @@
 -- The name of the function of an entry (DWARF 5, sections 2.13.2, 2.15, 2.22 and 3.3.8.2).
-use Rattle.std.specs.Prelude.{ℕ, zero, suc, List, [], ◌∷◌, ◌≡◌, ◌==◌, length, if◌then◌else◌, Option, Some, None}
+use Rattle.std.specs.Prelude.{ℕ, zero, suc, List, ◌≡◌, ◌==◌, length, if◌then◌else◌, Option, Some, None}
 use Rattle.std.specs.Prelude.{MatchOption}
 use Rattle.std.specs.Option.{option_and_then, option_or}
 use Rattle.dwarf_numbers.specs.Values.{ValueRecord}
@@ -19,7 +19,9 @@ text_in sections e value =
 -- DW_AT_linkage_name, and else DW_AT_MIPS_linkage_name
 unfoldable pub linkage_name : DebugSectionsRecord → UnitEntryRecord → Option (List ℕ)
 linkage_name sections e =
-    option_or (text_in sections e e.entry.attributes.linkage_name) (text_in sections e e.entry.attributes.mips_linkage_name)
+    option_or
+    (text_in sections e e.entry.attributes.linkage_name)
+    (text_in sections e e.entry.attributes.mips_linkage_name)
 
 -- the place that DW_AT_abstract_origin names, and else DW_AT_specification
 unfoldable pub origin_place : UnitEntryRecord → Option ℕ

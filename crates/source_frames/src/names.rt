@@ -63,7 +63,8 @@ fn origin_place(of: &UnitEntry<'_>) -> Option<u64>
 impl<'a> DebugInfo<'a> {
     /// The entry that an entry leads to.
     fn origin(&self, of: &UnitEntry<'a>) -> Option<UnitEntry<'a>>
-        ensures { IsOrigin (sections_view self.now.sections) (unit_entry_view of.now) (option_map unit_entry_view result) }
+        ensures { IsOrigin (sections_view self.now.sections) (unit_entry_view of.now)
+            (option_map unit_entry_view result) }
     {
         match origin_place(of) {
             Some(place) => self.entry_at(place),

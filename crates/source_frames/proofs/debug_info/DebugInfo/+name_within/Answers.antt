@@ -1,6 +1,6 @@
-use Rattle.std.proofs.Common.{◌≡◌, ◌<◌, ◌-◌, arith, ap, sym, ◌∙◌, Bor, Option, None, Some, List, ℕ}
+use Rattle.std.proofs.Common.{◌≡◌, ◌<◌, arith, ap, sym, ◌∙◌, Bor, None, List, ℕ}
 use Rattle.std.specs.Option.{option_map, option_or}
-use Rattle.source_frames.specs.Names.{linkage_name, IsNameWithin}
+use Rattle.source_frames.specs.Names.{linkage_name}
 use Rattle.source_frames.specs.SectionsViews.{sections_view}
 use Rattle.source_frames.specs.UnitViews.{unit_entry_view}
 use Rattle.source_frames.proofs.NameLemmas.{name_next, mapped_or}
