@@ -22,4 +22,9 @@ lines_view l =
 -- a frame, without where its texts lie
 abbrev pub frame_view : Frame → FrameRecord
 frame_view f =
-    record { name = option_map (λ n. n.now) f.name; path = option_map path_view f.path; line = f.line; column = f.column }
+    record {
+      name = option_map (λ n. n.now) f.name;
+      path = option_map path_view f.path;
+      line = f.line;
+      column = f.column;
+    }

@@ -58,7 +58,8 @@ pub record IsFrame (sections : DebugSectionsRecord) (lines : LinesRecord) (e : U
 
 -- the frames of entries, the innermost first, which is at a place; each further one is at the call that the one before
 -- it is
-abbrev pub AreFramesFrom : DebugSectionsRecord → LinesRecord → UnitRecord → Place → List EntryRecord → List FrameRecord → Type 0
+abbrev pub AreFramesFrom :
+    DebugSectionsRecord → LinesRecord → UnitRecord → Place → List EntryRecord → List FrameRecord → Type 0
 AreFramesFrom sections lines unit place [] frames = frames ≡ []
 AreFramesFrom sections lines unit place (e ∷ es) [] = ⊥
 AreFramesFrom sections lines unit place (e ∷ es) (f ∷ fs) =
@@ -77,7 +78,8 @@ frame_of_row lines row =
 
 -- the frames of the entries of an address and of its row: without an entry there is one without a name, if there is a
 -- row
-abbrev pub AreFramesOfChain : DebugSectionsRecord → LinesRecord → UnitRecord → List EntryRecord → Option Row → List FrameRecord → Type 0
+abbrev pub AreFramesOfChain :
+    DebugSectionsRecord → LinesRecord → UnitRecord → List EntryRecord → Option Row → List FrameRecord → Type 0
 AreFramesOfChain sections lines unit [] None frames = frames ≡ []
 AreFramesOfChain sections lines unit [] (Some row) frames = frames ≡ frame_of_row lines row ∷ []
 AreFramesOfChain sections lines unit (e ∷ es) row frames =
