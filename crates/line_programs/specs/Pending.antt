@@ -7,21 +7,6 @@ use Rattle.std.specs.BTreeMap as tree_map
 use Rattle.line_programs.specs.Inner.{covered}
 use Rattle.line_programs.specs.declared.registers.Row.{Row}
 
--- each pending address from one on and below another one was assigned a row and is pending no longer; all others are
--- as they were
-pub record Assigns (from to : ℕ) (row : Row) (pending : tree_set.BTreeSet ℕ) (assigned : tree_map.BTreeMap ℕ Row)
-    (left : tree_set.BTreeSet ℕ) (now_assigned : tree_map.BTreeMap ℕ Row) : Type 0 where
-  pub none_within : (a : ℕ) → from ≤ a → a < to → tree_set.contains nat_cmp left a ≡ false
-  pub was_pending : (a : ℕ) → tree_set.contains nat_cmp left a ≡ true → tree_set.contains nat_cmp pending a ≡ true
-  pub kept : (a : ℕ) → tree_set.contains nat_cmp pending a ≡ true → tree_set.contains nat_cmp left a ≡ false
-      → tree_map.get nat_cmp now_assigned a ≡ Some row
-  pub assigned_is : (a : ℕ) → tree_set.contains nat_cmp pending a ≡ false
-      → tree_map.get nat_cmp now_assigned a ≡ tree_map.get nat_cmp assigned a
-  pub left_is : (a : ℕ) → tree_set.contains nat_cmp left a ≡ true
-      → tree_map.get nat_cmp now_assigned a ≡ tree_map.get nat_cmp assigned a
-  pub within : (a : ℕ) → tree_set.contains nat_cmp pending a ≡ true → tree_set.contains nat_cmp left a ≡ false
-      → (from ≤ a) × (a < to)
-
 -- each pending address that the row before covers was assigned it and is pending no longer; all others are as they were
 pub record AssignsPrevious (before : Option Row) (next : Row) (pending : tree_set.BTreeSet ℕ)
     (assigned_before : tree_map.BTreeMap ℕ Row)

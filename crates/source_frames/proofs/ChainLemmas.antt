@@ -1,0 +1,43 @@
+-- The frames of a chain of entries.
+use Rattle.std.proofs.Common.{◌≡◌, ℕ, ◌+◌, ◌<◌, ◌≤◌, List, [], ◌∷◌, ◌++◌, length, drop, get_or, map, refl, sym, ap, subst, ◌∙◌, append_assoc}
+use Rattle.std.proofs.lemmas.List.{drop_more, drop_all, append-nil}
+use Rattle.debug_entries.specs.Entries.{EntryRecord}
+use Rattle.debug_entries.specs.EntryViews.{entry_view}
+use Rattle.debug_entries.specs.declared.entry.Entry.{Entry}
+use Rattle.source_frames.specs.DebugSections.{DebugSectionsRecord}
+use Rattle.source_frames.specs.DebugUnits.{UnitRecord}
+use Rattle.source_frames.specs.UnitLines.{LinesRecord}
+use Rattle.source_frames.specs.Frames.{FrameRecord, IsFrame, AreFramesFrom, place_of_call}
+use Rattle.source_frames.specs.declared.frame.Place.{Place}
+
+-- whatever completes the frames of the rest completes those of the whole
+pub record Completes (s : DebugSectionsRecord) (lines : LinesRecord) (unit : UnitRecord) (place innermost : Place) (rest all : List EntryRecord) (found : List FrameRecord) : Type 0 where
+  pub with : (frames : List FrameRecord) → AreFramesFrom s lines unit place rest frames → AreFramesFrom s lines unit innermost all (found ++ frames)
+
+pub completes_none : (s : DebugSectionsRecord) (lines : LinesRecord) (unit : UnitRecord) (innermost : Place) (all : List EntryRecord) (found : List FrameRecord) → found ≡ [] → Completes s lines unit innermost innermost all all found
+completes_none s lines unit innermost all found none = record {
+  with = λ frames h. subst (λ (fs : List FrameRecord). AreFramesFrom s lines unit innermost all (fs ++ frames)) (sym none) h;
+}
+
+pub completes_more : (s : DebugSectionsRecord) (lines : LinesRecord) (unit : UnitRecord) (place innermost after : Place) (e : EntryRecord) (rest all : List EntryRecord) (found next : List FrameRecord) (frame : FrameRecord) → after ≡ place_of_call e
+    → Completes s lines unit place innermost (e ∷ rest) all found → IsFrame s lines (record { unit = unit; entry = e }) place frame → next ≡ found ++ frame ∷ []
+    → Completes s lines unit after innermost rest all next
+completes_more s lines unit place innermost after e rest all found next frame moved before is added = record {
+  with = λ frames h.
+      let whole = before.with (frame ∷ frames) (is, subst (λ (p : Place). AreFramesFrom s lines unit p rest frames) moved h) in
+      let same : found ++ (frame ∷ frames) ≡ next ++ frames = sym (ap (λ (xs : List FrameRecord). xs ++ frames) added ∙ append_assoc found (frame ∷ []) frames) in
+      subst (λ (fs : List FrameRecord). AreFramesFrom s lines unit innermost all fs) same whole;
+}
+
+pub completes_all : (s : DebugSectionsRecord) (lines : LinesRecord) (unit : UnitRecord) (place innermost : Place) (all : List EntryRecord) (found : List FrameRecord)
+    → Completes s lines unit place innermost [] all found → AreFramesFrom s lines unit innermost all found
+completes_all s lines unit place innermost all found before =
+    subst (λ (fs : List FrameRecord). AreFramesFrom s lines unit innermost all fs) (append-nil found) (before.with [] refl)
+
+-- the entries that are left, one after another
+pub entries_left : (chain : List Entry) (index : ℕ) (d : Entry) → index < length chain
+    → map (λ e. entry_view e) (drop index chain) ≡ entry_view (get_or chain index d) ∷ map (λ e. entry_view e) (drop (index + 1) chain)
+entries_left chain index d less = ap (map (λ e. entry_view e)) (drop_more chain index d less)
+
+pub entries_none : (chain : List Entry) (index : ℕ) → length chain ≤ index → map (λ e. entry_view e) (drop index chain) ≡ []
+entries_none chain index all = ap (map (λ e. entry_view e)) (drop_all index chain all)

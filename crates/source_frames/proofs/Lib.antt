@@ -1,0 +1,3 @@
+mod SectionLemmas
+mod NameLemmas
+mod ChainLemmas

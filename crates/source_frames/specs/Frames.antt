@@ -1,0 +1,86 @@
+-- The frames of an address, of which the entries and the row are known (DWARF 5, sections 2.14, 3.3.8.2 and 6.2.2).
+use Rattle.std.specs.Prelude.{ℕ, List, [], ◌∷◌, ◌≡◌, Option, Some, None}
+use Rattle.std.specs.Option.{option_and_then}
+use Rattle.dwarf_numbers.specs.Values.{ValueRecord, Constant}
+use Rattle.debug_entries.specs.Entries.{EntryRecord}
+use Rattle.line_programs.specs.Paths.{PathRecord, parts_of}
+use Rattle.line_programs.specs.declared.registers.Row.{Row}
+use Rattle.source_frames.specs.DebugSections.{DebugSectionsRecord}
+use Rattle.source_frames.specs.DebugUnits.{UnitRecord, UnitEntryRecord}
+use Rattle.source_frames.specs.Names.{IsName}
+use Rattle.source_frames.specs.UnitLines.{LinesRecord}
+use Rattle.source_frames.specs.declared.frame.Place.{Place}
+
+-- a frame: the name of its function, and the path, the line and the column at which it stands
+pub record FrameRecord : Type 0 where
+  pub name : Option (List ℕ)
+  pub path : Option PathRecord
+  pub line : ℕ
+  pub column : ℕ
+
+-- a constant, or 0
+abbrev pub constant_or_zero : Option ValueRecord → ℕ
+constant_or_zero (Some (Constant n)) = n
+constant_or_zero _ = 0
+
+-- a constant
+abbrev pub constant_of : Option ValueRecord → Option ℕ
+constant_of (Some (Constant n)) = Some n
+constant_of _ = None
+
+-- the place of a row, or none
+abbrev pub place_of_row : Option Row → Place
+place_of_row None = record { file = None; line = 0; column = 0 }
+place_of_row (Some row) =
+    record { file = Some row.registers.file; line = row.registers.line; column = row.registers.column }
+
+-- the place of the call that an entry is: DW_AT_call_file, DW_AT_call_line and DW_AT_call_column
+abbrev pub place_of_call : EntryRecord → Place
+place_of_call entry =
+    record {
+      file = constant_of entry.attributes.call_file;
+      line = constant_or_zero entry.attributes.call_line;
+      column = constant_or_zero entry.attributes.call_column;
+    }
+
+-- the path of a file, by the names of the program
+abbrev pub path_in : LinesRecord → Option ℕ → Option PathRecord
+path_in lines file =
+    option_and_then (λ n. option_and_then (λ names. parts_of lines.texts lines.comp_dir names n) lines.names) file
+
+-- the frame of an entry at a place
+pub record IsFrame (sections : DebugSectionsRecord) (lines : LinesRecord) (e : UnitEntryRecord) (place : Place)
+    (frame : FrameRecord) : Type 0 where
+  pub name : IsName sections e frame.name
+  pub path : frame.path ≡ path_in lines place.file
+  pub line : frame.line ≡ place.line
+  pub column : frame.column ≡ place.column
+
+-- the frames of entries, the innermost first, which is at a place; each further one is at the call that the one before
+-- it is
+abbrev pub AreFramesFrom :
+    DebugSectionsRecord → LinesRecord → UnitRecord → Place → List EntryRecord → List FrameRecord → Type 0
+AreFramesFrom sections lines unit place [] frames = frames ≡ []
+AreFramesFrom sections lines unit place (e ∷ es) [] = ⊥
+AreFramesFrom sections lines unit place (e ∷ es) (f ∷ fs) =
+    IsFrame sections lines (record { unit = unit; entry = e }) place f
+    × AreFramesFrom sections lines unit (place_of_call e) es fs
+
+-- the frame of a row alone
+abbrev pub frame_of_row : LinesRecord → Row → FrameRecord
+frame_of_row lines row =
+    record {
+      name = None;
+      path = path_in lines (Some row.registers.file);
+      line = row.registers.line;
+      column = row.registers.column;
+    }
+
+-- the frames of the entries of an address and of its row: without an entry there is one without a name, if there is a
+-- row
+abbrev pub AreFramesOfChain :
+    DebugSectionsRecord → LinesRecord → UnitRecord → List EntryRecord → Option Row → List FrameRecord → Type 0
+AreFramesOfChain sections lines unit [] None frames = frames ≡ []
+AreFramesOfChain sections lines unit [] (Some row) frames = frames ≡ frame_of_row lines row ∷ []
+AreFramesOfChain sections lines unit (e ∷ es) row frames =
+    AreFramesFrom sections lines unit (place_of_row row) (e ∷ es) frames

@@ -1,0 +1,134 @@
+//! The frames of an address, of which the entries and the row are known.
+
+ghost use Rattle.std.specs.Prelude.{◌≡◌, IfOk, map};
+ghost use Rattle.std.specs.Option.{option_map};
+ghost use Rattle.debug_entries.specs.EntryViews.{entry_view};
+ghost use Rattle.dwarf_numbers.specs.Views.{value_view};
+ghost use Rattle.line_programs.specs.PathViews.{path_view};
+ghost use Rattle.source_frames.specs.FrameViews.{frame_view, lines_view};
+ghost use Rattle.source_frames.specs.Frames.{constant_of, constant_or_zero, frame_of_row, path_in, place_of_call};
+ghost use Rattle.source_frames.specs.Frames.{place_of_row, IsFrame};
+ghost use Rattle.source_frames.specs.SectionsViews.{sections_view};
+ghost use Rattle.source_frames.specs.UnitViews.{unit_entry_view};
+
+use crate::debug_info::DebugInfo;
+use crate::debug_unit::UnitEntry;
+use crate::unit_lines::UnitLines;
+use debug_entries::Entry;
+use dwarf_numbers::Value;
+use line_programs::{PathParts, Row};
+
+/// Where a frame stands.
+#[derive(Clone, Copy)]
+pub struct Place {
+    /// The index of a file, by the names of the unit's program.
+    pub file: Option<u64>,
+    /// A line, from 1 on; 0 if none is known.
+    pub line: u64,
+    /// A column, from 1 on; 0 if none is known.
+    pub column: u64,
+}
+
+/// A frame.
+#[derive(Clone, Copy)]
+pub struct Frame<'a> {
+    /// The name of its function.
+    pub name: Option<&'a [u8]>,
+    /// The path of its file.
+    pub path: Option<PathParts<'a>>,
+    pub line: u64,
+    pub column: u64,
+}
+
+/// A constant, or 0.
+fn constant_or_zero(value: Option<Value<'_>>) -> u64
+    ensures { result ≡ constant_or_zero (option_map value_view value.entry) }
+{
+    match value {
+        Some(Value::Constant(number)) => number,
+        _ => 0,
+    }
+}
+
+/// A constant.
+fn constant_of(value: Option<Value<'_>>) -> Option<u64>
+    ensures { result ≡ constant_of (option_map value_view value.entry) }
+{
+    match value {
+        Some(Value::Constant(number)) => Some(number),
+        _ => None,
+    }
+}
+
+impl Place {
+    /// The place of a row, or none.
+    pub fn of_row(row: Option<Row>) -> Place
+        ensures { result ≡ place_of_row row }
+    {
+        match row {
+            Some(row) => Place {
+                file: Some(row.registers.file),
+                line: row.registers.line,
+                column: row.registers.column,
+            },
+            None => Place {
+                file: None,
+                line: 0,
+                column: 0,
+            },
+        }
+    }
+
+    /// The place of the call that an entry is.
+    pub fn of_call(entry: &Entry<'_>) -> Place
+        ensures { result ≡ place_of_call (entry_view entry.now) }
+    {
+        Place {
+            file: constant_of(entry.attributes.call_file),
+            line: constant_or_zero(entry.attributes.call_line),
+            column: constant_or_zero(entry.attributes.call_column),
+        }
+    }
+}
+
+impl<'a> UnitLines<'a> {
+    /// The path of a file, by the names of the program.
+    fn path_in(&self, file: Option<u64>) -> Option<PathParts<'a>>
+        ensures { option_map path_view result ≡ path_in (lines_view self.now) file }
+    {
+        let file = file?;
+        match &self.names {
+            Some(names) => names.path(&self.texts, self.comp_dir, file),
+            None => None,
+        }
+    }
+}
+
+impl<'a> UnitLines<'a> {
+    /// The frame of a row alone.
+    pub(crate) fn frame_of_row(&self, row: &Row) -> Frame<'a>
+        ensures { frame_view result ≡ frame_of_row (lines_view self.now) row.now }
+    {
+        Frame {
+            name: None,
+            path: self.path_in(Some(row.registers.file)),
+            line: row.registers.line,
+            column: row.registers.column,
+        }
+    }
+}
+
+impl<'a> DebugInfo<'a> {
+    /// The frame of an entry at a place.
+    pub fn frame(&self, lines: &UnitLines<'a>, of: &UnitEntry<'a>, place: Place) -> Frame<'a>
+        ensures { IsFrame (sections_view self.now.sections) (lines_view lines.now) (unit_entry_view of.now) place
+            (frame_view result) }
+    {
+        Frame {
+            name: self.name_of(of),
+            path: lines.path_in(place.file),
+            line: place.line,
+            column: place.column,
+        }
+    }
+}
