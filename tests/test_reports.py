@@ -21,7 +21,7 @@ NO_DYLD, NO_DYLD_ARM64E = f"not in the archive: dyld {DYLD}", f"not in the archi
 NO_LIBDYLD = "libdyld.dylib b3f1a5d2-7c44-3e0b-9a61-5d2c8e7f4a90"
 OLD_LIBDYLD = "not in the archive: libdyld.dylib 9fd01a5a-d3e5-3b0f-8b7c-6d5e4f3a2b10 arm64e"
 ABSENT_HELPER = f"Spool Helper (Renderer) 5e0c7b1a-26d4-3f98-8c3b-a9f1e2d4c507, dyld {DYLD}"
-USAGE = "usage: symbolicate-report [--missing | [--text] [--demangle] [--out FOLDER]] REPORT... ARCHIVE..."
+USAGE = "usage: symbolicate-report [--missing | [--text] [--demangle | --raw] [--out FOLDER]] REPORT... ARCHIVE..."
 
 
 class Forms(ReportCase):
@@ -366,6 +366,8 @@ class Refused(ReportCase):
             (["--missing", "--missing", path, "shipped"], "--missing stands twice"),
             (["--out", out, "--out", out, path, "shipped"], "--out stands twice"),
             (["--missing", "--text", path, "shipped"], "--missing stands alone"),
+            (["--missing", "--raw", path, "shipped"], "--missing stands alone"),
+            (["--demangle", "--raw", path, "shipped"], "--raw keeps what --demangle changes: name one of them"),
             (["--missing", "--out", out, path, "shipped"], "--missing stands alone"),
             (["--out"], "argument --out: expected one argument"),
             (["--unknown", path, "shipped"], "unrecognized arguments: --unknown"),
@@ -385,7 +387,7 @@ class Refused(ReportCase):
     def test_help(self) -> None:
         came = self.report("--help")
         self.assertEqual((came.status, came.errors), (0, b""))
-        for option in (b"--missing", b"--text", b"--demangle", b"--out FOLDER", b"--version"):
+        for option in (b"--missing", b"--text", b"--demangle", b"--raw", b"--out FOLDER", b"--version"):
             self.assertIn(option, came.out)
 
     def test_nothing_can_be_written(self) -> None:

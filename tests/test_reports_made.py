@@ -221,7 +221,7 @@ class CutJson(CutCase):
         offsets = list(re.finditer(rb'( *)"offsetIntoBinaryTextSegment" : [0-9]+', data))
         below = data.index(b"{", offsets[3].end())
         has_image = re.compile(rb'"binaryUUID" : "[0-9A-F-]{36}"')
-        spool_one, start, copy_body = (b"_spool_one", 0), (b"_start", 52), (b"_copy_body", 12)
+        spool_one, start, copy_body = (b"spool_one", 0), (b"start", 52), (b"copy_body", 12)
 
         def wanted_of(part: bytes) -> Wanted:
             names = [spool_one, start, None, start if len(part) > below else spool_one, copy_body, spool_one]
@@ -344,7 +344,7 @@ class ManyImages(ReportCase):
         document["threads"] = [{"frames": frames}]
         text = first + "\n" + json.dumps(document)
         frame = f'{{"imageOffset": 1040, "imageIndex": {len(self.uuids)}'
-        names = text.replace(frame, frame + ', "symbol": "_copy_body", "symbolLocation": 12')
+        names = text.replace(frame, frame + ', "symbol": "copy_body", "symbolLocation": 12')
         self.is_printed(self.report(self.file("ips", text), "shipped"), names.encode())
 
 
@@ -426,14 +426,14 @@ class Backtraces(ReportCase):
     def setUp(self) -> None:
         super().setUp()
         self.names = named("mac")
-        found = re.search(rb"^0   Spool.* _copy_body.*\n1   Spool.*\n", self.names, re.M)
+        found = re.search(rb"^0   Spool.* copy_body.*\n1   Spool.*\n", self.names, re.M)
         self.ours = found[0] if found else b""
 
     def test_some_have_names(self) -> None:
         addresses = b"(0x104d3846c 0x104d3846c 0x18576a274 0x12345678)"
         frames = (
-            ("Spool Server", 0x104D3846C, "_spool_one + 0"),
-            ("Spool Server", 0x104D3846C, "_start + 52"),
+            ("Spool Server", 0x104D3846C, "spool_one + 0"),
+            ("Spool Server", 0x104D3846C, "start + 52"),
             ("dyld", 0x18576A274, "0x18576a000 + 628"),
             ("???", 0x12345678, "???"),
         )
@@ -478,12 +478,12 @@ class KindsOfFrames(ReportCase):
         more = b"\nThread 1:\n0   spool   0x0000000104d3846c copy_more + 4 [inlined] (spool.c:12)\n"
         more += b"1   spool   0x0000000104d3846c "
         path = self.file("inlined", source("crash").replace(begin, more + b"0x104d38000 + 1132\n" + begin))
-        names = named("crash").replace(begin, more + b"_spool_one + 0\n" + begin)
+        names = named("crash").replace(begin, more + b"spool_one + 0\n" + begin)
         self.is_printed(self.report(path, "shipped"), names)
 
     def test_a_first_frame_that_was_inlined_in_json(self) -> None:
         inlined, frame = '{"imageOffset":1132,"imageIndex":0,"inline":true}', '{"imageOffset":1132,"imageIndex":0'
-        added = [',"symbol":"_spool_one","symbolLocation":0}', ',"symbol":"_start","symbolLocation":52}']
+        added = [',"symbol":"spool_one","symbolLocation":0}', ',"symbol":"start","symbolLocation":52}']
         path = self.file("ips", with_frames(",".join([inlined, frame + "}", inlined, frame + "}"])))
         names = with_frames(",".join([inlined, frame + added[0], inlined, frame + added[1]]))
         self.is_printed(self.report(path, "shipped"), names)
@@ -491,7 +491,7 @@ class KindsOfFrames(ReportCase):
     def test_a_frame_in_the_place_of_an_offset(self) -> None:
         frame = '{"imageOffset":1132,"imageIndex":0}'
         data = with_frames(f'{{"imageOffset":1040,"imageIndex":0,"symbol":"x","symbolLocation":[{frame}]}}')
-        names = with_frames('{"imageOffset":1040,"imageIndex":0,"symbol":"_copy_body","symbolLocation":12}')
+        names = with_frames('{"imageOffset":1040,"imageIndex":0,"symbol":"copy_body","symbolLocation":12}')
         self.is_printed(self.report(self.file("within", data), "shipped"), names)
 
 
@@ -608,12 +608,12 @@ class Hostile(ReportCase):
 
     def test_a_frame_among_what_is_none(self) -> None:
         came = self.report(self.file("types", hostile_reports()["types"]), "shipped")
-        self.assertIn(b'{"imageOffset":1040,"imageIndex":0,"symbol":"_copy_body","symbolLocation":12}', came.out)
+        self.assertIn(b'{"imageOffset":1040,"imageIndex":0,"symbol":"copy_body","symbolLocation":12}', came.out)
         self.assertTrue(came.error_lines[-1].startswith("1 of 1 "), came.errors)
 
     def test_bytes_that_are_no_utf_8(self) -> None:
         came = self.report(self.file("bytes", hostile_reports()["bytes"]), "shipped")
-        wanted = b'{"imageOffset":1040,"symbol":"_copy_body","imageIndex":0,"\xff":"\xfe","symbolLocation":12}'
+        wanted = b'{"imageOffset":1040,"symbol":"copy_body","imageIndex":0,"\xff":"\xfe","symbolLocation":12}'
         self.assertIn(wanted, came.out)
 
 
@@ -675,7 +675,12 @@ class Demangling(ReportCase):
     swift = "sed 's/^$s5spool4copyyyF$/spool.copy() -> ()/'"
 
     def test_not_asked_for(self) -> None:
-        self.assertEqual(self.names(self.report(self.crash, self.archive).out), [name.decode() for name in NAMES])
+        """One underscore is dropped, as Apple's reports have names."""
+        self.assertEqual(self.names(self.report(self.crash, self.archive).out), STRIPPED)
+
+    def test_raw(self) -> None:
+        came = self.report("--raw", self.crash, self.archive)
+        self.assertEqual((came.status, self.names(came.out)), (0, [name.decode() for name in NAMES]))
 
     def test_both(self) -> None:
         wanted = ["spool::copy()", "spool.copy() -> ()", *STRIPPED[2:]]

@@ -84,7 +84,7 @@ class ChangedSlices(VouchedCase):
         absent = f"not in the archive: dyld {DYLD}, kernel {KERNEL}"
         self.assertEqual(origins, [f"by dSYM: spool {SPOOL_2}", f"changed since it came in: spool {SPOOL}", absent])
         lines = named("spindump").splitlines()
-        wanted = [line for line in lines if re.search(rb"_copy_body \+ 0|_start \+ 48", line)]
+        wanted = [line for line in lines if re.search(rb"copy_body \+ 0|start \+ 48", line)]
         self.assertEqual([line for line in came.out.splitlines() if line in wanted], wanted)
 
     def test_another_image_than_those_of_the_report(self) -> None:

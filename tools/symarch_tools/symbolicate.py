@@ -82,7 +82,8 @@ image. Both need four times that if the report does not state the image's archit
 The status is 0; 1 where no frame has one name (with --missing: never); 2 where a REPORT cannot be read or is none of
 these, which prints nothing of it, where a slice changed, or a file cannot be written; 3 where the words are others; 126
 where there is no program, or it does not answer as `symarch`; or that of `symarch` where it refuses the archive, with
-its line on standard error. Names are those of the symbol tables."""
+its line on standard error. Names are those of the symbol tables, without the underscore that these put before a
+name of C, as Apple's reports have them; `--raw` keeps it."""
 from __future__ import annotations
 
 import argparse
@@ -93,7 +94,7 @@ from typing import Any, Dict, Iterable, List, NoReturn, Optional, Sequence, Tupl
 
 from .reports.answers import Origin
 from .reports.archives import TODAY, ArchiveFile, Archives, beside
-from .reports.demangling import demangled
+from .reports.demangling import demangled, without_underscores
 from .reports.faults import Failure, Status
 from .reports.report import Count, Report
 from .reports.streams import drop_output, note, output, say
@@ -101,7 +102,7 @@ from .signals import Stopped, signals
 from .version import PrintVersion
 
 NAME = "symbolicate-report"
-USAGE = f"{NAME} [--missing | [--text] [--demangle] [--out FOLDER]] REPORT... ARCHIVE..."
+USAGE = f"{NAME} [--missing | [--text] [--demangle | --raw] [--out FOLDER]] REPORT... ARCHIVE..."
 MAGICS = (b"MSYMARC1", b"MSYMARC2")
 # How long an archive without records is.
 EMPTY_SIZE = 17
@@ -140,6 +141,7 @@ def parser_of_words() -> Parser:
     parser.add_argument("--missing", help=MISSING, **flag)
     parser.add_argument("--text", help=TEXT, **flag)
     parser.add_argument("--demangle", help=DEMANGLE, **flag)
+    parser.add_argument("--raw", help=RAW, **flag)
     parser.add_argument("--out", metavar="FOLDER", action=Once, help=OUT)
     parser.add_argument("--version", action=PrintVersion, nargs=0, help="print the version and exit")
     return parser
@@ -149,8 +151,9 @@ MISSING = """print the UUIDs of the images with frames of which the archive has 
 not, a line each, and nothing else"""
 TEXT = """print a JSON report as people read a crash: its header, what the system said of its end, the threads with
 names and offsets, the images. It leaves out a `Full Report` that repeats the text before it"""
-DEMANGLE = """drop one leading underscore from each name, as `atos` does, and run `swift demangle` and `llvm-cxxfilt`,
-if they are installed, once each for all names"""
+DEMANGLE = """make names of C++ and Swift readable: run `swift demangle` and `llvm-cxxfilt`, if they are installed, once
+each for all names"""
+RAW = """keep the underscore that a symbol table puts before each name"""
 OUT = """write each report to FOLDER under the name of its own file, whole or not at all, and make FOLDER if it is not
 there. It replaces a file that is there, but never one that this call reads. Several reports need it; two reports of
 one name are refused"""
@@ -167,12 +170,15 @@ class Words:
         self.is_missing: bool = asked.missing
         self.is_text: bool = asked.text
         self.is_demangled: bool = asked.demangle
+        self.is_raw: bool = asked.raw
         self.out: Optional[str] = asked.out
         self.reports, archives = reports_and_archives([*asked.names, *words[end + 1 :]])
         if not self.reports:
             parser.error("there is no report before the archive")
-        if self.is_missing and (self.is_text or self.is_demangled or self.out is not None):
+        if self.is_missing and (self.is_text or self.is_demangled or self.is_raw or self.out is not None):
             parser.error("--missing stands alone")
+        if self.is_raw and self.is_demangled:
+            parser.error("--raw keeps what --demangle changes: name one of them")
         if len(self.reports) > 1 and self.out is None and not self.is_missing:
             parser.error("several reports are written by --out FOLDER")
         self.archives = with_today(archives)
@@ -344,6 +350,8 @@ def carry_out(words: Words) -> int:
     if words.is_missing:
         print_missing(reports)
         return status
+    if not words.is_raw:
+        archives.names.shown = without_underscores(archives.names.shown)
     if words.is_demangled:
         archives.names.shown = demangled(archives.names.shown)
     if words.out is None:
