@@ -315,6 +315,12 @@ class Refused(ReportCase):
         path = self.file("source", (CRASHES / "spool.c").read_bytes())
         self.is_refused([path, "shipped"], self.unread("source: no report that is read here: no stack frames"))
 
+    def test_frames_of_the_program(self) -> None:
+        """What to type is said."""
+        path = self.file("crash.frames", f"# a crash\n\n{SPOOL} arm64 0x104d38000 0x104d38410\n")
+        why = "crash.frames: no report, but frames for the program: symarch frames crash.frames ARCHIVE"
+        self.is_refused([path, "shipped"], self.unread(why))
+
     def test_images_alone(self) -> None:
         path = self.file("images", re.sub(rb"^[0-9] .*\n", b"", source("crash"), flags=re.M))
         why = "images: no report that is read here: images, but no stack frames"
@@ -341,7 +347,7 @@ class Refused(ReportCase):
         self.is_refused([path, "shipped"], self.unread(f"frames: frames, but no binary images with UUIDs; {end}"))
 
     def test_a_report_that_is_not_there(self) -> None:
-        self.is_refused(["nowhere", "shipped"], self.unread("[Errno 2] No such file or directory: 'nowhere'"))
+        self.is_refused(["nowhere", "shipped"], self.unread("nowhere: No such file or directory"))
 
     def test_an_archive_that_is_not_there(self) -> None:
         why = "  archive 0 is nowhere: No such file or directory (os error 2)"
@@ -360,8 +366,10 @@ class Refused(ReportCase):
         path, out = CRASHES / "arm64.crash", self.folder / "x"
         refused: Sequence[Tuple[List[Any], str]] = (
             ([], "there is no report before the archive"),
-            ([path], "there is no report before the archive"),
-            (["--out", out, path], "there is no report before the archive"),
+            ([path], f"there is no archive after {path}"),
+            (["--text", self.archives / "shipped"], "there is no report before the archive"),
+            ([self.archives / "shipped", "both"], "there is no report before the archive"),
+            (["--out", out, path], f"there is no archive after {path}"),
             (["--text", "--text", path, "shipped"], "--text stands twice"),
             (["--missing", "--missing", path, "shipped"], "--missing stands twice"),
             (["--out", out, "--out", out, path, "shipped"], "--out stands twice"),
@@ -370,11 +378,74 @@ class Refused(ReportCase):
             (["--demangle", "--raw", path, "shipped"], "--raw keeps what --demangle changes: name one of them"),
             (["--missing", "--out", out, path, "shipped"], "--missing stands alone"),
             (["--out"], "argument --out: expected one argument"),
-            (["--unknown", path, "shipped"], "unrecognized arguments: --unknown"),
+            (["--unknown", path, "shipped"], "there is no option --unknown"),
+            ([path, "shipped", "-q"], "there is no option -q"),
             ([path, path, "shipped"], "several reports are written by --out FOLDER"),
         )
         for words, why in refused:
+            why = why.replace(f"{CRASHES}/", "")
             self.is_refused(words, USAGE, self.unread(why), status=3)
+
+    def test_names_in_another_order(self) -> None:
+        """What to type is said."""
+        path, mac, out = CRASHES / "arm64.crash", FIXTURES / "mac.crash", self.folder / "x y"
+        typed = "symbolicate-report"
+        refused: Sequence[Tuple[List[Any], str]] = (
+            (["shipped", path], f"shipped is an archive, and stands after the reports: {typed} arm64.crash shipped"),
+            (
+                ["shipped", path, "--text", mac, "both", "--out", out],
+                f"shipped is an archive, and stands after the reports: "
+                f"{typed} --text --out 'x y' arm64.crash mac.crash shipped both",
+            ),
+            (["shipped", "--", "-"], f"shipped is an archive, and stands after the reports: {typed} - shipped"),
+            (["frames", path, "shipped"], f"frames is a command of symarch: {typed} arm64.crash shipped"),
+            (["symbolicate", path, "shipped"], f"symbolicate is a command of symarch: {typed} arm64.crash shipped"),
+        )
+        for words, why in refused:
+            self.is_refused(words, USAGE, self.unread(why), status=3)
+
+    def test_standard_input(self) -> None:
+        came = self.report("-", "shipped", stdin=source("crash"))
+        self.is_printed(came, "crash")
+        self.assertEqual((came.status, len(came.error_lines)), (0, 1))
+        cut = self.report("-", "shipped", stdin=source("crash")[:300])
+        why = "standard input: frames, but no binary images with UUIDs; it ends at line 9, byte 300, "
+        self.assertTrue(cut.error_lines[0].startswith(self.unread(why)), cut.errors)
+
+    def test_standard_input_elsewhere(self) -> None:
+        path, out = CRASHES / "arm64.crash", self.folder / "x"
+        nameless = "--out writes each report under the name of its file, and standard input has none"
+        refused: Sequence[Tuple[List[Any], str]] = (
+            ([path, "-"], "of standard input a report is read, and no archive"),
+            (["--missing", "-", "-", "shipped"], "standard input is read once"),
+            (["--out", out, "-", "shipped"], nameless),
+        )
+        for words, why in refused:
+            self.is_refused(words, USAGE, self.unread(why), status=3)
+
+    def test_what_the_system_refuses(self) -> None:
+        """A fault names its path, and no number."""
+        crash, file = CRASHES / "arm64.crash", self.file("file", "")
+        self.is_refused([self.folder, "shipped"], self.unread(f"{self.folder}: Is a directory"))
+        came = self.report("--out", file / "out", crash, "shipped")
+        self.assertEqual((came.status, self.shortened(came)), (2, [self.unread("file/out: Not a directory")]))
+        with open("/dev/full", "wb") as full:
+            for words in ([crash, "shipped"], ["--help"], ["--version"], ["--missing", crash, "image"]):
+                came = self.report(*words, stdout=full)
+                line = self.unread("standard output: No space left on device")
+                self.assertEqual((came.status, came.error_lines), (2, [line]), words)
+
+    def test_a_pipe_that_nobody_reads(self) -> None:
+        """It ends the tool as it ends others, and nothing is said."""
+        crash = CRASHES / "arm64.crash"
+        several: List[List[Any]] = [[crash, "shipped"], ["--help"], ["--missing", crash, "image"]]
+        for words in several:
+            reader, writer = os.pipe()
+            os.close(reader)
+            with self.subTest(words), open(writer, "wb") as pipe:
+                came = self.report(*words, stdout=pipe)
+                self.assertEqual((came.status, came.errors), (-signal.SIGPIPE, b""))
+                self.assertEqual(self.report("--version", stdout=pipe).errors, b"")
 
     def test_words_after_two_hyphens(self) -> None:
         path = self.file("-crash", source("crash"))

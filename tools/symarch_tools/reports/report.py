@@ -3,6 +3,7 @@ from __future__ import annotations
 
 import pathlib
 import re
+import shlex
 from typing import Iterator, List, Optional, Union
 
 from . import readable
@@ -11,9 +12,12 @@ from .faults import Failure, Status
 from .images import HAD_NAME, IS_INLINED, Frames, Images, one_of
 from .json_report import JsonReport
 from .json_walk import Broken
+from .streams import standard_input
 from .text_report import TextReport
 
 DOCUMENT = re.compile(rb"\s*(?=[{\[])")
+# The path that means standard input.
+STANDARD_INPUT = "-"
 # What stands in the first lines of a report, and so many bytes of them.
 BEGINNING = re.compile(
     rb'^(?:Process|Identifier|Incident Identifier|Date/Time|Code Type|Analysis of sampling)\b'
@@ -21,6 +25,8 @@ BEGINNING = re.compile(
     re.MULTILINE,
 )
 MOST_OF_BEGINNING = 10_000
+# What `symarch frames` reads: after lines that it passes over UUID, ARCH, LOAD and ADDRESS.
+FRAMES = re.compile(rb"(?:(?:#[^\n]*)?\n)*[0-9a-fA-F-]{32,36} \w+ (?:0x)?[0-9a-fA-F-]+ (?:0x)?[0-9a-fA-F]+(?:\n|\Z)")
 # A heading between lines of hyphens, after which the same report stands as JSON.
 FULL = re.compile(rb"^-+[ \t]*\r?\nFull Report[ \t]*\r?\n-+[ \t]*\r?\n\s*(?=[{\[])", re.MULTILINE)
 
@@ -68,12 +74,16 @@ class Report:
 
     def __init__(self, path: str, is_text: bool = False) -> None:
         self.path, self.is_text = path, is_text
-        self.data, self.encoding = decoded(pathlib.Path(path).read_bytes())
+        self.label = "standard input" if path == STANDARD_INPUT else path
+        self.data, self.encoding = decoded(bytes_of(path))
         self.images = Images()
         self.notes: List[str] = []
         found = list(self.read())
         self.parts: List[Part] = [*readable.parts(found, self.notes)] if is_text else [*found]
         if not any(len(part.frames) for part in self.parts):
+            if FRAMES.match(self.data):
+                typed = f"symarch frames {shlex.quote(self.path)} ARCHIVE"
+                raise Failure(f"{self.label}: no report, but frames for the program: {typed}", Status.REFUSED)
             has_images = "images, but " if self.images.listed else ""
             if not self.notes and not has_images and BEGINNING.search(self.data, 0, MOST_OF_BEGINNING):
                 self.notes.append(f"it ends at {self.last()}, before its first frame")
@@ -82,7 +92,7 @@ class Report:
             raise self.refusal("frames, but no binary images with UUIDs")
 
     def refusal(self, why: str) -> Failure:
-        return Failure("; ".join([f"{self.path}: {why}", *self.notes]), Status.REFUSED)
+        return Failure("; ".join([f"{self.label}: {why}", *self.notes]), Status.REFUSED)
 
     def read(self) -> Iterator[Union[JsonReport, TextReport]]:
         """The parts of the report. JSON without frames that ends within a document is text."""
@@ -152,3 +162,7 @@ class Report:
         for part in self.parts:
             count.add(part.frames)
         return count
+
+
+def bytes_of(path: str) -> bytes:
+    return standard_input() if path == STANDARD_INPUT else pathlib.Path(path).read_bytes()
