@@ -224,21 +224,34 @@ class Absent(ReportCase):
         self.prints([CRASHES / "arm64.ips", "empty"], "ips-none", counts, absent, status=1)
 
     def test_missing(self) -> None:
-        self.lists(["--missing", FIXTURES / "mac.crash", "shipped"], DYLD)
+        self.lists(["--missing", FIXTURES / "stackshot.ips", "shipped"], DYLD, KERNEL)
 
     def test_missing_as_the_last_word(self) -> None:
-        self.lists([FIXTURES / "metrickit.json", "shipped", "--missing"], DYLD)
+        self.lists([FIXTURES / "metrickit.json", "shipped", "--missing"], f"{DYLD} dyld")
 
     def test_two_are_missing(self) -> None:
-        self.lists(["--missing", CRASHES / "x86_64.crash", "empty"], SPOOL_X86_64, NO_LIBDYLD.split()[1])
+        self.lists(["--missing", FIXTURES / "spool.spindump.txt", "shipped"], f"{KERNEL} kernel", f"{SPOOL_2} spool")
+
+    def test_missing_of_frames_with_names(self) -> None:
+        """An image is left out if the report names all its frames, as it does those of the system."""
+        self.lists(["--missing", FIXTURES / "mac.crash", "shipped"])
+        self.lists(["--missing", CRASHES / "x86_64.crash", "empty"], f"{SPOOL_X86_64} spool")
+        named_in_part = re.sub(rb"0x10a5c4000 \+ 1040", b"copy_body + 16", (CRASHES / "x86_64.crash").read_bytes())
+        self.lists(["--missing", self.file("part", named_in_part), "empty"], f"{SPOOL_X86_64} spool")
+        self.lists(["--missing", self.file("named", named("x86_64")), "empty"])
+
+    def test_missing_of_a_name_with_a_newline(self) -> None:
+        """It makes no line of its own."""
+        path = self.file("ips", source("ips").replace(b'"name" : "spool"', b'"name" : "a\\nb\\ud800"'))
+        self.lists(["--missing", path, "empty"], f"{SPOOL} a b\ufffd")
 
     def test_none_is_missing(self) -> None:
         self.lists(["--missing", CRASHES / "arm64.crash", "shipped"])
 
     def test_missing_dsym_of_an_image_that_is_there(self) -> None:
         """The image alone names a function by its exported neighbour, so its dSYM is missing."""
-        self.lists(["--missing", CRASHES / "arm64.crash", "image"], SPOOL)
-        self.lists(["--missing", CRASHES / "arm64.ips", "image"], SPOOL, DYLD)
+        self.lists(["--missing", CRASHES / "arm64.crash", "image"], f"{SPOOL} spool")
+        self.lists(["--missing", CRASHES / "arm64.ips", "image"], f"{SPOOL} spool")
 
     def lists(self, words: List[Any], *uuids: str) -> None:
         came = self.report(*words)
@@ -463,7 +476,7 @@ class Refused(ReportCase):
 
     def test_nothing_can_be_written(self) -> None:
         crash = CRASHES / "arm64.crash"
-        missing = ["--missing", FIXTURES / "mac.crash", "shipped"]
+        missing = ["--missing", FIXTURES / "metrickit.json", "shipped"]
         several: List[List[Any]] = [["--help"], ["--version"], [crash, "shipped"], missing]
         for words in several:
             with self.subTest(words), open("/dev/full", "wb") as full:

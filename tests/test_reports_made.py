@@ -13,7 +13,7 @@ from pathlib import Path
 from typing import Any, Callable, Dict, Iterable, List, Optional, Sequence, Tuple
 
 from .support.program import symarch
-from .support.reports import DYLD, FIXTURES, FORMS, SPOOL, TOOL, ReportCase, named, program, source
+from .support.reports import DYLD, FIXTURES, FORMS, KERNEL, SPOOL, TOOL, ReportCase, named, program, source
 
 SUMMARY = re.compile(
     r"(\d+) of (\d+) frames named, (\d+) named before, (\d+) not named(?:, (\d+) with several answers)?(?:; .*)?"
@@ -403,8 +403,10 @@ class Several(ReportCase):
         self.assertIn("--out FOLDER", came.error_lines[-1])
 
     def test_missing_of_several(self) -> None:
-        came = self.report("--missing", *self.paths[:4], "shipped")
-        self.assertEqual((came.lines, came.status), ([DYLD, "9fd01a5a-d3e5-3b0f-8b7c-6d5e4f3a2b10"], 0))
+        """Each image once, with its name if one of the reports has it."""
+        came = self.report("--missing", *self.paths, "shipped")
+        helper = "5e0c7b1a-26d4-3f98-8c3b-a9f1e2d4c507 Spool Helper (Renderer)"
+        self.assertEqual((came.lines, came.status), ([f"{DYLD} dyld", KERNEL, helper], 0))
 
     def test_one_that_cannot_be_written(self) -> None:
         """It is too large for where it is written: it leaves nothing there, and what is there stays."""

@@ -136,8 +136,8 @@ class ChangedSlices(VouchedCase):
     def test_missing(self) -> None:
         """The slice is there, so its dSYM is not missing."""
         self.change(self.site)
-        words = ["--missing", CRASHES / "arm64.ips", "site.sym"]
-        self.says(advice(SPOOL, "site.sym"), words=words, printed=f"{DYLD}\n".encode())
+        words = ["--missing", FIXTURES / "metrickit.json", "site.sym"]
+        self.says(advice(SPOOL, "site.sym"), words=words, printed=f"{DYLD} dyld\n".encode())
 
     def test_several_reports(self) -> None:
         self.change(self.site)

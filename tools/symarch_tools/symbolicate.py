@@ -90,6 +90,7 @@ import os
 import signal
 import sys
 import tempfile
+import uuid
 from typing import Dict, Iterable, List, Optional, Sequence, Tuple
 
 from .keeping.screen import about, system_text
@@ -98,7 +99,7 @@ from .reports.archives import Archives
 from .reports.demangling import demangled, without_underscores
 from .reports.faults import Failure, Status
 from .reports.report import STANDARD_INPUT, Count, Report
-from .reports.streams import drop, note, printing, say
+from .reports.streams import drop, encoded, note, printing, say
 from .reports.words import NAME, Words
 from .signals import Stopped, signals
 
@@ -122,11 +123,13 @@ def read(paths: Iterable[str], is_text: bool) -> Tuple[List[Report], int]:
 
 
 def print_missing(reports: Iterable[Report]) -> None:
-    """Prints the UUID of each image for which no dSYM answers."""
-    lacking = [image for report in reports for image in report.images.with_frames()]
-    uuids = [image.uuid for image in lacking if image.origin in (Origin.IMAGE, Origin.ABSENT)]
+    """Prints the UUID and the name of each image for which no dSYM answers, unless the report names all its frames."""
+    names: Dict[uuid.UUID, str] = {}
+    for image in (image for report in reports for image in report.images.with_frames()):
+        if image.lacks_names and image.origin in (Origin.IMAGE, Origin.ABSENT):
+            names[image.uuid] = names.get(image.uuid) or " ".join((image.name or "").split())
     with printing() as stream:
-        stream.write("".join(f"{it}\n" for it in dict.fromkeys(uuids)).encode())
+        stream.write(encoded("".join(f"{number} {name}".rstrip() + "\n" for number, name in names.items())))
 
 
 def print_report(report: Report) -> None:

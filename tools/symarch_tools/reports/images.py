@@ -51,6 +51,8 @@ class Image:
     ) -> None:
         self.uuid, self.arch, self.name, self.processor = number, arch, name, processor
         self.has_frames, self.origin = False, Origin.ABSENT
+        # Whether the report lacks the name of one of its frames.
+        self.lacks_names = False
         self.asked: array[int] = array("Q")
         self.answers: Optional[Answers] = None
 
@@ -138,6 +140,7 @@ class Frames:
         if number != NO_IMAGE and not self.kinds[at] & IS_INLINED:
             image = self.images.listed[number]
             image.has_frames = True
+            image.lacks_names |= not self.kinds[at] & HAD_NAME
             if not self.kinds[at] & CANNOT_BE_ASKED:
                 image.asked.append(asked)
 
