@@ -83,6 +83,17 @@ class Forms(ReportCase):
         ends = self.file("ends", re.sub(rb"^3 .*", line, source("crash"), flags=re.M))
         self.prints([ends, "shipped"], "crash-ends", "4 of 4 frames named, 0 named before, 0 not named", BY_DSYM)
 
+    def test_decimal_addresses(self) -> None:
+        """Of the frames, of the images, and of both. What stays is as it was."""
+        decimal = lambda found: str(int(found[0], 16)).encode()
+        frames, images = rb"^[0-9] .*", rb"^0x.*"
+        for name, lines in (("frames", frames), ("images", images), ("both", frames + b"|" + images)):
+            change = lambda data: re.sub(lines, lambda line: re.sub(rb"0x[0-9a-f]+", decimal, line[0]), data, flags=re.M)
+            with self.subTest(name):
+                counts = "4 of 4 frames named, 0 named before, 0 not named"
+                path = self.file(name, change(source("crash")))
+                self.prints([path, "shipped"], change(named("crash")), counts, BY_DSYM)
+
     def test_lines_that_end_by_a_return(self) -> None:
         returns = self.file("returns", source("sample").replace(b"\n", b"\r\n"))
         self.is_printed(self.report(returns, "differ"), named("sample-differ").replace(b"\n", b"\r\n"))
@@ -359,6 +370,22 @@ class Refused(ReportCase):
         end = "it ends at line 11, byte 423, before the images of its last frames"
         self.is_refused([path, "shipped"], self.unread(f"frames: frames, but no binary images with UUIDs; {end}"))
 
+    def test_a_whole_text_without_uuids(self) -> None:
+        """It is not called cut."""
+        for name, uuid in (("gone", b""), ("short", b"<4c4c4419>")):
+            path = self.file(name, re.sub(rb"<[0-9a-f]{32}>", uuid, source("crash")))
+            self.is_refused([path, "shipped"], self.unread(f"{name}: frames, but no binary images with UUIDs"))
+        mac = self.file("mac", re.sub(rb" <[0-9a-f-]{36}>", b"", source("mac")))
+        self.is_refused([mac, "shipped"], self.unread("mac: frames, but no binary images with UUIDs"))
+
+    def test_a_whole_text_without_frames(self) -> None:
+        path = self.file("none", re.sub(rb"^([0-9]) .*\n", rb"\1   spool   spool + 12\n", source("crash"), flags=re.M))
+        why = "none: no report that is read here: images, but no stack frames"
+        self.is_refused([path, "shipped"], self.unread(why))
+        path = self.file("less", re.sub(rb"<[0-9a-f]{32}>", b"", path.read_bytes()))
+        why = "less: no report that is read here: a list of images, but no stack frames"
+        self.is_refused([path, "shipped"], self.unread(why))
+
     def test_a_report_that_is_not_there(self) -> None:
         self.is_refused(["nowhere", "shipped"], self.unread("nowhere: No such file or directory"))
 
@@ -443,7 +470,8 @@ class Refused(ReportCase):
         came = self.report("--out", file / "out", crash, "shipped")
         self.assertEqual((came.status, self.shortened(came)), (2, [self.unread("file/out: Not a directory")]))
         with open("/dev/full", "wb") as full:
-            for words in ([crash, "shipped"], ["--help"], ["--version"], ["--missing", crash, "image"]):
+            several: List[List[Any]] = [[crash, "shipped"], ["--help"], ["--version"], ["--missing", crash, "image"]]
+            for words in several:
                 came = self.report(*words, stdout=full)
                 line = self.unread("standard output: No space left on device")
                 self.assertEqual((came.status, came.error_lines), (2, [line]), words)

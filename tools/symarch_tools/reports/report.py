@@ -25,6 +25,8 @@ BEGINNING = re.compile(
     re.MULTILINE,
 )
 MOST_OF_BEGINNING = 10_000
+# What stands after the frames of a text.
+LISTING = re.compile(rb"^[ \t]*Binary Images\b", re.MULTILINE)
 # What `symarch frames` reads: after lines that it passes over UUID, ARCH, LOAD and ADDRESS.
 FRAMES = re.compile(rb"(?:(?:#[^\n]*)?\n)*[0-9a-fA-F-]{32,36} \w+ (?:0x)?[0-9a-fA-F-]+ (?:0x)?[0-9a-fA-F]+(?:\n|\Z)")
 # A heading between lines of hyphens, after which the same report stands as JSON.
@@ -85,6 +87,7 @@ class Report:
                 typed = f"symarch frames {shlex.quote(self.path)} ARCHIVE"
                 raise Failure(f"{self.label}: no report, but frames for the program: {typed}", Status.REFUSED)
             has_images = "images, but " if self.images.listed else ""
+            has_images = has_images or ("a list of images, but " if LISTING.search(self.data) else "")
             if not self.notes and not has_images and BEGINNING.search(self.data, 0, MOST_OF_BEGINNING):
                 self.notes.append(f"it ends at {self.last()}, before its first frame")
             raise self.refusal(f"no report that is read here: {has_images}no stack frames")

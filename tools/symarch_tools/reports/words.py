@@ -59,8 +59,8 @@ def parser_of_words(description: Optional[str]) -> Parser:
 
 
 REPORTS = """the reports, of which `-` is standard input, and after them archives"""
-MISSING = """print the UUID and the name of each image with frames that the report does not name, of which the archive has
-no dSYM, whether it has the image or not: a line each, once for all reports, and nothing else"""
+MISSING = """print the UUID and the name of each image with frames that the report does not name, of which the archive
+has no dSYM, whether it has the image or not: a line each, once for all reports, and nothing else"""
 TEXT = """print a JSON report as people read a crash: its header, what the system said of its end, the threads with
 names and offsets, the images. It leaves out a `Full Report` that repeats the text before it"""
 DEMANGLE = """make names of C++ and Swift readable: run `swift demangle` and `llvm-cxxfilt`, if they are installed, once
