@@ -88,7 +88,8 @@ class Forms(ReportCase):
         decimal = lambda found: str(int(found[0], 16)).encode()
         frames, images = rb"^[0-9] .*", rb"^0x.*"
         for name, lines in (("frames", frames), ("images", images), ("both", frames + b"|" + images)):
-            change = lambda data: re.sub(lines, lambda line: re.sub(rb"0x[0-9a-f]+", decimal, line[0]), data, flags=re.M)
+            in_line = lambda found: re.sub(rb"0x[0-9a-f]+", decimal, found[0])
+            change = lambda data: re.sub(lines, in_line, data, flags=re.M)
             with self.subTest(name):
                 counts = "4 of 4 frames named, 0 named before, 0 not named"
                 path = self.file(name, change(source("crash")))
@@ -211,8 +212,31 @@ class Architectures(ReportCase):
 
     def test_several_and_no_processor(self) -> None:
         counts = "0 of 4 frames named, 0 named before, 4 not named"
-        absent = f"not in the archive: spool {SPOOL}"
+        absent = f"under another architecture: spool {SPOOL} (the archive has arm64, arm64e)"
         self.prints([self.no_processor, "two"], "no-processor", counts, absent, status=1)
+
+    def test_another_one_than_that_of_the_report(self) -> None:
+        """The UUID is right. It is said under which architecture the archive has it, also by its index."""
+        change = lambda data: data.replace(b"spool arm64 <", b"spool arm64e <")
+        counts = "0 of 4 frames named, 0 named before, 4 not named"
+        other = f"under another architecture: spool {SPOOL} arm64e (the archive has arm64)"
+        path = self.file("arm64e", change(source("crash")))
+        shipped = self.file("shipped.sym", (self.archives / "shipped").read_bytes())
+        self.prints([path, shipped], path.read_bytes(), counts, other, status=1)
+        self.assertEqual(self.call("index", shipped, f"{shipped}.idx").status, 0)
+        self.prints([path, shipped], path.read_bytes(), counts, other, status=1)
+        came = self.report("--missing", path, shipped)
+        self.assertEqual((came.status, came.lines), (0, [f"{SPOOL} spool"]))
+
+    def test_another_one_that_is_retired(self) -> None:
+        """The archive does not have it."""
+        path = self.file("arm64e", source("crash").replace(b"spool arm64 <", b"spool arm64e <"))
+        digests = [row.split()[3] for row in self.call("list", self.archives / "image").lines if " arm64 " in row]
+        retires = self.folder / "retires"
+        self.assertEqual(self.call("retire", self.archives / "empty", retires, SPOOL, "arm64", *digests).status, 0)
+        counts = "0 of 4 frames named, 0 named before, 4 not named"
+        absent = f"not in the archive: spool {SPOOL} arm64e"
+        self.prints([path, retires, "image"], path.read_bytes(), counts, absent, status=1)
 
     def test_one_that_is_no_word_for_an_architecture(self) -> None:
         path = self.file("no-word", source("ips").replace(b'"arm64e"', b'"arm 64 e"'))

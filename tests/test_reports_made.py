@@ -62,6 +62,66 @@ class Encodings(ReportCase):
         self.is_printed(self.report(path, "shipped"), CODED["little"](named("crash")) + b"x")
 
 
+def before_lines(prefix: bytes, data: bytes, is_bare: bool = False) -> bytes:
+    """A report as a mail has it. With `is_bare` no line ends with a space that it did not end with."""
+    lines = data.splitlines(keepends=True)
+    return b"".join(prefix.rstrip() + line if is_bare and not line.strip() else prefix + line for line in lines)
+
+
+class Pasted(ReportCase):
+    """Reports with the same before each line: all is printed so, and what is added too."""
+
+    seconds = 4
+    pasted: Dict[str, Callable[[bytes], bytes]] = {
+        "reply": lambda data: before_lines(b"> ", data, True),
+        "second": lambda data: before_lines(b">> ", data),
+        "nested": lambda data: before_lines(b"> > ", data.replace(b"\n", b"\r\n")),
+        "spaces": lambda data: before_lines(b"    ", data, True),
+        "tab": lambda data: before_lines(b"\t", data),
+        "utf-16": lambda data: CODED["little"](before_lines(b"> ", data)),
+    }
+
+    def test_forms(self) -> None:
+        for archive in ("shipped", "both"):
+            cases = [(form, change) for form in forms_of(archive) for change in self.pasted]
+            paths = [self.file(f"pasted/{form}.{name}", self.pasted[name](source(form))) for form, name in cases]
+            made, came = self.written(paths, archive)
+            self.assertEqual(came.status, 0, came.errors.decode())
+            for form, name in cases:
+                with self.subTest(f"{form}, {name}"):
+                    self.assertEqual(made.get(f"{form}.{name}"), self.pasted[name](named(form)))
+
+    def test_lines_that_are_added(self) -> None:
+        for form in ("crash", "mac", "ips", "sample", "hang"):
+            with self.subTest(form):
+                came = self.report(self.file(form, self.pasted["second"](source(form))), "differ")
+                self.is_printed(came, self.pasted["second"](named(f"{form}-differ")))
+
+    def test_within_a_mail(self) -> None:
+        """What is no line of the report stays, and so do its first lines if they are not there."""
+        _, _, frames = source("crash").partition(b"\n\n")
+        _, _, names = named("crash").partition(b"\n\n")
+        for prefix in (b"> ", b"    "):
+            for text, wanted in ((source("crash"), named("crash")), (frames, names)):
+                with self.subTest((prefix, text[:9])):
+                    mail = lambda data: b"Hi,\n\nit ended:\n" + before_lines(prefix, data) + b"\nBye\n"
+                    if prefix == b"    " and text is frames:
+                        mail = lambda data: before_lines(prefix, data)
+                    came = self.report(self.file("mail", mail(text)), "shipped")
+                    self.is_printed(came, mail(wanted))
+
+    def test_where_one_ends(self) -> None:
+        """By the bytes of the file."""
+        for prefix in (b"> ", b"  "):
+            data = before_lines(prefix, b"".join(source("crash").splitlines(keepends=True)[:11]))
+            came = self.report(self.file("cut", data), "shipped")
+            self.assertTrue(came.error_lines[0].endswith(f"{where(data, 'before the images of its last frames')}"))
+            data = before_lines(b"> ", source("ips")).replace(b'"arch" : "arm64e"', b'"arch" : arm64e')
+            place = data.index(b"arm64e")
+            line = f"it is no JSON from line {data[:place].count(10) + 1}, byte {place + 1} on"
+            self.assertTrue(self.report(self.file("ips", data), "shipped").error_lines[0].endswith(line))
+
+
 def cuts(data: bytes) -> List[int]:
     """A hundred places of a report, and each end of a line."""
     ends = [place + 1 for place, byte in enumerate(data[:-1]) if byte == 10]

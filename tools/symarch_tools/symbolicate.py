@@ -13,7 +13,8 @@ What is read, whatever the file is called, and of standard input if it is called
 - JSON of MetricKit, one payload or several: each `callStacks`, with frames by `binaryUUID`, `address` and
   `offsetIntoBinaryTextSegment`.
 
-Each of them may begin with a byte-order mark, may be UTF-8 or UTF-16, and is printed in the encoding that it has.
+Each of them may begin with a byte-order mark, may be UTF-8 or UTF-16, and is printed in the encoding that it has. It may
+have been pasted, with the same spaces or `> ` before its lines, and is printed so.
 
 All is printed as it stands, byte for byte, but for
 
@@ -39,6 +40,7 @@ it, its architecture:
 - `by dSYM`: its dSYM;
 - `without dSYM`: the image alone. If that was stripped, its frames may have the names of exported neighbours;
 - `changed since it came in`: nothing, since its slice has not the SHA-256 that the index has of it;
+- `under another architecture`: nothing, since the archive has its UUID under others, which are named;
 - `not in the archive`: nothing;
 - `with or without dSYM`: an archive that is no file, as a pipe, which cannot be read twice to find that out.
 
@@ -126,7 +128,7 @@ def print_missing(reports: Iterable[Report]) -> None:
     """Prints the UUID and the name of each image for which no dSYM answers, unless the report names all its frames."""
     names: Dict[uuid.UUID, str] = {}
     for image in (image for report in reports for image in report.images.with_frames()):
-        if image.lacks_names and image.origin in (Origin.IMAGE, Origin.ABSENT):
+        if image.lacks_names and image.origin() in (Origin.IMAGE, Origin.OTHERS, Origin.ABSENT):
             names[image.uuid] = names.get(image.uuid) or " ".join((image.name or "").split())
     with printing() as stream:
         stream.write(encoded("".join(f"{number} {name}".rstrip() + "\n" for number, name in names.items())))
@@ -214,7 +216,7 @@ def labels_of(reports: Iterable[Report]) -> Dict[Origin, Dict[str, None]]:
     labels: Dict[Origin, Dict[str, None]] = {origin: {} for origin in Origin}
     for report in reports:
         for image in report.images.with_frames():
-            labels[image.origin][image.label()] = None
+            labels[image.origin()][image.label()] = None
     return labels
 
 

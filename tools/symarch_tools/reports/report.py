@@ -12,19 +12,15 @@ from .faults import Failure, Status
 from .images import HAD_NAME, IS_INLINED, Frames, Images, one_of
 from .json_report import JsonReport
 from .json_walk import Broken
+from .pasted import FIRST_WORDS, MOST_OF_BEGINNING, unpasted
 from .streams import standard_input
 from .text_report import TextReport
 
 DOCUMENT = re.compile(rb"\s*(?=[{\[])")
 # The path that means standard input.
 STANDARD_INPUT = "-"
-# What stands in the first lines of a report, and so many bytes of them.
-BEGINNING = re.compile(
-    rb'^(?:Process|Identifier|Incident Identifier|Date/Time|Code Type|Analysis of sampling)\b'
-    rb'|"(?:bug_type|app_name|timeStampBegin)" *:',
-    re.MULTILINE,
-)
-MOST_OF_BEGINNING = 10_000
+# What stands in the first lines of a report.
+BEGINNING = re.compile(rb"^" + FIRST_WORDS + rb'|"(?:bug_type|app_name|timeStampBegin)" *:', re.MULTILINE)
 # What stands after the frames of a text.
 LISTING = re.compile(rb"^[ \t]*Binary Images\b", re.MULTILINE)
 # What `symarch frames` reads: after lines that it passes over UUID, ARCH, LOAD and ADDRESS.
@@ -77,7 +73,8 @@ class Report:
     def __init__(self, path: str, is_text: bool = False) -> None:
         self.path, self.is_text = path, is_text
         self.label = "standard input" if path == STANDARD_INPUT else path
-        self.data, self.encoding = decoded(bytes_of(path))
+        data, self.encoding = decoded(bytes_of(path))
+        self.data, self.pasted = unpasted(data)
         self.images = Images()
         self.notes: List[str] = []
         found = list(self.read())
@@ -146,18 +143,18 @@ class Report:
 
     def place(self, place: int) -> str:
         line = self.data.count(b"\n", 0, place) + 1
-        return f"line {line}, byte {self.encoding.byte_of(self.data, place) + 1}"
+        return f"line {line}, byte {self.encoding.byte_of(*self.pasted.before(self.data, place)) + 1}"
 
     def last(self) -> str:
         line = self.data.count(b"\n", 0, len(self.data) - 1) + 1
-        return f"line {line}, byte {self.encoding.byte_of(self.data, len(self.data)) + len(self.encoding.half)}"
+        end = self.encoding.byte_of(*self.pasted.before(self.data, len(self.data)))
+        return f"line {line}, byte {end + len(self.encoding.half)}"
 
     def pieces(self) -> Iterator[bytes]:
         """The bytes of the report with names in it, as they stand in its file."""
         yield self.encoding.mark
-        for part in self.parts:
-            for piece in part.pieces():
-                yield from self.encoding.written(piece)
+        for piece in self.pasted.restored(piece for part in self.parts for piece in part.pieces()):
+            yield from self.encoding.written(piece)
         yield self.encoding.half
 
     def count(self) -> Count:
