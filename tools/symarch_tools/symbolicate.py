@@ -13,8 +13,8 @@ What is read, whatever the file is called, and of standard input if it is called
 - JSON of MetricKit, one payload or several: each `callStacks`, with frames by `binaryUUID`, `address` and
   `offsetIntoBinaryTextSegment`.
 
-Each of them may begin with a byte-order mark, may be UTF-8 or UTF-16, and is printed in the encoding that it has. It may
-have been pasted, with the same spaces or `> ` before its lines, and is printed so.
+Each of them may begin with a byte-order mark, may be UTF-8 or UTF-16, and is printed in the encoding that it has. It
+may have been pasted, with the same spaces or `> ` before its lines, and is printed so.
 
 All is printed as it stands, byte for byte, but for
 
@@ -84,8 +84,8 @@ image. Both need four times that if the report does not state the image's archit
 The status is 0; 1 where no frame has one name (with --missing: never); 2 where a REPORT cannot be read or is none of
 these, which prints nothing of it, where a slice changed, or a file cannot be written; 3 where the words are others; 126
 where there is no program, or it does not answer as `symarch`; or that of `symarch` where it refuses the archive, with
-its line on standard error. Names are those of the symbol tables, without the underscore that these put before a
-name of C, as Apple's reports have them; `--raw` keeps it."""
+its line on standard error. If nobody reads standard output any more, SIGPIPE ends the tool. Names are those of the
+symbol tables, without the underscore that these put before a name of C, as Apple's reports have them; `--raw` keeps it."""
 from __future__ import annotations
 
 import os
@@ -100,7 +100,7 @@ from .reports.answers import Origin
 from .reports.archives import Archives
 from .reports.demangling import demangled, without_underscores
 from .reports.faults import Failure, Status
-from .reports.report import STANDARD_INPUT, Count, Report
+from .reports.report import Count, Report
 from .reports.streams import drop, encoded, note, printing, say
 from .reports.words import NAME, Words
 from .signals import Stopped, signals

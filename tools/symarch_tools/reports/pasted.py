@@ -26,7 +26,7 @@ class Pasted:
         """The report alone."""
         before = re.escape(self.prefix), re.escape(self.bare)
         begin = re.compile(rb"^(?:(%b)|(%b)(?=\r?\n)|(?=[\s\S]))" % before, re.MULTILINE)
-        return begin.sub(lambda found: b"" if found[1] is not None else EMPTY if found[2] is not None else OUTSIDE, data)
+        return begin.sub(lambda found: (OUTSIDE, b"", EMPTY)[found.lastindex or 0], data)
 
     def restored(self, pieces: Iterable[bytes]) -> Iterator[bytes]:
         """The pieces of a report as they stand in its file. New lines begin as the others do."""
