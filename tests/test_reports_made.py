@@ -110,6 +110,17 @@ class Pasted(ReportCase):
                     came = self.report(self.file("mail", mail(text)), "shipped")
                     self.is_printed(came, mail(wanted))
 
+    def test_json_within_a_mail(self) -> None:
+        for form in ("ips", "older", "metrickit"):
+            mail = lambda data: b"Hi,\n\nit ended:\n" + before_lines(b"> ", data) + b"\nBye\n"
+            with self.subTest(form):
+                self.is_printed(self.report(self.file(form, mail(source(form))), "shipped"), mail(named(form)))
+
+    def test_as_text(self) -> None:
+        mail = lambda data: before_lines(b"> ", data)
+        path = self.file("abort", mail((FIXTURES / "abort.ips").read_bytes()))
+        self.is_printed(self.report("--text", path, "shipped"), mail(named("text-abort")))
+
     def test_where_one_ends(self) -> None:
         """By the bytes of the file."""
         for prefix in (b"> ", b"  "):

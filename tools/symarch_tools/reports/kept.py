@@ -12,6 +12,7 @@ from typing import BinaryIO, DefaultDict, Dict, Iterable, Iterator, List, NamedT
 from ..keeping.contents import ADMISSION, DIGEST, KEY, MAGIC, RETIREMENT, Malformed, arch_in, digest_in, numbers_of
 from ..keeping.contents import record_size, records_in
 from ..keeping.indexes import FILETYPE, HEAD, MH_DSYM, ROW, TAIL, Row
+from ..keeping.screen import about
 from .answers import Key
 
 CHUNK = 1 << 20
@@ -41,7 +42,7 @@ class IndexFile:
     """The index of an archive, of which the rows under a key are found by halving."""
 
     def __init__(self, path: str) -> None:
-        self.descriptor = os.open(path, os.O_RDONLY)
+        self.path, self.descriptor = os.fsencode(path), os.open(path, os.O_RDONLY)
         self.count = (os.fstat(self.descriptor).st_size - MAGIC - TAIL) // ROW.size
 
     def __enter__(self) -> IndexFile:
@@ -51,7 +52,8 @@ class IndexFile:
         os.close(self.descriptor)
 
     def row(self, number: int) -> Row:
-        data = os.pread(self.descriptor, ROW.size, MAGIC + number * ROW.size)
+        with about(self.path):
+            data = os.pread(self.descriptor, ROW.size, MAGIC + number * ROW.size)
         if len(data) < ROW.size:
             raise Malformed("ends early")
         return Row._make(ROW.unpack(data))

@@ -14,6 +14,7 @@ HEADING = b"Binary Images"
 # if nothing was before it. Both are spaces to those who read the report.
 EMPTY, OUTSIDE = b"\x0b", b"\x0c"
 BEGIN = re.compile(rb"\n(?:(\x0b)|(\x0c)|(?=[\s\S]))")
+LINES_OUTSIDE = re.compile(rb"(?:\x0c[^\n]*\n)*")
 
 
 class Pasted:
@@ -41,6 +42,11 @@ class Pasted:
 
     def begin(self, found: Match[bytes]) -> bytes:
         return b"\n" + (self.bare if found[1] else b"" if found[2] else self.prefix)
+
+    def outside(self, data: bytes, place: int) -> int:
+        """Where the lines end, from a place on, that had nothing before them."""
+        found = LINES_OUTSIDE.match(data, place) if self.prefix else None
+        return found.end() if found else place
 
     def before(self, data: bytes, place: int) -> Tuple[bytes, int]:
         """The text as it stands in its file, up to a place of it at least, and this place there."""

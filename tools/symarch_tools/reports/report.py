@@ -120,10 +120,14 @@ class Report:
         return part
 
     def read_text(self, begin: int) -> TextReport:
-        """The text from a place on, up to a full report."""
+        """The text from a place on, up to a full report, or to pasted JSON."""
         full = FULL.search(self.data, begin)
-        part = TextReport(self.data, begin, full.end() if full else len(self.data), self.images)
-        part.heading = full.start() if full else part.end
+        heading, end = full.span() if full else (len(self.data), len(self.data))
+        outside = self.pasted.outside(self.data, begin)
+        if outside > begin and DOCUMENT.match(self.data, outside):
+            heading = end = outside
+        part = TextReport(self.data, begin, end, self.images)
+        part.heading = heading
         self.note_cut(part)
         return part
 
