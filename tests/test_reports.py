@@ -431,6 +431,7 @@ class Refused(ReportCase):
         refused: Sequence[Tuple[List[Any], str]] = (
             ([], "there is no report before the archive"),
             ([path], f"there is no archive after {path}"),
+            (["--missing", path, CRASHES / "arm64.ips"], "there is no archive after arm64.ips"),
             (["--text", self.archives / "shipped"], "there is no report before the archive"),
             ([self.archives / "shipped", "both"], "there is no report before the archive"),
             (["--out", out, path], f"there is no archive after {path}"),
@@ -460,6 +461,11 @@ class Refused(ReportCase):
                 ["shipped", path, "--text", mac, "both", "--out", out],
                 f"shipped is an archive, and stands after the reports: "
                 f"{typed} --text --out 'x y' arm64.crash mac.crash shipped both",
+            ),
+            (
+                [path, "shipped", mac],
+                f"shipped is an archive, and stands after the reports: "
+                f"{typed} --out FOLDER arm64.crash mac.crash shipped",
             ),
             (["shipped", "--", "-"], f"shipped is an archive, and stands after the reports: {typed} - shipped"),
             (["frames", path, "shipped"], f"frames is a command of symarch: {typed} arm64.crash shipped"),

@@ -1,4 +1,4 @@
-"""What stands in the files of archives under the keys of a report: which slices changed since they came in, and which
+"""What stands in the files of archives under the UUIDs of a report: which slices changed since they came in, and which
 are companions. Of an archive with an index that is looked up, of another one the heads of its records are read."""
 from __future__ import annotations
 

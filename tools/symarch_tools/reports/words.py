@@ -10,7 +10,8 @@ from typing import Any, Dict, Iterable, List, NoReturn, Optional, Sequence, Tupl
 from ..version import PrintVersion
 from .archives import TODAY, ArchiveFile, beside
 from .faults import Failure, Status
-from .report import STANDARD_INPUT
+from .pasted import MOST_OF_BEGINNING
+from .report import BEGINNING, DOCUMENT, STANDARD_INPUT
 from .streams import printing, say
 
 NAME = "symbolicate-report"
@@ -117,33 +118,46 @@ class Words:
         others = [name for name in names if name not in archives]
         if not others:
             return "there is no report before the archive"
-        if any(name in archives for name in self.reports):
-            first, line = next(iter(archives)), self.line([*others, *archives])
-            return f"{first} is an archive, and stands after the reports: {line}"
+        is_report_last = begins_as_report(names[-1])
+        if is_report_last and not archives:
+            return f"there is no archive after {names[-1]}"
+        if is_report_last or any(name in archives for name in self.reports):
+            needs_out = len(others) > 1 and self.out is None and not self.is_missing
+            line = self.line([*others, *archives], ["--out", "FOLDER"] if needs_out else [])
+            return f"{next(iter(archives))} is an archive, and stands after the reports: {line}"
         if names[-1] == STANDARD_INPUT:
             return "of standard input a report is read, and no archive"
         if names.count(STANDARD_INPUT) > 1:
             return "standard input is read once"
         return None
 
-    def line(self, names: Sequence[str]) -> str:
-        """The line to type for these reports and archives."""
+    def line(self, names: Sequence[str], more: Sequence[str] = ()) -> str:
+        """The line to type for these reports and archives, with more options."""
         given = {"--missing": self.is_missing, "--text": self.is_text, "--demangle": self.is_demangled}
         options = [option for option, is_given in {**given, "--raw": self.is_raw}.items() if is_given]
         options += ["--out", self.out] if self.out is not None else []
         has_hyphen = any(name.startswith("-") and name != STANDARD_INPUT for name in names)
-        return " ".join(map(shlex.quote, [NAME, *options, *(["--"] if has_hyphen else []), *names]))
+        return " ".join(map(shlex.quote, [NAME, *options, *more, *(["--"] if has_hyphen else []), *names]))
+
+
+def beginning(path: str, size: int) -> bytes:
+    """The first bytes of a file. What is none, as a pipe, is not read."""
+    try:
+        if stat.S_ISREG(os.stat(path).st_mode):
+            with open(path, "rb") as file:
+                return file.read(size)
+    except OSError:
+        pass
+    return b""
 
 
 def is_archive(path: str) -> bool:
-    """Whether a file begins as an archive. What is no file, as a pipe, is not read."""
-    try:
-        if not stat.S_ISREG(os.stat(path).st_mode):
-            return False
-        with open(path, "rb") as file:
-            return file.read(8) in MAGICS
-    except OSError:
-        return False
+    return beginning(path, 8) in MAGICS
+
+
+def begins_as_report(path: str) -> bool:
+    data = beginning(path, MOST_OF_BEGINNING)
+    return bool(DOCUMENT.match(data) or BEGINNING.search(data))
 
 
 def reports_and_archives(names: Sequence[str]) -> Tuple[List[str], List[str]]:
