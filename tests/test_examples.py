@@ -8,10 +8,10 @@ from .support.program import call, symarch
 
 # What the program names by `llvm-nm`, in the place of what stands there.
 NAMES = {
-    "0x104d38000 + 1040": "_copy_body + 12",
-    "0x104d38000 + 1016": "_file_message + 32",
-    "0x104d38000 + 1156": "_spool_one + 24",
-    "0x104d38000 + 1128": "_start + 48",
+    "0x104d38000 + 1040": "copy_body + 12",
+    "0x104d38000 + 1016": "file_message + 32",
+    "0x104d38000 + 1156": "spool_one + 24",
+    "0x104d38000 + 1128": "start + 48",
 }
 
 

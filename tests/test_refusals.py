@@ -20,7 +20,7 @@ FORM_UUID = "32 hex digits, with or without hyphens"
 FORM_ARCH = "x86_64, x86_64h, arm64, arm64e or cpu:CCCCCCCC/00SSSSSS"
 FORM_DIGEST = "64 hex digits"
 FORM_ADDRESS = "1 to 16 hex digits, with or without 0x"
-FORM_DECIMAL = "a decimal number without leading zeros"
+FORM_DECIMAL = "a decimal number without leading zeros, at most 4294967295"
 
 
 class Inputs(PlacesCase):

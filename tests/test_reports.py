@@ -21,7 +21,7 @@ NO_DYLD, NO_DYLD_ARM64E = f"not in the archive: dyld {DYLD}", f"not in the archi
 NO_LIBDYLD = "libdyld.dylib b3f1a5d2-7c44-3e0b-9a61-5d2c8e7f4a90"
 OLD_LIBDYLD = "not in the archive: libdyld.dylib 9fd01a5a-d3e5-3b0f-8b7c-6d5e4f3a2b10 arm64e"
 ABSENT_HELPER = f"Spool Helper (Renderer) 5e0c7b1a-26d4-3f98-8c3b-a9f1e2d4c507, dyld {DYLD}"
-USAGE = "usage: symbolicate-report [--missing | [--text] [--demangle] [--out FOLDER]] REPORT... ARCHIVE..."
+USAGE = "usage: symbolicate-report [--missing | [--text] [--demangle | --raw] [--out FOLDER]] REPORT... ARCHIVE..."
 
 
 class Forms(ReportCase):
@@ -82,6 +82,18 @@ class Forms(ReportCase):
         line = b"3   spool   0x0000000104d3846c 0x104d38000 + 1132"
         ends = self.file("ends", re.sub(rb"^3 .*", line, source("crash"), flags=re.M))
         self.prints([ends, "shipped"], "crash-ends", "4 of 4 frames named, 0 named before, 0 not named", BY_DSYM)
+
+    def test_decimal_addresses(self) -> None:
+        """Of the frames, of the images, and of both. What stays is as it was."""
+        decimal = lambda found: str(int(found[0], 16)).encode()
+        frames, images = rb"^[0-9] .*", rb"^0x.*"
+        for name, lines in (("frames", frames), ("images", images), ("both", frames + b"|" + images)):
+            in_line = lambda found: re.sub(rb"0x[0-9a-f]+", decimal, found[0])
+            change = lambda data: re.sub(lines, in_line, data, flags=re.M)
+            with self.subTest(name):
+                counts = "4 of 4 frames named, 0 named before, 0 not named"
+                path = self.file(name, change(source("crash")))
+                self.prints([path, "shipped"], change(named("crash")), counts, BY_DSYM)
 
     def test_lines_that_end_by_a_return(self) -> None:
         returns = self.file("returns", source("sample").replace(b"\n", b"\r\n"))
@@ -200,8 +212,31 @@ class Architectures(ReportCase):
 
     def test_several_and_no_processor(self) -> None:
         counts = "0 of 4 frames named, 0 named before, 4 not named"
-        absent = f"not in the archive: spool {SPOOL}"
+        absent = f"under another architecture: spool {SPOOL} (the archive has arm64, arm64e)"
         self.prints([self.no_processor, "two"], "no-processor", counts, absent, status=1)
+
+    def test_another_one_than_that_of_the_report(self) -> None:
+        """The UUID is right. It is said under which architecture the archive has it, also by its index."""
+        change = lambda data: data.replace(b"spool arm64 <", b"spool arm64e <")
+        counts = "0 of 4 frames named, 0 named before, 4 not named"
+        other = f"under another architecture: spool {SPOOL} arm64e (the archive has arm64)"
+        path = self.file("arm64e", change(source("crash")))
+        shipped = self.file("shipped.sym", (self.archives / "shipped").read_bytes())
+        self.prints([path, shipped], path.read_bytes(), counts, other, status=1)
+        self.assertEqual(self.call("index", shipped, f"{shipped}.idx").status, 0)
+        self.prints([path, shipped], path.read_bytes(), counts, other, status=1)
+        came = self.report("--missing", path, shipped)
+        self.assertEqual((came.status, came.lines), (0, [f"{SPOOL} spool"]))
+
+    def test_another_one_that_is_retired(self) -> None:
+        """The archive does not have it."""
+        path = self.file("arm64e", source("crash").replace(b"spool arm64 <", b"spool arm64e <"))
+        digests = [row.split()[3] for row in self.call("list", self.archives / "image").lines if " arm64 " in row]
+        retires = self.folder / "retires"
+        self.assertEqual(self.call("retire", self.archives / "empty", retires, SPOOL, "arm64", *digests).status, 0)
+        counts = "0 of 4 frames named, 0 named before, 4 not named"
+        absent = f"not in the archive: spool {SPOOL} arm64e"
+        self.prints([path, retires, "image"], path.read_bytes(), counts, absent, status=1)
 
     def test_one_that_is_no_word_for_an_architecture(self) -> None:
         path = self.file("no-word", source("ips").replace(b'"arm64e"', b'"arm 64 e"'))
@@ -224,21 +259,34 @@ class Absent(ReportCase):
         self.prints([CRASHES / "arm64.ips", "empty"], "ips-none", counts, absent, status=1)
 
     def test_missing(self) -> None:
-        self.lists(["--missing", FIXTURES / "mac.crash", "shipped"], DYLD)
+        self.lists(["--missing", FIXTURES / "stackshot.ips", "shipped"], DYLD, KERNEL)
 
     def test_missing_as_the_last_word(self) -> None:
-        self.lists([FIXTURES / "metrickit.json", "shipped", "--missing"], DYLD)
+        self.lists([FIXTURES / "metrickit.json", "shipped", "--missing"], f"{DYLD} dyld")
 
     def test_two_are_missing(self) -> None:
-        self.lists(["--missing", CRASHES / "x86_64.crash", "empty"], SPOOL_X86_64, NO_LIBDYLD.split()[1])
+        self.lists(["--missing", FIXTURES / "spool.spindump.txt", "shipped"], f"{KERNEL} kernel", f"{SPOOL_2} spool")
+
+    def test_missing_of_frames_with_names(self) -> None:
+        """An image is left out if the report names all its frames, as it does those of the system."""
+        self.lists(["--missing", FIXTURES / "mac.crash", "shipped"])
+        self.lists(["--missing", CRASHES / "x86_64.crash", "empty"], f"{SPOOL_X86_64} spool")
+        named_in_part = re.sub(rb"0x10a5c4000 \+ 1040", b"copy_body + 16", (CRASHES / "x86_64.crash").read_bytes())
+        self.lists(["--missing", self.file("part", named_in_part), "empty"], f"{SPOOL_X86_64} spool")
+        self.lists(["--missing", self.file("named", named("x86_64")), "empty"])
+
+    def test_missing_of_a_name_with_a_newline(self) -> None:
+        """It makes no line of its own."""
+        path = self.file("ips", source("ips").replace(b'"name" : "spool"', b'"name" : "a\\nb\\ud800"'))
+        self.lists(["--missing", path, "empty"], f"{SPOOL} a b\ufffd")
 
     def test_none_is_missing(self) -> None:
         self.lists(["--missing", CRASHES / "arm64.crash", "shipped"])
 
     def test_missing_dsym_of_an_image_that_is_there(self) -> None:
         """The image alone names a function by its exported neighbour, so its dSYM is missing."""
-        self.lists(["--missing", CRASHES / "arm64.crash", "image"], SPOOL)
-        self.lists(["--missing", CRASHES / "arm64.ips", "image"], SPOOL, DYLD)
+        self.lists(["--missing", CRASHES / "arm64.crash", "image"], f"{SPOOL} spool")
+        self.lists(["--missing", CRASHES / "arm64.ips", "image"], f"{SPOOL} spool")
 
     def lists(self, words: List[Any], *uuids: str) -> None:
         came = self.report(*words)
@@ -315,6 +363,12 @@ class Refused(ReportCase):
         path = self.file("source", (CRASHES / "spool.c").read_bytes())
         self.is_refused([path, "shipped"], self.unread("source: no report that is read here: no stack frames"))
 
+    def test_frames_of_the_program(self) -> None:
+        """What to type is said."""
+        path = self.file("crash.frames", f"# a crash\n\n{SPOOL} arm64 0x104d38000 0x104d38410\n")
+        why = "crash.frames: no report, but frames for the program: symarch frames crash.frames ARCHIVE"
+        self.is_refused([path, "shipped"], self.unread(why))
+
     def test_images_alone(self) -> None:
         path = self.file("images", re.sub(rb"^[0-9] .*\n", b"", source("crash"), flags=re.M))
         why = "images: no report that is read here: images, but no stack frames"
@@ -340,8 +394,24 @@ class Refused(ReportCase):
         end = "it ends at line 11, byte 423, before the images of its last frames"
         self.is_refused([path, "shipped"], self.unread(f"frames: frames, but no binary images with UUIDs; {end}"))
 
+    def test_a_whole_text_without_uuids(self) -> None:
+        """It is not called cut."""
+        for name, uuid in (("gone", b""), ("short", b"<4c4c4419>")):
+            path = self.file(name, re.sub(rb"<[0-9a-f]{32}>", uuid, source("crash")))
+            self.is_refused([path, "shipped"], self.unread(f"{name}: frames, but no binary images with UUIDs"))
+        mac = self.file("mac", re.sub(rb" <[0-9a-f-]{36}>", b"", source("mac")))
+        self.is_refused([mac, "shipped"], self.unread("mac: frames, but no binary images with UUIDs"))
+
+    def test_a_whole_text_without_frames(self) -> None:
+        path = self.file("none", re.sub(rb"^([0-9]) .*\n", rb"\1   spool   spool + 12\n", source("crash"), flags=re.M))
+        why = "none: no report that is read here: images, but no stack frames"
+        self.is_refused([path, "shipped"], self.unread(why))
+        path = self.file("less", re.sub(rb"<[0-9a-f]{32}>", b"", path.read_bytes()))
+        why = "less: no report that is read here: a list of images, but no stack frames"
+        self.is_refused([path, "shipped"], self.unread(why))
+
     def test_a_report_that_is_not_there(self) -> None:
-        self.is_refused(["nowhere", "shipped"], self.unread("[Errno 2] No such file or directory: 'nowhere'"))
+        self.is_refused(["nowhere", "shipped"], self.unread("nowhere: No such file or directory"))
 
     def test_an_archive_that_is_not_there(self) -> None:
         why = "  archive 0 is nowhere: No such file or directory (os error 2)"
@@ -360,19 +430,93 @@ class Refused(ReportCase):
         path, out = CRASHES / "arm64.crash", self.folder / "x"
         refused: Sequence[Tuple[List[Any], str]] = (
             ([], "there is no report before the archive"),
-            ([path], "there is no report before the archive"),
-            (["--out", out, path], "there is no report before the archive"),
+            ([path], f"there is no archive after {path}"),
+            (["--missing", path, CRASHES / "arm64.ips"], "there is no archive after arm64.ips"),
+            (["--text", self.archives / "shipped"], "there is no report before the archive"),
+            ([self.archives / "shipped", "both"], "there is no report before the archive"),
+            (["--out", out, path], f"there is no archive after {path}"),
             (["--text", "--text", path, "shipped"], "--text stands twice"),
             (["--missing", "--missing", path, "shipped"], "--missing stands twice"),
             (["--out", out, "--out", out, path, "shipped"], "--out stands twice"),
             (["--missing", "--text", path, "shipped"], "--missing stands alone"),
+            (["--missing", "--raw", path, "shipped"], "--missing stands alone"),
+            (["--demangle", "--raw", path, "shipped"], "--raw keeps what --demangle changes: name one of them"),
             (["--missing", "--out", out, path, "shipped"], "--missing stands alone"),
             (["--out"], "argument --out: expected one argument"),
-            (["--unknown", path, "shipped"], "unrecognized arguments: --unknown"),
+            (["--unknown", path, "shipped"], "there is no option --unknown"),
+            ([path, "shipped", "-q"], "there is no option -q"),
             ([path, path, "shipped"], "several reports are written by --out FOLDER"),
         )
         for words, why in refused:
+            why = why.replace(f"{CRASHES}/", "")
             self.is_refused(words, USAGE, self.unread(why), status=3)
+
+    def test_names_in_another_order(self) -> None:
+        """What to type is said."""
+        path, mac, out = CRASHES / "arm64.crash", FIXTURES / "mac.crash", self.folder / "x y"
+        typed = "symbolicate-report"
+        refused: Sequence[Tuple[List[Any], str]] = (
+            (["shipped", path], f"shipped is an archive, and stands after the reports: {typed} arm64.crash shipped"),
+            (
+                ["shipped", path, "--text", mac, "both", "--out", out],
+                f"shipped is an archive, and stands after the reports: "
+                f"{typed} --text --out 'x y' arm64.crash mac.crash shipped both",
+            ),
+            (
+                [path, "shipped", mac],
+                f"shipped is an archive, and stands after the reports: "
+                f"{typed} --out FOLDER arm64.crash mac.crash shipped",
+            ),
+            (["shipped", "--", "-"], f"shipped is an archive, and stands after the reports: {typed} - shipped"),
+            (["frames", path, "shipped"], f"frames is a command of symarch: {typed} arm64.crash shipped"),
+            (["symbolicate", path, "shipped"], f"symbolicate is a command of symarch: {typed} arm64.crash shipped"),
+        )
+        for words, why in refused:
+            self.is_refused(words, USAGE, self.unread(why), status=3)
+
+    def test_standard_input(self) -> None:
+        came = self.report("-", "shipped", stdin=source("crash"))
+        self.is_printed(came, "crash")
+        self.assertEqual((came.status, len(came.error_lines)), (0, 1))
+        cut = self.report("-", "shipped", stdin=source("crash")[:300])
+        why = "standard input: frames, but no binary images with UUIDs; it ends at line 9, byte 300, "
+        self.assertTrue(cut.error_lines[0].startswith(self.unread(why)), cut.errors)
+
+    def test_standard_input_elsewhere(self) -> None:
+        path, out = CRASHES / "arm64.crash", self.folder / "x"
+        nameless = "--out writes each report under the name of its file, and standard input has none"
+        refused: Sequence[Tuple[List[Any], str]] = (
+            ([path, "-"], "of standard input a report is read, and no archive"),
+            (["--missing", "-", "-", "shipped"], "standard input is read once"),
+            (["--out", out, "-", "shipped"], nameless),
+        )
+        for words, why in refused:
+            self.is_refused(words, USAGE, self.unread(why), status=3)
+
+    def test_what_the_system_refuses(self) -> None:
+        """A fault names its path, and no number."""
+        crash, file = CRASHES / "arm64.crash", self.file("file", "")
+        self.is_refused([self.folder, "shipped"], self.unread(f"{self.folder}: Is a directory"))
+        came = self.report("--out", file / "out", crash, "shipped")
+        self.assertEqual((came.status, self.shortened(came)), (2, [self.unread("file/out: Not a directory")]))
+        with open("/dev/full", "wb") as full:
+            several: List[List[Any]] = [[crash, "shipped"], ["--help"], ["--version"], ["--missing", crash, "image"]]
+            for words in several:
+                came = self.report(*words, stdout=full)
+                line = self.unread("standard output: No space left on device")
+                self.assertEqual((came.status, came.error_lines), (2, [line]), words)
+
+    def test_a_pipe_that_nobody_reads(self) -> None:
+        """It ends the tool as it ends others, and nothing is said."""
+        crash = CRASHES / "arm64.crash"
+        several: List[List[Any]] = [[crash, "shipped"], ["--help"], ["--missing", crash, "image"]]
+        for words in several:
+            reader, writer = os.pipe()
+            os.close(reader)
+            with self.subTest(words), open(writer, "wb") as pipe:
+                came = self.report(*words, stdout=pipe)
+                self.assertEqual((came.status, came.errors), (-signal.SIGPIPE, b""))
+                self.assertEqual(self.report("--version", stdout=pipe).errors, b"")
 
     def test_words_after_two_hyphens(self) -> None:
         path = self.file("-crash", source("crash"))
@@ -385,12 +529,12 @@ class Refused(ReportCase):
     def test_help(self) -> None:
         came = self.report("--help")
         self.assertEqual((came.status, came.errors), (0, b""))
-        for option in (b"--missing", b"--text", b"--demangle", b"--out FOLDER", b"--version"):
+        for option in (b"--missing", b"--text", b"--demangle", b"--raw", b"--out FOLDER", b"--version"):
             self.assertIn(option, came.out)
 
     def test_nothing_can_be_written(self) -> None:
         crash = CRASHES / "arm64.crash"
-        missing = ["--missing", FIXTURES / "mac.crash", "shipped"]
+        missing = ["--missing", FIXTURES / "metrickit.json", "shipped"]
         several: List[List[Any]] = [["--help"], ["--version"], [crash, "shipped"], missing]
         for words in several:
             with self.subTest(words), open("/dev/full", "wb") as full:

@@ -13,7 +13,7 @@ from pathlib import Path
 from typing import Any, Callable, Dict, Iterable, List, Optional, Sequence, Tuple
 
 from .support.program import symarch
-from .support.reports import DYLD, FIXTURES, FORMS, SPOOL, TOOL, ReportCase, named, program, source
+from .support.reports import DYLD, FIXTURES, FORMS, KERNEL, SPOOL, TOOL, ReportCase, named, program, source
 
 SUMMARY = re.compile(
     r"(\d+) of (\d+) frames named, (\d+) named before, (\d+) not named(?:, (\d+) with several answers)?(?:; .*)?"
@@ -60,6 +60,77 @@ class Encodings(ReportCase):
     def test_half_of_a_character_at_the_end(self) -> None:
         path = self.file("half", CODED["little"](source("crash")) + b"x")
         self.is_printed(self.report(path, "shipped"), CODED["little"](named("crash")) + b"x")
+
+
+def before_lines(prefix: bytes, data: bytes, is_bare: bool = False) -> bytes:
+    """A report as a mail has it. With `is_bare` no line ends with a space that it did not end with."""
+    lines = data.splitlines(keepends=True)
+    return b"".join(prefix.rstrip() + line if is_bare and not line.strip() else prefix + line for line in lines)
+
+
+class Pasted(ReportCase):
+    """Reports with the same before each line: all is printed so, and what is added too."""
+
+    seconds = 4
+    pasted: Dict[str, Callable[[bytes], bytes]] = {
+        "reply": lambda data: before_lines(b"> ", data, True),
+        "second": lambda data: before_lines(b">> ", data),
+        "nested": lambda data: before_lines(b"> > ", data.replace(b"\n", b"\r\n")),
+        "spaces": lambda data: before_lines(b"    ", data, True),
+        "tab": lambda data: before_lines(b"\t", data),
+        "utf-16": lambda data: CODED["little"](before_lines(b"> ", data)),
+    }
+
+    def test_forms(self) -> None:
+        for archive in ("shipped", "both"):
+            cases = [(form, change) for form in forms_of(archive) for change in self.pasted]
+            paths = [self.file(f"pasted/{form}.{name}", self.pasted[name](source(form))) for form, name in cases]
+            made, came = self.written(paths, archive)
+            self.assertEqual(came.status, 0, came.errors.decode())
+            for form, name in cases:
+                with self.subTest(f"{form}, {name}"):
+                    self.assertEqual(made.get(f"{form}.{name}"), self.pasted[name](named(form)))
+
+    def test_lines_that_are_added(self) -> None:
+        for form in ("crash", "mac", "ips", "sample", "hang"):
+            with self.subTest(form):
+                came = self.report(self.file(form, self.pasted["second"](source(form))), "differ")
+                self.is_printed(came, self.pasted["second"](named(f"{form}-differ")))
+
+    def test_within_a_mail(self) -> None:
+        """What is no line of the report stays, and so do its first lines if they are not there."""
+        _, _, frames = source("crash").partition(b"\n\n")
+        _, _, names = named("crash").partition(b"\n\n")
+        for prefix in (b"> ", b"    "):
+            for text, wanted in ((source("crash"), named("crash")), (frames, names)):
+                with self.subTest((prefix, text[:9])):
+                    mail = lambda data: b"Hi,\n\nit ended:\n" + before_lines(prefix, data) + b"\nBye\n"
+                    if prefix == b"    " and text is frames:
+                        mail = lambda data: before_lines(prefix, data)
+                    came = self.report(self.file("mail", mail(text)), "shipped")
+                    self.is_printed(came, mail(wanted))
+
+    def test_json_within_a_mail(self) -> None:
+        for form in ("ips", "older", "metrickit"):
+            mail = lambda data: b"Hi,\n\nit ended:\n" + before_lines(b"> ", data) + b"\nBye\n"
+            with self.subTest(form):
+                self.is_printed(self.report(self.file(form, mail(source(form))), "shipped"), mail(named(form)))
+
+    def test_as_text(self) -> None:
+        mail = lambda data: before_lines(b"> ", data)
+        path = self.file("abort", mail((FIXTURES / "abort.ips").read_bytes()))
+        self.is_printed(self.report("--text", path, "shipped"), mail(named("text-abort")))
+
+    def test_where_one_ends(self) -> None:
+        """By the bytes of the file."""
+        for prefix in (b"> ", b"  "):
+            data = before_lines(prefix, b"".join(source("crash").splitlines(keepends=True)[:11]))
+            came = self.report(self.file("cut", data), "shipped")
+            self.assertTrue(came.error_lines[0].endswith(f"{where(data, 'before the images of its last frames')}"))
+            data = before_lines(b"> ", source("ips")).replace(b'"arch" : "arm64e"', b'"arch" : arm64e')
+            place = data.index(b"arm64e")
+            line = f"it is no JSON from line {data[:place].count(10) + 1}, byte {place + 1} on"
+            self.assertTrue(self.report(self.file("ips", data), "shipped").error_lines[0].endswith(line))
 
 
 def cuts(data: bytes) -> List[int]:
@@ -221,7 +292,7 @@ class CutJson(CutCase):
         offsets = list(re.finditer(rb'( *)"offsetIntoBinaryTextSegment" : [0-9]+', data))
         below = data.index(b"{", offsets[3].end())
         has_image = re.compile(rb'"binaryUUID" : "[0-9A-F-]{36}"')
-        spool_one, start, copy_body = (b"_spool_one", 0), (b"_start", 52), (b"_copy_body", 12)
+        spool_one, start, copy_body = (b"spool_one", 0), (b"start", 52), (b"copy_body", 12)
 
         def wanted_of(part: bytes) -> Wanted:
             names = [spool_one, start, None, start if len(part) > below else spool_one, copy_body, spool_one]
@@ -344,7 +415,7 @@ class ManyImages(ReportCase):
         document["threads"] = [{"frames": frames}]
         text = first + "\n" + json.dumps(document)
         frame = f'{{"imageOffset": 1040, "imageIndex": {len(self.uuids)}'
-        names = text.replace(frame, frame + ', "symbol": "_copy_body", "symbolLocation": 12')
+        names = text.replace(frame, frame + ', "symbol": "copy_body", "symbolLocation": 12')
         self.is_printed(self.report(self.file("ips", text), "shipped"), names.encode())
 
 
@@ -403,8 +474,10 @@ class Several(ReportCase):
         self.assertIn("--out FOLDER", came.error_lines[-1])
 
     def test_missing_of_several(self) -> None:
-        came = self.report("--missing", *self.paths[:4], "shipped")
-        self.assertEqual((came.lines, came.status), ([DYLD, "9fd01a5a-d3e5-3b0f-8b7c-6d5e4f3a2b10"], 0))
+        """Each image once, with its name if one of the reports has it."""
+        came = self.report("--missing", *self.paths, "shipped")
+        helper = "5e0c7b1a-26d4-3f98-8c3b-a9f1e2d4c507 Spool Helper (Renderer)"
+        self.assertEqual((came.lines, came.status), ([f"{DYLD} dyld", KERNEL, helper], 0))
 
     def test_one_that_cannot_be_written(self) -> None:
         """It is too large for where it is written: it leaves nothing there, and what is there stays."""
@@ -426,14 +499,14 @@ class Backtraces(ReportCase):
     def setUp(self) -> None:
         super().setUp()
         self.names = named("mac")
-        found = re.search(rb"^0   Spool.* _copy_body.*\n1   Spool.*\n", self.names, re.M)
+        found = re.search(rb"^0   Spool.* copy_body.*\n1   Spool.*\n", self.names, re.M)
         self.ours = found[0] if found else b""
 
     def test_some_have_names(self) -> None:
         addresses = b"(0x104d3846c 0x104d3846c 0x18576a274 0x12345678)"
         frames = (
-            ("Spool Server", 0x104D3846C, "_spool_one + 0"),
-            ("Spool Server", 0x104D3846C, "_start + 52"),
+            ("Spool Server", 0x104D3846C, "spool_one + 0"),
+            ("Spool Server", 0x104D3846C, "start + 52"),
             ("dyld", 0x18576A274, "0x18576a000 + 628"),
             ("???", 0x12345678, "???"),
         )
@@ -478,12 +551,12 @@ class KindsOfFrames(ReportCase):
         more = b"\nThread 1:\n0   spool   0x0000000104d3846c copy_more + 4 [inlined] (spool.c:12)\n"
         more += b"1   spool   0x0000000104d3846c "
         path = self.file("inlined", source("crash").replace(begin, more + b"0x104d38000 + 1132\n" + begin))
-        names = named("crash").replace(begin, more + b"_spool_one + 0\n" + begin)
+        names = named("crash").replace(begin, more + b"spool_one + 0\n" + begin)
         self.is_printed(self.report(path, "shipped"), names)
 
     def test_a_first_frame_that_was_inlined_in_json(self) -> None:
         inlined, frame = '{"imageOffset":1132,"imageIndex":0,"inline":true}', '{"imageOffset":1132,"imageIndex":0'
-        added = [',"symbol":"_spool_one","symbolLocation":0}', ',"symbol":"_start","symbolLocation":52}']
+        added = [',"symbol":"spool_one","symbolLocation":0}', ',"symbol":"start","symbolLocation":52}']
         path = self.file("ips", with_frames(",".join([inlined, frame + "}", inlined, frame + "}"])))
         names = with_frames(",".join([inlined, frame + added[0], inlined, frame + added[1]]))
         self.is_printed(self.report(path, "shipped"), names)
@@ -491,7 +564,7 @@ class KindsOfFrames(ReportCase):
     def test_a_frame_in_the_place_of_an_offset(self) -> None:
         frame = '{"imageOffset":1132,"imageIndex":0}'
         data = with_frames(f'{{"imageOffset":1040,"imageIndex":0,"symbol":"x","symbolLocation":[{frame}]}}')
-        names = with_frames('{"imageOffset":1040,"imageIndex":0,"symbol":"_copy_body","symbolLocation":12}')
+        names = with_frames('{"imageOffset":1040,"imageIndex":0,"symbol":"copy_body","symbolLocation":12}')
         self.is_printed(self.report(self.file("within", data), "shipped"), names)
 
 
@@ -608,12 +681,12 @@ class Hostile(ReportCase):
 
     def test_a_frame_among_what_is_none(self) -> None:
         came = self.report(self.file("types", hostile_reports()["types"]), "shipped")
-        self.assertIn(b'{"imageOffset":1040,"imageIndex":0,"symbol":"_copy_body","symbolLocation":12}', came.out)
+        self.assertIn(b'{"imageOffset":1040,"imageIndex":0,"symbol":"copy_body","symbolLocation":12}', came.out)
         self.assertTrue(came.error_lines[-1].startswith("1 of 1 "), came.errors)
 
     def test_bytes_that_are_no_utf_8(self) -> None:
         came = self.report(self.file("bytes", hostile_reports()["bytes"]), "shipped")
-        wanted = b'{"imageOffset":1040,"symbol":"_copy_body","imageIndex":0,"\xff":"\xfe","symbolLocation":12}'
+        wanted = b'{"imageOffset":1040,"symbol":"copy_body","imageIndex":0,"\xff":"\xfe","symbolLocation":12}'
         self.assertIn(wanted, came.out)
 
 
@@ -675,7 +748,12 @@ class Demangling(ReportCase):
     swift = "sed 's/^$s5spool4copyyyF$/spool.copy() -> ()/'"
 
     def test_not_asked_for(self) -> None:
-        self.assertEqual(self.names(self.report(self.crash, self.archive).out), [name.decode() for name in NAMES])
+        """One underscore is dropped, as Apple's reports have names."""
+        self.assertEqual(self.names(self.report(self.crash, self.archive).out), STRIPPED)
+
+    def test_raw(self) -> None:
+        came = self.report("--raw", self.crash, self.archive)
+        self.assertEqual((came.status, self.names(came.out)), (0, [name.decode() for name in NAMES]))
 
     def test_both(self) -> None:
         wanted = ["spool::copy()", "spool.copy() -> ()", *STRIPPED[2:]]

@@ -84,7 +84,7 @@ class ChangedSlices(VouchedCase):
         absent = f"not in the archive: dyld {DYLD}, kernel {KERNEL}"
         self.assertEqual(origins, [f"by dSYM: spool {SPOOL_2}", f"changed since it came in: spool {SPOOL}", absent])
         lines = named("spindump").splitlines()
-        wanted = [line for line in lines if re.search(rb"_copy_body \+ 0|_start \+ 48", line)]
+        wanted = [line for line in lines if re.search(rb"copy_body \+ 0|start \+ 48", line)]
         self.assertEqual([line for line in came.out.splitlines() if line in wanted], wanted)
 
     def test_another_image_than_those_of_the_report(self) -> None:
@@ -136,8 +136,8 @@ class ChangedSlices(VouchedCase):
     def test_missing(self) -> None:
         """The slice is there, so its dSYM is not missing."""
         self.change(self.site)
-        words = ["--missing", CRASHES / "arm64.ips", "site.sym"]
-        self.says(advice(SPOOL, "site.sym"), words=words, printed=f"{DYLD}\n".encode())
+        words = ["--missing", FIXTURES / "metrickit.json", "site.sym"]
+        self.says(advice(SPOOL, "site.sym"), words=words, printed=f"{DYLD} dyld\n".encode())
 
     def test_several_reports(self) -> None:
         self.change(self.site)

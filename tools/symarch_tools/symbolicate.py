@@ -1,6 +1,6 @@
 """Prints reports of crashes and hangs with the names that an archive has for their frames.
 
-What is read, whatever the file is called:
+What is read, whatever the file is called, and of standard input if it is called `-`:
 
 - text (.crash): numbered frames, and the images after `Binary Images:`; a line of addresses in parentheses after
   `Last Exception Backtrace:`; and the JSON after a heading `Full Report`;
@@ -13,7 +13,8 @@ What is read, whatever the file is called:
 - JSON of MetricKit, one payload or several: each `callStacks`, with frames by `binaryUUID`, `address` and
   `offsetIntoBinaryTextSegment`.
 
-Each of them may begin with a byte-order mark, may be UTF-8 or UTF-16, and is printed in the encoding that it has.
+Each of them may begin with a byte-order mark, may be UTF-8 or UTF-16, and is printed in the encoding that it has. It
+may have been pasted, with the same spaces or `> ` before its lines, and is printed so.
 
 All is printed as it stands, byte for byte, but for
 
@@ -39,6 +40,7 @@ it, its architecture:
 - `by dSYM`: its dSYM;
 - `without dSYM`: the image alone. If that was stripped, its frames may have the names of exported neighbours;
 - `changed since it came in`: nothing, since its slice has not the SHA-256 that the index has of it;
+- `under another architecture`: nothing, since the archive has its UUID under others, which are named;
 - `not in the archive`: nothing;
 - `with or without dSYM`: an archive that is no file, as a pipe, which cannot be read twice to find that out.
 
@@ -82,134 +84,26 @@ image. Both need four times that if the report does not state the image's archit
 The status is 0; 1 where no frame has one name (with --missing: never); 2 where a REPORT cannot be read or is none of
 these, which prints nothing of it, where a slice changed, or a file cannot be written; 3 where the words are others; 126
 where there is no program, or it does not answer as `symarch`; or that of `symarch` where it refuses the archive, with
-its line on standard error. Names are those of the symbol tables."""
+its line on standard error. If nobody reads standard output, SIGPIPE ends the tool. Names are those of the symbol
+tables, without the underscore that these put before a name of C, as Apple's reports have them; `--raw` keeps it."""
 from __future__ import annotations
 
-import argparse
 import os
+import signal
 import sys
 import tempfile
-from typing import Any, Dict, Iterable, List, NoReturn, Optional, Sequence, Tuple
+import uuid
+from typing import Dict, Iterable, List, Optional, Sequence, Tuple
 
+from .keeping.screen import about, system_text
 from .reports.answers import Origin
-from .reports.archives import TODAY, ArchiveFile, Archives, beside
-from .reports.demangling import demangled
+from .reports.archives import Archives
+from .reports.demangling import demangled, without_underscores
 from .reports.faults import Failure, Status
 from .reports.report import Count, Report
-from .reports.streams import drop_output, note, output, say
+from .reports.streams import drop, encoded, note, printing, say
+from .reports.words import NAME, Words
 from .signals import Stopped, signals
-from .version import PrintVersion
-
-NAME = "symbolicate-report"
-USAGE = f"{NAME} [--missing | [--text] [--demangle] [--out FOLDER]] REPORT... ARCHIVE..."
-MAGICS = (b"MSYMARC1", b"MSYMARC2")
-# How long an archive without records is.
-EMPTY_SIZE = 17
-
-
-# ---- words
-
-
-class Parser(argparse.ArgumentParser):
-    """Words. Others end with status 3, as with the program."""
-
-    def error(self, message: str) -> NoReturn:
-        say(f"{self.format_usage()}{NAME}: {message}\n")
-        raise Failure("", Status.BAD_WORDS)
-
-    def print_help(self, file: object = None) -> None:
-        output().write(self.format_help().encode())
-        output().flush()
-
-
-class Once(argparse.Action):
-    """An option that stands once at most."""
-
-    def __call__(self, parser: argparse.ArgumentParser, namespace: argparse.Namespace, value: Any,
-                 option: Optional[str] = None) -> None:
-        if getattr(namespace, self.dest) not in (None, False):
-            parser.error(f"{option} stands twice")
-        setattr(namespace, self.dest, True if self.nargs == 0 else value)
-
-
-def parser_of_words() -> Parser:
-    shape = argparse.RawDescriptionHelpFormatter
-    parser = Parser(NAME, usage=USAGE, description=__doc__, formatter_class=shape, allow_abbrev=False)
-    parser.add_argument("names", nargs="*", metavar="REPORT... ARCHIVE...", help="the reports, and after them archives")
-    flag: Dict[str, Any] = {"action": Once, "nargs": 0, "default": False}
-    parser.add_argument("--missing", help=MISSING, **flag)
-    parser.add_argument("--text", help=TEXT, **flag)
-    parser.add_argument("--demangle", help=DEMANGLE, **flag)
-    parser.add_argument("--out", metavar="FOLDER", action=Once, help=OUT)
-    parser.add_argument("--version", action=PrintVersion, nargs=0, help="print the version and exit")
-    return parser
-
-
-MISSING = """print the UUIDs of the images with frames of which the archive has no dSYM, whether it has the image or
-not, a line each, and nothing else"""
-TEXT = """print a JSON report as people read a crash: its header, what the system said of its end, the threads with
-names and offsets, the images. It leaves out a `Full Report` that repeats the text before it"""
-DEMANGLE = """drop one leading underscore from each name, as `atos` does, and run `swift demangle` and `llvm-cxxfilt`,
-if they are installed, once each for all names"""
-OUT = """write each report to FOLDER under the name of its own file, whole or not at all, and make FOLDER if it is not
-there. It replaces a file that is there, but never one that this call reads. Several reports need it; two reports of
-one name are refused"""
-
-
-class Words:
-    """What the command line asks for."""
-
-    def __init__(self, words: Sequence[str]) -> None:
-        parser = parser_of_words()
-        # What stands after the word `--` is no option.
-        end = words.index("--") if "--" in words else len(words)
-        asked = parser.parse_intermixed_args(words[:end])
-        self.is_missing: bool = asked.missing
-        self.is_text: bool = asked.text
-        self.is_demangled: bool = asked.demangle
-        self.out: Optional[str] = asked.out
-        self.reports, archives = reports_and_archives([*asked.names, *words[end + 1 :]])
-        if not self.reports:
-            parser.error("there is no report before the archive")
-        if self.is_missing and (self.is_text or self.is_demangled or self.out is not None):
-            parser.error("--missing stands alone")
-        if len(self.reports) > 1 and self.out is None and not self.is_missing:
-            parser.error("several reports are written by --out FOLDER")
-        self.archives = with_today(archives)
-
-
-def is_archive(path: str) -> bool:
-    """Whether a file begins as an archive."""
-    try:
-        with open(path, "rb") as file:
-            return file.read(8) in MAGICS
-    except OSError:
-        return False
-
-
-def reports_and_archives(names: Sequence[str]) -> Tuple[List[str], List[str]]:
-    """The last name is an archive, and so are those right before it that begin as one; the others are reports, of which
-    there is one at least."""
-    first = max(len(names) - 1, 0)
-    while first > 1 and is_archive(names[first - 1]):
-        first -= 1
-    return list(names[:first]), list(names[first:])
-
-
-def with_today(archives: Iterable[str]) -> List[ArchiveFile]:
-    """The archives, each after what `symarch-keep` has beside it of what came in lately, unless that has no record. A
-    fold empties that once the archive has all of it, so who opens it first misses nothing."""
-    found = []
-    for path in archives:
-        today = beside(path, TODAY)
-        if os.path.lexists(today) and not is_empty_archive(today):
-            found.append(ArchiveFile(today, path))
-        found.append(ArchiveFile(path, path[: -len(TODAY)] if path.endswith(TODAY) else path))
-    return found
-
-
-def is_empty_archive(path: str) -> bool:
-    return is_archive(path) and os.path.getsize(path) == EMPTY_SIZE
 
 
 # ---- what is printed
@@ -225,37 +119,39 @@ def read(paths: Iterable[str], is_text: bool) -> Tuple[List[Report], int]:
             note(failure.reason)
             status = failure.status
         except OSError as error:
-            note(error)
+            note(system_text(error, os.fsencode(path)))
             status = Status.REFUSED
     return found, status
 
 
 def print_missing(reports: Iterable[Report]) -> None:
-    """Prints the UUID of each image for which no dSYM answers."""
-    lacking = [image for report in reports for image in report.images.with_frames()]
-    uuids = [image.uuid for image in lacking if image.origin in (Origin.IMAGE, Origin.ABSENT)]
-    output().write("".join(f"{it}\n" for it in dict.fromkeys(uuids)).encode())
-    output().flush()
+    """Prints the UUID and the name of each image for which no dSYM answers, unless the report names all its frames."""
+    names: Dict[uuid.UUID, str] = {}
+    for image in (image for report in reports for image in report.images.with_frames()):
+        if image.lacks_names and image.origin() in (Origin.IMAGE, Origin.OTHERS, Origin.ABSENT):
+            names[image.uuid] = names.get(image.uuid) or " ".join((image.name or "").split())
+    with printing() as stream:
+        stream.write(encoded("".join(f"{number} {name}".rstrip() + "\n" for number, name in names.items())))
 
 
 def print_report(report: Report) -> None:
-    stream = output()
-    for piece in report.pieces():
-        stream.write(piece)
-    stream.flush()
+    with printing() as stream:
+        for piece in report.pieces():
+            stream.write(piece)
 
 
 def write_report(report: Report, folder: str) -> None:
     """Writes a report under its own name, whole or not at all."""
+    target = os.path.join(folder, os.path.basename(report.path))
     file, made = tempfile.mkstemp(prefix=f".{NAME}.", dir=folder)
     try:
-        with open(file, "wb") as stream:
+        with about(os.fsencode(target)), open(file, "wb") as stream:
             os.fchmod(file, 0o666 & ~mask())
             for piece in report.pieces():
                 stream.write(piece)
             stream.flush()
             os.fsync(file)
-        os.replace(made, os.path.join(folder, os.path.basename(report.path)))
+        os.replace(made, target)
     except BaseException:
         os.unlink(made)
         raise
@@ -304,13 +200,13 @@ def say_counts(reports: Iterable[Report], is_each: bool) -> bool:
     every, labels = Count(), labels_of([])
     for report in reports:
         for text in report.notes:
-            note(f"{report.path}: {text}")
+            note(f"{report.label}: {text}")
         count, its = report.count(), labels_of([report])
         every.add_count(count)
         for origin, some in its.items():
             labels[origin].update(some)
         if is_each:
-            say(f"{report.path}: {count.text()}{by_origin(its)}\n")
+            say(f"{report.label}: {count.text()}{by_origin(its)}\n")
     say(f"{every.text()}{by_origin(labels)}\n")
     return every.named > 0
 
@@ -320,7 +216,7 @@ def labels_of(reports: Iterable[Report]) -> Dict[Origin, Dict[str, None]]:
     labels: Dict[Origin, Dict[str, None]] = {origin: {} for origin in Origin}
     for report in reports:
         for image in report.images.with_frames():
-            labels[image.origin][image.label()] = None
+            labels[image.origin()][image.label()] = None
     return labels
 
 
@@ -344,6 +240,8 @@ def carry_out(words: Words) -> int:
     if words.is_missing:
         print_missing(reports)
         return status
+    if not words.is_raw:
+        archives.names.shown = without_underscores(archives.names.shown)
     if words.is_demangled:
         archives.names.shown = demangled(archives.names.shown)
     if words.out is None:
@@ -358,14 +256,19 @@ def carry_out(words: Words) -> int:
 
 def carry_out_words(words: Sequence[str]) -> int:
     try:
-        return carry_out(Words(words))
+        return carry_out(Words(words, __doc__))
     except Failure as failure:
         if failure.reason:
             note(failure.reason)
         return failure.status
+    except BrokenPipeError:
+        # Who reads has enough: the tool ends as the signal would end another one, and says nothing.
+        drop(1)
+        signals.came = signal.SIGPIPE
+        raise Stopped(signal.SIGPIPE) from None
     except OSError as error:
-        note(error)
-        drop_output()
+        note(system_text(error))
+        drop(1)
     except MemoryError:
         note("out of memory")
         return Status.NO_MEMORY

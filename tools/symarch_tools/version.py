@@ -94,6 +94,9 @@ class PrintVersion(argparse.Action):
     def __call__(self, parser: argparse.ArgumentParser, *_: object) -> None:
         try:
             os.write(sys.stdout.fileno(), f"{parser.prog} {version()}\n".encode())
+        except BrokenPipeError:
+            parser.exit(2)
         except (AttributeError, OSError) as error:
-            parser.exit(2, f"{parser.prog}: {error}\n")
+            why = error.strerror if isinstance(error, OSError) else "closed"
+            parser.exit(2, f"{parser.prog}: standard output: {why}\n")
         parser.exit()

@@ -1,7 +1,8 @@
 """The forms of reports that symbolicate-report reads. In reading order:
 
-- streams           standard output and standard error
+- streams           the standard streams
 - encodings         the bytes of a file, as UTF-8, and back
+- pasted            what stands before each line of a pasted report, and back
 - images            the images of a report, and the frames that lie in them
 - archive           the answers of the program
 - demangling        names as people write them
@@ -12,4 +13,5 @@
 - readable          JSON reports as people read them
 - readable_header   what stands above their threads, and below them
 - report            a whole file, and what is said of it
+- words             the words of a call
 """

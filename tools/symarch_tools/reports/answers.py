@@ -28,6 +28,7 @@ class Origin(enum.Enum):
     IMAGE = "without dSYM"
     UNKNOWN = "with or without dSYM"
     CHANGED = "changed since it came in"
+    OTHERS = "under another architecture"
     ABSENT = "not in the archive"
 
 

@@ -4,7 +4,7 @@ from __future__ import annotations
 
 import os
 from array import array
-from typing import Dict, Iterable, List, Sequence, Set, Tuple
+from typing import Dict, Iterable, List, Sequence, Tuple
 
 from ..keeping.contents import KEY
 from .answers import Answers, Key, Names, Origin
@@ -72,10 +72,10 @@ class Archives:
         for image in images:
             image.asked = array("Q")
         self.ask(list(answers.values()))
-        self.look_for_companions(list(answers.values()))
         for image in images:
             found = {arch: answers[image.uuid, arch] for arch in image.architectures()}
             image.take({arch: one for arch, one in found.items() if one.origin is not Origin.ABSENT})
+        self.look_into_files(images, [one for one in answers.values() if one.origin is Origin.UNKNOWN])
 
     def ask(self, answers: List[Answers]) -> None:
         """Asks the archives, by the index beside each that has one, and again without what these do not vouch for."""
@@ -116,18 +116,21 @@ class Archives:
         indexed = [file for file in self.files if file.index]
         return {key: file for file in indexed for key in changed_keys(file.index, file.path, keys)}
 
-    def look_for_companions(self, answers: Sequence[Answers]) -> None:
-        """Finds out whether a companion answered for each key that has an answer."""
-        asked = [one for one in answers if one.origin is Origin.UNKNOWN]
-        kept = Kept(one.key for one in asked)
+    def look_into_files(self, images: Sequence[Image], asked: Sequence[Answers]) -> None:
+        """Finds out whether a companion answered for each key that has an answer, and whether the UUIDs of images
+        without one are there under other architectures."""
+        absent = [image for image in images if image.origin() is Origin.ABSENT]
+        kept = Kept([*(one.key[0] for one in asked), *(image.uuid for image in absent)])
         for file in self.files:
             kept.take(file.path, file.index)
-        companions: Set[Key] = kept.with_companions()
         for one in asked:
-            if one.key in companions:
+            if kept.has_companion(one.key):
                 one.origin = Origin.DSYM
             elif kept.is_known:
                 one.origin = Origin.IMAGE
+        others = kept.architectures()
+        for image in absent:
+            image.others = others.get(image.uuid, [])
 
 
 def offsets_of(images: Sequence[Image], once: Dict[Tuple[int, ...], array[int]]) -> array[int]:

@@ -11,9 +11,14 @@ from .streams import note
 DEMANGLERS = (("swift", "demangle"), ("llvm-cxxfilt", "-n"))
 
 
+def without_underscores(names: Sequence[str]) -> List[str]:
+    """The names as Apple's reports have them: without one leading underscore, which Mach-O puts before those of C."""
+    return [name[1:] if name.startswith("_") else name for name in names]
+
+
 def demangled(names: Sequence[str]) -> List[str]:
     """The names, by each demangler that is there, which is called once for all of them."""
-    shown = [name[1:] if name.startswith("_") else name for name in names]
+    shown = list(names)
     found = [words for words in DEMANGLERS if shutil.which(words[0])]
     if not found:
         note("neither swift nor llvm-cxxfilt is there: names are not demangled")

@@ -50,12 +50,22 @@ class Image:
         self, number: uuid.UUID, arch: Optional[str], name: Optional[str], processor: Optional[str]
     ) -> None:
         self.uuid, self.arch, self.name, self.processor = number, arch, name, processor
-        self.has_frames, self.origin = False, Origin.ABSENT
+        self.has_frames = False
+        # Whether the report lacks the name of one of its frames.
+        self.lacks_names = False
         self.asked: array[int] = array("Q")
         self.answers: Optional[Answers] = None
+        # The architectures under which the archive has its UUID, if it does not answer.
+        self.others: List[str] = []
+
+    def origin(self) -> Origin:
+        """What answered for it."""
+        absent = Origin.OTHERS if self.others else Origin.ABSENT
+        return self.answers.origin if self.answers else absent
 
     def label(self) -> str:
-        return " ".join(filter(None, [self.name, str(self.uuid), self.arch]))
+        others = f"(the archive has {', '.join(self.others)})" if self.others else None
+        return " ".join(filter(None, [self.name, str(self.uuid), self.arch, others]))
 
     def architectures(self) -> Sequence[str]:
         """Those under which the archive is asked for the image."""
@@ -65,7 +75,6 @@ class Image:
         """Takes the answers under its architecture, among those under each that the archive has of its UUID."""
         arch = self.arch or (min(answers) if len(answers) == 1 else self.processor)
         self.answers = answers.get(arch) if arch else None
-        self.origin = self.answers.origin if self.answers else Origin.ABSENT
 
     def symbols(self, asked: int) -> Dict[str, Optional[Symbol]]:
         """By the digest of each slice that answers a name and an offset, or None where it has no symbol."""
@@ -138,6 +147,7 @@ class Frames:
         if number != NO_IMAGE and not self.kinds[at] & IS_INLINED:
             image = self.images.listed[number]
             image.has_frames = True
+            image.lacks_names |= not self.kinds[at] & HAD_NAME
             if not self.kinds[at] & CANNOT_BE_ASKED:
                 image.asked.append(asked)
 

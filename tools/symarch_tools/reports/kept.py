@@ -1,16 +1,18 @@
-"""What stands in the files of archives under the keys of a report: which slices changed since they came in, and which
+"""What stands in the files of archives under the UUIDs of a report: which slices changed since they came in, and which
 are companions. Of an archive with an index that is looked up, of another one the heads of its records are read."""
 from __future__ import annotations
 
+import collections
 import hashlib
 import os
 import stat
 import uuid
-from typing import BinaryIO, Dict, Iterable, Iterator, List, NamedTuple, Optional, Set
+from typing import BinaryIO, DefaultDict, Dict, Iterable, Iterator, List, NamedTuple, Optional, Sequence, Set
 
 from ..keeping.contents import ADMISSION, DIGEST, KEY, MAGIC, RETIREMENT, Malformed, arch_in, digest_in, numbers_of
 from ..keeping.contents import record_size, records_in
 from ..keeping.indexes import FILETYPE, HEAD, MH_DSYM, ROW, TAIL, Row
+from ..keeping.screen import about
 from .answers import Key
 
 CHUNK = 1 << 20
@@ -40,7 +42,7 @@ class IndexFile:
     """The index of an archive, of which the rows under a key are found by halving."""
 
     def __init__(self, path: str) -> None:
-        self.descriptor = os.open(path, os.O_RDONLY)
+        self.path, self.descriptor = os.fsencode(path), os.open(path, os.O_RDONLY)
         self.count = (os.fstat(self.descriptor).st_size - MAGIC - TAIL) // ROW.size
 
     def __enter__(self) -> IndexFile:
@@ -50,7 +52,8 @@ class IndexFile:
         os.close(self.descriptor)
 
     def row(self, number: int) -> Row:
-        data = os.pread(self.descriptor, ROW.size, MAGIC + number * ROW.size)
+        with about(self.path):
+            data = os.pread(self.descriptor, ROW.size, MAGIC + number * ROW.size)
         if len(data) < ROW.size:
             raise Malformed("ends early")
         return Row._make(ROW.unpack(data))
@@ -102,17 +105,17 @@ def is_as_it_came(file: BinaryIO, row: Row) -> bool:
 
 
 class Kept:
-    """What several archives have under some keys: their retirements and slices. `is_known` says whether each of them
-    could be looked through: one that is no file cannot be read twice."""
+    """What several archives have under some UUIDs: their retirements and slices by keys. `is_known` says whether each
+    of them could be looked through: one that is no file cannot be read twice."""
 
-    def __init__(self, keys: Iterable[Key]) -> None:
-        self.keys = {key_bytes(key): key for key in keys}
-        self.retired: Dict[bytes, Set[bytes]] = {key: set() for key in self.keys}
-        self.slices: Dict[bytes, List[Slice]] = {key: [] for key in self.keys}
+    def __init__(self, numbers: Iterable[uuid.UUID]) -> None:
+        self.numbers = {number.bytes for number in numbers}
+        self.retired: DefaultDict[bytes, Set[bytes]] = collections.defaultdict(set)
+        self.slices: DefaultDict[bytes, List[Slice]] = collections.defaultdict(list)
         self.is_known = True
 
     def take(self, archive: str, index: str) -> None:
-        """Takes what an archive has under the keys, by its index unless that is empty."""
+        """Takes what an archive has under the UUIDs, by its index unless that is empty."""
         try:
             if index:
                 self.take_indexed(archive, index)
@@ -125,17 +128,19 @@ class Kept:
 
     def take_indexed(self, archive: str, index: str) -> None:
         with IndexFile(index) as rows:
-            for key in self.keys:
-                self.retired[key].update(row.entry[-DIGEST:] for row in rows.rows_under(RETIREMENT + key))
-                for row in rows.rows_under(ADMISSION + key):
+            for number in self.numbers:
+                for row in rows.rows_under(RETIREMENT + number):
+                    self.retired[row.entry[1 : 1 + KEY]].add(row.entry[-DIGEST:])
+                for row in rows.rows_under(ADMISSION + number):
                     place = archive, row.at + HEAD, row.length - HEAD
-                    self.slices[key].append(Slice(*place, row.is_companion == 1, row.entry[-DIGEST:]))
+                    one = Slice(*place, row.is_companion == 1, row.entry[-DIGEST:])
+                    self.slices[row.entry[1 : 1 + KEY]].append(one)
 
     def take_plain(self, archive: str) -> None:
         with open(archive, "rb") as file:
             for head, at in records_in(file):
                 key = head[1 : 1 + KEY]
-                if key not in self.keys:
+                if key[:16] not in self.numbers:
                     continue
                 if head[:1] == RETIREMENT:
                     self.retired[key].add(head[-DIGEST:])
@@ -144,14 +149,22 @@ class Kept:
                     is_companion = file.read(len(MH_DSYM)) == MH_DSYM
                     self.slices[key].append(Slice(archive, at, record_size(head) - len(head), is_companion, None))
 
-    def with_companions(self) -> Set[Key]:
-        """The keys under which a companion answers: one that no retirement withdraws."""
-        return {name for key, name in self.keys.items() if self.has_companion(key)}
+    def has_companion(self, key: Key) -> bool:
+        """Whether a companion answers under a key."""
+        return self.has_one(key_bytes(key), [one for one in self.slices[key_bytes(key)] if one.is_companion])
 
-    def has_companion(self, key: bytes) -> bool:
+    def architectures(self) -> Dict[uuid.UUID, List[str]]:
+        """The architectures under which slices answer, by their UUIDs."""
+        found: Dict[uuid.UUID, List[str]] = {}
+        for key in sorted(key for key, slices in self.slices.items() if self.has_one(key, slices)):
+            number, arch = key_in(key)
+            found.setdefault(number, []).append(arch)
+        return found
+
+    def has_one(self, key: bytes, slices: Sequence[Slice]) -> bool:
+        """Whether no retirement withdraws one of these slices of a key."""
         retired = self.retired[key]
-        companions = [one for one in self.slices[key] if one.is_companion]
-        return any(not retired or (one.digest or digest_of(one)) not in retired for one in companions)
+        return any(not retired or (one.digest or digest_of(one)) not in retired for one in slices)
 
 
 def digest_of(one: Slice) -> bytes:

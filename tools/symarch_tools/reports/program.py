@@ -7,6 +7,7 @@ import subprocess
 import tempfile
 from typing import IO, List, NamedTuple, Optional, Sequence, Tuple
 
+from ..keeping.screen import about
 from ..program import found_program, named
 from ..signals import signals
 from .answers import Answers
@@ -63,7 +64,8 @@ class Program:
         options = [word for _, index in indexed for word in ("--index", index)]
         archives = [path for path, _ in indexed] + list(plain)
         with tempfile.NamedTemporaryFile(prefix="symbolicate-report.") as asked, tempfile.TemporaryFile() as errors:
-            write_questions(asked, answers)
+            with about(asked.name.encode()):
+                write_questions(asked, answers)
             with contextlib.ExitStack() as ends:
                 # A program that has begun is ended before the file that it reads is removed.
                 with signals.later():

@@ -3,6 +3,7 @@ from __future__ import annotations
 
 import pathlib
 import re
+import shlex
 from typing import Iterator, List, Optional, Union
 
 from . import readable
@@ -11,16 +12,19 @@ from .faults import Failure, Status
 from .images import HAD_NAME, IS_INLINED, Frames, Images, one_of
 from .json_report import JsonReport
 from .json_walk import Broken
+from .pasted import FIRST_WORDS, MOST_OF_BEGINNING, unpasted
+from .streams import standard_input
 from .text_report import TextReport
 
 DOCUMENT = re.compile(rb"\s*(?=[{\[])")
-# What stands in the first lines of a report, and so many bytes of them.
-BEGINNING = re.compile(
-    rb'^(?:Process|Identifier|Incident Identifier|Date/Time|Code Type|Analysis of sampling)\b'
-    rb'|"(?:bug_type|app_name|timeStampBegin)" *:',
-    re.MULTILINE,
-)
-MOST_OF_BEGINNING = 10_000
+# The path that means standard input.
+STANDARD_INPUT = "-"
+# What stands in the first lines of a report.
+BEGINNING = re.compile(rb"^" + FIRST_WORDS + rb'|"(?:bug_type|app_name|timeStampBegin)" *:', re.MULTILINE)
+# What stands after the frames of a text.
+LISTING = re.compile(rb"^[ \t]*Binary Images\b", re.MULTILINE)
+# What `symarch frames` reads: after lines that it passes over UUID, ARCH, LOAD and ADDRESS.
+FRAMES = re.compile(rb"(?:(?:#[^\n]*)?\n)*[0-9a-fA-F-]{32,36} \w+ (?:0x)?[0-9a-fA-F-]+ (?:0x)?[0-9a-fA-F]+(?:\n|\Z)")
 # A heading between lines of hyphens, after which the same report stands as JSON.
 FULL = re.compile(rb"^-+[ \t]*\r?\nFull Report[ \t]*\r?\n-+[ \t]*\r?\n\s*(?=[{\[])", re.MULTILINE)
 
@@ -68,13 +72,19 @@ class Report:
 
     def __init__(self, path: str, is_text: bool = False) -> None:
         self.path, self.is_text = path, is_text
-        self.data, self.encoding = decoded(pathlib.Path(path).read_bytes())
+        self.label = "standard input" if path == STANDARD_INPUT else path
+        data, self.encoding = decoded(bytes_of(path))
+        self.data, self.pasted = unpasted(data)
         self.images = Images()
         self.notes: List[str] = []
         found = list(self.read())
         self.parts: List[Part] = [*readable.parts(found, self.notes)] if is_text else [*found]
         if not any(len(part.frames) for part in self.parts):
+            if FRAMES.match(self.data):
+                typed = f"symarch frames {shlex.quote(self.path)} ARCHIVE"
+                raise Failure(f"{self.label}: no report, but frames for the program: {typed}", Status.REFUSED)
             has_images = "images, but " if self.images.listed else ""
+            has_images = has_images or ("a list of images, but " if LISTING.search(self.data) else "")
             if not self.notes and not has_images and BEGINNING.search(self.data, 0, MOST_OF_BEGINNING):
                 self.notes.append(f"it ends at {self.last()}, before its first frame")
             raise self.refusal(f"no report that is read here: {has_images}no stack frames")
@@ -82,7 +92,7 @@ class Report:
             raise self.refusal("frames, but no binary images with UUIDs")
 
     def refusal(self, why: str) -> Failure:
-        return Failure("; ".join([f"{self.path}: {why}", *self.notes]), Status.REFUSED)
+        return Failure("; ".join([f"{self.label}: {why}", *self.notes]), Status.REFUSED)
 
     def read(self) -> Iterator[Union[JsonReport, TextReport]]:
         """The parts of the report. JSON without frames that ends within a document is text."""
@@ -110,10 +120,14 @@ class Report:
         return part
 
     def read_text(self, begin: int) -> TextReport:
-        """The text from a place on, up to a full report."""
+        """The text from a place on, up to a full report, or to pasted JSON."""
         full = FULL.search(self.data, begin)
-        part = TextReport(self.data, begin, full.end() if full else len(self.data), self.images)
-        part.heading = full.start() if full else part.end
+        heading, end = full.span() if full else (len(self.data), len(self.data))
+        outside = self.pasted.outside(self.data, begin)
+        if outside > begin and DOCUMENT.match(self.data, outside):
+            heading = end = outside
+        part = TextReport(self.data, begin, end, self.images)
+        part.heading = heading
         self.note_cut(part)
         return part
 
@@ -133,18 +147,18 @@ class Report:
 
     def place(self, place: int) -> str:
         line = self.data.count(b"\n", 0, place) + 1
-        return f"line {line}, byte {self.encoding.byte_of(self.data, place) + 1}"
+        return f"line {line}, byte {self.encoding.byte_of(*self.pasted.before(self.data, place)) + 1}"
 
     def last(self) -> str:
         line = self.data.count(b"\n", 0, len(self.data) - 1) + 1
-        return f"line {line}, byte {self.encoding.byte_of(self.data, len(self.data)) + len(self.encoding.half)}"
+        end = self.encoding.byte_of(*self.pasted.before(self.data, len(self.data)))
+        return f"line {line}, byte {end + len(self.encoding.half)}"
 
     def pieces(self) -> Iterator[bytes]:
         """The bytes of the report with names in it, as they stand in its file."""
         yield self.encoding.mark
-        for part in self.parts:
-            for piece in part.pieces():
-                yield from self.encoding.written(piece)
+        for piece in self.pasted.restored(piece for part in self.parts for piece in part.pieces()):
+            yield from self.encoding.written(piece)
         yield self.encoding.half
 
     def count(self) -> Count:
@@ -152,3 +166,7 @@ class Report:
         for part in self.parts:
             count.add(part.frames)
         return count
+
+
+def bytes_of(path: str) -> bytes:
+    return standard_input() if path == STANDARD_INPUT else pathlib.Path(path).read_bytes()

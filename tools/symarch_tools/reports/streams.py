@@ -2,10 +2,13 @@
 from __future__ import annotations
 
 import contextlib
+import errno
 import os
 import re
 import sys
-from typing import BinaryIO
+from typing import BinaryIO, Iterator
+
+from ..keeping.screen import about
 
 # What JSON may escape and UTF-8 does not have, but for what stands for bytes that were no UTF-8.
 LONE_SURROGATE = re.compile("[\ud800-\udc7f\udd00-\udfff]")
@@ -17,23 +20,38 @@ def encoded(text: str) -> bytes:
 
 
 def say(text: str) -> None:
-    """Writes on standard error, if it is open."""
-    if sys.stderr is not None:
+    """Writes on standard error, if it is open. If it takes nothing, nobody is told."""
+    if sys.stderr is None:
+        return
+    try:
         sys.stderr.buffer.write(encoded(text))
         sys.stderr.flush()
+    except OSError:
+        drop(2)
 
 
 def note(text: object) -> None:
     say(f"symbolicate-report: {text}\n")
 
 
-def output() -> BinaryIO:
-    if sys.stdout is None:
-        raise OSError("standard output is closed")
-    return sys.stdout.buffer
+@contextlib.contextmanager
+def printing() -> Iterator[BinaryIO]:
+    """Standard output, of which errors say that they are its own."""
+    with about(b"standard output"):
+        if sys.stdout is None:
+            raise OSError(errno.EBADF, "closed")
+        yield sys.stdout.buffer
+        sys.stdout.buffer.flush()
 
 
-def drop_output() -> None:
-    """Drops what standard output did not take, which Python would try to write again at the end."""
+def standard_input() -> bytes:
+    with about(b"standard input"):
+        if sys.stdin is None:
+            raise OSError(errno.EBADF, "closed")
+        return sys.stdin.buffer.read()
+
+
+def drop(stream: int) -> None:
+    """Drops what a standard stream did not take, which Python would try to write again at the end."""
     with contextlib.suppress(OSError), open(os.devnull, "wb") as nothing:
-        os.dup2(nothing.fileno(), 1)
+        os.dup2(nothing.fileno(), stream)

@@ -21,12 +21,15 @@ PROCESSOR = re.compile(rb"^Code Type:\s+([\w-]+)", re.MULTILINE)
 LINE = re.compile(rb"([^\r\n]*)(\r\n|\r|\n|\Z)")
 
 # As `0   spool   0x0000000104d38410 0x104d38000 + 1040`, and with a name in the place of the last words; a source file
-# and line stay after it.
-CRASH = re.compile(rb"(?P<head>(?P<number>[0-9]+)\s+(?P<image>\S.*?)\s0x(?P<addresses>[0-9a-fA-F]{1,16}) )(?P<said>.*)")
+# and line stay after it. In some copies the address is decimal; then so is that before the offset.
+CRASH = re.compile(
+    rb"(?P<head>(?P<number>[0-9]+)\s+(?P<image>\S.*?)\s"
+    rb"(?P<addresses>0x[0-9a-fA-F]{1,16}|[0-9]{5,20}(?= +[0-9]{5,20} \+ [0-9]+\s*$)) )(?P<said>.*)"
+)
 INLINED = b"[inlined]"
 SOURCE = re.compile(rb" \([^()]*:[0-9]+\)$")
 # What stands in the place of a name that is not known, but for the name of the image itself and an offset.
-NO_NAME = re.compile(rb"\s*(?:\?\?\?.*|0x[0-9a-fA-F]+ \+ [0-9]+.*|)")
+NO_NAME = re.compile(rb"\s*(?:\?\?\?.*|0x[0-9a-fA-F]+ \+ [0-9]+.*|[0-9]{5,20} \+ [0-9]+\s*|)")
 
 # As `(0x104d38410 0x104d383f8)`, after this heading.
 EXCEPTION = b"Last Exception Backtrace"
@@ -54,12 +57,14 @@ HEADINGS = (HEAVIEST, EXCEPTION, *LISTS)
 
 # As `0x104d38000 - 0x104d3bfff spool arm64 <4c4c441955553144a1d24341c97782f0> /usr/local/bin/spool`. On a Mac there may
 # be a plus before the name and a version in parentheses after it, and no architecture; a spindump may not know the
-# end, and has a star before an image of the kernel.
+# end, and has a star before an image of the kernel. In some copies the addresses are decimal, or the UUIDs are gone.
 IMAGES = b"Binary Images"
 IMAGE = re.compile(
-    rb"\s*\*?0x(?P<start>[0-9a-fA-F]+) - +(?:0x(?P<end>[0-9a-fA-F]+)|\?\?\?) +\+?"
+    rb"\s*\*?(?P<start>0x[0-9a-fA-F]+|[0-9]{1,20}) - +(?:(?P<end>0x[0-9a-fA-F]+|[0-9]{1,20})|\?\?\?) +\+?"
     rb"(?P<name>.*?) +<(?P<uuid>[0-9a-fA-F-]{32,36})>(?P<path>.*)"
 )
+# A line of the list, whatever stands in it.
+LISTED = re.compile(rb"\s*\*?(?:0x|[0-9]+ - )")
 # A longer line has no frame. The forms of lines take long to say so of a line without end.
 MOST_OF_LINE = 10_000
 # Where the image of a frame was loaded, if the line does not say it, and if it is no image of the list.
@@ -77,13 +82,13 @@ class LoadedImages:
     @staticmethod
     def loaded(found: Mapping[str, bytes], images: Images, processor: Optional[str]) -> Tuple[int, int, int]:
         """The first address of an image and its last one, the first again where it is not known, and its number."""
-        start = int(found["start"], 16)
+        start = address_of(found["start"])
         name, _, last = found["name"].decode(errors="surrogateescape").rpartition(" ")
         arch = last if last in ARCHITECTURES else None
         path = found["path"].decode(errors="surrogateescape").strip()
         said = path.rpartition("/")[2] or (name if arch else found["name"].decode(errors="surrogateescape"))
         number = images.number(found["uuid"].decode(), arch, said.strip("?"), processor)
-        return start, int(found["end"], 16) if found["end"] else start, number
+        return start, address_of(found["end"]) if found["end"] else start, number
 
     def placed(self, address: int, is_return: int) -> Tuple[int, int]:
         """The number of the image that has an address, and the offset in it. An address that a call returns to lies in
@@ -114,6 +119,8 @@ class Part:
         self.callers: Set[int] = set()
         self.leaves: Set[int] = set()
         self.listed: List[Dict[str, bytes]] = []
+        # The lines of the list without a UUID, and whether it has begun.
+        self.without_uuid = 0
         self.is_list = False
 
     def ends_before(self, line: bytes) -> bool:
@@ -121,10 +128,16 @@ class Part:
         if line.strip().startswith(IMAGES):
             self.is_list = True
             return False
-        found = IMAGE.match(line) if self.is_list else None
+        if not self.is_list:
+            return False
+        found = IMAGE.match(line)
         if found:
             self.listed.append(found.groupdict())
-        return self.is_list and not found and not line.lstrip(b" *").startswith(b"0x")
+        elif LISTED.match(line):
+            self.without_uuid += 1
+        else:
+            return True
+        return False
 
     def take(self, place: int, line: bytes, column: Optional[int], below: Optional[int]) -> None:
         """Takes the frames of a line, if it has any. The columns are those of the tree's numbers in it and in the next
@@ -151,7 +164,7 @@ class Part:
         self.is_after_first = True
         said = found["said"]
         has_name = not NO_NAME.fullmatch(said) and not said.startswith(found["image"].strip() + b" + ")
-        self.add(place, int(found["addresses"], 16), NOT_SAID, is_return * IS_RETURN | has_name * HAD_NAME)
+        self.add(place, address_of(found["addresses"]), NOT_SAID, is_return * IS_RETURN | has_name * HAD_NAME)
 
     def take_tree(self, place: int, found: Found, column: Optional[int], below: Optional[int]) -> None:
         addresses = addresses_of(found["addresses"])
@@ -201,8 +214,11 @@ class Part:
 
 def frames_in(line: bytes) -> Tuple[Optional[Pattern[bytes]], Optional[Match[bytes]]]:
     """The form of a line with frames, and what was found in it; None for both where it has none."""
-    if b"0x" not in line or len(line) > MOST_OF_LINE:
+    if len(line) > MOST_OF_LINE:
         return None, None
+    if b"0x" not in line:
+        found = CRASH.match(line) if b" + " in line else None
+        return (CRASH, found) if found else (None, None)
     if b"[0x" in line:
         for form in (SAMPLE, SPINDUMP):
             if found := form.fullmatch(line):
@@ -213,12 +229,17 @@ def frames_in(line: bytes) -> Tuple[Optional[Pattern[bytes]], Optional[Match[byt
     return (CRASH, found) if found else (None, None)
 
 
+def address_of(text: bytes) -> int:
+    return int(text, 16 if text.startswith(b"0x") else 10)
+
+
 def addresses_of(text: bytes) -> List[int]:
     return [int(address, 16) for address in re.split(rb", ?0x|\s+", text)]
 
 
 class TextReport:
-    """A report, or a part of one, as lines. `is_whole` says whether images are listed after its last frames."""
+    """A report, or a part of one, as lines. `is_whole` says whether images are listed after its last frames, by UUIDs
+    or without."""
 
     def __init__(self, data: bytes, begin: int, end: int, images: Images) -> None:
         self.data, self.begin, self.end = data, begin, end
@@ -266,7 +287,9 @@ class TextReport:
     def end_part(self, part: Part, held: Optional[Held]) -> None:
         self.take(part, held, None)
         if len(self.frames) > part.first:
-            self.is_whole = bool(part.listed)
+            # The last line may be the beginning of one with a UUID.
+            is_cut_line = not self.data.endswith((b"\n", b"\r"))
+            self.is_whole = bool(part.listed) or part.without_uuid > is_cut_line
         part.end()
 
     def pieces(self) -> Iterator[bytes]:

@@ -1,0 +1,89 @@
+"""Reports that were pasted: each line begins with what a mail or an editor put before it, as `> ` or spaces."""
+from __future__ import annotations
+
+import re
+from typing import Iterable, Iterator, Match, Optional, Tuple
+
+# What stands in the first lines of a text, and so many bytes of them.
+FIRST_WORDS = rb"(?:Process|Identifier|Incident Identifier|Date/Time|Code Type|Analysis of sampling)\b"
+MOST_OF_BEGINNING = 10_000
+# Such a line, or the first one of JSON; and a heading that each text has.
+FIRST_LINE = re.compile(rb"^([ \t>]*)(?:" + FIRST_WORDS + rb"|([{\[]))", re.MULTILINE)
+HEADING = b"Binary Images"
+# What a line begins with, once what was before it is gone, if only spaces follow, which need no space before them; and
+# if nothing was before it. Both are spaces to those who read the report.
+EMPTY, OUTSIDE = b"\x0b", b"\x0c"
+BEGIN = re.compile(rb"\n(?:(\x0b)|(\x0c)|(?=[\s\S]))")
+LINES_OUTSIDE = re.compile(rb"(?:\x0c[^\n]*\n)*")
+
+
+class Pasted:
+    """What stands before the lines of a report, which is empty if it was not pasted."""
+
+    def __init__(self, prefix: bytes) -> None:
+        self.prefix, self.bare = prefix, prefix.rstrip()
+
+    def removed(self, data: bytes) -> bytes:
+        """The report alone."""
+        before = re.escape(self.prefix), re.escape(self.bare)
+        begin = re.compile(rb"^(?:(%b)|(%b)(?=\r?\n)|(?=[\s\S]))" % before, re.MULTILINE)
+        return begin.sub(lambda found: (OUTSIDE, b"", EMPTY)[found.lastindex or 0], data)
+
+    def restored(self, pieces: Iterable[bytes]) -> Iterator[bytes]:
+        """The pieces of a report as they stand in its file. New lines begin as the others do."""
+        is_begin = True
+        for piece in pieces:
+            if self.prefix and piece:
+                made = BEGIN.sub(self.begin, b"\n" + piece if is_begin else piece)
+                yield made[1:] if is_begin else made
+                is_begin = piece.endswith(b"\n")
+            else:
+                yield piece
+
+    def begin(self, found: Match[bytes]) -> bytes:
+        return b"\n" + (self.bare if found[1] else b"" if found[2] else self.prefix)
+
+    def outside(self, data: bytes, place: int) -> int:
+        """Where the lines end, from a place on, that had nothing before them."""
+        found = LINES_OUTSIDE.match(data, place) if self.prefix else None
+        return found.end() if found else place
+
+    def before(self, data: bytes, place: int) -> Tuple[bytes, int]:
+        """The text as it stands in its file, up to a place of it at least, and this place there."""
+        if not self.prefix:
+            return data, place
+        made = b"".join(self.restored([data[:place]]))
+        is_line = place < len(data) and (place == 0 or data[place - 1 : place] == b"\n")
+        return (made + self.prefix, len(made) + len(self.prefix)) if is_line else (made, len(made))
+
+
+def prefix_of(data: bytes) -> Optional[bytes]:
+    """What stands before the first line of a report that can be told by its words, if something does, and before the
+    heading of its images, if it has one."""
+    found = FIRST_LINE.search(data, 0, MOST_OF_BEGINNING)
+    at = data.find(HEADING)
+    heading = data[data.rfind(b"\n", 0, at) + 1 : at] if at >= 0 else None
+    prefix = found[1] if found else heading or b""
+    is_json = found is not None and found[2] is not None
+    if prefix.strip(b" \t>") or (heading is not None and not is_json and not heading.startswith(prefix)):
+        return None
+    # Spaces may stand before JSON alone, and before the images alone of a text without a first line.
+    if b">" not in prefix and (is_json or found is None) and not is_before_all(prefix, data):
+        return None
+    return prefix or None
+
+
+def is_before_all(prefix: bytes, data: bytes) -> bool:
+    """Whether each line that is not empty begins so."""
+    return not prefix or all(line.startswith(prefix) or not line.strip() for line in data.split(b"\n"))
+
+
+def unpasted(data: bytes) -> Tuple[bytes, Pasted]:
+    """A report without what stands before its lines, and that. Where it could not be written again, it stays."""
+    prefix = prefix_of(data)
+    if prefix:
+        pasted = Pasted(prefix)
+        alone = pasted.removed(data)
+        if b"".join(pasted.restored([alone])) == data:
+            return alone, pasted
+    return data, Pasted(b"")

@@ -1,0 +1,185 @@
+"""The words of a call: which are reports and which archives, and what to type where they stand otherwise."""
+from __future__ import annotations
+
+import argparse
+import os
+import shlex
+import stat
+from typing import Any, Dict, Iterable, List, NoReturn, Optional, Sequence, Tuple
+
+from ..version import PrintVersion
+from .archives import TODAY, ArchiveFile, beside
+from .faults import Failure, Status
+from .pasted import MOST_OF_BEGINNING
+from .report import BEGINNING, DOCUMENT, STANDARD_INPUT
+from .streams import printing, say
+
+NAME = "symbolicate-report"
+USAGE = f"{NAME} [--missing | [--text] [--demangle | --raw] [--out FOLDER]] REPORT... ARCHIVE..."
+MAGICS = (b"MSYMARC1", b"MSYMARC2")
+# How long an archive without records is.
+EMPTY_SIZE = 17
+# The commands of the program that a report might be given to.
+ANSWERING = ("frames", "symbolicate")
+
+
+class Parser(argparse.ArgumentParser):
+    """Words. Others end with status 3, as with the program."""
+
+    def error(self, message: str) -> NoReturn:
+        say(f"{self.format_usage()}{NAME}: {message}\n")
+        raise Failure("", Status.BAD_WORDS)
+
+    def print_help(self, file: object = None) -> None:
+        with printing() as stream:
+            stream.write(self.format_help().encode())
+
+
+class Once(argparse.Action):
+    """An option that stands once at most."""
+
+    def __call__(self, parser: argparse.ArgumentParser, namespace: argparse.Namespace, value: Any,
+                 option: Optional[str] = None) -> None:
+        if getattr(namespace, self.dest) not in (None, False):
+            parser.error(f"{option} stands twice")
+        setattr(namespace, self.dest, True if self.nargs == 0 else value)
+
+
+def parser_of_words(description: Optional[str]) -> Parser:
+    shape = argparse.RawDescriptionHelpFormatter
+    parser = Parser(NAME, usage=USAGE, description=description, formatter_class=shape, allow_abbrev=False)
+    parser.add_argument("names", nargs="*", metavar="REPORT... ARCHIVE...", help=REPORTS)
+    flag: Dict[str, Any] = {"action": Once, "nargs": 0, "default": False}
+    parser.add_argument("--missing", help=MISSING, **flag)
+    parser.add_argument("--text", help=TEXT, **flag)
+    parser.add_argument("--demangle", help=DEMANGLE, **flag)
+    parser.add_argument("--raw", help=RAW, **flag)
+    parser.add_argument("--out", metavar="FOLDER", action=Once, help=OUT)
+    parser.add_argument("--version", action=PrintVersion, nargs=0, help="print the version and exit")
+    return parser
+
+
+REPORTS = """the reports, of which `-` is standard input, and after them archives"""
+MISSING = """print the UUID and the name of each image with frames that the report does not name, of which the archive
+has no dSYM, whether it has the image or not: a line each, once for all reports, and nothing else"""
+TEXT = """print a JSON report as people read a crash: its header, what the system said of its end, the threads with
+names and offsets, the images. It leaves out a `Full Report` that repeats the text before it"""
+DEMANGLE = """make names of C++ and Swift readable: run `swift demangle` and `llvm-cxxfilt`, if they are installed, once
+each for all names"""
+RAW = """keep the underscore that a symbol table puts before each name"""
+OUT = """write each report to FOLDER under the name of its own file, whole or not at all, and make FOLDER if it is not
+there. It replaces a file that is there, but never one that this call reads. Several reports need it; two reports of
+one name are refused"""
+
+
+class Words:
+    """What the command line asks for. The description is that of the tool, for its help."""
+
+    def __init__(self, words: Sequence[str], description: Optional[str]) -> None:
+        parser = parser_of_words(description)
+        # What stands after the word `--` is no option.
+        end = words.index("--") if "--" in words else len(words)
+        asked, unknown = parser.parse_known_intermixed_args(words[:end])
+        if unknown:
+            parser.error(f"there is no option {unknown[0]}")
+        self.is_missing: bool = asked.missing
+        self.is_text: bool = asked.text
+        self.is_demangled: bool = asked.demangle
+        self.is_raw: bool = asked.raw
+        self.out: Optional[str] = asked.out
+        names = [*asked.names, *words[end + 1 :]]
+        self.reports, archives = reports_and_archives(names)
+        fault = self.fault_of_names(names) or self.fault_of_options()
+        if fault:
+            parser.error(fault)
+        self.archives = with_today(archives)
+
+    def fault_of_options(self) -> Optional[str]:
+        """Why the options do not stand together, if they do not."""
+        if self.is_missing and (self.is_text or self.is_demangled or self.is_raw or self.out is not None):
+            return "--missing stands alone"
+        if self.is_raw and self.is_demangled:
+            return "--raw keeps what --demangle changes: name one of them"
+        if len(self.reports) > 1 and self.out is None and not self.is_missing:
+            return "several reports are written by --out FOLDER"
+        if STANDARD_INPUT in self.reports and self.out is not None:
+            return "--out writes each report under the name of its file, and standard input has none"
+        return None
+
+    def fault_of_names(self, names: Sequence[str]) -> Optional[str]:
+        """What is wrong with the reports and archives, and what to type, if something is."""
+        if len(names) < 2:
+            is_lacking = names and not is_archive(names[0])
+            return f"there is no archive after {names[0]}" if is_lacking else "there is no report before the archive"
+        command, rest = names[0], names[1:]
+        if command in ANSWERING and not os.path.lexists(command):
+            return f"{command} is a command of symarch: {self.line(rest)}"
+        archives = {name: None for name in names if is_archive(name)}
+        others = [name for name in names if name not in archives]
+        if not others:
+            return "there is no report before the archive"
+        is_report_last = begins_as_report(names[-1])
+        if is_report_last and not archives:
+            return f"there is no archive after {names[-1]}"
+        if is_report_last or any(name in archives for name in self.reports):
+            needs_out = len(others) > 1 and self.out is None and not self.is_missing
+            line = self.line([*others, *archives], ["--out", "FOLDER"] if needs_out else [])
+            return f"{next(iter(archives))} is an archive, and stands after the reports: {line}"
+        if names[-1] == STANDARD_INPUT:
+            return "of standard input a report is read, and no archive"
+        if names.count(STANDARD_INPUT) > 1:
+            return "standard input is read once"
+        return None
+
+    def line(self, names: Sequence[str], more: Sequence[str] = ()) -> str:
+        """The line to type for these reports and archives, with more options."""
+        given = {"--missing": self.is_missing, "--text": self.is_text, "--demangle": self.is_demangled}
+        options = [option for option, is_given in {**given, "--raw": self.is_raw}.items() if is_given]
+        options += ["--out", self.out] if self.out is not None else []
+        has_hyphen = any(name.startswith("-") and name != STANDARD_INPUT for name in names)
+        return " ".join(map(shlex.quote, [NAME, *options, *more, *(["--"] if has_hyphen else []), *names]))
+
+
+def beginning(path: str, size: int) -> bytes:
+    """The first bytes of a file. What is none, as a pipe, is not read."""
+    try:
+        if stat.S_ISREG(os.stat(path).st_mode):
+            with open(path, "rb") as file:
+                return file.read(size)
+    except OSError:
+        pass
+    return b""
+
+
+def is_archive(path: str) -> bool:
+    return beginning(path, 8) in MAGICS
+
+
+def begins_as_report(path: str) -> bool:
+    data = beginning(path, MOST_OF_BEGINNING)
+    return bool(DOCUMENT.match(data) or BEGINNING.search(data))
+
+
+def reports_and_archives(names: Sequence[str]) -> Tuple[List[str], List[str]]:
+    """The last name is an archive, and so are those right before it that begin as one; the others are reports, of which
+    there is one at least."""
+    first = max(len(names) - 1, 0)
+    while first > 1 and is_archive(names[first - 1]):
+        first -= 1
+    return list(names[:first]), list(names[first:])
+
+
+def with_today(archives: Iterable[str]) -> List[ArchiveFile]:
+    """The archives, each after what `symarch-keep` has beside it of what came in lately, unless that has no record. A
+    fold empties that once the archive has all of it, so who opens it first misses nothing."""
+    found = []
+    for path in archives:
+        today = beside(path, TODAY)
+        if os.path.lexists(today) and not is_empty_archive(today):
+            found.append(ArchiveFile(today, path))
+        found.append(ArchiveFile(path, path[: -len(TODAY)] if path.endswith(TODAY) else path))
+    return found
+
+
+def is_empty_archive(path: str) -> bool:
+    return is_archive(path) and os.path.getsize(path) == EMPTY_SIZE
