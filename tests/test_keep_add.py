@@ -822,7 +822,7 @@ class Words(RoomCase):
             with self.room.start(*words) as process:
                 said, errors = process.communicate()
             same(f"{words}", (process.returncode, said, errors[:6]), (3, b"", b"usage:"))
-        each = ("add", "fold", "retire", "exchange", "status", "check", "repair")
+        each = ("add", "find", "symbolicate", "name", "fold", "retire", "exchange", "status", "check", "repair")
         for words in (("--help",), *((word, "--help") for word in each)):
             with self.room.start(*words) as process:
                 said, errors = process.communicate()

@@ -21,13 +21,17 @@ import os
 import sys
 from typing import NoReturn, Optional, Sequence
 
-from .keeping import adding, checking, exchanging, folding, repairing, retiring, stating
+from .keeping import adding, checking, exchanging, finding, folding, naming, repairing, retiring, stating
+from .keeping import symbolicating
 from .keeping.screen import Failed, Screen, system_text
 from .signals import Stopped, signals
 from .version import PrintVersion
 
 WORDS = {
     "add": adding,
+    "find": finding,
+    "symbolicate": symbolicating,
+    "name": naming,
     "fold": folding,
     "retire": retiring,
     "exchange": exchanging,

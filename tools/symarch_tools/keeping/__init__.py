@@ -11,6 +11,11 @@
 - log               the lines of the words with their dates
 - losing            what was there and is not
 - archive           an archive in its folder, with what came in lately, and how a new one takes its place
+- forms             words of a command line that are no paths
+- asking            how both archives are asked, each by its index
+- finding           `find`
+- symbolicating     `symbolicate`
+- naming            `name`
 - adding            `add`
 - folding           `fold`
 - retiring          `retire`
