@@ -125,7 +125,7 @@ class DryRun(RoomCase):
         lines = [line(word, image(number), f"many/{number}") for number, word in enumerate(words, 1)]
         same("lines", said, lines)
         same("errors", errors, [
-            "symarch-keep: many/bad: Slice(0, Image(CommandsOutside))",
+            "symarch-keep: many/bad: Slice(0, Image(CommandsOutside)): its commands promise 56 bytes, and there are 55",
             "symarch-keep: 1 added, 1 known, 1 retired, 1 refused, passed over 0; nothing was written",
         ])
         same("made", sorted(os.listdir(self.folder)), ["many", "site.sym"])
