@@ -722,16 +722,20 @@ class Faults(RoomCase):
         same("left", self.room.left(), [])
 
     def test_streams(self) -> None:
-        """Standard output that is full, closed or unread: the archive has all, with status 2."""
+        """Standard output that is full, closed or unread: the archive has all, with status 2. Of one that is unread, as
+        before `head`, nothing is said."""
         self.room.file("one", image(1))
         reader, writer = os.pipe()
         os.close(reader)
         with open("/dev/full", "wb") as full:
-            for out, reason in ((full, "No space left on device"), (writer, "Broken pipe")):
+            counts = "1 added, 0 known, 0 retired, 0 refused, passed over 0"
+            for out, reason in ((full, "standard output: No space left on device"), (writer, counts)):
+                self.room.begin_anew()
                 with self.room.start("add", self.room.archive, "one", stdout=out) as process:
                     errors = process.communicate()[1].decode().split("\n")
                 same("status", process.returncode, 2)
-                same("errors", errors[0], f"symarch-keep: standard output: {reason}")
+                told = [one for one in errors if "made" not in one][0]
+                same("errors", told, f"symarch-keep: {reason}")
                 self.room.has(archive([image(1)]))
         os.close(writer)
         for closed in ((0,), (1,), (2,), (0, 1, 2)):

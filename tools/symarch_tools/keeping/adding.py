@@ -57,7 +57,7 @@ from .program import DESCRIPTORS, Program
 from .screen import Failed, Screen, SliceRefused, shown
 from .slices import Finder, Slice, compared, promised
 
-USAGE = "symarch-keep add [--verbose] [--dry-run] ARCHIVE PATH..."
+USAGE = "symarch-keep add [--quiet] [--verbose] [--dry-run] ARCHIVE PATH..."
 ABOUT = "put images and dSYMs into it"
 STANDARD_INPUT = b"-"
 
@@ -167,7 +167,7 @@ def refuse_order(words: argparse.Namespace) -> None:
         return
     archives = [path for path in found if begins_as_archive(path)] or [found[-1]] * (not os.path.exists(found[-1]))
     if archives:
-        options = [f"--{name}" for name in ("verbose", "dry-run") if vars(words)[name.replace("-", "_")]]
+        options = [f"--{name}" for name in ("quiet", "verbose", "dry-run") if vars(words)[name.replace("-", "_")]]
         typed = [*map(os.fsencode, options), archives[0], *(path for path in found if path != archives[0])]
         line = " ".join(shown(shlex.quote(os.fsdecode(word))) for word in typed)
         kind = "a folder" if os.path.isdir(first) else "no archive"
@@ -189,7 +189,7 @@ def standard_input(ends: contextlib.ExitStack) -> bytes:
 
 def carry_out(words: argparse.Namespace) -> int:
     refuse_order(words)
-    screen = Screen(words.verbose)
+    screen = Screen(words.verbose, words.quiet)
     program = Program()
     archive = Archive(os.fsencode(words.archive), is_made=True, writes=False)
     os.stat(archive.folder)

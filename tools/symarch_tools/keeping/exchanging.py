@@ -53,7 +53,7 @@ from .screen import Failed, Screen, about, shown, system_text
 from .shared_folder import SHORT, SITE, TIME, Answer, Mark, Question, SharedFolder
 from .shared_folder import digest_of, mark_name, question_name, time_after
 
-USAGE = "symarch-keep exchange [--take-name] ARCHIVE FOLDER NAME"
+USAGE = "symarch-keep exchange [--quiet] [--take-name] ARCHIVE FOLDER NAME"
 ABOUT = "exchange with other sites over a folder"
 # What tells this site from another one of the same name.
 IDENTITY = b".site"
@@ -384,7 +384,7 @@ def refuse_name(folder: SharedFolder, identity: Identity) -> None:
 def carry_out(words: argparse.Namespace) -> int:
     if not re.fullmatch(SITE, words.name):
         raise Failed(f"NAME is {shown(os.fsencode(words.name))}, and has other letters than a-z, 0-9, - and _", 3)
-    screen = Screen()
+    screen = Screen(is_quiet=words.quiet)
     program = Program()
     archive = Archive(os.fsencode(words.archive), is_made=True)
     archive.take_lock(screen)

@@ -26,7 +26,7 @@ from .forms import arch_of, digest_of, uuid_of
 from .program import Program
 from .screen import Failed, Screen, shown
 
-USAGE = "symarch-keep retire [--before-it-comes] ARCHIVE UUID ARCH DIGEST"
+USAGE = "symarch-keep retire [--quiet] [--before-it-comes] ARCHIVE UUID ARCH DIGEST"
 ABOUT = "withdraw a slice for good"
 
 
@@ -43,7 +43,7 @@ def entry_in(words: argparse.Namespace) -> bytes:
 
 def carry_out(words: argparse.Namespace) -> int:
     entry = entry_in(words)
-    screen = Screen()
+    screen = Screen(is_quiet=words.quiet)
     program = Program()
     archive = Archive(os.fsencode(words.archive))
     archive.take_lock(screen)
