@@ -1,15 +1,27 @@
 """Keeps an archive of symarch: puts images and dSYMs into it, exchanges with other sites, checks and repairs it.
 
+Examples:
+
+  symarch-keep add builds.sym dSYMs               puts the images and dSYMs of a folder into it
+  symarch-keep find builds.sym UUID               prints what it has of a UUID
+  symarch-keep name builds.sym _copy_body         prints which builds have a symbol, and where
+  symarch-keep exchange builds.sym shared east    exchanges with the other sites over a folder
+  symarch-keep check builds.sym                   finds each byte that changed on the disk
+  symarch-keep fold builds.sym                    joins what came in lately into it, as at night
+
 The program is the one that SYMARCH names; else the one that ./symarch built, or that was installed with this tool; else
 `symarch` in PATH. None is built here: if SYMARCH names the script ./symarch, the program that it built is called.
 
 What comes in goes into ARCHIVE.today, a small archive beside ARCHIVE, and `fold` joins it into ARCHIVE. What a site has
-is what both have together: `symbolicate-report` asks both, and so does `symarch frames FRAMES ARCHIVE.today ARCHIVE`.
+is what both have together: `find`, `symbolicate` and `name` ask both, and so does `symbolicate-report`.
 
-Each word replaces one of the two by a new file that is synced and then renamed. Killed at any moment, it leaves the old
-one or the new one. One call works at a time, by a lock on the file ARCHIVE.lock, which stays; others wait. The new file
-is written in a folder ARCHIVE.making-*, so the disk needs room for a second ARCHIVE. What a kill leaves the next call
-removes.
+A word that is called with --quiet, and ends with 0, prints nothing; one that ends otherwise prints what it would print
+without it. So cron, which mails what is printed, mails what is wrong.
+
+Each word that writes replaces one of the two by a new file that is synced and then renamed. Killed at any moment, it
+leaves the old one or the new one. One of them works at a time, by a lock on the file ARCHIVE.lock, which stays; others
+wait, but for those that ask. The new file is written in a folder ARCHIVE.making-*, so the disk needs room for a second
+ARCHIVE. What a kill leaves the next call removes.
 
 Beside them stand their indexes, ARCHIVE.idx and ARCHIVE.today.idx, with the SHA-256 of each slice as it came in and
 where it stands; ARCHIVE.idx.sum and ARCHIVE.today.idx.sum, the SHA-256 of each index; ARCHIVE.log, the lines of the
