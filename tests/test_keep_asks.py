@@ -2,10 +2,11 @@
 print is what the program prints of the archive of both."""
 import os
 import pathlib
+import re
 import shutil
 from typing import List, Sequence
 
-from .support.cases import same
+from .support.cases import Without, is_done, same
 from .support.made_images import EMPTY, archive, image, slice_words
 from .support.program import TOP, Ended, call, symarch
 from .support.rooms import RoomCase, bytes_of, change, today_of
@@ -62,6 +63,16 @@ class Asks(AskCase):
                 same(f"{words}: {came.errors.decode()}", tuple(came), tuple(self.wanted(words)))
             same("a name of the dSYM", self.asked(self.words[1]).lines[0], COPY_BODY)
             self.room.call("fold", self.room.archive)
+
+    def test_the_program_opens_its_words_alone(self) -> None:
+        """It is the tool that knows what stands beside an archive."""
+        if not is_done(["strace", "-o", os.devnull, "true"]):
+            raise Without("strace is not there, or may not trace")
+        trace = self.folder / "trace"
+        words = self.placed(self.words[0], self.room.archive)
+        call(["strace", "-f", "-qq", "-o", trace, "-e", "trace=open,openat,stat,newfstatat,access", symarch, *words])
+        named = re.findall(rf'"({re.escape(str(self.folder))}[^"]*)"', trace.read_text())
+        same("paths", sorted(set(named) - {str(trace)}), [str(self.room.archive)])
 
     def test_without_an_index(self) -> None:
         """An archive that no word of symarch-keep has seen is asked as it stands, and nothing is made."""
@@ -129,10 +140,11 @@ class Unvouched(AskCase):
     def test_an_archive_that_was_written_since(self) -> None:
         other = self.folder / "other.sym"
         other.write_bytes(archive([image(1)]))
+        size = self.room.archive.stat().st_size
         shutil.copy(other, self.room.archive)
-        told = f"{self.room.archive} was written since its index was: run symarch-keep check {self.room.archive}"
+        told = f"has {other.stat().st_size} bytes, and had {size} when its index was written: run symarch-keep check"
         for words in self.words[:4]:
-            self.refused(words, told)
+            self.refused(words, f"{self.room.archive} {told} {self.room.archive}")
 
     def test_a_damaged_index(self) -> None:
         index = pathlib.Path(f"{self.room.archive}.idx")

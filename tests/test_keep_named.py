@@ -71,6 +71,21 @@ class Named(RoomCase):
         same("errors", errors.decode().splitlines()[0], "symarch-keep: -: a zip file, which has to be unpacked first")
 
 
+class NoArchive(RoomCase):
+    """A file in the place of ARCHIVE that is none is told by its kind, and stays as it is."""
+
+    seconds = 2
+
+    def test_each_word(self) -> None:
+        for name, kind in (("site.sym", "a zip file, which has to be unpacked first"), ("b.sym", "an empty file")):
+            text = b"PK\3\4" if name == "site.sym" else b""
+            self.room.file(name, text)
+            for words, status in ((["add", name, "."], 4), (["fold", name], 4), (["find", name, "0" * 32], 2)):
+                _, errors = self.room.call(*words, status=status)
+                same(f"{words}", errors[0].partition(";")[0], f"symarch-keep: {name} is no archive, but {kind}")
+                same("bytes", (self.folder / name).read_bytes(), text)
+
+
 class Made(RoomCase):
     """An archive is made if something goes into it, and that is said."""
 
@@ -153,6 +168,14 @@ class Order(RoomCase):
         told = "my dSYMs is a folder, and ARCHIVE comes first: symarch-keep add new.sym 'my dSYMs'"
         same("a folder", self.said("my dSYMs", "new.sym"), f"symarch-keep: {told}")
         same("made", os.listdir(self.folder), ["my dSYMs"])
+
+    def test_of_an_exchange(self) -> None:
+        self.room.archive.write_bytes(archive([image(3)]))
+        (self.folder / "shared").mkdir()
+        before = sorted(os.listdir(self.folder))
+        _, errors = self.room.call("exchange", "shared", "site.sym", "east", status=3)
+        told = "shared is a folder, and ARCHIVE comes first: symarch-keep exchange site.sym shared east"
+        same("errors", (errors, sorted(os.listdir(self.folder))), ([f"symarch-keep: {told}"], before))
 
     def test_what_is_said_may_be_typed(self) -> None:
         self.room.file("dSYMs/one", (TOP / "examples/crash/spool-1").read_bytes())

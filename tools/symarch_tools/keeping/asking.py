@@ -56,7 +56,10 @@ class Asked:
 
     def unvouched(self, file: ArchiveFile) -> Failed:
         """Why nothing is said by a file."""
-        fault = None if file.known()[0] else file.fault_of_index()
+        index = file.known()[0]
+        fault = file.fault_of_index() if index is None else None
+        if index is not None and index.size() != file.size():
+            fault = f"{shown(file.path)} has {file.size()} bytes, and had {index.size()} when its index was written"
         fault = fault or f"{shown(file.path)} was written since its index was"
         return Failed(f"{fault}: run symarch-keep check {shown(self.archive.path)}", 2)
 

@@ -39,6 +39,7 @@ Status:
 import argparse
 import os
 import re
+import shlex
 import time
 import uuid
 from typing import Callable, Dict, List, Optional, Sequence, Set, Tuple
@@ -384,6 +385,10 @@ def refuse_name(folder: SharedFolder, identity: Identity) -> None:
 def carry_out(words: argparse.Namespace) -> int:
     if not re.fullmatch(SITE, words.name):
         raise Failed(f"NAME is {shown(os.fsencode(words.name))}, and has other letters than a-z, 0-9, - and _", 3)
+    if os.path.isdir(words.archive) and not os.path.isdir(words.folder):
+        typed = " ".join(shlex.quote(word) for word in (words.folder, words.archive, words.name))
+        told = f"{shown(words.archive)} is a folder, and ARCHIVE comes first: symarch-keep exchange"
+        raise Failed(f"{told} {shown(typed)}", 3)
     screen = Screen(is_quiet=words.quiet)
     program = Program()
     archive = Archive(os.fsencode(words.archive), is_made=True)
