@@ -2,6 +2,7 @@
 import contextlib
 import os
 import pathlib
+import signal
 import subprocess
 from typing import Any, List, Mapping, NamedTuple, Optional, Sequence, Union
 
@@ -10,6 +11,9 @@ TOP = pathlib.Path(__file__).resolve().parents[2]
 symarch = os.path.abspath(os.environ.get("SYMARCH") or TOP / "crates" / "symarch" / "out" / "symarch")
 # How root runs a command that may not read each file.
 NOT_ROOT = ["setpriv", "--bounding-set=-dac_override,-dac_read_search"]
+# What a shell begins in the background ignores SIGINT, and so would all that it calls.
+if signal.getsignal(signal.SIGINT) == signal.SIG_IGN:
+    signal.signal(signal.SIGINT, signal.default_int_handler)
 # No call of a test takes longer, also where the machine has other work.
 MOST_SECONDS = 300
 

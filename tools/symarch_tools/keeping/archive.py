@@ -1,49 +1,40 @@
-"""An archive in its folder: ARCHIVE and ARCHIVE.today, which are asked as their join; their lock; the files that are
-kept beside them; and how a new archive takes the place of one.
+"""An archive: ARCHIVE and ARCHIVE.today, which are asked as their join; what they have, and what is lost; and how more
+comes in.
 
-What comes in goes into ARCHIVE.today, and `fold` joins that into ARCHIVE. A new archive goes in by four steps:
-ARCHIVE.log.next, FILE.idx.sum and FILE.idx.next are written, the archive is renamed, the lines are added to
-ARCHIVE.log, and FILE.idx.next becomes FILE.idx. Whoever comes after a kill sees by the file which of these were done,
-and does the others. ARCHIVE.today is emptied after ARCHIVE has all of it, so at any moment both have together what they
-had."""
+What comes in goes into ARCHIVE.today, and `fold` joins that into ARCHIVE. ARCHIVE.today is emptied after ARCHIVE has
+all of it, so at any moment both have together what they had."""
 import contextlib
 import os
-import shutil
-import stat
-import tempfile
-from typing import Iterator, List, Optional, Sequence, Tuple
+from typing import List, Optional, Sequence, Tuple
 
 from ..signals import signals
 from . import upgrading
 from .archive_file import INDEX, INDEX_SUM, NEXT_INDEX, ArchiveFile
-from .archive_file import note_of, size_of, sync_folder, write_synced
-from .contents import EMPTY, Content, heads_in, kept_text
+from .archive_file import size_of, write_synced
+from .contents import EMPTY, Content, heads_in
 from .indexes import Index, Row, held_against, index_by, index_in, index_of
 from .lock import Lock
-from .log import Log, dated
 from .looks import MOST_LOOKED_AT, look_of
 from .losing import LOST, Lost, counted, lost_lines
+from .placing import Placing
 from .program import DESCRIPTORS, Program
 from .screen import Failed, Screen, shown
 from .slices import Slice
 
 TODAY, ASKED = b".today", b".asked"
-# What a kill may leave; rooms are folders in which a word works.
-ROOM = b".making-"
 # ARCHIVE.today has grown if it has more than one of so many parts of ARCHIVE.
 PARTS = 10
 
 
-class Archive:
+class Archive(Placing):
     """The archive that a path names, also through links, with what came in since its last fold. Who does not write
     changes nothing."""
 
     def __init__(
         self, path: bytes, is_made: bool = False, writes: bool = True, may_be_damaged: bool = False
     ) -> None:
-        self.path = os.path.realpath(path)
-        self.folder, self.name = os.path.split(self.path)
-        self.writes, self.rooms_made = writes, 0
+        super().__init__(os.path.realpath(path))
+        self.writes = writes
         self.main, self.today = ArchiveFile(self.path, b"main"), ArchiveFile(self.beside(TODAY), b"today")
         self.files = self.main, self.today
         if not is_made:
@@ -53,12 +44,8 @@ class Archive:
                 with open(file.path, "rb") as opened:
                     look = look_of(opened.read(MOST_LOOKED_AT))
                 raise Failed(f"{shown(named)} is no archive{f', but {look}' if look else ''}")
-        self.log = Log(self.path, self.room)
         self.lock = Lock(self.path, writes)
         self.lost = Lost(self.beside(LOST))
-
-    def beside(self, ending: bytes) -> bytes:
-        return self.path + ending
 
     def take_lock(self, screen: Screen) -> None:
         """Waits until no other call has the lock, and goes on where one was killed."""
@@ -76,25 +63,6 @@ class Archive:
         if self.remove_rooms in signals.at_end:
             signals.at_end.remove(self.remove_rooms)
         self.lock.release()
-
-    def rooms(self) -> List[bytes]:
-        return sorted(name for name in os.listdir(self.folder) if name.startswith(self.name + ROOM))
-
-    def remove_rooms(self) -> None:
-        for name in self.rooms():
-            shutil.rmtree(os.path.join(self.folder, name), ignore_errors=True)
-
-    @contextlib.contextmanager
-    def room(self) -> Iterator[bytes]:
-        """A folder beside the archive. Only who has the lock makes one. The outermost one removes all of them."""
-        self.rooms_made += 1
-        try:
-            yield tempfile.mkdtemp(prefix=self.name + ROOM, dir=self.folder)
-        finally:
-            with signals.later():
-                self.rooms_made -= 1
-                if self.rooms_made == 0:
-                    self.remove_rooms()
 
     # ---- what it has
 
@@ -293,48 +261,7 @@ class Archive:
             told = f"{error.strerror}; the archive has all, and the next call goes on"
             screen.fail(f"{shown(self.today.path)}: {told}")
 
-    # ---- what takes the place of a file
-
-    def replace(self, room: bytes, file: ArchiveFile, index: Index, lines: Sequence[str], screen: Screen) -> None:
-        """Gives the new file of a room, which is synced, the name of a file, and what it may have of the archive's
-        owner and rights. Syncs the name. A signal waits until that is done."""
-        with signals.later():
-            self.put_in_place(os.path.join(room, b"new"), room, file, index, lines)
-            file.index, file.content = index, index.content()
-            self.finish(file, screen)
-
-    def put_in_place(self, new: bytes, room: bytes, file: ArchiveFile, index: Index, lines: Sequence[str]) -> None:
-        before = self.log.pending()
-        try:
-            self.lay(room, self.log.next, before + dated(lines))
-            self.lay_index(room, file, NEXT_INDEX, index, new)
-            self.give_rights(new)
-            # What is known of the new archive is there before it.
-            sync_folder(self.folder)
-            os.replace(new, file.path)
-        except OSError:
-            file.drop(NEXT_INDEX)
-            self.log.leave_pending(len(before))
-            raise
-        sync_folder(self.folder)
-
-    def give_rights(self, path: bytes) -> None:
-        with contextlib.suppress(OSError):
-            status = os.stat(self.path)
-            for owner, group in ((-1, status.st_gid), (status.st_uid, -1)):
-                with contextlib.suppress(PermissionError):
-                    os.chown(path, owner, group)
-            os.chmod(path, stat.S_IMODE(status.st_mode))
-
-    def finish(
-        self, file: ArchiveFile, screen: Screen, following: bytes = NEXT_INDEX, last: bytes = INDEX
-    ) -> None:
-        """The steps after the rename. The archive has all, also where one of them fails."""
-        try:
-            self.log.add_pending()
-            os.replace(file.beside(following), file.beside(last))
-        except OSError as error:
-            screen.fail(f"{shown(self.log.path)}: {error.strerror}; the archive has all, and the next call goes on")
+    # ---- what a kill left, and what an earlier symarch-keep kept
 
     def go_on(self, screen: Screen) -> None:
         """Does the steps that a kill left to do, and drops what is of a file that was not put in place."""
@@ -365,28 +292,6 @@ class Archive:
             with self.room() as room:
                 # Nothing says whether the file is still that of its sum, so its heads are compared.
                 self.lay_index(room, file, INDEX, index_by(content, file.path))
-
-    def lay(self, room: bytes, path: bytes, data: bytes) -> None:
-        """Makes a file beside the archive, whole and synced."""
-        kept = os.path.join(room, b"kept")
-        write_synced(kept, [data])
-        self.give_rights(kept)
-        os.replace(kept, path)
-
-    def lay_index(
-        self, room: bytes, file: ArchiveFile, ending: bytes, index: Index, path: Optional[bytes] = None
-    ) -> None:
-        """Makes an index beside a file, after what is noted of it and of the index before it: its SHA-256, and of which
-        file it was made."""
-        notes = [*file.notes_of_index(), note_of(index.text, path)]
-        self.lay(room, file.beside(INDEX_SUM), kept_text(Content(), notes))
-        self.lay(room, file.beside(ending), index.text)
-
-    def drop(self, *endings: bytes) -> None:
-        for ending in endings:
-            with contextlib.suppress(FileNotFoundError):
-                os.unlink(self.beside(ending))
-
 
 def index_made(path: bytes, room: bytes, program: Program, screen: Screen) -> Index:
     """The index of an archive, by the program."""

@@ -1,0 +1,119 @@
+"""The folder of an archive: the rooms in which a word works there, the files that are kept beside the archive, and how
+a new file takes the place of one.
+
+That goes by four steps: ARCHIVE.log.next, FILE.idx.sum and FILE.idx.next are written, the archive is renamed, the lines
+are added to ARCHIVE.log, and FILE.idx.next becomes FILE.idx. Whoever comes after a kill sees by the file which of these
+were done, and does the others."""
+import contextlib
+import os
+import shutil
+import stat
+import tempfile
+from typing import Iterator, List, Optional, Sequence
+
+from ..signals import signals
+from .archive_file import INDEX, INDEX_SUM, NEXT_INDEX, ArchiveFile
+from .archive_file import note_of, sync_folder, write_synced
+from .contents import Content, kept_text
+from .indexes import Index
+from .log import Log, dated
+from .screen import Screen, shown
+
+# What a kill may leave; rooms are folders in which a word works.
+ROOM = b".making-"
+
+
+class Placing:
+    """The folder of the archive of a path."""
+
+    def __init__(self, path: bytes) -> None:
+        self.path = path
+        self.folder, self.name = os.path.split(path)
+        self.rooms_made = 0
+        self.log = Log(path, self.room)
+
+    def beside(self, ending: bytes) -> bytes:
+        return self.path + ending
+
+    def rooms(self) -> List[bytes]:
+        return sorted(name for name in os.listdir(self.folder) if name.startswith(self.name + ROOM))
+
+    def remove_rooms(self) -> None:
+        for name in self.rooms():
+            shutil.rmtree(os.path.join(self.folder, name), ignore_errors=True)
+
+    @contextlib.contextmanager
+    def room(self) -> Iterator[bytes]:
+        """A folder beside the archive. Only who has the lock makes one. The outermost one removes all of them."""
+        self.rooms_made += 1
+        try:
+            yield tempfile.mkdtemp(prefix=self.name + ROOM, dir=self.folder)
+        finally:
+            with signals.later():
+                self.rooms_made -= 1
+                if self.rooms_made == 0:
+                    self.remove_rooms()
+
+    # ---- what takes the place of a file
+
+    def replace(self, room: bytes, file: ArchiveFile, index: Index, lines: Sequence[str], screen: Screen) -> None:
+        """Gives the new file of a room, which is synced, the name of a file, and what it may have of the archive's
+        owner and rights. Syncs the name. A signal waits until that is done."""
+        with signals.later():
+            self.put_in_place(os.path.join(room, b"new"), room, file, index, lines)
+            file.index, file.content = index, index.content()
+            self.finish(file, screen)
+
+    def put_in_place(self, new: bytes, room: bytes, file: ArchiveFile, index: Index, lines: Sequence[str]) -> None:
+        before = self.log.pending()
+        try:
+            self.lay(room, self.log.next, before + dated(lines))
+            self.lay_index(room, file, NEXT_INDEX, index, new)
+            self.give_rights(new)
+            # What is known of the new archive is there before it.
+            sync_folder(self.folder)
+            os.replace(new, file.path)
+        except OSError:
+            file.drop(NEXT_INDEX)
+            self.log.leave_pending(len(before))
+            raise
+        sync_folder(self.folder)
+
+    def give_rights(self, path: bytes) -> None:
+        with contextlib.suppress(OSError):
+            status = os.stat(self.path)
+            for owner, group in ((-1, status.st_gid), (status.st_uid, -1)):
+                with contextlib.suppress(PermissionError):
+                    os.chown(path, owner, group)
+            os.chmod(path, stat.S_IMODE(status.st_mode))
+
+    def finish(
+        self, file: ArchiveFile, screen: Screen, following: bytes = NEXT_INDEX, last: bytes = INDEX
+    ) -> None:
+        """The steps after the rename. The archive has all, also where one of them fails."""
+        try:
+            self.log.add_pending()
+            os.replace(file.beside(following), file.beside(last))
+        except OSError as error:
+            screen.fail(f"{shown(self.log.path)}: {error.strerror}; the archive has all, and the next call goes on")
+
+    def lay(self, room: bytes, path: bytes, data: bytes) -> None:
+        """Makes a file beside the archive, whole and synced."""
+        kept = os.path.join(room, b"kept")
+        write_synced(kept, [data])
+        self.give_rights(kept)
+        os.replace(kept, path)
+
+    def lay_index(
+        self, room: bytes, file: ArchiveFile, ending: bytes, index: Index, path: Optional[bytes] = None
+    ) -> None:
+        """Makes an index beside a file, after what is noted of it and of the index before it: its SHA-256, and of which
+        file it was made."""
+        notes = [*file.notes_of_index(), note_of(index.text, path)]
+        self.lay(room, file.beside(INDEX_SUM), kept_text(Content(), notes))
+        self.lay(room, file.beside(ending), index.text)
+
+    def drop(self, *endings: bytes) -> None:
+        for ending in endings:
+            with contextlib.suppress(FileNotFoundError):
+                os.unlink(self.beside(ending))
