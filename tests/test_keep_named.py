@@ -167,7 +167,16 @@ class Order(RoomCase):
         self.room.file("my dSYMs/one", image(1))
         told = "my dSYMs is a folder, and ARCHIVE comes first: symarch-keep add new.sym 'my dSYMs'"
         same("a folder", self.said("my dSYMs", "new.sym"), f"symarch-keep: {told}")
-        same("made", os.listdir(self.folder), ["my dSYMs"])
+        self.room.file("one", image(1))
+        said = self.said("one", "new.sym")
+        same("a file", said, "symarch-keep: one is no archive, and ARCHIVE comes first: symarch-keep add new.sym one")
+        same("made", sorted(os.listdir(self.folder)), ["my dSYMs", "one"])
+
+    def test_a_path_that_is_not_there(self) -> None:
+        """It is no archive if what stands before it is none of the files that go in."""
+        self.room.file("new.sym", b"")
+        _, errors = self.room.call("add", "new.sym", "nowhere", status=4)
+        same("errors", errors, ["symarch-keep: new.sym is no archive, but an empty file; the archive is as it was"])
 
     def test_of_an_exchange(self) -> None:
         self.room.archive.write_bytes(archive([image(3)]))

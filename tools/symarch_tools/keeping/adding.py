@@ -55,7 +55,7 @@ from .archive_file import NO_UUID, ArchiveFile
 from .contents import Content
 from .program import DESCRIPTORS, Program
 from .screen import Failed, Screen, SliceRefused, shown
-from .slices import Finder, Slice, compared, promised
+from .slices import THIN, UNIVERSAL, Finder, Slice, compared, promised
 
 USAGE = "symarch-keep add [--quiet] [--verbose] [--dry-run] ARCHIVE PATH..."
 ABOUT = "put images and dSYMs into it"
@@ -165,7 +165,9 @@ def refuse_order(words: argparse.Namespace) -> None:
     first, *_ = found = [os.fsencode(path) for path in (words.archive, *words.paths)]
     if begins_as_archive(first) or not os.path.exists(first):
         return
-    archives = [path for path in found if begins_as_archive(path)] or [found[-1]] * (not os.path.exists(found[-1]))
+    archives = [path for path in found if begins_as_archive(path)]
+    if not archives and begins_as_input(first) and not os.path.exists(found[-1]):
+        archives = found[-1:]
     if archives:
         options = [f"--{name}" for name in ("quiet", "verbose", "dry-run") if vars(words)[name.replace("-", "_")]]
         typed = [*map(os.fsencode, options), archives[0], *(path for path in found if path != archives[0])]
@@ -176,6 +178,11 @@ def refuse_order(words: argparse.Namespace) -> None:
 
 def begins_as_archive(path: bytes) -> bool:
     return os.path.isfile(path) and ArchiveFile(path, b"").begins_as_archive()
+
+
+def begins_as_input(path: bytes) -> bool:
+    """Whether a path is a folder, or a file as `add` puts into an archive."""
+    return os.path.isdir(path) or (ArchiveFile(path, b"").magic() or b"")[:4] in (THIN, *UNIVERSAL)
 
 
 def standard_input(ends: contextlib.ExitStack) -> bytes:
