@@ -33,12 +33,12 @@ class Asked:
     def __init__(self, path: bytes, ends: contextlib.ExitStack) -> None:
         self.archive, self.ends, self.program = Archive(path, writes=False), ends, Program()
         # A fold empties ARCHIVE.today once ARCHIVE has all of it, so who opens that first misses nothing.
-        today = self.opened(self.archive.today) if self.archive.today.size() > len(EMPTY) else None
-        files = [it for it in (today, self.opened(self.archive.main)) if it]
+        files = [self.opened(self.archive.today)] if self.archive.today.size() > len(EMPTY) else []
+        files.append(self.opened(self.archive.main))
         # The first index is that of the first archive, and so on.
         self.files = sorted(files, key=lambda it: it.its_index is None)
 
-    def opened(self, file: ArchiveFile) -> Optional[Opened]:
+    def opened(self, file: ArchiveFile) -> Opened:
         """A file with its index. A word that is replacing it gives it one soon."""
         for _ in range(TRIES):
             with contextlib.ExitStack() as closing:

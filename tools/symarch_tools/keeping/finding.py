@@ -9,8 +9,9 @@ For example, which slices a build has under this UUID, and by which SHA-256 one 
   ARCH retired DIGEST    a retirement
   ARCH conflict N        so many slices answer for this UUID and ARCH
 
-Both are read by their indexes, so that little of them is read, and no slice is named that changed since it came in. An
-archive without an index is read whole. No lock is taken, and nothing is written.
+Both are read by their indexes: if one of them has all, as after a fold, no slice is read, and else those of UUID. If
+one that is read changed since it came in, nothing is printed but that. An archive without an index is read whole. No
+lock is taken, and nothing is written.
 
 Status:
   0    it is printed

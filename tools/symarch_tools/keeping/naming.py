@@ -6,8 +6,8 @@ For example, which builds have a function, and at which address:
   symarch-keep name builds.sym _copy_body
   symarch-keep name builds.sym -- '-[Spool copyBody:]'
 
-All slices of both are read. If both have an index, a slice that changed since it came in, so that this has not its
-DIGEST, gets no line, and is said on standard error. No lock is taken, and nothing is written.
+All slices of both are read. If both have an index, a slice that has such a symbol and another SHA-256 than it came in
+with gets no line, and is said on standard error. No lock is taken, and nothing is written.
 
 Status:
   0    it is printed
