@@ -17,7 +17,7 @@ from typing import Any, Callable, Dict, List, Mapping, Tuple
 
 from .support.cases import Without, Wrong, is_done, powerless_over, same
 from .support.made_images import EMPTY, archive, image, line, symbols_outside, thirty_two_bit, universal
-from .support.made_trees import passed_over, refused_files, taken_files
+from .support.made_trees import OUTSIDE, passed_over, refused_files, taken_files
 from .support.program import Word, symarch
 from .support.rooms import Room, RoomCase, bytes_of, keep, today_of
 
@@ -110,12 +110,12 @@ class Kinds(RoomCase):
         self.room.has(archive([old, new], retired=[covered]))
 
     def test_nothing_found(self) -> None:
-        """The archive is made where nothing is found, with status 1."""
+        """No archive is made where nothing is found, with status 1."""
         self.room.file("folder/text", b"text")
         said, errors = self.room.add("folder", status=1)
         last = "symarch-keep: 0 added, 0 known, 0 retired, 0 refused, passed over 1 (other files 1)"
         same("lines", (said, errors), ([], [last]))
-        self.room.has(EMPTY)
+        same("made", os.listdir(self.folder), ["folder"])
 
     def test_absent_path(self) -> None:
         """A path that is not there is told, and the others go in."""
@@ -255,12 +255,12 @@ class ManyRefused(RoomCase):
         made, wanted = self.room.make_many(300), []
         for number in range(300):
             self.room.file(f"many/{number:04}.bad", symbols_outside(1000 + number))
-            wanted.append(f"symarch-keep: many/{number:04}.bad: Slice(0, Symbols(SymbolsOutside))")
+            wanted.append(f"symarch-keep: many/{number:04}.bad: Slice(0, {OUTSIDE}")
         for number in range(100):
             self.room.file(f"many/copy-{number:04}", symbols_outside(1000))
-            wanted.append(f"symarch-keep: many/copy-{number:04}: Slice(0, Symbols(SymbolsOutside))")
+            wanted.append(f"symarch-keep: many/copy-{number:04}: Slice(0, {OUTSIDE}")
         self.room.file("many/universal", universal([thirty_two_bit(), symbols_outside(1000)]))
-        wanted.append("symarch-keep: many/universal: Slice(1, Symbols(SymbolsOutside))")
+        wanted.append(f"symarch-keep: many/universal: Slice(1, {OUTSIDE}")
         counting = self.room.program(f'echo "$1" >>{self.folder}/calls\nexec "$symarch" "$@"')
         said, errors = self.room.add("many", status=2, environment=counting)
         same("errors", sorted(errors[:-1]), sorted(wanted))
@@ -635,7 +635,8 @@ class Changing(RoomCase):
             places = ((1, "many/0001"), (2, "many/0002"), (0, "many/same"))
             same("lines", said, [line("added", made[number], path) for number, path in places])
             reason = "No such file or directory" if name == "goes" else "changed while it was read"
-            same("errors", errors[:-1], [f"symarch-keep: many/0000: {reason}"])
+            told = [f"many/0000: {reason}", f"made {self.room.archive}"]
+            same("errors", errors[:-1], [f"symarch-keep: {one}" for one in told])
 
 
 def close_all(descriptors: Tuple[int, ...]) -> None:
@@ -671,7 +672,7 @@ class Faults(RoomCase):
             same("left", self.room.left(), [])
         self.room.archive = self.folder / "nowhere" / "site.sym"
         same("errors", self.room.add("one", status=4)[1], [
-            f"symarch-keep: {self.room.archive}.lock: No such file or directory; the archive is as it was"
+            f"symarch-keep: {self.folder}/nowhere: No such file or directory; the archive is as it was"
         ])
         self.room.archive = self.folder
         said = f"symarch-keep: {self.folder}: Is a directory; the archive is as it was"
@@ -721,16 +722,20 @@ class Faults(RoomCase):
         same("left", self.room.left(), [])
 
     def test_streams(self) -> None:
-        """Standard output that is full, closed or unread: the archive has all, with status 2."""
+        """Standard output that is full, closed or unread: the archive has all, with status 2. Of one that is unread, as
+        before `head`, nothing is said."""
         self.room.file("one", image(1))
         reader, writer = os.pipe()
         os.close(reader)
         with open("/dev/full", "wb") as full:
-            for out, reason in ((full, "No space left on device"), (writer, "Broken pipe")):
+            counts = "1 added, 0 known, 0 retired, 0 refused, passed over 0"
+            for out, reason in ((full, "standard output: No space left on device"), (writer, counts)):
+                self.room.begin_anew()
                 with self.room.start("add", self.room.archive, "one", stdout=out) as process:
                     errors = process.communicate()[1].decode().split("\n")
                 same("status", process.returncode, 2)
-                same("errors", errors[0], f"symarch-keep: standard output: {reason}")
+                told = [one for one in errors if "made" not in one][0]
+                same("errors", told, f"symarch-keep: {reason}")
                 self.room.has(archive([image(1)]))
         os.close(writer)
         for closed in ((0,), (1,), (2,), (0, 1, 2)):
@@ -822,7 +827,7 @@ class Words(RoomCase):
             with self.room.start(*words) as process:
                 said, errors = process.communicate()
             same(f"{words}", (process.returncode, said, errors[:6]), (3, b"", b"usage:"))
-        each = ("add", "fold", "retire", "exchange", "status", "check", "repair")
+        each = ("add", "find", "symbolicate", "name", "fold", "retire", "exchange", "status", "check", "repair")
         for words in (("--help",), *((word, "--help") for word in each)):
             with self.room.start(*words) as process:
                 said, errors = process.communicate()

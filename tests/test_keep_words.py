@@ -52,9 +52,18 @@ class Retire(RoomCase):
 
     def test_forms_of_words(self) -> None:
         name, arch, digest = slice_words(self.made[1])
-        for words in ((name[1:], arch, digest), (name, "i386", digest), (name, arch, digest[1:]), (digest, arch, name)):
+        hyphens, high = "32 hex digits, with or without hyphens", "cpu:01000007/80000003"
+        named = "x86_64, x86_64h, arm64, arm64e or cpu:CCCCCCCC/00SSSSSS"
+        for words, which in (
+            ((name[1:], arch, digest), f"UUID is `{name[1:]}`: expected {hyphens}"),
+            ((digest, arch, name), f"UUID is `{digest}`: expected {hyphens}"),
+            ((name, "i386", digest), f"ARCH is `i386`: expected {named}"),
+            ((name, high, digest), f"ARCH is `{high}`: expected {named}"),
+            ((name, arch, digest[1:]), f"DIGEST is `{digest[1:]}`: expected 64 hex digits"),
+            ((name, arch, f"{digest[:-2]} x"), f"DIGEST is `{digest[:-2]} x`: expected 64 hex digits"),
+        ):
             _, errors = self.room.call("retire", self.room.archive, *words, status=3)
-            same("errors", errors, ["symarch-keep: UUID, ARCH and DIGEST have the forms that `symarch find` prints"])
+            same("errors", errors, [f"symarch-keep: {which}"])
         self.room.call("retire", self.room.archive, "{%s}" % name.upper(), "cpu:01000007/00000003", digest.upper())
         self.room.has(archive(self.made[:1], retired=self.made[1:2]))
 
@@ -116,7 +125,7 @@ class DryRun(RoomCase):
         lines = [line(word, image(number), f"many/{number}") for number, word in enumerate(words, 1)]
         same("lines", said, lines)
         same("errors", errors, [
-            "symarch-keep: many/bad: Slice(0, Image(CommandsOutside))",
+            "symarch-keep: many/bad: Slice(0, Image(CommandsOutside)): its commands promise 56 bytes, and there are 55",
             "symarch-keep: 1 added, 1 known, 1 retired, 1 refused, passed over 0; nothing was written",
         ])
         same("made", sorted(os.listdir(self.folder)), ["many", "site.sym"])

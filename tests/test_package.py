@@ -374,6 +374,18 @@ class Words(PackageCase):
                 requests = [it for it in text.split("\n") if it.startswith("'") or re.match(r"\.[^A-Zbnf]", it)]
                 self.assertEqual(requests, [])
 
+    def test_manual_pages_begin_with_examples(self) -> None:
+        """What a program does and its examples come first; the forms of words, and which of them is refused first, come
+        last."""
+        for name, last in (("symarch", "WORDS"), ("symarch-keep", "OPTIONS"), ("symbolicate-report", "OPTIONS")):
+            with self.subTest(name):
+                text = self.made.tree()[f"share/man/man1/{name}.1"].decode()
+                sections = re.findall(r'^\.SH "?([A-Z ]+)"?$', text, re.M)
+                self.assertEqual(sections[2:4] + sections[-2:-1], ["DESCRIPTION", "EXAMPLES", last])
+                described, examples = re.split(r"^\.SH .*\n", text, flags=re.M)[3:5]
+                self.assertRegex(described, r"^(\\fBsymarch\\fR keeps|Keeps|Prints) ")
+                self.assertIn(f"{name} ".replace("-", r"\-"), examples)
+
     def test_manual_pages_as_shown(self) -> None:
         needs("man", "groff")
         for name in NAMES:

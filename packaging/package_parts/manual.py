@@ -17,6 +17,8 @@ OPTION = re.compile(r"--?\w[\w-]*(?: [A-Z]+)? {2,}\S")
 BEGINS = ("|", "#", "- ", "```", "  ")
 # Words, and after two spaces or more what they mean.
 COLUMNS = re.compile(r"(\S.*?) {2,}(\S.*)")
+# The examples of a help, which stand further in.
+EXAMPLES = re.compile(r"^Examples:\n\n((?:  .*\n|\n(?=  ))+)", re.M)
 ITEM = re.compile(r"(-|[0-9]+\.) +")
 
 
@@ -183,6 +185,10 @@ def of_document(program: Program, document: str, edition: Edition) -> str:
 
 
 def of_tool(program: Program, edition: Edition) -> str:
-    """The page of a tool, whose words are its help."""
+    """The page of a tool, whose words are its help: what it does and its examples come first."""
     usages = [it.usage for it in program.forms]
-    return page(program.name, program.about, usages, [".SH DESCRIPTION", *body(program.text)], edition)
+    found = EXAMPLES.search(program.text)
+    examples = [".SH EXAMPLES", *body(found[1]), ".SH DETAILS"] if found else []
+    rest = EXAMPLES.sub("", program.text)
+    made = [".SH DESCRIPTION", *body(f"{program.about.rstrip('.')}."), *examples, *body(rest)]
+    return page(program.name, program.about, usages, made, edition)

@@ -7,6 +7,20 @@ from .made_images import image, line, symbols_outside, thirty_two_bit, universal
 from .rooms import Room
 
 
+def promised(count: int, there: int) -> str:
+    """What is said of an image that was cut."""
+    return f": its commands promise {count} bytes, and there are {there}"
+
+
+def part(number: int, begin: int, end: int, size: int) -> str:
+    """What is said of a universal file that was cut."""
+    return f": part {number} is bytes {begin} to {end} by the table, and the file has {size}"
+
+
+TABLE = ": its table takes 48 bytes, and the file has 47"
+OUTSIDE = f"Symbols(SymbolsOutside)){promised(4112, 80)}"
+
+
 def taken_files(room: Room) -> Tuple[List[bytes], List[str], List[str], List[str]]:
     """Files that have slices which go in: these, their lines, and the lines of the parts that stay out."""
     made = [image(number, more=b"%d" % number) for number in range(7)]
@@ -33,7 +47,7 @@ def taken_files(room: Room) -> Tuple[List[bytes], List[str], List[str], List[str
     over += [f"tree/lib/one.dylib: passed over: part {part}, 32-bit images" for part in (0, 2)]
     over += ["tree/lib/without.dylib: passed over: part 0, images without a UUID"]
     lines = [line("added", made[number], f"tree/{name}") for name, (_, numbers) in places.items() for number in numbers]
-    return made, lines, over, ["tree/lib/broken.dylib: Slice(1, Symbols(SymbolsOutside))"]
+    return made, lines, over, [f"tree/lib/broken.dylib: Slice(1, {OUTSIDE}"]
 
 
 def passed_over(room: Room) -> List[str]:
@@ -72,18 +86,21 @@ def refused_files(room: Room) -> List[str]:
     places = {
         "head": (whole[:20], "Slice(0, Image(HeaderTruncated))"),
         "magic": (whole[:4], "Slice(0, Image(HeaderTruncated))"),
-        "cut": (whole[:-1], "Slice(0, Image(CommandsOutside))"),
+        "cut": (whole[:-1], f"Slice(0, Image(CommandsOutside)){promised(56, 55)}"),
         "small": (image(0, commands=struct.pack("<II", 5, 4)), "Slice(0, Image(BadCommand(0)))"),
         "long": (image(0, commands=struct.pack("<II", 5, 16)), "Slice(0, Image(BadCommand(0)))"),
         "uuid": (image(0, commands=struct.pack("<II8x", UUID_COMMAND, 16)), "Slice(0, Image(BadUuid(0)))"),
         "second": (with_two, "Slice(0, Image(SecondUuid(1)))"),
-        "symbols": (symbols_outside(42), "Slice(0, Symbols(SymbolsOutside))"),
-        "part": (universal([thirty_two_bit(), whole[:50]]), "Slice(1, Image(CommandsOutside))"),
+        "symbols": (symbols_outside(42), f"Slice(0, {OUTSIDE}"),
+        "part": (universal([thirty_two_bit(), whole[:50]]), f"Slice(1, Image(CommandsOutside)){promised(56, 50)}"),
         "fat-head": (bytes.fromhex("cafebabe0000"), "Fat(HeaderTruncated)"),
         "fat-count": (struct.pack(">II", 0xCAFEBABE, 33) + bytes(33 * 20), "Fat(TooManyArches(33))"),
-        "fat-table": (struct.pack(">II", 0xCAFEBABE, 2) + bytes(39), "Fat(TableTruncated)"),
-        "fat-cut": (universal([thirty_two_bit(), whole])[:-1], "Fat(SliceOutside(1))"),
-        "fat-large": (struct.pack(">IIIIQQII", 0xCAFEBABF, 1, 7, 3, 1 << 63, 1 << 63, 0, 0), "Fat(SliceOutside(0))"),
+        "fat-table": (struct.pack(">II", 0xCAFEBABE, 2) + bytes(39), f"Fat(TableTruncated){TABLE}"),
+        "fat-cut": (universal([thirty_two_bit(), whole])[:-1], f"Fat(SliceOutside(1)){part(1, 128, 184, 183)}"),
+        "fat-large": (
+            struct.pack(">IIIIQQII", 0xCAFEBABF, 1, 7, 3, 1 << 63, 1 << 63, 0, 0),
+            f"Fat(SliceOutside(0)){part(0, 1 << 63, 1 << 64, 40)}",
+        ),
     }
     for name, (content, _) in places.items():
         room.file(f"tree/refused/{name}", content)

@@ -113,8 +113,10 @@ class Room:
         return out[:-1], errors[:-1]
 
     def add(self, *paths: Any, words: Iterable[str] = (), **more: Any) -> Tuple[List[str], List[str]]:
-        """Adds paths, and returns the lines of standard output and of standard error, of which the last has counts."""
-        return self.call("add", *words, self.archive, *paths, **more)
+        """Adds paths, and returns the lines of standard output and of standard error, of which the last has counts, but
+        for the one that says that the archive was made."""
+        out, errors = self.call("add", *words, self.archive, *paths, **more)
+        return out, [one for one in errors if one != f"symarch-keep: made {os.path.realpath(self.archive)}"]
 
     def has(self, wanted: bytes) -> None:
         """Fails where the archive, with what came in since its last fold, has other bytes."""

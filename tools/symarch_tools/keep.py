@@ -1,15 +1,27 @@
 """Keeps an archive of symarch: puts images and dSYMs into it, exchanges with other sites, checks and repairs it.
 
+Examples:
+
+  symarch-keep add builds.sym dSYMs               puts the images and dSYMs of a folder into it
+  symarch-keep find builds.sym UUID               prints what it has of a UUID
+  symarch-keep name builds.sym _copy_body         prints which builds have a symbol, and where
+  symarch-keep exchange builds.sym shared east    exchanges with the other sites over a folder
+  symarch-keep check builds.sym                   finds each byte that changed on the disk
+  symarch-keep fold builds.sym                    joins what came in lately into it, as at night
+
 The program is the one that SYMARCH names; else the one that ./symarch built, or that was installed with this tool; else
 `symarch` in PATH. None is built here: if SYMARCH names the script ./symarch, the program that it built is called.
 
 What comes in goes into ARCHIVE.today, a small archive beside ARCHIVE, and `fold` joins it into ARCHIVE. What a site has
-is what both have together: `symbolicate-report` asks both, and so does `symarch frames FRAMES ARCHIVE.today ARCHIVE`.
+is what both have together: `find`, `symbolicate` and `name` ask both, and so does `symbolicate-report`.
 
-Each word replaces one of the two by a new file that is synced and then renamed. Killed at any moment, it leaves the old
-one or the new one. One call works at a time, by a lock on the file ARCHIVE.lock, which stays; others wait. The new file
-is written in a folder ARCHIVE.making-*, so the disk needs room for a second ARCHIVE. What a kill leaves the next call
-removes.
+A word that is called with --quiet, and ends with 0, prints nothing; one that ends otherwise prints what it would print
+without it. So cron, which mails what is printed, mails what is wrong.
+
+Each word that writes replaces one of the two by a new file that is synced and then renamed. Killed at any moment, it
+leaves the old one or the new one. One of them works at a time, by a lock on the file ARCHIVE.lock, which stays; others
+wait, but for those that ask. The new file is written in a folder ARCHIVE.making-*, so the disk needs room for a second
+ARCHIVE. What a kill leaves the next call removes.
 
 Beside them stand their indexes, ARCHIVE.idx and ARCHIVE.today.idx, with the SHA-256 of each slice as it came in and
 where it stands; ARCHIVE.idx.sum and ARCHIVE.today.idx.sum, the SHA-256 of each index; ARCHIVE.log, the lines of the
@@ -19,15 +31,19 @@ version 1 has no index, and becomes one of version 2 by the next word that write
 import argparse
 import os
 import sys
-from typing import NoReturn, Optional, Sequence
+from typing import Any, Dict, NoReturn, Optional, Sequence, Set
 
-from .keeping import adding, checking, exchanging, folding, repairing, retiring, stating
-from .keeping.screen import Failed, Screen, system_text
+from .keeping import adding, checking, exchanging, finding, folding, naming, repairing, retiring, stating
+from .keeping import symbolicating
+from .keeping.screen import Failed, Screen, shown, system_text
 from .signals import Stopped, signals
 from .version import PrintVersion
 
 WORDS = {
     "add": adding,
+    "find": finding,
+    "symbolicate": symbolicating,
+    "name": naming,
     "fold": folding,
     "retire": retiring,
     "exchange": exchanging,
@@ -37,12 +53,39 @@ WORDS = {
 }
 
 
+# Words that are asked print what they find; the others may be quiet.
+ASKING = ("find", "symbolicate", "name")
+QUIET = "print nothing if nothing is wrong, as cron mails what is printed"
+
+
 class Parser(argparse.ArgumentParser):
-    """Words. Others end with status 3, as with the program."""
+    """Words. Others end with status 3, as with the program, and are named."""
+
+    def __init__(self, *words: Any, **more: Any) -> None:
+        self.options: Set[str] = set()
+        super().__init__(*words, **more)
+
+    def add_argument(self, *words: Any, **more: Any) -> argparse.Action:
+        action = super().add_argument(*words, **more)
+        self.options.update(action.option_strings)
+        return action
+
+    def refuse_options(self, words: Sequence[str]) -> None:
+        """Refuses a word that is no option, though it begins as one."""
+        for word in words[: words.index("--") if "--" in words else len(words)]:
+            if word.startswith("-") and word != "-" and word.partition("=")[0] not in self.options:
+                what = "what begins with - and is none comes after --"
+                self.error(f"`{shown(word)}` is no option of `{self.prog}`; {what}")
 
     def error(self, message: str) -> NoReturn:
-        self.print_usage(sys.stderr)
-        self.exit(3, f"{self.prog}: {message}\n")
+        Screen().write(f"{self.format_usage()}symarch-keep: {message}\n")
+        sys.exit(3)
+
+    def print_help(self, file: object = None) -> None:
+        screen = Screen()
+        screen.print(self.format_help())
+        if screen.status():
+            sys.exit(screen.status())
 
 
 def parse(words: Sequence[str]) -> argparse.Namespace:
@@ -50,8 +93,9 @@ def parse(words: Sequence[str]) -> argparse.Namespace:
     parser = Parser("symarch-keep", description=__doc__, formatter_class=shape, allow_abbrev=False)
     parser.add_argument("--version", action=PrintVersion, nargs=0, help="print the version and exit")
     commands = parser.add_subparsers(metavar="WORD", required=True)
+    parsers: Dict[str, Parser] = {}
     for name, module in WORDS.items():
-        its = commands.add_parser(
+        parsers[name] = its = commands.add_parser(
             name,
             help=module.ABOUT,
             usage=module.USAGE,
@@ -59,9 +103,21 @@ def parse(words: Sequence[str]) -> argparse.Namespace:
             formatter_class=shape,
             allow_abbrev=False,
         )
+        if name not in ASKING:
+            its.add_argument("--quiet", action="store_true", help=QUIET)
         module.define(its)
         its.set_defaults(carry_out=module.carry_out)
-    return parser.parse_args(words)
+    first = words[0] if words else ""
+    if first in parsers:
+        parsers[first].refuse_options(words[1:])
+    elif first and not first.startswith("-"):
+        parser.error(f"`{shown(first)}` is no word of symarch-keep: expected {', '.join(WORDS)}")
+    else:
+        parser.refuse_options(words)
+    found, others = parser.parse_known_args(words)
+    if others:
+        parsers[first].error(f"`{shown(others[0])}` is one word too many")
+    return found
 
 
 def open_standard_streams() -> None:

@@ -1,5 +1,12 @@
 """Prints reports of crashes and hangs with the names that an archive has for their frames.
 
+Examples:
+
+  symbolicate-report report.ips builds.sym            prints the report with names
+  symbolicate-report --text report.ips builds.sym     as people read a crash
+  symbolicate-report --missing *.ips builds.sym       the images without a dSYM, once each
+  symbolicate-report --out named *.crash builds.sym   writes each report into the folder named
+
 What is read, whatever the file is called, and of standard input if it is called `-`:
 
 - text (.crash): numbered frames, and the images after `Binary Images:`; a line of addresses in parentheses after

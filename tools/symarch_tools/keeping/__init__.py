@@ -3,6 +3,7 @@
 - screen            what is said, and the faults
 - contents          what an archive has, and the bytes of archives, summaries and the files beside an archive
 - indexes           the index of an archive: its bytes, and what changed by it
+- looks             what a file looks like of which nothing goes in
 - slices            what files and folders have
 - program           the program symarch
 - upgrading         what was kept before there were indexes
@@ -12,6 +13,11 @@
 - losing            what was there and is not
 - placing           the folder of an archive, and how a new file takes the place of one
 - archive           an archive with what came in lately, and how more comes in
+- forms             words of a command line that are no paths
+- asking            how both archives are asked, each by its index
+- finding           `find`
+- symbolicating     `symbolicate`
+- naming            `name`
 - adding            `add`
 - folding           `fold`
 - retiring          `retire`

@@ -1,12 +1,19 @@
-r"""Puts the Mach-O images and dSYMs of files and folders into ARCHIVE, and makes ARCHIVE if it does not exist.
+r"""Puts the Mach-O images and dSYMs of files and folders into ARCHIVE. It makes ARCHIVE if that does not exist and
+something is to be put into it, and says so.
+
+For example, the dSYMs of a folder, and one that standard input has:
+
+  symarch-keep add builds.sym dSYMs
+  symarch-keep add builds.sym - < spool.app.dSYM/Contents/Resources/DWARF/spool
 
 What goes in is found by its first bytes, whatever a file is called: each 64-bit slice that has a UUID, in dSYM
 bundles, .xcarchive, .app, frameworks, dylibs and all else that a PATH has at any depth. The slices of a universal
-file go in one by one, so a part that stays out keeps no other part out.
+file go in one by one, so a part that stays out keeps no other part out. The PATH - is standard input.
 
 These are passed over: object files and images without a UUID, static libraries, 32-bit and big-endian images, all
 other files, links to folders, links that lead nowhere. The last line on standard error counts them; --verbose names
-each. A PATH that is a link is followed, and so is a link to a file. A file that has several names is read once.
+each. A PATH of which nothing goes in is named too, with what it looks like. A PATH that is a link is followed, and so
+is a link to a file. A file that has several names is read once.
 
 A file that cannot be read, that changes while it is read, or that symarch refuses is reported by its path, and the
 others go in. There may be any number of files; few are open at a time. The largest slice has to fit in memory twice.
@@ -17,8 +24,8 @@ For each slice a line is printed after ARCHIVE is in place, in the order in whic
   known UUID ARCH DIGEST PATH      ARCHIVE or ARCHIVE.today had it, or it was found before
   retired UUID ARCH DIGEST PATH    it is withdrawn in one of them, so it stays out
 
-DIGEST is the SHA-256 that `symarch find` prints. PATH is printed as UTF-8; the backslash, each byte that is no UTF-8
-and each byte of a character that does not print, as a newline, stand as \x and two hex digits.
+DIGEST is the SHA-256 that `symarch-keep find` prints. PATH is printed as UTF-8; the backslash, each byte that is no
+UTF-8 and each byte of a character that does not print, as a newline, stand as \x and two hex digits.
 
 The lines are kept in ARCHIVE.log too, with the date. If no slice is new, ARCHIVE is not touched, and what it has is
 not read again. What is new goes into ARCHIVE.today, so that ARCHIVE is not written anew, and is asked together with it;
@@ -34,19 +41,25 @@ Status:
   126  there is no program"""
 import argparse
 import collections
+import contextlib
 import functools
 import os
+import shlex
+import shutil
+import sys
+import tempfile
 from typing import Dict, List, Sequence, Set, Union
 
 from .archive import Archive
-from .archive_file import NO_UUID
+from .archive_file import NO_UUID, ArchiveFile
 from .contents import Content
-from .program import Program
-from .screen import Screen, SliceRefused
-from .slices import Finder, Slice, compared
+from .program import DESCRIPTORS, Program
+from .screen import Failed, Screen, SliceRefused, shown
+from .slices import THIN, UNIVERSAL, Finder, Slice, compared, promised
 
-USAGE = "symarch-keep add [--verbose] [--dry-run] ARCHIVE PATH..."
+USAGE = "symarch-keep add [--quiet] [--verbose] [--dry-run] ARCHIVE PATH..."
 ABOUT = "put images and dSYMs into it"
+STANDARD_INPUT = b"-"
 
 
 def define(parser: argparse.ArgumentParser) -> None:
@@ -70,7 +83,7 @@ def read_all(slices: Sequence[Slice], screen: Screen) -> List[Slice]:
                 screen.progress(len(paths), done)
             kept.append(one)
         except SliceRefused as refused:
-            screen.refuse(one.path, refused)
+            screen.refuse(one.name, refused)
     return kept
 
 
@@ -100,7 +113,8 @@ def put(
         for one in slices:
             reason = reasons.get(one) or reasons.get(one.entry())
             if reason:
-                screen.refuse(one.path, f"Slice({one.part or 0}, {reason})" if reason.is_of_bytes else reason)
+                told = f"Slice({one.part or 0}, {reason}){promised(one)}" if reason.is_of_bytes else reason
+                screen.refuse(one.name, told)
             else:
                 kept.append(one)
         slices = kept
@@ -121,8 +135,9 @@ def put_new(
         if is_dry_run:
             return refusals(program, new)
         lines = [one.line() for one in slices]
-        if not new and archive.main.exists():
-            archive.log.note(lines, screen)
+        if not new:
+            if archive.main.exists():
+                archive.log.note(lines, screen)
             return []
         news = Content((), {one.entry(): one.length for one in new})
         with archive.room() as room:
@@ -145,19 +160,68 @@ def refusals(program: Program, slices: Sequence[Slice]) -> List[SliceRefused]:
     return found
 
 
+def refuse_order(words: argparse.Namespace) -> None:
+    """Says what to type if ARCHIVE stands after the paths."""
+    first, *_ = found = [os.fsencode(path) for path in (words.archive, *words.paths)]
+    if begins_as_archive(first) or not os.path.exists(first):
+        return
+    archives = [path for path in found if begins_as_archive(path)]
+    if not archives and begins_as_input(first) and not os.path.exists(found[-1]):
+        archives = found[-1:]
+    if archives:
+        options = [f"--{name}" for name in ("quiet", "verbose", "dry-run") if vars(words)[name.replace("-", "_")]]
+        typed = [*map(os.fsencode, options), archives[0], *(path for path in found if path != archives[0])]
+        line = " ".join(shown(shlex.quote(os.fsdecode(word))) for word in typed)
+        kind = "a folder" if os.path.isdir(first) else "no archive"
+        raise Failed(f"{shown(first)} is {kind}, and ARCHIVE comes first: symarch-keep add {line}", 3)
+
+
+def begins_as_archive(path: bytes) -> bool:
+    return os.path.isfile(path) and ArchiveFile(path, b"").begins_as_archive()
+
+
+def begins_as_input(path: bytes) -> bool:
+    """Whether a path is a folder, or a file as `add` puts into an archive."""
+    return os.path.isdir(path) or (ArchiveFile(path, b"").magic() or b"")[:4] in (THIN, *UNIVERSAL)
+
+
+def standard_input(ends: contextlib.ExitStack) -> bytes:
+    """A path of what standard input has, since each slice is read more than once."""
+    copy = ends.enter_context(tempfile.TemporaryFile())
+    with contextlib.suppress(AttributeError):
+        shutil.copyfileobj(sys.stdin.buffer, copy)
+    copy.flush()
+    return os.fsencode(f"{DESCRIPTORS}/{copy.fileno()}")
+
+
 def carry_out(words: argparse.Namespace) -> int:
-    screen = Screen(words.verbose)
+    refuse_order(words)
+    screen = Screen(words.verbose, words.quiet)
     program = Program()
-    archive = Archive(os.fsencode(words.archive), is_made=True, writes=not words.dry_run)
-    finder = Finder(screen)
-    finder.find([os.fsencode(path) for path in words.paths])
-    readable = read_all(finder.slices, screen)
-    archive.take_lock(screen)
-    slices = put(archive, program, readable, screen, words.dry_run)
+    archive = Archive(os.fsencode(words.archive), is_made=True, writes=False)
+    os.stat(archive.folder)
+    finder, paths = Finder(screen), [os.fsencode(path) for path in words.paths]
+    with contextlib.ExitStack() as ends:
+        if STANDARD_INPUT in paths:
+            finder.places[STANDARD_INPUT] = standard_input(ends)
+        finder.find(paths)
+        readable = read_all(finder.slices, screen)
+        # Where nothing was found nothing is made beside an archive that is not there.
+        is_writing = not words.dry_run and (archive.main.exists() or bool(readable))
+        archive = Archive(os.fsencode(words.archive), is_made=True, writes=is_writing)
+        archive.take_lock(screen)
+        is_there = archive.main.exists()
+        slices = put(archive, program, readable, screen, words.dry_run)
     screen.show([one.line() for one in slices])
+    if archive.main.exists() and not is_there:
+        screen.line(f"made {shown(archive.path)}")
+    say_counts(slices, screen, words.dry_run)
+    return screen.status(0 if slices else 1)
+
+
+def say_counts(slices: Sequence[Slice], screen: Screen, is_dry_run: bool) -> None:
     count = collections.Counter(one.word for one in slices)
     kinds = ", ".join(f"{kind} {number}" for kind, number in sorted(screen.passed_over.items()))
     told = ", ".join(f"{count[word]} {word}" for word in ("added", "known", "retired")) + f", {screen.refused} refused"
     told += f", passed over {sum(screen.passed_over.values())}{f' ({kinds})' if kinds else ''}"
-    screen.line(f"{told}; nothing was written" if words.dry_run else told)
-    return screen.status(0 if slices else 1)
+    screen.line(f"{told}; nothing was written" if is_dry_run else told)

@@ -14,6 +14,7 @@ from .archive_file import size_of, write_synced
 from .contents import EMPTY, Content, heads_in
 from .indexes import Index, Row, held_against, index_by, index_in, index_of
 from .lock import Lock
+from .looks import MOST_LOOKED_AT, look_of
 from .losing import LOST, Lost, counted, lost_lines
 from .placing import Placing
 from .program import DESCRIPTORS, Program
@@ -40,7 +41,9 @@ class Archive(Placing):
             os.stat(self.path)
         for file, named in zip(self.files, (path, path + TODAY)):
             if not may_be_damaged and not file.begins_as_archive():
-                raise Failed(f"{shown(named)} is no archive")
+                with open(file.path, "rb") as opened:
+                    look = look_of(opened.read(MOST_LOOKED_AT))
+                raise Failed(f"{shown(named)} is no archive{f', but {look}' if look else ''}")
         self.lock = Lock(self.path, writes)
         self.lost = Lost(self.beside(LOST))
 

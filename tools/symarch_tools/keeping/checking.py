@@ -35,7 +35,7 @@ from .losing import lost_lines
 from .program import Program
 from .screen import Failed, Screen, shown
 
-USAGE = "symarch-keep check ARCHIVE"
+USAGE = "symarch-keep check [--quiet] ARCHIVE"
 ABOUT = "find each byte that changed"
 
 
@@ -163,7 +163,7 @@ def look_through(archive: Archive, files: List[ArchiveFile], screen: Screen) -> 
 
 
 def carry_out(words: argparse.Namespace) -> int:
-    screen = Screen()
+    screen = Screen(is_quiet=words.quiet)
     program = Program()
     archive = Archive(os.fsencode(words.archive), writes=False, may_be_damaged=True)
     archive.take_lock(screen)

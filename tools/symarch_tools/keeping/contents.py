@@ -208,15 +208,8 @@ def numbers_of(arch: str) -> bytes:
     return struct.pack(">II", *NUMBERS[arch])
 
 
-def entry_of(name: str, arch: str, digest: str) -> bytes:
-    """The key and the digest that three words mean; ValueError where one has another form."""
-    if len(digest) != 2 * DIGEST:
-        raise ValueError("DIGEST")
-    return uuid.UUID(name).bytes + numbers_of(arch) + bytes.fromhex(digest)
-
-
 def entry_in(name: str, arch: str, digest: str) -> bytes:
-    """The same of the words that `words_of` writes."""
+    """The key and the digest that three words mean, which `words_of` wrote."""
     return bytes.fromhex(name.replace("-", "")) + numbers_of(arch) + bytes.fromhex(digest)
 
 

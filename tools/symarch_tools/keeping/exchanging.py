@@ -39,6 +39,7 @@ Status:
 import argparse
 import os
 import re
+import shlex
 import time
 import uuid
 from typing import Callable, Dict, List, Optional, Sequence, Set, Tuple
@@ -53,7 +54,7 @@ from .screen import Failed, Screen, about, shown, system_text
 from .shared_folder import SHORT, SITE, TIME, Answer, Mark, Question, SharedFolder
 from .shared_folder import digest_of, mark_name, question_name, time_after
 
-USAGE = "symarch-keep exchange [--take-name] ARCHIVE FOLDER NAME"
+USAGE = "symarch-keep exchange [--quiet] [--take-name] ARCHIVE FOLDER NAME"
 ABOUT = "exchange with other sites over a folder"
 # What tells this site from another one of the same name.
 IDENTITY = b".site"
@@ -381,10 +382,20 @@ def refuse_name(folder: SharedFolder, identity: Identity) -> None:
         raise Failed(f"{told}; choose another NAME, or take this one by --take-name if the other is gone")
 
 
+def refuse_order(words: argparse.Namespace) -> None:
+    """Says what to type if FOLDER stands before ARCHIVE."""
+    if os.path.isdir(words.archive) and not os.path.isdir(words.folder):
+        options = [f"--{name}" for name in ("quiet", "take-name") if vars(words)[name.replace("-", "_")]]
+        typed = " ".join(shlex.quote(word) for word in (*options, words.folder, words.archive, words.name))
+        told = f"{shown(words.archive)} is a folder, and ARCHIVE comes first: symarch-keep exchange"
+        raise Failed(f"{told} {shown(typed)}", 3)
+
+
 def carry_out(words: argparse.Namespace) -> int:
     if not re.fullmatch(SITE, words.name):
         raise Failed(f"NAME is {shown(os.fsencode(words.name))}, and has other letters than a-z, 0-9, - and _", 3)
-    screen = Screen()
+    refuse_order(words)
+    screen = Screen(is_quiet=words.quiet)
     program = Program()
     archive = Archive(os.fsencode(words.archive), is_made=True)
     archive.take_lock(screen)

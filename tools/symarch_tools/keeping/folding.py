@@ -22,7 +22,7 @@ from .archive import Archive
 from .program import Program
 from .screen import Screen, shown
 
-USAGE = "symarch-keep fold ARCHIVE"
+USAGE = "symarch-keep fold [--quiet] ARCHIVE"
 ABOUT = "join what came in lately into it"
 
 
@@ -31,7 +31,7 @@ def define(parser: argparse.ArgumentParser) -> None:
 
 
 def carry_out(words: argparse.Namespace) -> int:
-    screen = Screen()
+    screen = Screen(is_quiet=words.quiet)
     program = Program()
     archive = Archive(os.fsencode(words.archive))
     archive.take_lock(screen)

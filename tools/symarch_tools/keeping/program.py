@@ -3,7 +3,7 @@ import contextlib
 import os
 import re
 import subprocess
-from typing import Callable, Dict, Iterable, Optional, Sequence, Union
+from typing import Callable, Dict, Iterable, Optional, Sequence, Tuple, Union
 
 from ..program import candidates, named
 from ..signals import signals
@@ -38,8 +38,20 @@ class Program:
         moved: Moved = not_moved,
         names: Optional[Dict[str, str]] = None,
     ) -> bytes:
+        """Runs words, and returns what is printed."""
+        return self.answer(words, slices, folder, open_files, moved, names)[0]
+
+    def answer(
+        self,
+        words: Sequence[Word],
+        slices: Sequence[Slice] = (),
+        folder: Optional[bytes] = None,
+        open_files: Iterable[int] = (),
+        moved: Moved = not_moved,
+        names: Optional[Dict[str, str]] = None,
+    ) -> Tuple[bytes, int]:
         """Runs words, in a folder if there is one, with the archive of some slices on standard input, and returns what
-        is printed. A fault names a path of `names` by what that has for it."""
+        is printed, and the status, 0 or 1. A fault names a path of `names` by what that has for it."""
         with contextlib.ExitStack() as ends:
             # A signal waits until what ends the program is on the stack: one that goes on writes into a folder that is
             # being removed.
@@ -68,7 +80,7 @@ class Program:
             places = {**in_folder(words, folder), **(names or {})}
             told = said.decode(errors="replace").strip()
             raise fault(os.fsdecode(words[0]), told, process.returncode, slices, places)
-        return printed or b""
+        return printed or b"", process.returncode
 
     def run_over(self, path: bytes, command: str, *more: str, folder: Optional[bytes] = None) -> bytes:
         """Runs a command over the archive of a path. Words that are no UTF-8 are refused, so it gets another word."""

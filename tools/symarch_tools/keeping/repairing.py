@@ -29,7 +29,7 @@ from .program import Program, give
 from .screen import Failed, Screen, SliceRefused, shown, system_text
 from .slices import Slice, compared
 
-USAGE = "symarch-keep repair ARCHIVE FROM"
+USAGE = "symarch-keep repair [--quiet] ARCHIVE FROM"
 ABOUT = "mend what changed, out of another archive"
 
 
@@ -142,7 +142,7 @@ def tried(
 
 
 def carry_out(words: argparse.Namespace) -> int:
-    screen = Screen()
+    screen = Screen(is_quiet=words.quiet)
     program = Program()
     archive, other = Archive(os.fsencode(words.archive), may_be_damaged=True), os.fsencode(words.other)
     os.stat(other)

@@ -1,5 +1,5 @@
-"""Withdraws a slice of ARCHIVE for good: the one of UUID and ARCH whose SHA-256 is DIGEST, as `symarch find` prints
-them.
+"""Withdraws a slice of ARCHIVE for good: the one of UUID and ARCH whose SHA-256 is DIGEST, as `symarch-keep find`
+prints them.
 
 From then on nothing that is asked of ARCHIVE and ARCHIVE.today finds the slice. The retirement goes into ARCHIVE.today;
 the next `symarch-keep fold` takes the bytes of the slice out of ARCHIVE. It reaches each site by `exchange`, and the
@@ -17,18 +17,17 @@ Status:
   4    ARCHIVE could not be read or written, or memory ran out: ARCHIVE is as it was
   126  there is no program"""
 import argparse
-import contextlib
 import os
 from typing import Sequence
 
 from .archive import Archive
-from .contents import Content, entry_of, words_of
+from .contents import Content, words_of
+from .forms import arch_of, digest_of, uuid_of
 from .program import Program
 from .screen import Failed, Screen, shown
 
-USAGE = "symarch-keep retire [--before-it-comes] ARCHIVE UUID ARCH DIGEST"
+USAGE = "symarch-keep retire [--quiet] [--before-it-comes] ARCHIVE UUID ARCH DIGEST"
 ABOUT = "withdraw a slice for good"
-HIGH_BYTE = 20
 
 
 def define(parser: argparse.ArgumentParser) -> None:
@@ -38,17 +37,13 @@ def define(parser: argparse.ArgumentParser) -> None:
 
 
 def entry_in(words: argparse.Namespace) -> bytes:
-    """The key and the digest that the words mean. No slice has a bit in the high byte of its cpusubtype."""
-    with contextlib.suppress(ValueError):
-        entry = entry_of(words.uuid, words.arch, words.digest)
-        if entry[HIGH_BYTE] == 0:
-            return entry
-    raise Failed("UUID, ARCH and DIGEST have the forms that `symarch find` prints", 3)
+    """The key and the digest that the words mean."""
+    return uuid_of(words.uuid).bytes + arch_of(words.arch) + digest_of(words.digest)
 
 
 def carry_out(words: argparse.Namespace) -> int:
     entry = entry_in(words)
-    screen = Screen()
+    screen = Screen(is_quiet=words.quiet)
     program = Program()
     archive = Archive(os.fsencode(words.archive))
     archive.take_lock(screen)

@@ -4,7 +4,7 @@ import contextlib
 import os
 import sys
 import time
-from typing import Any, Counter, Iterable, Iterator, Optional, Union
+from typing import Any, Counter, Iterable, Iterator, List, Optional, Tuple, Union
 
 
 class Failed(Exception):
@@ -60,17 +60,23 @@ def write(descriptor: int, data: bytes) -> None:
 
 
 class Screen:
-    """Standard error: lines, and on a terminal the progress of a stage below them. It counts what stays out."""
+    """Standard error: lines, and on a terminal the progress of a stage below them. It counts what stays out. A quiet
+    one holds all back until something is wrong."""
 
-    def __init__(self, is_verbose: bool = False) -> None:
+    def __init__(self, is_verbose: bool = False, is_quiet: bool = False) -> None:
         self.is_verbose = is_verbose
-        self.is_terminal = sys.stderr is not None and sys.stderr.isatty()
+        self.is_terminal = not is_quiet and sys.stderr is not None and sys.stderr.isatty()
+        # What is held back, of which standard stream.
+        self.held: Optional[List[Tuple[int, str]]] = [] if is_quiet else None
         self.refused = 0
         self.passed_over: Counter[str] = collections.Counter()
         self.has_failed, self.next = False, 0.0
         self.stage, self.size, self.began, self.done = "", 0, 0.0, 0
 
     def write(self, text: str) -> None:
+        if self.held is not None:
+            self.held.append((2, text))
+            return
         with contextlib.suppress(OSError, AttributeError):
             sys.stderr.buffer.write((("\r\x1b[K" if self.is_terminal else "") + text).encode())
             sys.stderr.flush()
@@ -80,23 +86,48 @@ class Screen:
 
     def fail(self, text: str, more: str = "") -> None:
         """Says what could not be done or is wrong, if the rest was done; and the second line of the program."""
+        self.release()
         self.has_failed = True
         self.line(text)
         if more:
             self.write(f"{more}\n")
 
+    def release(self) -> None:
+        """Prints what was held back, since something is wrong."""
+        held, self.held = self.held or [], None
+        for stream, text in held:
+            if stream == 1:
+                self.print(text)
+            else:
+                self.write(text)
+
     def show(self, lines: Iterable[str]) -> None:
         """Prints lines on standard output, which may be the terminal on which the progress stands."""
-        self.write("")
+        text = "".join(f"{line}\n" for line in lines)
+        if self.held is not None:
+            self.held.append((1, text))
+        else:
+            self.write("")
+            self.print(text)
+
+    def print(self, text: str) -> None:
         try:
-            write(1, "".join(f"{line}\n" for line in lines).encode())
+            write(1, text.encode())
+        except BrokenPipeError:
+            # Nobody reads on, as after `head`, and nobody has to be told.
+            self.has_failed = True
         except OSError as error:
             self.fail(f"standard output: {error.strerror}")
 
     def status(self, otherwise: int = 0) -> int:
-        return 2 if self.refused or self.has_failed else otherwise
+        """The status of the word, after which nothing is said. Nothing is wrong if that is 0."""
+        status = 2 if self.refused or self.has_failed else otherwise
+        if status:
+            self.release()
+        return status
 
     def refuse(self, path: bytes, reason: object) -> None:
+        self.release()
         self.refused += 1
         self.line(f"{shown(path)}: {reason}")
 

@@ -1,12 +1,14 @@
 """The slices that files and folders have: which of them go in, and what is passed over or refused."""
+import contextlib
 import errno
 import hashlib
 import os
 import stat
 import struct
-from typing import BinaryIO, Iterable, Iterator, List, Optional, Set, Tuple
+from typing import BinaryIO, Dict, Iterable, Iterator, List, Optional, Sequence, Set, Tuple
 
 from .contents import CHUNK, KEY, TOO_LARGE, head_of, words_of
+from .looks import MOST_LOOKED_AT, ONE, look_of
 from .screen import Screen, SliceRefused, shown
 
 # mach-o/fat.h: an entry of each table, of which offset and size count. mach-o/loader.h: the header and its commands.
@@ -15,8 +17,10 @@ MOST_PARTS = 32
 # A Java class file begins as a universal file, and has its version in the place of the number of parts.
 JAVA, LEAST_OF_JAVA = bytes.fromhex("cafebabe"), 45
 THIN = bytes.fromhex("cffaedfe")
-HEADER, COMMAND = struct.Struct("<4x5I8x"), struct.Struct("<II")
-MH_OBJECT, LC_UUID = 1, 0x1B
+HEADER, COMMAND, SYMTAB = struct.Struct("<4x5I8x"), struct.Struct("<II"), struct.Struct("<8x4I")
+MH_OBJECT, LC_SYMTAB, LC_UUID = 1, 2, 0x1B
+# mach-o/nlist.h: how long an entry of a symbol table is.
+NLIST = 16
 # Commands after these bytes are not looked at here.
 MOST_OF_COMMANDS = 16 << 20
 KINDS = {
@@ -31,10 +35,21 @@ NOTHING_THERE = (errno.ENOENT, errno.ELOOP, errno.ENOTDIR)
 
 
 class Slice:
-    """The bytes of an image for one architecture: a file of `size` bytes, or its part of a number."""
+    """The bytes of an image for one architecture: a file of `size` bytes, or its part of a number. It is printed by the
+    name of the file, which is its path, or - for standard input."""
 
-    def __init__(self, path: bytes, part: Optional[int], offset: int, length: int, size: int, key: bytes) -> None:
+    def __init__(
+        self,
+        path: bytes,
+        part: Optional[int],
+        offset: int,
+        length: int,
+        size: int,
+        key: bytes,
+        name: Optional[bytes] = None,
+    ) -> None:
         self.path, self.part, self.offset, self.length, self.size = path, part, offset, length, size
+        self.name = path if name is None else name
         self.head = head_of(key, length)
         self.digest: Optional[bytes] = None
         self.word = ""
@@ -63,7 +78,7 @@ class Slice:
         return self.head[1 : 1 + KEY] + (self.digest or b"")
 
     def line(self) -> str:
-        return f"{self.word} {words_of(self.entry())} {shown(self.path)}"
+        return f"{self.word} {words_of(self.entry())} {shown(self.name)}"
 
 
 def compared(one: Slice, other: Slice) -> int:
@@ -82,28 +97,48 @@ class Finder:
     def __init__(self, screen: Screen) -> None:
         self.screen, self.files = screen, 0
         self.slices: List[Slice] = []
+        # Of the file that is read: its path, its name, and what was passed over of it.
+        self.path, self.name = b"", b""
+        self.over: List[str] = []
+        # What stands where in the place of its name.
+        self.places: Dict[bytes, bytes] = {}
 
     def find(self, paths: Iterable[bytes]) -> None:
         self.screen.begin("finding: {} files")
-        for path, size in self.walk(paths):
+        for name, size, is_named in self.walk(paths):
             self.files += 1
             self.screen.progress(self.files)
+            self.path, self.name, self.over = self.places.get(name, name), name, []
+            before = len(self.slices)
             try:
-                with open(path, "rb") as file:
-                    self.take_file(file, path, size)
+                with open(self.path, "rb") as file:
+                    self.take_file(file, size)
+                    if is_named and self.over and len(self.slices) == before:
+                        self.say_look(file)
             except OSError as error:
-                self.screen.refuse(path, error.strerror)
+                self.screen.refuse(name, error.strerror)
             except SliceRefused as refused:
-                self.screen.refuse(path, refused)
+                self.screen.refuse(name, refused)
 
-    def walk(self, paths: Iterable[bytes]) -> Iterator[Tuple[bytes, int]]:
-        """Each regular file that a path is or has, once, and its size. Those of a folder come in the order of names."""
+    def say_look(self, file: BinaryIO) -> None:
+        """Says of a file that was named, and of which nothing goes in, what it is."""
+        file.seek(0)
+        look = look_of(file.read(MOST_LOOKED_AT)) if self.over == ["other files"] else None
+        self.screen.line(f"{shown(self.name)}: {look or '; '.join(ONE.get(it, it) for it in self.over)}")
+
+    def pass_over(self, kind: str, part: Optional[int] = None) -> None:
+        self.screen.pass_over(self.name, kind, part)
+        self.over.append(kind if part is None else f"part {part}, {ONE[kind]}")
+
+    def walk(self, paths: Iterable[bytes]) -> Iterator[Tuple[bytes, int, bool]]:
+        """Each regular file that a path is or has, once, its size, and whether it was named. Those of a folder come in
+        the order of names."""
         left = [(path, True) for path in reversed(list(paths))]
         seen: Set[Tuple[int, int]] = set()
         while left:
             path, is_word = left.pop()
             try:
-                status = os.stat(path)
+                status = os.stat(self.places.get(path, path))
                 place, is_folder = (status.st_dev, status.st_ino), stat.S_ISDIR(status.st_mode)
                 if is_folder and not is_word and os.path.islink(path):
                     self.screen.pass_over(path, "links to folders")
@@ -112,7 +147,7 @@ class Finder:
                     if is_folder:
                         left += [(os.path.join(path, name), False) for name in sorted(os.listdir(path), reverse=True)]
                     elif stat.S_ISREG(status.st_mode):
-                        yield path, status.st_size
+                        yield path, status.st_size, is_word
                     elif is_word:
                         self.screen.refuse(path, "neither a file nor a folder")
                     else:
@@ -123,39 +158,37 @@ class Finder:
                 else:
                     self.screen.pass_over(path, "links that lead nowhere")
 
-    def take_file(self, file: BinaryIO, path: bytes, size: int) -> None:
+    def take_file(self, file: BinaryIO, size: int) -> None:
         first = file.read(8)
         layout, count = UNIVERSAL.get(first[:4]), int.from_bytes(first[4:].ljust(4, b"\0"), "big")
         if layout is None:
-            self.take_part(file, path, None, 0, size, size)
+            self.take_part(file, None, 0, size, size)
         elif first[:4] == JAVA and count >= LEAST_OF_JAVA:
-            self.screen.pass_over(path, "other files")
+            self.pass_over("other files")
         else:
             parts = table(file, first, layout, count, size)
             for part, (offset, length) in enumerate(parts):
-                self.take_part(file, path, part, offset, length, size)
+                self.take_part(file, part, offset, length, size)
             if not parts:
-                self.screen.pass_over(path, "universal files without a part")
+                self.pass_over("universal files without a part")
 
-    def take_part(
-        self, file: BinaryIO, path: bytes, part: Optional[int], offset: int, length: int, size: int
-    ) -> None:
+    def take_part(self, file: BinaryIO, part: Optional[int], offset: int, length: int, size: int) -> None:
         file.seek(offset)
         front = file.read(min(length, HEADER.size))
         key = key_of(front, file, length - len(front)) if front[:4] == THIN else None
         if key is not None:
-            self.slices.append(Slice(path, part, offset, length, size, key))
+            self.slices.append(Slice(self.path, part, offset, length, size, key, self.name))
         elif front[:4] == THIN:
-            kind = "object files" if front[12] == MH_OBJECT else "images"
-            self.screen.pass_over(path, f"{kind} without a UUID", part)
+            self.pass_over(f"{'object files' if front[12] == MH_OBJECT else 'images'} without a UUID", part)
         else:
-            self.screen.pass_over(path, KINDS.get(front[:4], "other files" if part is None else "other parts"), part)
+            self.pass_over(KINDS.get(front[:4], "other files" if part is None else "other parts"), part)
 
 
 def table(
     file: BinaryIO, first: bytes, layout: struct.Struct, count: int, size: int
 ) -> List[Tuple[int, int]]:
-    """The offset and size of each part of a universal file. The faults are those of docs/FILES.md, in its order."""
+    """The offset and size of each part of a universal file. The faults are those of docs/FILES.md, in its order; one of
+    a file that was cut has after it what the table promises, and what is there."""
     entries = file.read(count * layout.size) if count <= MOST_PARTS else b""
     is_whole = len(entries) == count * layout.size
     parts = [(offset, length) for offset, length in layout.iter_unpack(entries)] if is_whole else []
@@ -165,8 +198,38 @@ def table(
     faults += [(part[1] >= TOO_LARGE, f"TooLarge({number})") for number, part in enumerate(parts)]
     for is_there, fault in faults:
         if is_there:
-            raise SliceRefused(f"Fat({fault})")
+            raise SliceRefused(f"Fat({fault}){cut(parts, len(first) + count * layout.size, size)}")
     return parts
+
+
+def cut(parts: Sequence[Tuple[int, int]], end_of_table: int, size: int) -> str:
+    """What a table promises, and what is there, if a file ends before that."""
+    if not parts and size < end_of_table:
+        return f": its table takes {end_of_table} bytes, and the file has {size}"
+    outside = next((number for number, part in enumerate(parts) if sum(part) > size), None)
+    if outside is None:
+        return ""
+    offset, length = parts[outside]
+    return f": part {outside} is bytes {offset} to {offset + length} by the table, and the file has {size}"
+
+
+def promised(one: Slice) -> str:
+    """What the commands of an image promise, and what is there, if its bytes end before that."""
+    with contextlib.suppress(OSError, struct.error), open(one.path, "rb") as file:
+        file.seek(one.offset)
+        front = file.read(min(one.length, HEADER.size))
+        *_, count, size = HEADER.unpack(front)
+        end, at = HEADER.size + size, 0
+        commands = file.read(min(size, one.length - len(front), MOST_OF_COMMANDS))
+        while count > 0 and at + COMMAND.size <= len(commands):
+            command, length = COMMAND.unpack_from(commands, at)
+            if command == LC_SYMTAB:
+                symbols, number, strings, more = SYMTAB.unpack_from(commands, at)
+                end = max(end, symbols + NLIST * number, strings + more)
+            at, count = at + max(length, COMMAND.size), count - 1
+        if end > one.length:
+            return f": its commands promise {end} bytes, and there are {one.length}"
+    return ""
 
 
 def key_of(front: bytes, file: BinaryIO, left: int) -> Optional[bytes]:

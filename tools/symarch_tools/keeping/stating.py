@@ -35,7 +35,7 @@ from .losing import counted, lost_lines
 from .program import Program
 from .screen import Failed, Screen, shown
 
-USAGE = "symarch-keep status [--accept] ARCHIVE"
+USAGE = "symarch-keep status [--quiet] [--accept] ARCHIVE"
 ABOUT = "print what it has, in numbers"
 
 
@@ -45,7 +45,7 @@ def define(parser: argparse.ArgumentParser) -> None:
 
 
 def carry_out(words: argparse.Namespace) -> int:
-    screen = Screen()
+    screen = Screen(is_quiet=words.quiet)
     archive = Archive(os.fsencode(words.archive), writes=words.accept)
     if words.accept:
         archive.take_lock(screen)

@@ -1,0 +1,193 @@
+"""What `symarch-keep add` says of the files that were named: what one looks like of which nothing goes in, what a cut
+one promises, and what to type if ARCHIVE stands last. What nothing is put into is not made."""
+import os
+import pathlib
+import subprocess
+
+from .support.cases import same
+from .support.made_images import EXECUTE, archive, image, line, symbols_outside, thirty_two_bit, universal, without_uuid
+from .support.program import TOP, call, symarch
+from .support.rooms import RoomCase, today_of
+
+FRONTS = {
+    "an ELF file, which no word takes": b"\x7fELF\2\1\1",
+    "a zip file, which has to be unpacked first": b"PK\3\4\x14\0",
+    "a gzip file, which has to be unpacked first": b"\x1f\x8b\x08\0",
+    "a tar file, which has to be unpacked first": b"a.dSYM/".ljust(257, b"\0") + b"ustar\x0000",
+    "a PDB file, which no word takes": b"Microsoft C/C++ MSF 7.00\r\n\x1aDS\0\0\0",
+    "a PE file, which no word takes": b"MZ\x90\0",
+    "a page of HTML, which no word takes": b"\n<!DOCTYPE html>\n<html lang='en'>",
+    "a text as a report begins, which `symbolicate-report` reads": b'{"app_name":"spool"}\n{}',
+    "a Java class file, which no word takes": bytes.fromhex("cafebabe00000037"),
+    "an archive, which `symarch merge` takes": archive([image(1)]),
+    "an empty file": b"",
+    "neither a Mach-O file nor a universal one": b"\0\1\2\3\4",
+    "a static library": b"!<arch>\n",
+    "a 32-bit image": thirty_two_bit(),
+    "an image without a UUID": without_uuid(EXECUTE),
+    "part 0, a 32-bit image; part 1, no image": universal([thirty_two_bit(), b"text"]),
+}
+
+
+class Named(RoomCase):
+    """One that was named is told by its name and kind; one that was found in a folder is counted."""
+
+    seconds = 4
+
+    def test_each_kind(self) -> None:
+        for number, front in enumerate(FRONTS.values()):
+            self.room.file(f"folder/{number}", front)
+        named = [f"folder/{number}" for number in range(len(FRONTS))]
+        said, errors = self.room.add(*named, status=1)
+        told = [f"symarch-keep: folder/{number}: {look}" for number, look in enumerate(FRONTS)]
+        same("lines", (said, errors[:-1]), ([], told))
+        self.assertTrue(errors[-1].startswith("symarch-keep: 0 added, 0 known, 0 retired, 0 refused, passed over 17 ("))
+        same("lines of the folder", self.room.add("folder", status=1), ([], errors[-1:]))
+
+    def test_as_admit_says_it(self) -> None:
+        """Of an ELF, a zip and a gzip the program says the same before the comma."""
+        empty = self.room.file("empty.sym", archive([]))
+        for look in [it for it in FRONTS if it.startswith(("an ELF", "a zip", "a gzip"))]:
+            path = self.room.file("one", FRONTS[look])
+            came = call([symarch, "admit", empty, self.folder / "out", path])
+            self.assertIn(f", {look.partition(',')[0]},", came.errors.decode())
+
+    def test_one_of_which_a_part_goes_in(self) -> None:
+        self.room.file("two", universal([thirty_two_bit(), image(1)]))
+        said, errors = self.room.add("two")
+        same("lines", said, [line("added", image(1), "two")])
+        self.assertFalse([it for it in errors if "symarch-keep: two" in it], errors)
+
+    def test_standard_input(self) -> None:
+        """`-` is what standard input has, also where that is a pipe."""
+        made = universal([image(1), image(2)])
+        with self.room.start("add", self.room.archive, "-", stdin=subprocess.PIPE) as process:
+            out, _ = process.communicate(made)
+        wanted = [line("added", one, "-") for one in (image(1), image(2))]
+        same("lines", (process.returncode, out.decode().splitlines()), (0, wanted))
+        self.room.has(archive([image(1), image(2)]))
+        with self.room.start("add", self.room.archive, "-", stdin=subprocess.PIPE) as process:
+            _, errors = process.communicate(b"PK\3\4")
+        same("errors", errors.decode().splitlines()[0], "symarch-keep: -: a zip file, which has to be unpacked first")
+
+
+class NoArchive(RoomCase):
+    """A file in the place of ARCHIVE that is none is told by its kind, and stays as it is."""
+
+    seconds = 2
+
+    def test_each_word(self) -> None:
+        for name, kind in (("site.sym", "a zip file, which has to be unpacked first"), ("b.sym", "an empty file")):
+            text = b"PK\3\4" if name == "site.sym" else b""
+            self.room.file(name, text)
+            for words, status in ((["add", name, "."], 4), (["fold", name], 4), (["find", name, "0" * 32], 2)):
+                _, errors = self.room.call(*words, status=status)
+                same(f"{words}", errors[0].partition(";")[0], f"symarch-keep: {name} is no archive, but {kind}")
+                same("bytes", (self.folder / name).read_bytes(), text)
+
+
+class Made(RoomCase):
+    """An archive is made if something goes into it, and that is said."""
+
+    seconds = 3
+
+    def test_nothing_is_made_of_nothing(self) -> None:
+        self.room.file("text", b"text")
+        self.room.file("bad", image(4)[:-1])
+        for path, status in (("text", 1), ("nowhere", 2)):
+            self.room.add(path, status=status)
+            same("made", sorted(os.listdir(self.folder)), ["bad", "text"])
+        self.room.add("bad", status=2)
+        same("made", (self.room.archive.exists(), today_of(self.room.archive).exists()), (False, False))
+
+    def test_one_that_is_made(self) -> None:
+        for number in (1, 2):
+            self.room.file(str(number), image(number))
+        made = f"symarch-keep: made {self.room.archive}"
+        counts = "symarch-keep: 1 added, 0 known, 0 retired, 0 refused, passed over 0"
+        same("errors of a dry run", self.room.add("1", words=["--dry-run"])[1], [f"{counts}; nothing was written"])
+        for path, wanted in (("1", [made, counts]), ("2", [counts])):
+            same(f"errors of {path}", self.room.call("add", self.room.archive, path)[1], wanted)
+
+
+class Cut(RoomCase):
+    """A file that was cut is refused with what its table or its commands promise, and what is there."""
+
+    seconds = 3
+
+    def refused(self, content: bytes, told: str) -> None:
+        self.room.file("cut", content)
+        _, errors = self.room.add("cut", status=2)
+        same("refusal", errors[0], f"symarch-keep: cut: {told}")
+
+    def test_a_universal_file(self) -> None:
+        made = universal([image(1), image(2, more=bytes(100))])
+        first = -(-(8 + 40) // 64) * 64
+        second = first + -(-len(image(1)) // 64) * 64
+        end = second + len(image(2)) + 100
+        for size in (len(made) - 1, second, second + 10):
+            told = f"Fat(SliceOutside(1)): part 1 is bytes {second} to {end} by the table, and the file has {size}"
+            self.refused(made[:size], told)
+        self.refused(made[:47], "Fat(TableTruncated): its table takes 48 bytes, and the file has 47")
+        self.refused(made[:7], "Fat(HeaderTruncated)")
+
+    def test_an_image(self) -> None:
+        told = f"Slice(0, Image(CommandsOutside)): its commands promise 56 bytes, and there are {len(image(4)) - 1}"
+        self.refused(image(4)[:-1], told)
+        made = symbols_outside(5)
+        told = f"Slice(0, Symbols(SymbolsOutside)): its commands promise {4096 + 16} bytes, and there are {len(made)}"
+        self.refused(made, told)
+
+
+class Order(RoomCase):
+    """If ARCHIVE stands after the paths, nothing is done, and what to type is said."""
+
+    seconds = 2
+
+    def said(self, *words: str) -> str:
+        _, errors = self.room.call("add", *words, status=3)
+        same("errors", len(errors), 1)
+        return errors[0]
+
+    def test_an_archive_that_is_there(self) -> None:
+        self.room.file("dSYMs/one", image(1))
+        self.room.file("two", image(2))
+        text = archive([image(3)])
+        self.room.archive.write_bytes(text)
+        before = sorted(os.listdir(self.folder))
+        told = "ARCHIVE comes first: symarch-keep add site.sym dSYMs"
+        same("a folder", self.said("dSYMs", "site.sym"), f"symarch-keep: dSYMs is a folder, and {told}")
+        told = "ARCHIVE comes first: symarch-keep add --dry-run site.sym two dSYMs"
+        said = self.said("--dry-run", "two", "dSYMs", "site.sym")
+        same("a file", said, f"symarch-keep: two is no archive, and {told}")
+        self.room.has(text)
+        same("made", sorted(os.listdir(self.folder)), before)
+
+    def test_one_that_is_not(self) -> None:
+        self.room.file("my dSYMs/one", image(1))
+        told = "my dSYMs is a folder, and ARCHIVE comes first: symarch-keep add new.sym 'my dSYMs'"
+        same("a folder", self.said("my dSYMs", "new.sym"), f"symarch-keep: {told}")
+        self.room.file("one", image(1))
+        said = self.said("one", "new.sym")
+        same("a file", said, "symarch-keep: one is no archive, and ARCHIVE comes first: symarch-keep add new.sym one")
+        same("made", sorted(os.listdir(self.folder)), ["my dSYMs", "one"])
+
+    def test_a_path_that_is_not_there(self) -> None:
+        """It is no archive if what stands before it is none of the files that go in."""
+        self.room.file("new.sym", b"")
+        _, errors = self.room.call("add", "new.sym", "nowhere", status=4)
+        same("errors", errors, ["symarch-keep: new.sym is no archive, but an empty file; the archive is as it was"])
+
+    def test_of_an_exchange(self) -> None:
+        self.room.archive.write_bytes(archive([image(3)]))
+        (self.folder / "shared").mkdir()
+        before = sorted(os.listdir(self.folder))
+        _, errors = self.room.call("exchange", "shared", "site.sym", "east", status=3)
+        told = "shared is a folder, and ARCHIVE comes first: symarch-keep exchange site.sym shared east"
+        same("errors", (errors, sorted(os.listdir(self.folder))), ([f"symarch-keep: {told}"], before))
+
+    def test_what_is_said_may_be_typed(self) -> None:
+        self.room.file("dSYMs/one", (TOP / "examples/crash/spool-1").read_bytes())
+        typed = self.said("dSYMs", "new.sym").partition("comes first: symarch-keep ")[2]
+        self.room.call(*typed.split(" "))
+        self.assertTrue(pathlib.Path(self.folder / "new.sym").exists())

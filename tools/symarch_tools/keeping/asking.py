@@ -1,0 +1,144 @@
+"""What the words that ask have alike: ARCHIVE and ARCHIVE.today are opened, and are asked as their join, each by its
+index. They take no lock, so they never wait for a word that writes."""
+import argparse
+import contextlib
+import os
+import re
+import time
+from typing import BinaryIO, Dict, Iterator, List, NamedTuple, Optional, Sequence, Tuple
+
+from .archive import Archive
+from .archive_file import INDEX, ArchiveFile
+from .contents import EMPTY, Content, entry_in
+from .indexes import Index
+from .program import DESCRIPTORS, Program
+from .screen import Failed, Screen, shown, system_text, write
+
+# How often a file is looked at again that a word of symarch-keep may just be replacing, and after how many seconds.
+TRIES, PAUSE = 10, 0.05
+AT_ENTRY = re.compile("symarch: index ([0-9]+): Stale at entry ([0-9]+)")
+
+
+class Opened(NamedTuple):
+    """An archive file that is open, and the index that it is of, if it has one."""
+
+    file: ArchiveFile
+    opened: BinaryIO
+    its_index: Optional[Index]
+
+
+class Asked:
+    """The files of an archive that are asked. All stay as they were when they were opened."""
+
+    def __init__(self, path: bytes, ends: contextlib.ExitStack) -> None:
+        self.archive, self.ends, self.program = Archive(path, writes=False), ends, Program()
+        # A fold empties ARCHIVE.today once ARCHIVE has all of it, so who opens that first misses nothing.
+        files = [self.opened(self.archive.today)] if self.archive.today.size() > len(EMPTY) else []
+        files.append(self.opened(self.archive.main))
+        # The first index is that of the first archive, and so on.
+        self.files = sorted(files, key=lambda it: it.its_index is None)
+
+    def opened(self, file: ArchiveFile) -> Opened:
+        """A file with its index. A word that is replacing it gives it one soon."""
+        for _ in range(TRIES):
+            with contextlib.ExitStack() as closing:
+                opened = closing.enter_context(open(file.path, "rb"))
+                index, is_same = file.known()
+                if self.is_still(file, opened) and (is_same or not index and not file.fault_of_index()):
+                    self.ends.push(closing.pop_all())
+                    return Opened(file, opened, index)
+            time.sleep(PAUSE)
+        raise self.unvouched(file)
+
+    @staticmethod
+    def is_still(file: ArchiveFile, opened: BinaryIO) -> bool:
+        return os.path.samestat(os.stat(file.path), os.fstat(opened.fileno()))
+
+    def unvouched(self, file: ArchiveFile) -> Failed:
+        """Why nothing is said by a file."""
+        index = file.known()[0]
+        fault = file.fault_of_index() if index is None else None
+        if index is not None and index.size() != file.size():
+            fault = f"{shown(file.path)} has {file.size()} bytes, and had {index.size()} when its index was written"
+        fault = fault or f"{shown(file.path)} was written since its index was"
+        return Failed(f"{fault}: run symarch-keep check {shown(self.archive.path)}", 2)
+
+    # ---- what the program is asked
+
+    def answer(
+        self, command: str, words: Sequence[str], options: Sequence[str] = (), is_by_index: bool = True
+    ) -> Tuple[List[str], int]:
+        """The lines that the program prints, and its status."""
+        archives: List[str] = []
+        indexes: List[str] = []
+        names: Dict[str, str] = {}
+        for one in self.files:
+            archives.append(f"{DESCRIPTORS}/{one.opened.fileno()}")
+            names[archives[-1]] = shown(one.file.path)
+            if one.its_index and is_by_index:
+                indexes.append(f"{DESCRIPTORS}/{self.laid(one.its_index)}")
+                names[indexes[-1]] = shown(one.file.beside(INDEX))
+        more = [it for path in archives[1:] for it in ("--with", path)]
+        more += [it for path in indexes for it in ("--index", path)]
+        return self.run([command, *more, *options, "--", archives[0], *words], names)
+
+    def laid(self, index: Index) -> int:
+        """A file in memory that has an index."""
+        descriptor = os.memfd_create("index")
+        self.ends.callback(os.close, descriptor)
+        write(descriptor, index.text)
+        return descriptor
+
+    def run(self, words: Sequence[str], names: Dict[str, str]) -> Tuple[List[str], int]:
+        descriptors = [int(path.rpartition("/")[2]) for path in names]
+        try:
+            printed, status = self.program.answer(words, open_files=descriptors, names=names)
+        except Failed as failed:
+            found = AT_ENTRY.fullmatch(failed.text)
+            index = self.files[int(found[1])].its_index if found else None
+            if found and index:
+                raise self.changed(list(index.rows())[int(found[2])].words()) from None
+            raise
+        return printed.decode().splitlines(), status
+
+    def changed(self, words: str) -> Failed:
+        return Failed(f"{words} changed since it came in: run symarch-keep check {shown(self.archive.path)}", 2)
+
+    # ---- what the indexes say of an answer
+
+    def vouched(self, lines: Sequence[str], screen: Screen) -> List[str]:
+        """Of lines that begin with UUID, ARCH and DIGEST those of slices that are as they came in. The others are
+        said."""
+        if not all(one.its_index for one in self.files):
+            return list(lines)
+        content = Content()
+        for one in self.files:
+            content = content.joined(one.its_index.content() if one.its_index else Content())
+        is_held = {line: entry_in(*line.split(" ")[:3]) in content.held for line in lines}
+        for key in dict.fromkeys(" ".join(line.split(" ")[:2]) for line in lines if not is_held[line]):
+            screen.fail(self.changed(key).text)
+        return [line for line in lines if is_held[line]]
+
+
+def define(parser: argparse.ArgumentParser, *words: str) -> None:
+    for name in ("ARCHIVE", *words):
+        parser.add_argument(name.lower(), metavar=name)
+
+
+@contextlib.contextmanager
+def opened_archive(path: bytes) -> Iterator[Asked]:
+    """An archive that is asked. What fails meanwhile ends the word with 2, since none writes."""
+    with contextlib.ExitStack() as ends:
+        try:
+            yield Asked(path, ends)
+        except OSError as error:
+            raise Failed(system_text(error), 2) from None
+        except Failed as failed:
+            failed.status = 2 if failed.status == 4 else failed.status
+            raise
+
+
+def show(lines: Sequence[str], screen: Screen, status: int) -> int:
+    """Prints the lines, and returns the status of the word."""
+    screen.show(lines)
+    return screen.status(status)

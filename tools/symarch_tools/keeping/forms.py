@@ -1,0 +1,53 @@
+"""Words of a command line that are no paths: what each means. One of another form ends the call, and is named."""
+import re
+import uuid
+
+from .contents import numbers_of
+from .screen import Failed, shown
+
+ARCHITECTURES = "x86_64, x86_64h, arm64, arm64e or cpu:CCCCCCCC/00SSSSSS"
+# Where the high byte of the cpusubtype stands in what an ARCH means. No slice has a bit in it.
+HIGH_BYTE = 4
+
+
+def other_form(name: str, word: str, form: str) -> Failed:
+    return Failed(f"{name} is `{shown(word)}`: expected {form}", 3)
+
+
+def uuid_of(word: str) -> uuid.UUID:
+    try:
+        return uuid.UUID(word)
+    except ValueError:
+        raise other_form("UUID", word, "32 hex digits, with or without hyphens") from None
+
+
+def arch_of(word: str) -> bytes:
+    try:
+        numbers = numbers_of(word)
+    except ValueError:
+        numbers = b""
+    if numbers[HIGH_BYTE : HIGH_BYTE + 1] != b"\0":
+        raise other_form("ARCH", word, ARCHITECTURES)
+    return numbers
+
+
+def digest_of(word: str) -> bytes:
+    if not re.fullmatch("[0-9a-fA-F]{64}", word):
+        raise other_form("DIGEST", word, "64 hex digits")
+    return bytes.fromhex(word)
+
+
+def hex_of(name: str, word: str) -> str:
+    """A number in hex digits, as the program takes it."""
+    if not re.fullmatch("(0x)?[0-9a-fA-F]{1,16}", word):
+        raise other_form(name, word, "1 to 16 hex digits, with or without 0x")
+    return word
+
+
+def name_of(word: str) -> str:
+    """The name of a symbol, as the program takes it."""
+    try:
+        word.encode()
+    except UnicodeEncodeError:
+        raise other_form("NAME", word, "UTF-8 text") from None
+    return word

@@ -1,0 +1,56 @@
+"""What a file looks like of which nothing goes in, by its first bytes, in the words of `symarch admit`."""
+import re
+from typing import Optional, Tuple
+
+UNPACKED, NO_WORD = "which has to be unpacked first", "which no word takes"
+# How much of a file is looked at: the magic of a tar file stands in its first header.
+MOST_LOOKED_AT, TAR_MAGIC = 512, 257
+BEGINNINGS: Tuple[Tuple[bytes, str], ...] = (
+    (b"MSYMARC1", "an archive, which `symarch merge` takes"),
+    (b"MSYMARC2", "an archive, which `symarch merge` takes"),
+    (b"MSYMOPS1", "an operations file, which `symarch apply` takes"),
+    (b"MSYMSUM1", "a summary, which `symarch delta` takes"),
+    (b"MSYMIDX1", "an index, which `symarch index` writes"),
+    (b"PK\3\4", f"a zip file, {UNPACKED}"),
+    (b"PK\5\6", "an empty zip file"),
+    (b"\x1f\x8b", f"a gzip file, {UNPACKED}"),
+    (b"BZh", f"a bzip2 file, {UNPACKED}"),
+    (b"\xfd7zXZ\0", f"an xz file, {UNPACKED}"),
+    (b"\x28\xb5\x2f\xfd", f"a zstd file, {UNPACKED}"),
+    (b"7z\xbc\xaf\x27\x1c", f"a 7z file, {UNPACKED}"),
+    (b"xar!", f"a xar file, {UNPACKED}"),
+    (b"\x7fELF", f"an ELF file, {NO_WORD}"),
+    (b"Microsoft C/C++ ", f"a PDB file, {NO_WORD}"),
+    (b"BSJB", f"a PDB file, {NO_WORD}"),
+    (b"MZ", f"a PE file, {NO_WORD}"),
+    (b"\xca\xfe\xba\xbe", f"a Java class file, {NO_WORD}"),
+    (b"%PDF-", f"a PDF file, {NO_WORD}"),
+    (b"bplist", f"a property list, {NO_WORD}"),
+    (b"<?xml", f"a file of XML, {NO_WORD}"),
+)
+# What one is of the kinds that are counted.
+ONE = {
+    "32-bit images": "a 32-bit image",
+    "big-endian images": "a big-endian image",
+    "static libraries": "a static library",
+    "images without a UUID": "an image without a UUID",
+    "object files without a UUID": "an object file without a UUID",
+    "universal files without a part": "a universal file without a part",
+    "other files": "neither a Mach-O file nor a universal one",
+    "other parts": "no image",
+}
+HTML = re.compile(rb"(\xef\xbb\xbf)?\s*(<!--.*?-->\s*)*<(!doctype html|html|head|body)\b", re.I | re.S)
+REPORT = re.compile(rb"(\xef\xbb\xbf)?\s*(\{|Incident Identifier:|Process:|Analysis of sampling|Date/Time:)")
+
+
+def look_of(front: bytes) -> Optional[str]:
+    """What a file with these first bytes looks like, if that is known."""
+    if not front:
+        return "an empty file"
+    if front[TAR_MAGIC : TAR_MAGIC + 5] == b"ustar":
+        return f"a tar file, {UNPACKED}"
+    if HTML.match(front):
+        return f"a page of HTML, {NO_WORD}"
+    if REPORT.match(front):
+        return "a text as a report begins, which `symbolicate-report` reads"
+    return next((look for begins, look in BEGINNINGS if front.startswith(begins)), None)

@@ -1,0 +1,64 @@
+"""Prints the symbol nearest to each ADDRESS of the image of UUID and ARCH, as `symarch symbolicate` prints it of the
+archive that ARCHIVE and ARCHIVE.today have together.
+
+For example, an address of a crash, of an image that was loaded at 0x104d38000:
+
+  symarch-keep symbolicate --load 0x104d38000 builds.sym 4c4c4419-5555-3144-a1d2-4341c97782f0 arm64 0x104d38410
+
+Each ADDRESS gets a line: the address, and
+
+  NAME + OFFSET (SEG,SECT)    the symbol nearest to it
+  -     it has none: it lies in no section, or below the section's first symbol
+  ?     no slice answers for UUID and ARCH
+  !N    N slices answer, of which each gets a line below
+
+A number is hexadecimal, with 0x or without. Where - stands in the place of ADDRESS, the addresses are those of standard
+input, between which white space stands.
+
+Both archives are read by their indexes, so that only the slices of UUID and ARCH are read of them, and one that changed
+since it came in gives no name. An archive without an index is read whole. No lock is taken, and nothing is written.
+
+Status:
+  0    each address has one symbol
+  1    an address has another answer
+  2    an archive, or what is beside it, could not be read or vouched for, or a line not be printed
+  3    the words have another form
+  126  there is no program"""
+import argparse
+import os
+import sys
+from typing import List
+
+from . import asking
+from .asking import opened_archive, show
+from .contents import arch_in
+from .forms import arch_of, hex_of, uuid_of
+from .screen import Failed, Screen
+
+USAGE = "symarch-keep symbolicate [--load HEX] ARCHIVE UUID ARCH ADDRESS..."
+ABOUT = "name the symbols at addresses"
+
+
+def define(parser: argparse.ArgumentParser) -> None:
+    parser.add_argument("--load", metavar="HEX", help="where the image was loaded")
+    asking.define(parser, "UUID", "ARCH")
+    parser.add_argument("addresses", metavar="ADDRESS", nargs="+", help="- stands for those of standard input")
+
+
+def addresses_of(words: List[str]) -> List[str]:
+    """The addresses of the words, and of standard input in the place of the word -."""
+    found: List[str] = []
+    for word in words:
+        found += os.fsdecode(sys.stdin.buffer.read()).split() if word == "-" and sys.stdin else [word]
+    if not found:
+        raise Failed("standard input has no ADDRESS", 3)
+    return [hex_of("ADDRESS", word) for word in found]
+
+
+def carry_out(words: argparse.Namespace) -> int:
+    key = [str(uuid_of(words.uuid)), arch_in(arch_of(words.arch))]
+    load = [] if words.load is None else [f"--load={hex_of('HEX', words.load)}"]
+    addresses = addresses_of(words.addresses)
+    with opened_archive(os.fsencode(words.archive)) as asked:
+        lines, status = asked.answer("symbolicate", [*key, *addresses], load)
+    return show(lines, Screen(), status)
