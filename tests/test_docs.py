@@ -5,7 +5,7 @@ from pathlib import Path
 from typing import Dict, List, Set
 
 from .support.command_table import TABLE, fault_of_words, program_commands, text_of, those
-from .support.places import READING, WRITING
+from .support.places import COMMANDS, READING, WRITING
 from .support.program import TOP, call
 
 DOCUMENTS = [*TOP.glob("*.md"), *TOP.glob("docs/*.md"), *TOP.glob("bench/*.md")]
@@ -179,11 +179,12 @@ class Commands(unittest.TestCase):
         self.assertIn(found(r"^As `(\w+)` does", text, re.M)[1], self.commands)
 
     def test_commands_of_the_cases(self) -> None:
-        """Those that read an archive and those that write a file; `merge` is there twice."""
+        """Those that read an archive and those that write a file, in which `merge` is there twice; and all of them."""
         reading = those(self.commands, lambda it: it.name in ("IN", "ARCHIVE"))
         self.assertEqual(sorted(READING), sorted([*reading, "merge of two"]))
         writing = those(self.commands, lambda it: it.role == "Writes")
         self.assertEqual(sorted(WRITING), sorted([*writing, "merge of two"]))
+        self.assertEqual({it.words.split()[0] for it in COMMANDS}, set(self.commands))
 
 
 class Readme(unittest.TestCase):

@@ -14,13 +14,15 @@ from .support.cases import Without, is_done
 from .support.hostile_images import MOST
 from .support.made_images import EMPTY, admission, archive, image, operations
 from .support.places import AN_OLD_ARCHIVE, ENDS, FRAMES, IMAGE, KEY, MERGED, ONE, ONE_OPS, ONE_SUM, READING, RETIRED
-from .support.places import ROW, UUID, PlacesCase, said
+from .support.places import ROW, UUID, WRITING, PlacesCase, said
 from .support.program import TOP
 
 OLD = (TOP / "tests" / "fixtures" / "version-1" / "retired.sym").read_bytes()
 OUT_OF_MEMORY = "symarch: out of memory"
 # The commands that read an archive of version 1.
 OLD_READING = [it for it in READING if it != "index"]
+# The commands that take addresses, which have words of their own.
+AT_ADDRESSES = ("symbolicate", "frames")
 
 
 def limited(what: int, most: int) -> Callable[[], None]:
@@ -493,7 +495,8 @@ class LadderOfQueries(LadderCase):
     """Commands that only print."""
 
     def test_images_and_names(self) -> None:
-        self.climb(f"find some.sym {UUID}", "list some.sym", "name some.sym _a")
+        asking = [it for it in READING if it not in WRITING and it not in AT_ADDRESSES]
+        self.climb(*(READING[it].format("some.sym") for it in asking))
 
     def test_addresses(self) -> None:
         self.climb(f"symbolicate some.sym {KEY} ffffffffffffffff", "frames memory.frames some.sym")

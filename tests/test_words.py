@@ -6,47 +6,15 @@ import os
 import re
 import resource
 import subprocess
-from typing import Callable, List, NamedTuple, Optional
+from typing import Callable, List
 
 from .support import crash
 from .support.cases import Words, text_lines, words_of
-from .support.made_images import EMPTY, digest_of, index
-from .support.places import DIGEST, EMPTY_SUM, ENDS, ENOENT, FRAMES, IMAGE, KEY, ONE, RETIRED, ROW, UUID
-from .support.places import PlacesCase, said
+from .support.made_images import EMPTY
+from .support.places import COMMANDS, ENOENT, FRAMES, IMAGE, KEY, ONE, RETIRED, ROW, UUID, Command, PlacesCase, said
 from .support.program import TOP, Ended, Word, call, symarch
 
 OUT_OF_MEMORY = "symarch: out of memory"
-
-
-class Command(NamedTuple):
-    """A command: its words, its status, what it prints, and what OUT then is, if it writes that."""
-
-    words: str
-    prints: str
-    status: int = 0
-    out: Optional[bytes] = None
-
-
-# Each command once.
-COMMANDS = [
-    Command("new out", "archive: 0 records, 17 bytes", out=EMPTY),
-    Command("admit empty.sym out image", f"file 0 slice 0 added {ROW}\narchive: 1 records, 106 bytes", out=ONE),
-    Command(f"retire one.sym out {ROW}", f"retired {ROW}\narchive: 1 records, 74 bytes", out=RETIRED),
-    Command("merge one.sym out empty.sym", "archive: 1 records, 106 bytes", out=ONE),
-    Command("merge one.sym out retired.sym empty.sym", "archive: 1 records, 74 bytes", out=RETIRED),
-    Command("migrate one.sym out", "archive: 1 records, 106 bytes", out=ONE),
-    Command("apply empty.sym out one.ops", "applied: 1 new, 0 known\narchive: 1 records, 106 bytes", out=ONE),
-    Command("summary empty.sym out", "summary: 0 entries, 17 bytes", out=EMPTY_SUM),
-    Command("delta one.sym empty.sum out", "archive: 1 records, 106 bytes", out=ONE),
-    Command("index one.sym out", "index: 1 entries, 91 bytes", out=index([IMAGE])),
-    Command(f"find one.sym {UUID}", f"x86_64 image {DIGEST}"),
-    Command("list one.sym", f"{KEY} image {DIGEST}"),
-    Command(f"symbolicate one.sym {KEY} 0", "0x0000000000000000 -", 1),
-    Command("frames one.frames one.sym", "0x0000000000000000 -", 1),
-    Command("name one.sym _a", "", 1),
-    Command("name ends.sym _a", f"{KEY} {digest_of(ENDS)} 0xffffffffffffffff (__TEXT,__text)"),
-    Command("rehearse one.script", f"0 saved\nsite 0 0 17 {digest_of(EMPTY)}"),
-]
 
 
 class Help(PlacesCase):

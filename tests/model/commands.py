@@ -9,7 +9,7 @@ from .contents import read_ops, read_summary, retirement, summary_text, test_len
 from .images import parts_of_file, sha
 from .lines import answer_lines, find_lines, find_rows, index_rows, key_text, name_lines
 from .parts import Store
-from .plans import Plan
+from .plans import ANY_NUMBER, Plan, takes
 from .worlds import World, read_frames, read_script
 
 UNLIMITED = 1 << 62
@@ -226,6 +226,7 @@ class Run:
         command: Callable[[Plan], int] = getattr(self, f"run_{plan.command}")
         return command(plan)
 
+    @takes("out")
     def run_new(self, plan: Plan) -> int:
         self.push(Content().text())
         return self.end(0, [])
@@ -240,6 +241,7 @@ class Run:
             found += [(file, number, part) for number, part in enumerate(parts)]
         return found
 
+    @takes("in out file*")
     def run_admit(self, plan: Plan) -> int:
         parts = self.before(plan.one["in"], lambda: self.slices(plan.files))
         came = Content([admission(part) for _, _, part in parts if part is not None])
@@ -261,6 +263,7 @@ class Run:
 
         return self.merge(plan.one["in"], came.text(), lines_of)
 
+    @takes("in out uuid arch digest")
     def run_retire(self, plan: Plan) -> int:
         record, words = retirement(plan.key, plan.digest), f"{key_text(plan.key)} {plan.digest.hex()}"
 
@@ -271,6 +274,7 @@ class Run:
 
         return self.merge(plan.one["in"], Content([record]).text(), lines_of)
 
+    @takes("in out file*")
     def run_merge(self, plan: Plan) -> int:
         if len(plan.files) == 1:
             return self.merge_two(plan.one["in"], plan.files[0])
@@ -299,9 +303,11 @@ class Run:
             raise CommandFault(f"archive {stopped.side}", stopped.text)
         return self.end(records, [])
 
+    @takes("in out")
     def run_migrate(self, plan: Plan) -> int:
         return self.merge(plan.one["in"], Content().text())
 
+    @takes("in out ops")
     def run_apply(self, plan: Plan) -> int:
         records = self.before(plan.one["in"], lambda: self.read(plan.one["ops"], "ops", read_ops))
 
@@ -311,6 +317,7 @@ class Run:
 
         return self.merge(plan.one["in"], Content(records).text(), lines_of)
 
+    @takes("archive uuid", is_asking=True, indexes=ANY_NUMBER)
     def run_find(self, plan: Plan) -> int:
         if len(plan.indexes) == 1 and not plan.more:
             rows = index_rows(self.entries(plan), plan.uuid)
@@ -318,6 +325,7 @@ class Run:
             rows = find_rows(self.asked_of(plan, plan.uuid), plan.uuid)
         return self.told(find_lines(rows, False))
 
+    @takes("archive", indexes=1)
     def run_list(self, plan: Plan) -> int:
         if plan.indexes:
             rows = index_rows(self.entries(plan))
@@ -325,10 +333,12 @@ class Run:
             rows = find_rows(self.archive(plan.one["archive"], "archive 0"))
         return self.told(find_lines(rows, True))
 
+    @takes("archive name", is_asking=True)
     def run_name(self, plan: Plan) -> int:
         content = self.join([plan.one["archive"], *plan.more])
         return self.told(name_lines(content, plan.one["name"].encode()))
 
+    @takes("archive uuid arch address*", is_asking=True, indexes=ANY_NUMBER)
     def run_symbolicate(self, plan: Plan) -> int:
         images = self.asked_of(plan, plan.key).answering(plan.key)
         return self.answered([answer_lines(images, it, plan.load) for it in plan.addresses])
@@ -337,6 +347,7 @@ class Run:
         self.tell([line for lines, _ in answers for line in lines])
         return 0 if all(is_one for _, is_one in answers) else 1
 
+    @takes("frames archives*", indexes=ANY_NUMBER)
     def run_frames(self, plan: Plan) -> int:
         self.test_indexes(plan.archives, plan.indexes)
         frames = read_frames(self.whole(plan.one["frames"], "frames"))
@@ -347,6 +358,7 @@ class Run:
         images = {key: content.answering(key) for key in keys}
         return self.answered([answer_lines(images[it.key], it.address, it.load) for it in frames])
 
+    @takes("archive out", indexes=1)
     def run_summary(self, plan: Plan) -> int:
         if plan.indexes:
             entries = {it[:57] for it in self.entries(plan)}
@@ -357,6 +369,7 @@ class Run:
         self.tell([f"summary: {len(entries)} entries, {len(text)} bytes"])
         return 0
 
+    @takes("archive out")
     def run_index(self, plan: Plan) -> int:
         source = self.open(plan.one["archive"])
         if source and source.data[: source.end][:8] == OLD_ARCHIVE:
@@ -367,6 +380,7 @@ class Run:
         self.tell([f"index: {content.len()} entries, {len(text)} bytes"])
         return 0
 
+    @takes("archive summary out")
     def run_delta(self, plan: Plan) -> int:
         entries = self.before(plan.one["archive"], lambda: self.read(plan.one["summary"], "summary", read_summary))
         source = self.opened(plan.one["archive"], "archive 0")
@@ -376,6 +390,7 @@ class Run:
             raise CommandFault("archive 0", fault.text) from None
         return self.end(records, [])
 
+    @takes("script")
     def run_rehearse(self, plan: Plan) -> int:
         script = read_script(self.whole(plan.one["script"], "script"))
         if isinstance(script, str):

@@ -1,22 +1,35 @@
 """The words of commands, told a second time by docs/COMMANDS.md."""
-from typing import Dict, List, Optional, Sequence, Tuple, TypeVar
+from typing import Callable, Dict, List, NamedTuple, Optional, Sequence, Tuple, TypeVar
 
 from .lines import address_word, arch_word, digest_word, uuid_word
 
-# The words that each command takes, in their order; a star is after the last one, which may stand several times.
-WORDS = {
-    **{"new": "out", "find": "archive uuid", "list": "archive", "name": "archive name", "summary": "archive out"},
-    **{"index": "archive out", "delta": "archive summary out", "rehearse": "script", "apply": "in out ops"},
-    **{"retire": "in out uuid arch digest", "admit": "in out file*", "merge": "in out file*", "migrate": "in out"},
-    **{"symbolicate": "archive uuid arch address*", "frames": "frames archives*"},
-}
-# The commands that ask several archives by `--with`; those that read an archive by its index, and those of them that
-# read one alone.
-ASKING = ("find", "symbolicate", "name")
-INDEXED = ("find", "symbolicate", "frames", "list", "summary")
-ALONE = ("list", "summary")
 # The words that name one input, in the order of a plan's inputs.
 INPUTS = ("in", "frames", "archive", "summary", "ops", "script")
+ANY_NUMBER = 1 << 62
+
+
+class Taken(NamedTuple):
+    """What a command takes: its words by their names, in their order, of which the last may stand several times, with
+    a star after it; whether it asks several archives by `--with`; and how often `--index` may stand."""
+
+    words: Sequence[str]
+    is_asking: bool
+    indexes: int
+
+
+# What each command takes, by its name; `takes` notes it.
+TAKEN: Dict[str, Taken] = {}
+Method = TypeVar("Method", bound=Callable[..., int])
+
+
+def takes(words: str, is_asking: bool = False, indexes: int = 0) -> Callable[[Method], Method]:
+    """Notes what the command takes that a method `run_` and its name carries out."""
+
+    def note(method: Method) -> Method:
+        TAKEN[method.__name__[len("run_") :]] = Taken(words.split(), is_asking, indexes)
+        return method
+
+    return note
 
 
 class Copy(Exception):
@@ -37,9 +50,10 @@ class Plan:
     """What words ask for: a command, its single words by their names, and those that may stand several times."""
 
     def __init__(self, words: Sequence[str]) -> None:
-        if not words or words[0] not in WORDS:
+        if not words or words[0] not in TAKEN:
             raise Copy
         self.command = words[0]
+        self.taken = TAKEN[self.command]
         self.load: Optional[int] = None
         self.more: List[str] = []
         self.indexes: List[str] = []
@@ -84,16 +98,16 @@ class Plan:
     def take_option(self, name: str, value: str) -> None:
         if name == "--load" and self.command == "symbolicate" and self.load is None:
             self.load = told(address_word(value))
-        elif name == "--with" and self.command in ASKING:
+        elif name == "--with" and self.taken.is_asking:
             self.more.append(value)
-        elif name == "--index" and self.command in INDEXED and not (self.indexes and self.command in ALONE):
+        elif name == "--index" and len(self.indexes) < self.taken.indexes:
             self.indexes.append(value)
         else:
             raise Copy
 
     def name(self, found: List[str]) -> None:
         """Takes the words by their names."""
-        names = WORDS[self.command].split()
+        names = self.taken.words
         for place, name in enumerate(names):
             if name.endswith("*"):
                 self.several[name[:-1]] = found[place:]

@@ -1,11 +1,11 @@
 """Each place of an input and of OUT in the words of the commands, for the cases that try all of them."""
 import errno
 import os
-from typing import Any, Iterable, Optional
+from typing import Any, Iterable, NamedTuple, Optional
 
 from .cases import ProgramCase
 from .hostile_images import with_two_symbols_at_the_last_address
-from .made_images import EMPTY, archive, digest_of, operations, summary
+from .made_images import EMPTY, archive, digest_of, index, operations, summary
 from .program import TOP
 
 IMAGE = (TOP / "examples" / "first" / "image").read_bytes()
@@ -24,6 +24,37 @@ INPUTS = {
     **{"one.ops": ONE_OPS, "empty.ops": EMPTY_OPS, "one.sum": ONE_SUM, "empty.sum": EMPTY_SUM},
     **{"one.frames": FRAMES.encode(), "one.script": SCRIPT.encode(), "ends.sym": archive([ENDS])},
 }
+
+
+class Command(NamedTuple):
+    """A command: its words, its status, what it prints, and what OUT then is, if it writes that."""
+
+    words: str
+    prints: str
+    status: int = 0
+    out: Optional[bytes] = None
+
+
+# Each command once.
+COMMANDS = [
+    Command("new out", "archive: 0 records, 17 bytes", out=EMPTY),
+    Command("admit empty.sym out image", f"file 0 slice 0 added {ROW}\narchive: 1 records, 106 bytes", out=ONE),
+    Command(f"retire one.sym out {ROW}", f"retired {ROW}\narchive: 1 records, 74 bytes", out=RETIRED),
+    Command("merge one.sym out empty.sym", "archive: 1 records, 106 bytes", out=ONE),
+    Command("merge one.sym out retired.sym empty.sym", "archive: 1 records, 74 bytes", out=RETIRED),
+    Command("migrate one.sym out", "archive: 1 records, 106 bytes", out=ONE),
+    Command("apply empty.sym out one.ops", "applied: 1 new, 0 known\narchive: 1 records, 106 bytes", out=ONE),
+    Command("summary empty.sym out", "summary: 0 entries, 17 bytes", out=EMPTY_SUM),
+    Command("delta one.sym empty.sum out", "archive: 1 records, 106 bytes", out=ONE),
+    Command("index one.sym out", "index: 1 entries, 91 bytes", out=index([IMAGE])),
+    Command(f"find one.sym {UUID}", f"x86_64 image {DIGEST}"),
+    Command("list one.sym", f"{KEY} image {DIGEST}"),
+    Command(f"symbolicate one.sym {KEY} 0", "0x0000000000000000 -", 1),
+    Command("frames one.frames one.sym", "0x0000000000000000 -", 1),
+    Command("name one.sym _a", "", 1),
+    Command("name ends.sym _a", f"{KEY} {digest_of(ENDS)} 0xffffffffffffffff (__TEXT,__text)"),
+    Command("rehearse one.script", f"0 saved\nsite 0 0 17 {digest_of(EMPTY)}"),
+]
 
 # The commands that read an archive, with its place; `merge` stands there with one FILE and with two.
 READING = {
