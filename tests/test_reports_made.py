@@ -9,6 +9,7 @@ import shutil
 import struct
 import subprocess
 import sys
+from itertools import product
 from pathlib import Path
 from typing import Any, Callable, Dict, Iterable, List, Optional, Sequence, Tuple
 
@@ -111,10 +112,19 @@ class Pasted(ReportCase):
                     self.is_printed(came, mail(wanted))
 
     def test_json_within_a_mail(self) -> None:
-        for form in ("ips", "older", "metrickit"):
-            mail = lambda data: b"Hi,\n\nit ended:\n" + before_lines(b"> ", data) + b"\nBye\n"
-            with self.subTest(form):
-                self.is_printed(self.report(self.file(form, mail(source(form))), "shipped"), mail(named(form)))
+        firsts = b"Hi,\n\nit ended:\n", b"[EXTERNAL] Hi,\r\n\r\nit ended:\r\n\r\n", b"  It ended:\n"
+        prefixes, forms = (b"> ", b"    ", b"\t", b" > "), ("ips", "older", "metrickit", "stackshot", "hang")
+        mail = lambda first, prefix, data: first + before_lines(prefix, data, True) + b"\nBye\n"
+        cases = list(enumerate(product(forms, firsts, prefixes)))
+        paths = [self.file(f"mails/{at}", mail(one[1], one[2], source(one[0]))) for at, one in cases]
+        made, _ = self.written(paths, "shipped")
+        for at, (form, first, prefix) in cases:
+            with self.subTest((form, first, prefix)):
+                self.assertEqual(made.get(str(at)), mail(first, prefix, named(form)))
+
+    def test_text_after_a_word_in_brackets(self) -> None:
+        mail = lambda data: b"[EXTERNAL] Hi,\n\nit ended:\n" + before_lines(b"> ", data) + b"\nBye\n"
+        self.is_printed(self.report(self.file("mail", mail(source("crash"))), "shipped"), mail(named("crash")))
 
     def test_as_text(self) -> None:
         mail = lambda data: before_lines(b"> ", data)
