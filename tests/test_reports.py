@@ -13,7 +13,7 @@ from typing import Any, List, Sequence, Tuple
 from .support.kills import interrupted
 from .support.program import TOP, call, symarch
 from .support.reports import CRASHES, DYLD, FIXTURES, KERNEL, SPOOL, SPOOL_2, SPOOL_X86_64, TOOL, ReportCase
-from .support.reports import named, source
+from .support.reports import FORMS, named, source
 
 ARM64, X86_64 = f"spool {SPOOL} arm64", f"spool {SPOOL_X86_64}"
 BY_DSYM, WITHOUT, UNLISTED = f"by dSYM: {ARM64}", f"without dSYM: {ARM64}", "1 of images that the report does not list"
@@ -94,6 +94,22 @@ class Forms(ReportCase):
                 counts = "4 of 4 frames named, 0 named before, 0 not named"
                 path = self.file(name, change(source("crash")))
                 self.prints([path, "shipped"], change(named("crash")), counts, BY_DSYM)
+
+    def test_decimal_addresses_of_trees(self) -> None:
+        """Of the frames, of the images, and of both. Other numbers in brackets are none."""
+        decimal = lambda found: found[1] + str(int(found[2], 16)).encode()
+        frames, images = rb"(\[|load address |\b,)0x([0-9a-f]+)\b", rb"(^ *\*?|- +)0x([0-9a-f]+)(?= [- ])"
+        for form in ("sample", "spindump", "hang"):
+            for name, lines in (("frames", [frames]), ("images", [images]), ("both", [frames, images])):
+                def change(data: bytes) -> bytes:
+                    for line in lines:
+                        data = re.sub(line, decimal, data, flags=re.M)
+                    return data.replace(b"[412]", b"[40412]").replace(b"(serial)", b"(serial) [51234]")
+                with self.subTest((form, name)):
+                    path, archive = self.file(name, change(source(form))), FORMS[form].archive
+                    came, usual = self.report(path, archive), self.report(FORMS[form].path, archive)
+                    self.is_printed(came, change(named(form)))
+                    self.assertEqual(came.error_lines, usual.error_lines)
 
     def test_lines_that_end_by_a_return(self) -> None:
         returns = self.file("returns", source("sample").replace(b"\n", b"\r\n"))

@@ -9,6 +9,7 @@ import shutil
 import struct
 import subprocess
 import sys
+from itertools import product
 from pathlib import Path
 from typing import Any, Callable, Dict, Iterable, List, Optional, Sequence, Tuple
 
@@ -111,10 +112,19 @@ class Pasted(ReportCase):
                     self.is_printed(came, mail(wanted))
 
     def test_json_within_a_mail(self) -> None:
-        for form in ("ips", "older", "metrickit"):
-            mail = lambda data: b"Hi,\n\nit ended:\n" + before_lines(b"> ", data) + b"\nBye\n"
-            with self.subTest(form):
-                self.is_printed(self.report(self.file(form, mail(source(form))), "shipped"), mail(named(form)))
+        firsts = b"Hi,\n\nit ended:\n", b"[EXTERNAL] Hi,\r\n\r\nit ended:\r\n\r\n", b"  It ended:\n"
+        prefixes, forms = (b"> ", b"    ", b"\t", b" > "), ("ips", "older", "metrickit", "stackshot", "hang")
+        mail = lambda first, prefix, data: first + before_lines(prefix, data, True) + b"\nBye\n"
+        cases = list(enumerate(product(forms, firsts, prefixes)))
+        paths = [self.file(f"mails/{at}", mail(one[1], one[2], source(one[0]))) for at, one in cases]
+        made, _ = self.written(paths, "shipped")
+        for at, (form, first, prefix) in cases:
+            with self.subTest((form, first, prefix)):
+                self.assertEqual(made.get(str(at)), mail(first, prefix, named(form)))
+
+    def test_text_after_a_word_in_brackets(self) -> None:
+        mail = lambda data: b"[EXTERNAL] Hi,\n\nit ended:\n" + before_lines(b"> ", data) + b"\nBye\n"
+        self.is_printed(self.report(self.file("mail", mail(source("crash"))), "shipped"), mail(named("crash")))
 
     def test_as_text(self) -> None:
         mail = lambda data: before_lines(b"> ", data)
@@ -694,6 +704,25 @@ NAMES = (b"__ZN5spool4copyEv", b"_$s5spool4copyyyF", b"_plain", b"-[Spool copy:]
 # The same without their first underscore, which is all that happens to a name without a demangler.
 STRIPPED = ["_ZN5spool4copyEv", "$s5spool4copyyyF", "plain", "-[Spool copy:]", "no_underscore", "_two"]
 
+# Names without that underscore, and what each demangler of C++ makes of them.
+SPELLED = {
+    "_ZN5spool4copyEv": "spool::copy()",
+    "_ZN5spool4copyEv.cold.1": "spool::copy() (.cold.1)",
+    "_ZN5spool4copyEv.constprop.0.isra.1": "spool::copy() (.constprop.0.isra.1)",
+    "___ZN5spool4copyEv_block_invoke": "invocation function for block in spool::copy()",
+    "___ZN5spool4copyEv_block_invoke_2": "invocation function for block in spool::copy()",
+    "___spool_copy_block_invoke": "___spool_copy_block_invoke",
+    "_ZZ4mainENKUliE_clEi": "main::'lambda'(int)::operator()(int) const",
+    "_ZZZ4mainENKUlvE1_clEvENKUlvE_clEv": "main::'lambda1'()::operator()() const::'lambda'()::operator()() const",
+    "_ZNSt3__16vectorINS_4pairIiDnEENS_9allocatorIS2_EEE5clearEv":
+        "std::__1::vector<std::__1::pair<int, std::nullptr_t>, "
+        "std::__1::allocator<std::__1::pair<int, std::nullptr_t>>>::clear()",
+    "_ZN12_GLOBAL__N_14spinEv": "(anonymous namespace)::spin()",
+    "_RNvC5spool4copy": "spool::copy",
+    "-[Spool copy:]": "-[Spool copy:]",
+    "main": "main",
+}
+
 
 def image_of(names: Sequence[bytes]) -> bytes:
     """An image for x86_64 of a function of 16 bytes for each name, in this order."""
@@ -717,25 +746,32 @@ class Demangling(ReportCase):
 
     def setUp(self) -> None:
         super().setUp()
+        self.make(NAMES)
+
+    def make(self, names: Sequence[bytes]) -> None:
+        """Makes a crash with a frame in each function of an image, and its archive."""
         self.archive = self.folder / "names.sym"
-        program("admit", self.archives / "empty", self.archive, self.file("image", image_of(NAMES)))
-        addresses = enumerate(0x10000 + 16 * number + 4 for number in range(len(NAMES)))
+        program("admit", self.archives / "empty", self.archive, self.file("image", image_of(names)))
+        addresses = enumerate(0x10000 + 16 * number + 4 for number in range(len(names)))
         lines = "".join(f"{number} x 0x{address:x} 0x10000 + 1\n" for number, address in addresses)
         images = f"Binary Images:\n0x10000 - 0x1ffff x <{bytes(range(16)).hex()}> /x\n"
         self.crash = self.file("crash", f"Code Type: X86-64\nThread 0:\n{lines}{images}")
 
     def names(self, out: bytes) -> List[str]:
         """The names of the frames of a crash; the offset is that of the frame, the fifth byte of its function."""
-        return re.findall(r"^[0-9] x 0x[0-9a-f]+ (.*) \+ 4$", out.decode(), re.M)
+        return re.findall(r"^[0-9]+ x 0x[0-9a-f]+ (.*) \+ 4$", out.decode(), re.M)
 
-    def demangled(self, wanted: Sequence[str], note: str = "", **demanglers: str) -> None:
-        """Fails where others come of these demanglers, something else is said, or one is called more than once."""
+    def demangled(
+        self, wanted: Sequence[str], note: str = "", others: Sequence[str] = (), **demanglers: str
+    ) -> None:
+        """Fails where others come of these demanglers, something else is said, or one is called more than once; or
+        where one of the others is called at all."""
         # The shell and what its scripts call stand in this folder alone.
         tools = self.folder / "tools"
         tools.mkdir()
         for tool in ("sed", "head", "sh", "echo", "cat"):
             (tools / tool).symlink_to(shutil.which(tool) or "")
-        for name, body in demanglers.items():
+        for name, body in {**dict.fromkeys(others, "cat"), **demanglers}.items():
             self.script(f"demanglers/{name.replace('_', '-')}", f'echo >>"{self.folder}/{name}"\n{body}')
         both = f"{self.folder / 'demanglers'}:{tools}"
         came = self.report("--demangle", self.crash, self.archive, environment={"PATH": both})
@@ -743,6 +779,7 @@ class Demangling(ReportCase):
         self.assertEqual(came.error_lines[:-1], [f"symbolicate-report: {note}"] if note else [])
         for name in demanglers:
             self.assertEqual((self.folder / name).read_text(), "\n", f"calls of {name}")
+        self.assertEqual([name for name in others if (self.folder / name).exists()], [], "calls of others")
 
     cxx = "sed 's/^_ZN5spool4copyEv$/spool::copy()/'"
     swift = "sed 's/^$s5spool4copyyyF$/spool.copy() -> ()/'"
@@ -773,4 +810,30 @@ class Demangling(ReportCase):
         self.demangled(STRIPPED, "llvm-cxxfilt -n failed: it demangles no names", llvm_cxxfilt="head -n 2")
 
     def test_neither(self) -> None:
-        self.demangled(STRIPPED, "neither swift nor llvm-cxxfilt is there: names are not demangled")
+        note = "neither swift nor llvm-cxxfilt nor c++filt is there: names are not demangled"
+        self.demangled(STRIPPED, note)
+
+    def test_the_greatest_version(self) -> None:
+        wanted = ["spool::copy()", *STRIPPED[1:]]
+        self.demangled(wanted, others=["llvm_cxxfilt_9", "llvm_cxxfilt_14x", "c++filt"], llvm_cxxfilt_14=self.cxx)
+
+    def test_llvm_before_its_versions(self) -> None:
+        self.demangled(["spool::copy()", *STRIPPED[1:]], others=["llvm_cxxfilt_14", "c++filt"], llvm_cxxfilt=self.cxx)
+
+    def test_gnu_alone(self) -> None:
+        self.demangled(["spool::copy()", *STRIPPED[1:]], **{"c++filt": self.cxx})
+
+    def test_the_same_by_each(self) -> None:
+        """Of the commands themselves, as far as they are installed."""
+        self.archive.unlink()
+        self.make([b"_" + name.encode() for name in SPELLED])
+        for command in ("llvm-cxxfilt", "llvm-cxxfilt-14", "c++filt"):
+            path = shutil.which(command)
+            with self.subTest(command):
+                if not path:
+                    self.skipTest(f"there is no {command}")
+                folder = self.folder / f"only {command}"
+                folder.mkdir()
+                (folder / command).symlink_to(os.path.realpath(path))
+                came = self.report("--demangle", self.crash, self.archive, environment={"PATH": str(folder)})
+                self.assertEqual(self.names(came.out), list(SPELLED.values()))

@@ -1,14 +1,28 @@
 """Names as people write them: without the underscore that C puts before them, and demangled."""
 from __future__ import annotations
 
+import os
+import re
 import shutil
 import subprocess
-from typing import List, Sequence
+from typing import Dict, List, Match, Optional, Sequence
 
 from .streams import note
 
-# Each of them reads a name a line. The second one would else drop underscores on a Mac.
-DEMANGLERS = (("swift", "demangle"), ("llvm-cxxfilt", "-n"))
+# What demangles C++, the best first; between them stands what is called as the first one is, and a number.
+LLVM, GNU = "llvm-cxxfilt", "c++filt"
+NUMBERED = re.compile(re.escape(LLVM) + r"-([0-9]+)")
+# The function of a block, which GNU does not know, by that which has the block.
+BLOCK = re.compile(r"__(_Z[\w$]+?)_block_invoke(?:_?[0-9]+)?(?:\..*)?")
+BLOCK_WORDS = "invocation function for block in "
+# What GNU spells otherwise than LLVM: types without a name, copies of a function, crates of Rust.
+UNNAMED = re.compile(r"\{(?:lambda(\([^{}]*\))|unnamed type)#([0-9]+)\}")
+COPIES = re.compile(r"(?: \[clone [^]]*\])+$")
+COPY = re.compile(r"\[clone ([^]]*)\]")
+CRATE = re.compile(r"(?<=\w)\[[0-9a-f]+\]")
+WORDS = (("decltype(nullptr)", "std::nullptr_t"), ("operator<< <", "operator<<<"))
+# Where templates end. LLVM writes the space up to version 14.
+ENDS = re.compile(r"> (?=>)")
 
 
 def without_underscores(names: Sequence[str]) -> List[str]:
@@ -19,12 +33,52 @@ def without_underscores(names: Sequence[str]) -> List[str]:
 def demangled(names: Sequence[str]) -> List[str]:
     """The names, by each demangler that is there, which is called once for all of them."""
     shown = list(names)
-    found = [words for words in DEMANGLERS if shutil.which(words[0])]
-    if not found:
-        note("neither swift nor llvm-cxxfilt is there: names are not demangled")
-    for words in found:
-        shown = changed(words, shown)
-    return shown
+    swift, cxx = shutil.which("swift"), cxx_demangler()
+    if not swift and not cxx:
+        note(f"neither swift nor {LLVM} nor {GNU} is there: names are not demangled")
+    if swift:
+        shown = changed(["swift", "demangle"], shown)
+    return cxx_demangled(cxx, shown) if cxx else shown
+
+
+def cxx_demangler() -> Optional[str]:
+    """The command for C++ that is there: the one of LLVM, else that of its greatest version, else that of GNU."""
+    versions: Dict[int, str] = {}
+    for folder in os.get_exec_path():
+        try:
+            found = map(NUMBERED.fullmatch, os.listdir(folder or os.curdir))
+        except OSError:
+            continue
+        versions.update((int(match[1]), match[0]) for match in found if match)
+    commands = [LLVM, *(versions[number] for number in sorted(versions, reverse=True)), GNU]
+    return next((command for command in commands if shutil.which(command)), None)
+
+
+def cxx_demangled(command: str, names: List[str]) -> List[str]:
+    """The names by a command for C++. It would else drop underscores on a Mac."""
+    blocks = [BLOCK.fullmatch(name) for name in names]
+    asked = [block[1] if block else name for block, name in zip(blocks, names)]
+    made = changed([command, "-n"], asked)
+    words = [BLOCK_WORDS if block else "" for block in blocks]
+    every = zip(names, asked, made, words)
+    return [name if new == old else before + spelled(old, new) for name, old, new, before in every]
+
+
+def spelled(name: str, made: str) -> str:
+    """What a command made of a name, as LLVM spells it."""
+    count = 1
+    # One may stand within another one.
+    while count:
+        made, count = UNNAMED.subn(unnamed, made)
+    made = COPIES.sub(lambda found: f" ({''.join(COPY.findall(found[0]))})", made)
+    for gnu, llvm in WORDS:
+        made = made.replace(gnu, llvm)
+    return CRATE.sub("", made) if name.startswith("_R") else ENDS.sub(">", made)
+
+
+def unnamed(found: Match[str]) -> str:
+    number = "" if found[2] == "1" else str(int(found[2]) - 2)
+    return f"'unnamed{number}'" if found[1] is None else f"'lambda{number}'{found[1]}"
 
 
 def changed(words: Sequence[str], names: List[str]) -> List[str]:

@@ -8,13 +8,14 @@ from typing import Iterable, Iterator, Match, Optional, Tuple
 FIRST_WORDS = rb"(?:Process|Identifier|Incident Identifier|Date/Time|Code Type|Analysis of sampling)\b"
 MOST_OF_BEGINNING = 10_000
 # Such a line, or the first one of JSON; and a heading that each text has.
-FIRST_LINE = re.compile(rb"^([ \t>]*)(?:" + FIRST_WORDS + rb"|([{\[]))", re.MULTILINE)
+FIRST_LINE = re.compile(rb"^([ \t>]*)(?:" + FIRST_WORDS + rb'|([{\[])[ \t\r]*(?:["{}\[\]]|$))', re.MULTILINE)
 HEADING = b"Binary Images"
 # What a line begins with, once what was before it is gone, if only spaces follow, which need no space before them; and
 # if nothing was before it. Both are spaces to those who read the report.
 EMPTY, OUTSIDE = b"\x0b", b"\x0c"
 BEGIN = re.compile(rb"\n(?:(\x0b)|(\x0c)|(?=[\s\S]))")
-LINES_OUTSIDE = re.compile(rb"(?:\x0c[^\n]*\n)*")
+# Lines that had nothing before them, and empty ones among these.
+LINES_OUTSIDE = re.compile(rb"(?:(?:\x0c[^\n]*|\x0b?\r?)\n)*")
 
 
 class Pasted:
@@ -69,8 +70,15 @@ def prefix_of(data: bytes) -> Optional[bytes]:
         return None
     # Spaces may stand before JSON alone, and before the images alone of a text without a first line.
     if b">" not in prefix and (is_json or found is None) and not is_before_all(prefix, data):
-        return None
+        is_in_mail = found is not None and is_json and is_after_text(found, heading)
+        return prefix if is_in_mail and prefix else None
     return prefix or None
+
+
+def is_after_text(found: Match[bytes], heading: Optional[bytes]) -> bool:
+    """Whether JSON with spaces before its first line comes after text, and no images have others before them."""
+    text = found.string[: found.start()].strip()
+    return bool(text) and (heading is None or heading.startswith(found[1]))
 
 
 def is_before_all(prefix: bytes, data: bytes) -> bool:

@@ -39,17 +39,22 @@ BACKTRACE = re.compile(rb"\((?P<addresses>0x[0-9a-fA-F]{1,16}(?:\s+0x[0-9a-fA-F]
 BARS = rb"[\s+!:|*]*"
 NODE = re.compile(BARS + rb"(?=[0-9]+\s+\S)")
 # As `2543 ???  (in spool)  load address 0x104d38000 + 0x410  [0x104d38410]`, or `2543 main  (in spool) + 8  [0x..]`.
-# Several addresses of one function may stand in one line. Lists have such frames without a number.
+# Several addresses of one function may stand in one line. Lists have such frames without a number. In some copies of
+# trees the addresses are decimal.
+ADDRESS = rb"(?:0x[0-9a-fA-F]+|[0-9]{5,20})"
+IN_BRACKETS = re.compile(rb"\[" + ADDRESS + rb"[],]")
 SAMPLE = re.compile(
     rb"(?P<head>" + BARS + rb"(?:[0-9]+\s+)?)(?P<said>\S.*?)(?P<middle> +\(in .+?\))"
-    rb"(?: +load address 0x(?P<start>[0-9a-fA-F]+))?(?: \+ \S+)?"
-    rb"(?P<tail> +\[0x(?P<addresses>[0-9a-fA-F]+(?:, ?0x[0-9a-fA-F]+)*)(?:,\.\.\.)?\].*)"
+    rb"(?: +load address (?P<start>" + ADDRESS + rb"))?(?: \+ \S+)?"
+    rb"(?P<tail> +\[(?P<addresses>" + ADDRESS + rb"(?:, ?" + ADDRESS + rb")*)(?:,\.\.\.)?\].*)"
 )
 # As `1001  ??? (spool + 1040) [0x104d38410] 1-1001`, or `1001  main + 12 (spool.c:12 in spool + 1040) [0x..]`. An image
-# without a name has its UUID, as `(<4C4C4419-5555-3144-A1D2-4341C97782F0> + 1040)`; an address in no image has none.
+# without a name has its UUID, as `(<4C4C4419-5555-3144-A1D2-4341C97782F0> + 1040)`; an address in no image has none. A
+# decimal one stands after an image, or after `???`.
 SPINDUMP = re.compile(
     rb"(?P<head>" + BARS + rb"[0-9]+\s+)(?P<said>\?\?\?|\S.* \+ [0-9]+|\S.*?)"
-    rb"(?P<tail>(?: +\((?:.* in )?(?P<image>\S.*?) \+ (?P<offset>[0-9]+)\))? +\[0x(?P<addresses>[0-9a-fA-F]+)\].*)"
+    rb"(?P<tail>(?: +\((?:.* in )?(?P<image>\S.*?) \+ (?P<offset>[0-9]+)\))?"
+    rb" +\[(?P<addresses>0x[0-9a-fA-F]+|(?:(?<=[0-9]\) \[)|(?<=\?\?\? \[))[0-9]{5,20})\].*)"
 )
 HEAVIEST = b"Heaviest stack"
 LISTS = (b"Total number in stack", b"Sort by top of stack")
@@ -179,7 +184,7 @@ class Part:
             elif found.get("offset"):
                 self.add(place, address, address - int(found["offset"]), kind)
             else:
-                self.add(place, address, int(found["start"], 16) if found.get("start") else NOT_SAID, kind)
+                self.add(place, address, address_of(found["start"]) if found.get("start") else NOT_SAID, kind)
 
     def is_return(self, addresses: Sequence[int], column: Optional[int], below: Optional[int]) -> bool:
         """Whether the addresses of a line of a tree are those that calls return to."""
@@ -216,13 +221,13 @@ def frames_in(line: bytes) -> Tuple[Optional[Pattern[bytes]], Optional[Match[byt
     """The form of a line with frames, and what was found in it; None for both where it has none."""
     if len(line) > MOST_OF_LINE:
         return None, None
-    if b"0x" not in line:
-        found = CRASH.match(line) if b" + " in line else None
-        return (CRASH, found) if found else (None, None)
-    if b"[0x" in line:
+    if IN_BRACKETS.search(line):
         for form in (SAMPLE, SPINDUMP):
             if found := form.fullmatch(line):
                 return form, found
+    if b"0x" not in line:
+        found = CRASH.match(line) if b" + " in line else None
+        return (CRASH, found) if found else (None, None)
     if found := BACKTRACE.fullmatch(line):
         return BACKTRACE, found
     found = CRASH.match(line)
@@ -234,7 +239,7 @@ def address_of(text: bytes) -> int:
 
 
 def addresses_of(text: bytes) -> List[int]:
-    return [int(address, 16) for address in re.split(rb", ?0x|\s+", text)]
+    return [address_of(address) for address in re.split(rb", ?|\s+", text)]
 
 
 class TextReport:

@@ -64,8 +64,8 @@ MISSING = """print the UUID and the name of each image with frames that the repo
 has no dSYM, whether it has the image or not: a line each, once for all reports, and nothing else"""
 TEXT = """print a JSON report as people read a crash: its header, what the system said of its end, the threads with
 names and offsets, the images. It leaves out a `Full Report` that repeats the text before it"""
-DEMANGLE = """make names of C++ and Swift readable: run `swift demangle` and `llvm-cxxfilt`, if they are installed, once
-each for all names"""
+DEMANGLE = """make names of C++ and Swift readable: run `swift demangle`, and the first of `llvm-cxxfilt`,
+`llvm-cxxfilt-N` of the greatest N and `c++filt`, if they are installed, once each for all names"""
 RAW = """keep the underscore that a symbol table puts before each name"""
 OUT = """write each report to FOLDER under the name of its own file, whole or not at all, and make FOLDER if it is not
 there. It replaces a file that is there, but never one that this call reads. Several reports need it; two reports of
