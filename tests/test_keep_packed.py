@@ -10,13 +10,19 @@ import struct
 import subprocess
 import sys
 import tarfile
+import tempfile
 import time
+import unittest
 import zipfile
-from typing import Any, Callable, Dict, List, Mapping, Tuple
+from typing import Any, Callable, Dict, Iterator, List, Mapping, Tuple
 
 from .support.cases import Without, Wrong, is_done, same
 from .support.made_images import archive, image, line, thirty_two_bit, universal
+from .support.program import TOP
 from .support.rooms import RoomCase
+
+sys.path.insert(0, str(TOP / "tools"))
+from symarch_tools.keeping.packed import Damaged, Member, Packed, Unpacker  # noqa: E402
 
 ONE, TWO = (f"{name}.dSYM/Contents/Resources/DWARF/{name}" for name in ("one", "two"))
 TEXT, OUT = b"text " * 1000, "../../leads-out"
@@ -283,3 +289,36 @@ def is_unpacking(process: int, folder: str) -> bool:
         with contextlib.suppress(FileNotFoundError):
             found.append(os.readlink(f"/proc/{process}/fd/{name}"))
     return any(it.startswith(folder) and it.endswith("(deleted)") for it in found)
+
+
+class Order(unittest.TestCase):
+    """A file is unpacked twice at most, whatever the order is in which its members are asked for."""
+
+    def unpacks_twice(self, made: bytes, is_zip: bool, names: List[str]) -> None:
+        with tempfile.NamedTemporaryFile() as file:
+            file.write(made)
+            file.flush()
+            packed = Counted(os.fsencode(file.name), is_zip)
+            unpacker = Unpacker()
+            unpacker.wanted[packed] = set(range(len(names)))
+            for number in [*range(len(names)), *reversed(range(len(names))), 1, 0, 2]:
+                with unpacker.open(packed, number) as member:
+                    self.assertEqual(member.read(), names[number].encode() * 100)
+            self.assertEqual(packed.times, 2)
+            self.assertRaises(Damaged, unpacker.open, packed, len(names))
+
+    def test_reversed(self) -> None:
+        names = [f"{number}.dSYM" for number in range(40)]
+        members = {name: name.encode() * 100 for name in names}
+        self.unpacks_twice(zipped(members), True, names)
+        self.unpacks_twice(tarred(members), False, names)
+
+
+class Counted(Packed):
+    """A packed file that counts how often it is read from the first member on, or from another."""
+
+    times = 0
+
+    def members(self, first: int = 0) -> Iterator[Member]:
+        self.times += 1
+        return super().members(first)

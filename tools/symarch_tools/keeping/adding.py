@@ -10,10 +10,10 @@ What goes in is found by its first bytes, whatever a file is called: each 64-bit
 bundles, .xcarchive, .app, frameworks, dylibs and all else that a PATH has at any depth. The slices of a universal
 file go in one by one, so a part that stays out keeps no other part out. The PATH - is standard input.
 
-A PATH that is a zip file, or a tar file packed by gzip, is read as a folder of its members, printed as ZIP: MEMBER. One
-member at a time is unpacked, into a file without a name; one of more than 4294967295 bytes is refused, as is one that
-is encrypted, cut or damaged. The others go in, but for those after a fault in a tar file. Those that a folder or such a
-file has in it are passed over.
+A PATH that is a zip file, or a tar file packed by gzip, is read as a folder of its members, printed as ZIP: MEMBER.
+They are unpacked into files without names, all images at once if they do not stand in the order of their UUIDs; one of
+more than 4294967295 bytes is refused, as is one that is encrypted, cut or damaged. The others go in, but for those
+after a fault in a tar file. Those that a folder or such a file has in it are passed over.
 
 These are passed over: object files and images without a UUID, static libraries, 32-bit and big-endian images, all
 other files, links to folders, links that lead nowhere. The last line on standard error counts them; --verbose names

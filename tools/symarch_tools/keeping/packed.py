@@ -3,12 +3,13 @@ file that has no name, so nothing is left of it however the tool ends; the name 
 import contextlib
 import copy
 import gzip
+import os
 import struct
 import tarfile
 import tempfile
 import zipfile
 import zlib
-from typing import IO, BinaryIO, Iterator, NamedTuple, Optional, Tuple, cast
+from typing import IO, BinaryIO, Container, Dict, Iterator, NamedTuple, Optional, Set, Tuple, cast
 
 from ..signals import signals
 from .contents import CHUNK, TOO_LARGE
@@ -22,6 +23,7 @@ MOST, MOST_OF_NAMES = TOO_LARGE - 1, 1 << 20
 NAMES = (tarfile.GNUTYPE_LONGNAME, tarfile.GNUTYPE_LONGLINK, tarfile.XHDTYPE, tarfile.XGLTYPE, tarfile.SOLARIS_XHDTYPE)
 # Deflate alone unpacks in small pieces whatever it has.
 METHODS, IS_ENCRYPTED = (zipfile.ZIP_STORED, zipfile.ZIP_DEFLATED), 1
+GONE = "it is not there any more"
 FAULTS = (
     zipfile.BadZipFile, tarfile.TarError, zlib.error, struct.error, EOFError, NotImplementedError, RuntimeError,
     ValueError, OverflowError, LookupError,
@@ -45,6 +47,15 @@ def faults_of(kind: str) -> Iterator[None]:
         raise Damaged(f"{kind}cut or damaged") from None
 
 
+@contextlib.contextmanager
+def unnamed() -> Iterator[Tuple[BinaryIO, contextlib.ExitStack]]:
+    """A file without a name, and what closes it at the end."""
+    with contextlib.ExitStack() as ends:
+        with signals.later():
+            file = cast(BinaryIO, ends.enter_context(tempfile.TemporaryFile()))
+        yield file, ends
+
+
 class Member(NamedTuple):
     """A member: its place among all, its name, what it promises, its bytes, and why they are not read."""
 
@@ -60,23 +71,25 @@ class Member(NamedTuple):
         with faults_of(""):
             return self.stream.read(size)
 
+    def unpack(self, file: BinaryIO, front: bytes) -> None:
+        """Writes its bytes, of which the first were read. What comes is counted, whatever was promised."""
+        size, chunk = 0, front
+        while chunk:
+            size += len(chunk)
+            if size > MOST:
+                raise Damaged(f"unpacks to more than {MOST} bytes, and no slice has more")
+            file.write(chunk)
+            chunk = self.read(CHUNK)
+        if size != self.size:
+            raise Damaged(f"unpacks to {size} bytes, and its entry promises {self.size}")
+
     def unpacked(self, front: bytes) -> BinaryIO:
-        """A file of its bytes, of which the first were read. What comes is counted, whatever was promised."""
-        with contextlib.ExitStack() as ends:
-            with signals.later():
-                file = ends.enter_context(tempfile.TemporaryFile())
-            size, chunk = 0, front
-            while chunk:
-                size += len(chunk)
-                if size > MOST:
-                    raise Damaged(f"unpacks to more than {MOST} bytes, and no slice has more")
-                file.write(chunk)
-                chunk = self.read(CHUNK)
-            if size != self.size:
-                raise Damaged(f"unpacks to {size} bytes, and its entry promises {self.size}")
+        """A file of its bytes, of which the first were read."""
+        with unnamed() as (file, ends):
+            self.unpack(file, front)
             file.flush()
             ends.pop_all()
-        return file  # type: ignore[return-value]
+        return file
 
 
 class TarHeader(tarfile.TarInfo):
@@ -164,29 +177,90 @@ def packed_at(path: bytes) -> Optional[Packed]:
     return Packed(path, False) if header[MAGIC_AT : MAGIC_AT + len(TAR)] == TAR else None
 
 
+class Whole:
+    """The members of packed files that were asked for in another order than they stand there: each such file is
+    unpacked once, into one file without a name."""
+
+    def __init__(self) -> None:
+        self.file: Optional[BinaryIO] = None
+        # Where each member begins, and how long it is, by its number.
+        self.places: Dict[Packed, Dict[int, Tuple[int, int]]] = {}
+        # What the system said as a file was unpacked.
+        self.faults: Dict[Packed, OSError] = {}
+
+    def take(self, packed: Packed, wanted: Container[int]) -> None:
+        if self.file is None:
+            with unnamed() as (self.file, ends):
+                ends.pop_all()
+        self.places[packed] = {}
+        # What is damaged is missed if it is asked for.
+        with contextlib.suppress(Damaged):
+            try:
+                for member in packed.members():
+                    if member.number in wanted:
+                        self.take_member(member, self.places[packed], packed.is_zip)
+            except OSError as error:
+                self.faults[packed] = error
+
+    def take_member(self, member: Member, found: Dict[int, Tuple[int, int]], goes_on: bool) -> None:
+        assert self.file
+        begin = self.file.seek(0, os.SEEK_END)
+        try:
+            member.unpack(self.file, member.read(CHUNK))
+            found[member.number] = begin, self.file.tell() - begin
+        except Damaged:
+            if not goes_on:
+                raise
+
+    def unpacked(self, packed: Packed, number: int) -> BinaryIO:
+        """A file of the bytes of a member."""
+        if self.file is None or number not in self.places[packed]:
+            raise self.faults.get(packed, Damaged(GONE))
+        begin, left = self.places[packed][number]
+        self.file.seek(begin)
+        with unnamed() as (file, ends):
+            while left > 0:
+                chunk = self.file.read(min(left, CHUNK))
+                file.write(chunk)
+                left -= len(chunk)
+            file.flush()
+            ends.pop_all()
+        return file
+
+
 class Unpacker:
-    """Opens members by their numbers. It has no more than one of them unpacked, and goes on in the file that has it."""
+    """Opens members by their numbers. It has no more than one of them unpacked, and goes on in the file that has it,
+    for as long as they are asked for in their order."""
 
     def __init__(self) -> None:
         self.place: Tuple[Optional[Packed], int] = None, 0
         self.members: Iterator[Member] = iter(())
         self.file: Optional[BinaryIO] = None
+        # The members that may be asked for, of each file; and those files that were begun.
+        self.wanted: Dict[Packed, Set[int]] = {}
+        self.begun: Set[Packed] = set()
+        self.whole = Whole()
 
     def open(self, packed: Packed, number: int) -> BinaryIO:
         if self.file is None or self.place != (packed, number):
-            self.unpack(packed, number)
-        assert self.file
+            self.file, self.place = self.unpacked(packed, number), (packed, number)
         return open(f"{DESCRIPTORS}/{self.file.fileno()}", "rb", buffering=0)
 
-    def unpack(self, packed: Packed, number: int) -> None:
+    def unpacked(self, packed: Packed, number: int) -> BinaryIO:
         before, at = self.place
         self.close()
-        if before is not packed or at >= number:
+        goes_on = before is packed and at < number and packed not in self.whole.places
+        if packed in self.begun and not goes_on:
+            if packed not in self.whole.places:
+                self.whole.take(packed, self.wanted[packed])
+            return self.whole.unpacked(packed, number)
+        if not goes_on:
+            self.begun.add(packed)
             self.members = packed.members(number)
         member = next((one for one in self.members if one.number == number), None)
         if member is None:
-            raise Damaged("it is not there any more")
-        self.file, self.place = member.unpacked(member.read(CHUNK)), (packed, number)
+            raise Damaged(GONE)
+        return member.unpacked(member.read(CHUNK))
 
     def close(self) -> None:
         """Forgets what was unpacked."""

@@ -152,6 +152,7 @@ class Finder:
         for member in packed.members():
             self.begin_file(path, name + b": " + member.name)
             self.opens = functools.partial(self.unpacker.open, packed, member.number)
+            found = len(self.slices)
             try:
                 self.take_member(member)
             except (Damaged, SliceRefused, OSError) as fault:
@@ -160,6 +161,8 @@ class Finder:
                 self.screen.refuse(self.name, f"{told}; what comes after it was not read" if is_end else told)
                 if is_end:
                     return
+            if len(self.slices) > found:
+                self.unpacker.wanted.setdefault(packed, set()).add(member.number)
             kinds += [kind for kind in self.over if kind not in kinds]
             # A fault of the file itself is none of its last member.
             self.name = name
