@@ -1,5 +1,6 @@
 """What `symarch-keep add` says of the files that were named: what one looks like of which nothing goes in, what a cut
 one promises, and what to type if ARCHIVE stands last. What nothing is put into is not made."""
+import gzip
 import os
 import pathlib
 import subprocess
@@ -11,8 +12,8 @@ from .support.rooms import RoomCase, today_of
 
 FRONTS = {
     "an ELF file, which no word takes": b"\x7fELF\2\1\1",
-    "a zip file, which has to be unpacked first": b"PK\3\4\x14\0",
-    "a gzip file, which has to be unpacked first": b"\x1f\x8b\x08\0",
+    "an empty zip file": b"PK\5\6",
+    "a gzip file, which has to be unpacked first": gzip.compress(b"text"),
     "a tar file, which has to be unpacked first": b"a.dSYM/".ljust(257, b"\0") + b"ustar\x0000",
     "a PDB file, which no word takes": b"Microsoft C/C++ MSF 7.00\r\n\x1aDS\0\0\0",
     "a PE file, which no word takes": b"MZ\x90\0",
@@ -47,8 +48,9 @@ class Named(RoomCase):
     def test_as_admit_says_it(self) -> None:
         """Of an ELF, a zip and a gzip the program says the same before the comma."""
         empty = self.room.file("empty.sym", archive([]))
-        for look in [it for it in FRONTS if it.startswith(("an ELF", "a zip", "a gzip"))]:
-            path = self.room.file("one", FRONTS[look])
+        fronts = {**FRONTS, "a zip file, which has to be unpacked first": b"PK\3\4"}
+        for look in [it for it in fronts if it.startswith(("an ELF", "a zip", "a gzip"))]:
+            path = self.room.file("one", fronts[look])
             came = call([symarch, "admit", empty, self.folder / "out", path])
             self.assertIn(f", {look.partition(',')[0]},", came.errors.decode())
 
@@ -68,7 +70,7 @@ class Named(RoomCase):
         self.room.has(archive([image(1), image(2)]))
         with self.room.start("add", self.room.archive, "-", stdin=subprocess.PIPE) as process:
             _, errors = process.communicate(b"PK\3\4")
-        same("errors", errors.decode().splitlines()[0], "symarch-keep: -: a zip file, which has to be unpacked first")
+        same("errors", errors.decode().splitlines()[0], "symarch-keep: -: a zip file that is cut or damaged")
 
 
 class NoArchive(RoomCase):

@@ -335,6 +335,7 @@ class Operating(RoomCase):
         inside.mkdir(parents=True)
         shutil.copy(crash / "spool-1.dSYM", inside / "spool")
         shutil.copy(crash / "spool-2", self.folder / "dSYMs/spool-2")
+        shutil.make_archive(str(self.folder / "dSYMs"), "zip", self.folder, "dSYMs")
         shutil.copy(crash / "arm64.ips", self.folder / "report.ips")
         self.room.file("crash.frames", b"4c4c4419-5555-3144-a1d2-4341c97782f0 arm64 0x104d38000 0x104d38410\n")
         self.west = Site(self.room, "west")

@@ -10,6 +10,11 @@ What goes in is found by its first bytes, whatever a file is called: each 64-bit
 bundles, .xcarchive, .app, frameworks, dylibs and all else that a PATH has at any depth. The slices of a universal
 file go in one by one, so a part that stays out keeps no other part out. The PATH - is standard input.
 
+A PATH that is a zip file, or a tar file packed by gzip, is read as a folder of its members, printed as ZIP: MEMBER.
+They are unpacked into files without names, all images at once if they do not stand in the order of their UUIDs; one of
+more than 4294967295 bytes is refused, as is one that is encrypted, cut or damaged. The others go in, but for those
+after a fault in a tar file. Those that a folder or such a file has in it are passed over.
+
 These are passed over: object files and images without a UUID, static libraries, 32-bit and big-endian images, all
 other files, links to folders, links that lead nowhere. The last line on standard error counts them; --verbose names
 each. A PATH of which nothing goes in is named too, with what it looks like. A PATH that is a link is followed, and so
@@ -53,11 +58,12 @@ from typing import Dict, List, Sequence, Set, Union
 from .archive import Archive
 from .archive_file import NO_UUID, ArchiveFile
 from .contents import Content
+from .packed import ZIP
 from .program import DESCRIPTORS, Program
 from .screen import Failed, Screen, SliceRefused, shown
 from .slices import THIN, UNIVERSAL, Finder, Slice, compared, promised
 
-USAGE = "symarch-keep add [--quiet] [--verbose] [--dry-run] ARCHIVE PATH..."
+USAGE = "symarch-keep add [--quiet] [--verbose] [--dry-run] [--dsyms-only] ARCHIVE PATH..."
 ABOUT = "put images and dSYMs into it"
 STANDARD_INPUT = b"-"
 
@@ -65,6 +71,8 @@ STANDARD_INPUT = b"-"
 def define(parser: argparse.ArgumentParser) -> None:
     parser.add_argument("--verbose", action="store_true", help="name what is passed over")
     parser.add_argument("--dry-run", action="store_true", help="print what would come of it, and write nothing")
+    only = "of folders, zip and tar files take only what lies below NAME.dSYM/Contents/Resources/DWARF"
+    parser.add_argument("--dsyms-only", action="store_true", help=only)
     parser.add_argument("archive", metavar="ARCHIVE")
     parser.add_argument("paths", metavar="PATH", nargs="+", help="one that begins with - comes after the word --")
 
@@ -169,7 +177,8 @@ def refuse_order(words: argparse.Namespace) -> None:
     if not archives and begins_as_input(first) and not os.path.exists(found[-1]):
         archives = found[-1:]
     if archives:
-        options = [f"--{name}" for name in ("quiet", "verbose", "dry-run") if vars(words)[name.replace("-", "_")]]
+        names = ("quiet", "verbose", "dry-run", "dsyms-only")
+        options = [f"--{name}" for name in names if vars(words)[name.replace("-", "_")]]
         typed = [*map(os.fsencode, options), archives[0], *(path for path in found if path != archives[0])]
         line = " ".join(shown(shlex.quote(os.fsdecode(word))) for word in typed)
         kind = "a folder" if os.path.isdir(first) else "no archive"
@@ -182,7 +191,7 @@ def begins_as_archive(path: bytes) -> bool:
 
 def begins_as_input(path: bytes) -> bool:
     """Whether a path is a folder, or a file as `add` puts into an archive."""
-    return os.path.isdir(path) or (ArchiveFile(path, b"").magic() or b"")[:4] in (THIN, *UNIVERSAL)
+    return os.path.isdir(path) or (ArchiveFile(path, b"").magic() or b"")[:4] in (THIN, ZIP, *UNIVERSAL)
 
 
 def standard_input(ends: contextlib.ExitStack) -> bytes:
@@ -200,7 +209,7 @@ def carry_out(words: argparse.Namespace) -> int:
     program = Program()
     archive = Archive(os.fsencode(words.archive), is_made=True, writes=False)
     os.stat(archive.folder)
-    finder, paths = Finder(screen), [os.fsencode(path) for path in words.paths]
+    finder, paths = Finder(screen, words.dsyms_only), [os.fsencode(path) for path in words.paths]
     with contextlib.ExitStack() as ends:
         if STANDARD_INPUT in paths:
             finder.places[STANDARD_INPUT] = standard_input(ends)

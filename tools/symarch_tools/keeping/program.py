@@ -8,11 +8,10 @@ from typing import Callable, Dict, Iterable, Optional, Sequence, Tuple, Union
 from ..program import candidates, named
 from ..signals import signals
 from .contents import END, LENGTH, MAGIC, MAGICS
+from .packed import DESCRIPTORS
 from .screen import Failed, SliceRefused, shown, write
 from .slices import Slice
 
-# By what the program gets the files that this tool has open, also those whose paths are no UTF-8.
-DESCRIPTORS = "/dev/fd"
 Word = Union[str, bytes]
 Moved = Callable[[int], None]
 

@@ -1,14 +1,17 @@
 """The slices that files and folders have: which of them go in, and what is passed over or refused."""
 import contextlib
 import errno
+import functools
 import hashlib
+import io
 import os
 import stat
 import struct
-from typing import BinaryIO, Dict, Iterable, Iterator, List, Optional, Sequence, Set, Tuple
+from typing import BinaryIO, Callable, Dict, Iterable, Iterator, List, Optional, Sequence, Set, Tuple
 
 from .contents import CHUNK, KEY, TOO_LARGE, head_of, words_of
 from .looks import MOST_LOOKED_AT, ONE, look_of
+from .packed import Damaged, Member, Packed, Unpacker, is_of_dsym, packed_at
 from .screen import Screen, SliceRefused, shown
 
 # mach-o/fat.h: an entry of each table, of which offset and size count. mach-o/loader.h: the header and its commands.
@@ -31,12 +34,13 @@ KINDS = {
     b"!<th": "static libraries",
 }
 CHANGED = "changed while it was read"
+OUTSIDE = "files outside of dSYMs"
 NOTHING_THERE = (errno.ENOENT, errno.ELOOP, errno.ENOTDIR)
 
 
 class Slice:
     """The bytes of an image for one architecture: a file of `size` bytes, or its part of a number. It is printed by the
-    name of the file, which is its path, or - for standard input."""
+    name of the file, which is its path, or - for standard input. A member of a zip or tar file is opened by a call."""
 
     def __init__(
         self,
@@ -47,18 +51,23 @@ class Slice:
         size: int,
         key: bytes,
         name: Optional[bytes] = None,
+        opens: Optional[Callable[[], BinaryIO]] = None,
     ) -> None:
         self.path, self.part, self.offset, self.length, self.size = path, part, offset, length, size
         self.name = path if name is None else name
+        self.opens = opens
         self.head = head_of(key, length)
         self.digest: Optional[bytes] = None
         self.word = ""
+
+    def open(self) -> BinaryIO:
+        return self.opens() if self.opens else open(self.path, "rb", buffering=0)
 
     def chunks(self) -> Iterator[bytes]:
         """The bytes, which have to be those of the first time."""
         left, digest = self.length, hashlib.sha256()
         try:
-            with open(self.path, "rb", buffering=0) as file:
+            with self.open() as file:
                 file.seek(self.offset)
                 while left > 0:
                     chunk = file.read(min(left, CHUNK))
@@ -69,6 +78,8 @@ class Slice:
                     yield chunk
         except OSError as error:
             raise SliceRefused(str(error.strerror), self) from None
+        except Damaged:
+            raise SliceRefused(CHANGED, self) from None
         if self.digest not in (None, digest.digest()):
             raise SliceRefused(CHANGED, self)
         self.digest = digest.digest()
@@ -94,31 +105,82 @@ def compared(one: Slice, other: Slice) -> int:
 class Finder:
     """Finds the slices that paths have, and says what is passed over or refused."""
 
-    def __init__(self, screen: Screen) -> None:
-        self.screen, self.files = screen, 0
+    def __init__(self, screen: Screen, dsyms_only: bool = False) -> None:
+        self.screen, self.dsyms_only, self.files = screen, dsyms_only, 0
         self.slices: List[Slice] = []
-        # Of the file that is read: its path, its name, and what was passed over of it.
+        # Of the file that is read: its path, its name, what was passed over of it, and what opens it if it is a member.
         self.path, self.name = b"", b""
         self.over: List[str] = []
+        self.opens: Optional[Callable[[], BinaryIO]] = None
+        self.unpacker = Unpacker()
         # What stands where in the place of its name.
         self.places: Dict[bytes, bytes] = {}
 
     def find(self, paths: Iterable[bytes]) -> None:
         self.screen.begin("finding: {} files")
         for name, size, is_named in self.walk(paths):
-            self.files += 1
-            self.screen.progress(self.files)
-            self.path, self.name, self.over = self.places.get(name, name), name, []
-            before = len(self.slices)
+            self.begin_file(self.places.get(name, name), name)
             try:
-                with open(self.path, "rb") as file:
-                    self.take_file(file, size)
-                    if is_named and self.over and len(self.slices) == before:
-                        self.say_look(file)
+                packed = packed_at(self.path) if is_named else None
+                if packed:
+                    self.take_packed(packed)
+                elif self.dsyms_only and not is_named and not is_of_dsym(os.path.abspath(name)):
+                    self.pass_over(OUTSIDE)
+                else:
+                    self.take_path(size, is_named)
             except OSError as error:
-                self.screen.refuse(name, error.strerror)
-            except SliceRefused as refused:
-                self.screen.refuse(name, refused)
+                self.screen.refuse(self.name, error.strerror)
+            except (Damaged, SliceRefused) as refused:
+                self.screen.refuse(self.name, refused)
+
+    def begin_file(self, path: bytes, name: bytes) -> None:
+        self.files += 1
+        self.screen.progress(self.files)
+        self.path, self.name, self.over, self.opens = path, name, [], None
+
+    def take_path(self, size: int, is_named: bool) -> None:
+        before = len(self.slices)
+        with open(self.path, "rb") as file:
+            self.take_file(file, size)
+            if is_named and self.over and len(self.slices) == before:
+                self.say_look(file)
+
+    def take_packed(self, packed: Packed) -> None:
+        """Takes the members of a zip or tar file as the files of a folder, and says it if none goes in."""
+        name, path, before, refused = self.name, self.path, len(self.slices), self.screen.refused
+        kinds: List[str] = []
+        for member in packed.members():
+            self.begin_file(path, name + b": " + member.name)
+            self.opens = functools.partial(self.unpacker.open, packed, member.number)
+            found = len(self.slices)
+            try:
+                self.take_member(member)
+            except (Damaged, SliceRefused, OSError) as fault:
+                is_end = not packed.is_zip and not isinstance(fault, SliceRefused)
+                told = fault.strerror if isinstance(fault, OSError) else fault
+                self.screen.refuse(self.name, f"{told}; what comes after it was not read" if is_end else told)
+                if is_end:
+                    return
+            if len(self.slices) > found:
+                self.unpacker.wanted.setdefault(packed, set()).add(member.number)
+            kinds += [kind for kind in self.over if kind not in kinds]
+            # A fault of the file itself is none of its last member.
+            self.name = name
+        if len(self.slices) == before and self.screen.refused == refused:
+            others = "; ".join(ONE.get(it, it) for it in kinds if it not in ("other files", OUTSIDE))
+            what = "no dSYM" if self.dsyms_only else "no Mach-O file"
+            self.screen.line(f"{shown(name)}: {packed.kind} that holds {others or what}")
+
+    def take_member(self, member: Member) -> None:
+        if self.dsyms_only and not is_of_dsym(member.name):
+            self.pass_over(OUTSIDE)
+            return
+        front = member.read(8)
+        if front[:4] == THIN or front[:4] in UNIVERSAL and not is_java(front):
+            with member.unpacked(front) as file:
+                self.take_file(file, file.seek(0, os.SEEK_END))
+        else:
+            self.take_file(io.BytesIO(front), len(front))
 
     def say_look(self, file: BinaryIO) -> None:
         """Says of a file that was named, and of which nothing goes in, what it is."""
@@ -159,11 +221,12 @@ class Finder:
                     self.screen.pass_over(path, "links that lead nowhere")
 
     def take_file(self, file: BinaryIO, size: int) -> None:
+        file.seek(0)
         first = file.read(8)
         layout, count = UNIVERSAL.get(first[:4]), int.from_bytes(first[4:].ljust(4, b"\0"), "big")
         if layout is None:
             self.take_part(file, None, 0, size, size)
-        elif first[:4] == JAVA and count >= LEAST_OF_JAVA:
+        elif is_java(first):
             self.pass_over("other files")
         else:
             parts = table(file, first, layout, count, size)
@@ -177,11 +240,15 @@ class Finder:
         front = file.read(min(length, HEADER.size))
         key = key_of(front, file, length - len(front)) if front[:4] == THIN else None
         if key is not None:
-            self.slices.append(Slice(self.path, part, offset, length, size, key, self.name))
+            self.slices.append(Slice(self.path, part, offset, length, size, key, self.name, self.opens))
         elif front[:4] == THIN:
             self.pass_over(f"{'object files' if front[12] == MH_OBJECT else 'images'} without a UUID", part)
         else:
             self.pass_over(KINDS.get(front[:4], "other files" if part is None else "other parts"), part)
+
+
+def is_java(first: bytes) -> bool:
+    return first[:4] == JAVA and int.from_bytes(first[4:].ljust(4, b"\0"), "big") >= LEAST_OF_JAVA
 
 
 def table(
@@ -215,7 +282,7 @@ def cut(parts: Sequence[Tuple[int, int]], end_of_table: int, size: int) -> str:
 
 def promised(one: Slice) -> str:
     """What the commands of an image promise, and what is there, if its bytes end before that."""
-    with contextlib.suppress(OSError, struct.error), open(one.path, "rb") as file:
+    with contextlib.suppress(OSError, struct.error, Damaged), one.open() as file:
         file.seek(one.offset)
         front = file.read(min(one.length, HEADER.size))
         *_, count, size = HEADER.unpack(front)
