@@ -21,7 +21,8 @@ NO_DYLD, NO_DYLD_ARM64E = f"not in the archive: dyld {DYLD}", f"not in the archi
 NO_LIBDYLD = "libdyld.dylib b3f1a5d2-7c44-3e0b-9a61-5d2c8e7f4a90"
 OLD_LIBDYLD = "not in the archive: libdyld.dylib 9fd01a5a-d3e5-3b0f-8b7c-6d5e4f3a2b10 arm64e"
 ABSENT_HELPER = f"Spool Helper (Renderer) 5e0c7b1a-26d4-3f98-8c3b-a9f1e2d4c507, dyld {DYLD}"
-USAGE = "usage: symbolicate-report [--missing | [--text] [--demangle | --raw] [--out FOLDER]] REPORT... ARCHIVE..."
+OPTIONS = "[--missing | [--text] [--demangle | --raw] [--out FOLDER] | --group [--demangle | --raw]]"
+USAGE = f"usage: symbolicate-report {OPTIONS} REPORT... ARCHIVE..."
 
 
 class Forms(ReportCase):
@@ -512,7 +513,7 @@ class Refused(ReportCase):
     def test_what_the_system_refuses(self) -> None:
         """A fault names its path, and no number."""
         crash, file = CRASHES / "arm64.crash", self.file("file", "")
-        self.is_refused([self.folder, "shipped"], self.unread(f"{self.folder}: Is a directory"))
+        self.is_refused([file / "a.crash", "shipped"], self.unread("file/a.crash: Not a directory"))
         came = self.report("--out", file / "out", crash, "shipped")
         self.assertEqual((came.status, self.shortened(came)), (2, [self.unread("file/out: Not a directory")]))
         with open("/dev/full", "wb") as full:
@@ -545,7 +546,7 @@ class Refused(ReportCase):
     def test_help(self) -> None:
         came = self.report("--help")
         self.assertEqual((came.status, came.errors), (0, b""))
-        for option in (b"--missing", b"--text", b"--demangle", b"--raw", b"--out FOLDER", b"--version"):
+        for option in (b"--missing", b"--group", b"--text", b"--demangle", b"--raw", b"--out FOLDER", b"--version"):
             self.assertIn(option, came.out)
 
     def test_nothing_can_be_written(self) -> None:

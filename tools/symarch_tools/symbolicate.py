@@ -6,6 +6,7 @@ Examples:
   symbolicate-report --text report.ips builds.sym     as people read a crash
   symbolicate-report --missing *.ips builds.sym       the images without a dSYM, once each
   symbolicate-report --out named *.crash builds.sym   writes each report into the folder named
+  symbolicate-report --group crashes builds.sym       how many reports in a folder crashed alike
 
 What is read, whatever the file is called, and of standard input if it is called `-`:
 
@@ -22,6 +23,10 @@ What is read, whatever the file is called, and of standard input if it is called
 
 Each of them may begin with a byte-order mark, may be UTF-8 or UTF-16, and is printed in the encoding that it has. It
 may have been pasted, with the same spaces or `> ` before its lines, and is printed so.
+
+A folder stands for the reports below it, in order of their paths; links in it are not followed. Files are read there
+that are called .ips, .crash or .txt or begin as a report. One that is no report is passed over, unless it is called
+.ips or .crash or begins as one: that is refused, and so is a folder without a report. A file is read once.
 
 All is printed as it stands, byte for byte, but for
 
@@ -53,6 +58,13 @@ it, its architecture:
 
 Inlined functions do not count as frames. With --out each report has such a line after its path, and the last line is
 for all reports.
+
+With --group two reports are of one group if the top three frames of their crashed threads are the same: each has the
+same name and an image of the same name or, where it has not one name, the same offset in an image of that name. UUIDs
+are not compared, so builds of one program are counted together. A frame that was inlined is one of the three. The
+crashed thread is the one that the report says crashed, of a payload the first; a backtrace of an exception is not
+looked at. Its frames stand as `NAME (IMAGE)` or `IMAGE + OFFSET`, by `; `. Reports without one, as hangs and samples,
+are the group `no crashed thread`. Lines with equal counts are in order of their text.
 
 A return address may lie after its function's end, so the address before it is asked for; the offset printed is that of
 the frame. Return addresses are:
@@ -89,10 +101,11 @@ in a folder for temporary files, as TMPDIR names it. The program needs about 200
 image. Both need four times that if the report does not state the image's architecture.
 
 The status is 0; 1 where no frame has one name (with --missing: never); 2 where a REPORT cannot be read or is none of
-these, which prints nothing of it, where a slice changed, or a file cannot be written; 3 where the words are others; 126
-where there is no program, or it does not answer as `symarch`; or that of `symarch` where it refuses the archive, with
-its line on standard error. If nobody reads standard output, SIGPIPE ends the tool. Names are those of the symbol
-tables, without the underscore that these put before a name of C, as Apple's reports have them; `--raw` keeps it."""
+these, which prints nothing of it, where a folder has none, where a slice changed, or a file cannot be written; 3 where
+the words are others; 126 where there is no program, or it does not answer as `symarch`; or that of `symarch` where it
+refuses the archive, with its line on standard error. If nobody reads standard output, SIGPIPE ends the tool. Names are
+those of the symbol tables, without the underscore that these put before a name of C, as Apple's reports have them;
+`--raw` keeps it."""
 from __future__ import annotations
 
 import os
@@ -102,33 +115,67 @@ import tempfile
 import uuid
 from typing import Dict, Iterable, List, Optional, Sequence, Tuple
 
-from .keeping.screen import about, system_text
+from .keeping.screen import about, shown, system_text
 from .reports.answers import Origin
 from .reports.archives import Archives
 from .reports.demangling import demangled, without_underscores
-from .reports.faults import Failure, Status
+from .reports.faults import Failure, NoReport, Status
+from .reports.folders import files_below, is_named_as_report
+from .reports.groups import group_lines
 from .reports.report import Count, Report
 from .reports.streams import drop, encoded, note, printing, say
-from .reports.words import NAME, Words
+from .reports.words import NAME, Words, is_folder
 from .signals import Stopped, signals
 
 
 # ---- what is printed
 
 
-def read(paths: Iterable[str], is_text: bool) -> Tuple[List[Report], int]:
-    """The reports that can be read, and the status of those that cannot, which are said."""
-    found, status = [], int(Status.DONE)
-    for path in paths:
+class Reader:
+    """Reads reports: those that can be read, and the status of those that cannot, which are said."""
+
+    def __init__(self, words: Words) -> None:
+        self.words, self.status = words, int(Status.DONE)
+        self.found: List[Report] = []
+        # What a folder need not have again.
+        self.seen = {os.path.realpath(path) for path in words.reports if not is_folder(path)}
+
+    def read_all(self) -> None:
+        for path in self.words.reports:
+            if is_folder(path):
+                self.read_folder(path)
+            else:
+                self.read(path)
+
+    def read(self, path: str, is_found: bool = False) -> bool:
+        """Whether a file is a report, also one that is refused. One that was found in a folder may be none."""
         try:
-            found.append(Report(path, is_text))
+            self.found.append(Report(path, self.words.is_text, self.words.is_group))
+        except NoReport as failure:
+            if is_found and not is_named_as_report(path):
+                return False
+            self.refuse(failure.reason, failure.status)
         except Failure as failure:
-            note(failure.reason)
-            status = failure.status
+            self.refuse(failure.reason, failure.status)
         except OSError as error:
-            note(system_text(error, os.fsencode(path)))
-            status = Status.REFUSED
-    return found, status
+            self.refuse(system_text(error, os.fsencode(path)))
+        return True
+
+    def read_folder(self, folder: str) -> None:
+        paths, errors = files_below(folder)
+        for error in errors:
+            self.refuse(system_text(error, os.fsencode(folder)))
+        has_report = False
+        for path in paths:
+            real = os.path.realpath(path)
+            has_report |= real in self.seen or self.read(path, is_found=True)
+            self.seen.add(real)
+        if not has_report and not errors:
+            self.refuse(f"{shown(folder)}: no report in this folder")
+
+    def refuse(self, reason: str, status: int = Status.REFUSED) -> None:
+        note(reason)
+        self.status = status
 
 
 def print_missing(reports: Iterable[Report]) -> None:
@@ -139,6 +186,11 @@ def print_missing(reports: Iterable[Report]) -> None:
             names[image.uuid] = names.get(image.uuid) or " ".join((image.name or "").split())
     with printing() as stream:
         stream.write(encoded("".join(f"{number} {name}".rstrip() + "\n" for number, name in names.items())))
+
+
+def print_groups(reports: Iterable[Report]) -> None:
+    with printing() as stream:
+        stream.write(encoded("".join(group_lines(reports))))
 
 
 def print_report(report: Report) -> None:
@@ -171,12 +223,12 @@ def mask() -> int:
     return found
 
 
-def clash(words: Words, out: str) -> Optional[str]:
+def clash(reports: Sequence[str], archives: Iterable[str], out: str) -> Optional[str]:
     """What would be written twice, or over a file that is read, if anything would be."""
-    read_files = {identity(path): path for path in [*words.reports, *(file.path for file in words.archives)]}
+    read_files = {identity(path): path for path in [*reports, *archives]}
     read_files.pop(None, None)
     seen: Dict[str, str] = {}
-    for path in words.reports:
+    for path in reports:
         name = os.path.basename(path)
         target = os.path.join(out, name)
         if not name:
@@ -187,6 +239,12 @@ def clash(words: Words, out: str) -> Optional[str]:
             return f"{path} would be written over {read_files[identity(target)]}, which is read"
         seen[name] = path
     return None
+
+
+def refuse_clash(words: Words, reports: Sequence[str]) -> None:
+    fault = clash(reports, [file.path for file in words.archives], words.out) if words.out is not None else None
+    if fault:
+        raise Failure(fault, Status.BAD_WORDS)
 
 
 def identity(path: str) -> Optional[Tuple[int, int]]:
@@ -235,10 +293,13 @@ def by_origin(labels: Dict[Origin, Dict[str, None]]) -> str:
 
 
 def carry_out(words: Words) -> int:
-    fault = clash(words, words.out) if words.out is not None else None
-    if fault:
-        raise Failure(fault, Status.BAD_WORDS)
-    reports, status = read(words.reports, words.is_text)
+    named = [path for path in words.reports if not is_folder(path)]
+    refuse_clash(words, named)
+    reader = Reader(words)
+    reader.read_all()
+    reports, status = reader.found, reader.status
+    if len(named) < len(words.reports):
+        refuse_clash(words, list(dict.fromkeys([*named, *(report.path for report in reports)])))
     if not reports:
         return status
     archives = Archives(words.archives)
@@ -251,7 +312,9 @@ def carry_out(words: Words) -> int:
         archives.names.shown = without_underscores(archives.names.shown)
     if words.is_demangled:
         archives.names.shown = demangled(archives.names.shown)
-    if words.out is None:
+    if words.is_group:
+        print_groups(reports)
+    elif words.out is None:
         print_report(reports[0])
     else:
         os.makedirs(words.out, exist_ok=True)

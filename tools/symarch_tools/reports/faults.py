@@ -20,3 +20,7 @@ class Failure(Exception):
     def __init__(self, reason: str, status: int) -> None:
         super().__init__(reason)
         self.reason, self.status = reason, status
+
+
+class NoReport(Failure):
+    """What keeps a file out that does not begin as a report."""

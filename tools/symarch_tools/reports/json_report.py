@@ -209,6 +209,13 @@ class JsonReport:
         if "callStacks" in lists and node.role not in (STACKS, CALL):
             self.place_calls(node, lists["callStacks"])
 
+    def is_crashed(self, stack: Stack) -> bool:
+        """Whether a list has the frames of the thread that crashed."""
+        owner, report = stack.owner, self.report or self.root
+        is_list = owner.parent is not None and owner.parent.is_list
+        is_faulting = is_list and report is not None and report.value("faultingThread") == owner.number
+        return bool(owner.value("triggered")) or is_faulting
+
     def said(self, at: int) -> Any:
         """What stands in the document for a frame."""
         if self.members.are_kept(at):

@@ -86,7 +86,7 @@ class ReadableReport:
         yield from header_lines(self.header, top)
         stacks = self.document.stacks
         for stack in sorted(stacks, key=lambda stack: stack.name != EXCEPTION):
-            yield self.heading(stack, top)
+            yield self.heading(stack)
             yield from self.frame_lines(range(stack.first, stack.end))
             yield ""
         for stack in stacks:
@@ -94,7 +94,7 @@ class ReadableReport:
             if thread.get("triggered") and isinstance(thread.get("threadState"), dict):
                 yield from state_lines(stack.owner.number, thread["threadState"])
 
-    def heading(self, stack: Stack, top: Dict[str, Any]) -> str:
+    def heading(self, stack: Stack) -> str:
         """The line above a list of frames."""
         owner = stack.owner
         if stack.name == EXCEPTION:
@@ -107,7 +107,7 @@ class ReadableReport:
         process = process_of(owner)
         names += [process] if process else []
         names += [] if stack.name == "frames" else [str(stack.name)]
-        is_crashed = owner.value("triggered") or (is_list and top.get("faultingThread") == number)
+        is_crashed = self.document.is_crashed(stack)
         return f"Thread {number}{' Crashed' if is_crashed else ''}:{': ' if names else ''}{', '.join(names)}"
 
     def frame_lines(self, places: range) -> Iterator[bytes]:

@@ -8,7 +8,7 @@ from typing import Iterator, List, Optional, Union
 
 from . import readable
 from .encodings import decoded
-from .faults import Failure, Status
+from .faults import Failure, NoReport, Status
 from .images import HAD_NAME, IS_INLINED, Frames, Images, one_of
 from .json_report import JsonReport
 from .json_walk import Broken
@@ -68,10 +68,11 @@ class Count:
 
 
 class Report:
-    """A whole report. With `is_text` its JSON is printed as people read it."""
+    """A whole report. With `is_text` its JSON is printed as people read it. With `is_kept` it is known which lists of
+    frames its JSON has."""
 
-    def __init__(self, path: str, is_text: bool = False) -> None:
-        self.path, self.is_text = path, is_text
+    def __init__(self, path: str, is_text: bool = False, is_kept: bool = False) -> None:
+        self.path, self.is_kept = path, is_text or is_kept
         self.label = "standard input" if path == STANDARD_INPUT else path
         data, self.encoding = decoded(bytes_of(path))
         self.data, self.pasted = unpasted(data)
@@ -82,7 +83,7 @@ class Report:
         if not any(len(part.frames) for part in self.parts):
             if FRAMES.match(self.data):
                 typed = f"symarch frames {shlex.quote(self.path)} ARCHIVE"
-                raise Failure(f"{self.label}: no report, but frames for the program: {typed}", Status.REFUSED)
+                raise NoReport(f"{self.label}: no report, but frames for the program: {typed}", Status.REFUSED)
             has_images = "images, but " if self.images.listed else ""
             has_images = has_images or ("a list of images, but " if LISTING.search(self.data) else "")
             if not self.notes and not has_images and BEGINNING.search(self.data, 0, MOST_OF_BEGINNING):
@@ -92,7 +93,8 @@ class Report:
             raise self.refusal("frames, but no binary images with UUIDs")
 
     def refusal(self, why: str) -> Failure:
-        return Failure("; ".join([f"{self.label}: {why}", *self.notes]), Status.REFUSED)
+        kind = Failure if BEGINNING.search(self.data, 0, MOST_OF_BEGINNING) else NoReport
+        return kind("; ".join([f"{self.label}: {why}", *self.notes]), Status.REFUSED)
 
     def read(self) -> Iterator[Union[JsonReport, TextReport]]:
         """The parts of the report. JSON without frames that ends within a document is text."""
@@ -110,7 +112,7 @@ class Report:
         found = DOCUMENT.match(self.data, begin)
         if not found:
             return None
-        part = JsonReport(self.data, found.end(), self.images, self.is_text)
+        part = JsonReport(self.data, found.end(), self.images, self.is_kept)
         if part.broken and not part.broken.is_cut and not len(part.frames):
             if is_full:
                 self.notes.append(f"its Full Report is left as it is: no JSON at {self.place(part.broken.place)}")

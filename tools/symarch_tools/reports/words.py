@@ -9,13 +9,15 @@ from typing import Any, Dict, Iterable, List, NoReturn, Optional, Sequence, Tupl
 
 from ..version import PrintVersion
 from .archives import TODAY, ArchiveFile, beside
+from .encodings import decoded
 from .faults import Failure, Status
 from .pasted import MOST_OF_BEGINNING
 from .report import BEGINNING, DOCUMENT, STANDARD_INPUT
 from .streams import printing, say
 
 NAME = "symbolicate-report"
-USAGE = f"{NAME} [--missing | [--text] [--demangle | --raw] [--out FOLDER]] REPORT... ARCHIVE..."
+OPTIONS = "[--missing | [--text] [--demangle | --raw] [--out FOLDER] | --group [--demangle | --raw]]"
+USAGE = f"{NAME} {OPTIONS} REPORT... ARCHIVE..."
 MAGICS = (b"MSYMARC1", b"MSYMARC2")
 # How long an archive without records is.
 EMPTY_SIZE = 17
@@ -51,6 +53,7 @@ def parser_of_words(description: Optional[str]) -> Parser:
     parser.add_argument("names", nargs="*", metavar="REPORT... ARCHIVE...", help=REPORTS)
     flag: Dict[str, Any] = {"action": Once, "nargs": 0, "default": False}
     parser.add_argument("--missing", help=MISSING, **flag)
+    parser.add_argument("--group", help=GROUP, **flag)
     parser.add_argument("--text", help=TEXT, **flag)
     parser.add_argument("--demangle", help=DEMANGLE, **flag)
     parser.add_argument("--raw", help=RAW, **flag)
@@ -59,17 +62,19 @@ def parser_of_words(description: Optional[str]) -> Parser:
     return parser
 
 
-REPORTS = """the reports, of which `-` is standard input, and after them archives"""
+REPORTS = """the reports, of which `-` is standard input, or folders of reports, and after them archives"""
 MISSING = """print the UUID and the name of each image with frames that the report does not name, of which the archive
 has no dSYM, whether it has the image or not: a line each, once for all reports, and nothing else"""
+GROUP = """print in place of the reports a line for each group of them, those of most reports first: how many they are,
+the top three frames of the crashed thread, and the path of the first report, between tabs"""
 TEXT = """print a JSON report as people read a crash: its header, what the system said of its end, the threads with
 names and offsets, the images. It leaves out a `Full Report` that repeats the text before it"""
 DEMANGLE = """make names of C++ and Swift readable: run `swift demangle`, and the first of `llvm-cxxfilt`,
 `llvm-cxxfilt-N` of the greatest N and `c++filt`, if they are installed, once each for all names"""
 RAW = """keep the underscore that a symbol table puts before each name"""
 OUT = """write each report to FOLDER under the name of its own file, whole or not at all, and make FOLDER if it is not
-there. It replaces a file that is there, but never one that this call reads. Several reports need it; two reports of
-one name are refused"""
+there. It replaces a file that is there, but never one that this call reads. Several reports need it, and so does a
+folder; two reports of one name are refused"""
 
 
 class Words:
@@ -83,6 +88,7 @@ class Words:
         if unknown:
             parser.error(f"there is no option {unknown[0]}")
         self.is_missing: bool = asked.missing
+        self.is_group: bool = asked.group
         self.is_text: bool = asked.text
         self.is_demangled: bool = asked.demangle
         self.is_raw: bool = asked.raw
@@ -96,15 +102,23 @@ class Words:
 
     def fault_of_options(self) -> Optional[str]:
         """Why the options do not stand together, if they do not."""
-        if self.is_missing and (self.is_text or self.is_demangled or self.is_raw or self.out is not None):
+        is_other = self.is_group or self.is_text or self.is_demangled or self.is_raw or self.out is not None
+        if self.is_missing and is_other:
             return "--missing stands alone"
+        if self.is_group and (self.is_text or self.out is not None):
+            return f"--group prints no report, so {'--text' if self.is_text else '--out'} does not stand beside it"
         if self.is_raw and self.is_demangled:
             return "--raw keeps what --demangle changes: name one of them"
-        if len(self.reports) > 1 and self.out is None and not self.is_missing:
+        if self.need_out(self.reports):
             return "several reports are written by --out FOLDER"
         if STANDARD_INPUT in self.reports and self.out is not None:
             return "--out writes each report under the name of its file, and standard input has none"
         return None
+
+    def need_out(self, reports: Sequence[str]) -> bool:
+        """Whether these are several reports, as a folder is whatever stands in it, and are printed."""
+        are_several = len(reports) > 1 or any(map(is_folder, reports))
+        return are_several and self.out is None and not self.is_missing and not self.is_group
 
     def fault_of_names(self, names: Sequence[str]) -> Optional[str]:
         """What is wrong with the reports and archives, and what to type, if something is."""
@@ -118,12 +132,11 @@ class Words:
         others = [name for name in names if name not in archives]
         if not others:
             return "there is no report before the archive"
-        is_report_last = begins_as_report(names[-1])
+        is_report_last = is_folder(names[-1]) or begins_as_report(names[-1])
         if is_report_last and not archives:
             return f"there is no archive after {names[-1]}"
         if is_report_last or any(name in archives for name in self.reports):
-            needs_out = len(others) > 1 and self.out is None and not self.is_missing
-            line = self.line([*others, *archives], ["--out", "FOLDER"] if needs_out else [])
+            line = self.line([*others, *archives], ["--out", "FOLDER"] if self.need_out(others) else [])
             return f"{next(iter(archives))} is an archive, and stands after the reports: {line}"
         if names[-1] == STANDARD_INPUT:
             return "of standard input a report is read, and no archive"
@@ -133,11 +146,16 @@ class Words:
 
     def line(self, names: Sequence[str], more: Sequence[str] = ()) -> str:
         """The line to type for these reports and archives, with more options."""
-        given = {"--missing": self.is_missing, "--text": self.is_text, "--demangle": self.is_demangled}
-        options = [option for option, is_given in {**given, "--raw": self.is_raw}.items() if is_given]
+        given = {"--missing": self.is_missing, "--group": self.is_group, "--text": self.is_text}
+        given.update({"--demangle": self.is_demangled, "--raw": self.is_raw})
+        options = [option for option, is_given in given.items() if is_given]
         options += ["--out", self.out] if self.out is not None else []
         has_hyphen = any(name.startswith("-") and name != STANDARD_INPUT for name in names)
         return " ".join(map(shlex.quote, [NAME, *options, *more, *(["--"] if has_hyphen else []), *names]))
+
+
+def is_folder(path: str) -> bool:
+    return path != STANDARD_INPUT and os.path.isdir(path)
 
 
 def beginning(path: str, size: int) -> bytes:
@@ -156,7 +174,7 @@ def is_archive(path: str) -> bool:
 
 
 def begins_as_report(path: str) -> bool:
-    data = beginning(path, MOST_OF_BEGINNING)
+    data, _ = decoded(beginning(path, MOST_OF_BEGINNING))
     return bool(DOCUMENT.match(data) or BEGINNING.search(data))
 
 

@@ -1,0 +1,112 @@
+"""Reports by the top frames of the thread that crashed."""
+from __future__ import annotations
+
+import bisect
+import re
+from typing import Any, Dict, Iterable, Iterator, List, Match, Optional
+
+from ..keeping.screen import shown
+from .images import HAD_NAME, Frames
+from .json_report import JsonReport
+from .readable import name_of, text_in
+from .report import Report
+from .text_report import CRASH, INLINED, NO_NAME, TextReport, frames_in
+
+# So many frames make a group.
+TOP = 3
+NO_THREAD = "no crashed thread"
+CRASHED = re.compile(rb"(?<![^\r\n])Thread [0-9]+ Crashed:[^\r\n]*(?:\r\n|\r|\n|\Z)")
+# What stands after a name in a line of a crash.
+AFTER_NAME = re.compile(rb"(?: \+ [0-9]+)?(?: \[inlined\])?(?: \([^()]*:[0-9]+\))?\s*\Z")
+
+
+def group_lines(reports: Iterable[Report]) -> Iterator[str]:
+    """A line for each group: how many reports it has, its frames, and the first report, between tabs."""
+    groups: Dict[str, List[str]] = {}
+    for report in reports:
+        groups.setdefault(group_of(report), []).append(report.label)
+    for text, labels in sorted(groups.items(), key=lambda group: (-len(group[1]), group[0])):
+        yield f"{len(labels)}\t{text}\t{shown(labels[0])}\n"
+
+
+def group_of(report: Report) -> str:
+    """The top frames of the first thread that a report says crashed."""
+    for part in report.parts:
+        found: List[str] = []
+        if isinstance(part, JsonReport):
+            found = [json_frame(part, at) for at in crashed_places(part)]
+        elif isinstance(part, TextReport):
+            found = text_frames(part)
+        if found:
+            return "; ".join(found)
+    return NO_THREAD
+
+
+def frame_text(frames: Frames, at: Optional[int], written: Optional[str], had: Optional[str]) -> str:
+    """A frame by its name and its image, or by the offset in the image. `had` is the name that the report has for it,
+    and `written` the image. A frame without a number stands in text, and was inlined."""
+    image = frames.image(at) if at is not None else None
+    answers = frames.answers(at) if at is not None else {}
+    symbol = frames.name(at) if at is not None else None
+    name = symbol[0] if symbol else None if len(answers) > 1 else had
+    image_name = one_line((image.name if image else None) or written or "???")
+    if name:
+        return f"{one_line(name)} ({image_name})"
+    return f"{image_name} + {frames.offset(at)}" if image and at is not None else image_name
+
+
+def one_line(text: str) -> str:
+    return " ".join(text.split())
+
+
+# ---- JSON
+
+
+def crashed_places(document: JsonReport) -> range:
+    """The numbers of the top frames of the thread that crashed."""
+    for stack in document.stacks:
+        if document.is_crashed(stack):
+            return range(stack.first, min(stack.end, stack.first + TOP))
+    for calls in document.calls:
+        for owner, first, end in calls.stacks:
+            if calls.is_thread and owner.value("threadAttributed"):
+                return range(first, min(end, first + TOP))
+    return range(0)
+
+
+def json_frame(document: JsonReport, at: int) -> str:
+    said: Any = document.said(at)
+    if isinstance(said, dict):
+        index, symbol, written = said.get("imageIndex"), said.get("symbol"), text_in(said.get("binaryName"))
+    else:
+        index, symbol, written = said[0], said[2] if len(said) > 2 else None, None
+    if type(index) is int and 0 <= index < len(document.listed):
+        written = name_of(document.listed[index])
+    return frame_text(document.frames, at, written, text_in(symbol))
+
+
+# ---- text
+
+
+def text_frames(part: TextReport) -> List[str]:
+    heading = CRASHED.search(part.data, part.begin, part.end)
+    found: List[str] = []
+    place = heading.end() if heading else part.end
+    while place < part.end and len(found) < TOP:
+        line = part.line_at(place)
+        form, frame = frames_in(line[1])
+        if frame is None or form is not CRASH:
+            break
+        found.append(text_frame(part, place, frame))
+        place = line.end()
+    return found
+
+
+def text_frame(part: TextReport, place: int, found: Match[bytes]) -> str:
+    places = part.frames.places
+    number = bisect.bisect_left(places, place)
+    at = number if number < len(places) and places[number] == place else None
+    is_inlined = INLINED in found.string and not NO_NAME.fullmatch(found["said"])
+    has_name = is_inlined if at is None else part.frames.kinds[at] & HAD_NAME
+    had = AFTER_NAME.sub(b"", found["said"], count=1).decode(errors="surrogateescape") if has_name else None
+    return frame_text(part.frames, at, found["image"].decode(errors="surrogateescape"), had)
