@@ -6,6 +6,12 @@
 //! - `happening`: what an event does among sites;
 //! - `world`, `running`: what a list of events leaves, and [`run`];
 //! - [`laws`]: what holds of deliveries and of events.
+//!
+//! # Why it is so
+//!
+//! - A site keeps its saved archive as a text.
+//! - That it is whole (`IsWhole`) is an invariant, and a clause of each call.
+//! - [`run`] has no limit of events.
 #![tactic(auto)]
 
 mod fault;

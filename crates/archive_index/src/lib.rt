@@ -9,6 +9,12 @@
 //! - `fault`: why no index is made or read, and why no record is read by it;
 //! - `making`: [`index_archive`]; `writing`: [`write_index`]; `reading`: [`read_index`];
 //! - [`laws`]: what an index tells of the content that it was made of.
+//!
+//! # Why it is so
+//!
+//! - The magic is taken before anything else is read. [`read_index`] takes the whole input first, and then reads
+//!   entries.
+//! - Entries are sorted, so a key is found by halving. An entry is compared as a whole.
 #![tactic(auto)]
 
 mod entry;

@@ -3,6 +3,11 @@
 //! - `together`: archives of which parts are kept, and joined;
 //! - `asked_frames`: frames, as questions in the order of their keys;
 //! - `find`, `list`, `name`, `symbolicate`, `frames`: a command each.
+//!
+//! # Why it is so
+//!
+//! - Frames are sorted by key and address, so that one slice is asked at a time, and their lines are put together
+//!   as bytes.
 #![tactic(auto)]
 
 mod asked_frames;

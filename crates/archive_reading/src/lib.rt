@@ -8,6 +8,12 @@
 //! - `rows`, `summarizing`: [`list_rows`] and [`summarize`], what an archive tells record by record, of which no slice
 //!   is kept;
 //! - `testing`: [`test_archive`], of which nothing is kept.
+//!
+//! # Why it is so
+//!
+//! - A whole input is read in one place (`reading`), and a part of one in another (`part`).
+//! - Questions are answered key by key, as the records under each come.
+//! - [`read_names`] hashes a slice only if it has the name.
 #![tactic(auto)]
 
 mod keyed;

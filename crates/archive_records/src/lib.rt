@@ -23,6 +23,13 @@
 //! - `buffer`, `frame`, `next`, `retired`, `reader`: one record after another, each read over the last and compared
 //!   with it, and with the retirements before it;
 //! - `records`: one pass over them, and what is told of those that are taken.
+//!
+//! # Why it is so
+//!
+//! - Bytes go through a chunk of 64 KiB while they equal those of the last record, and are read in place once they
+//!   differ.
+//! - A reader lends its record. OUT has no buffer: records are written as they are.
+//! - A definition that tells kinds of text apart has one clause for all others.
 #![tactic(auto)]
 
 mod buffer;

@@ -9,6 +9,12 @@
 //! - `sources`: the inputs;
 //! - `outputs`: OUT, which takes bytes and is then put in place;
 //! - `publishing`: the end of each command.
+//!
+//! # Why it is so
+//!
+//! - `CommandFault` has its `Display` by hand. The texts of lower crates' faults are in `report_text`.
+//! - An input in a contract is a record of two states, before and after.
+//! - An output that could not be put in place failed after all of its bytes.
 #![tactic(auto)]
 
 mod failures;

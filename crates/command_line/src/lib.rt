@@ -9,6 +9,10 @@
 //! - `readings`: the values that the words of an argument spell;
 //! - `reads`: a line, read;
 //! - `laws`: what the definitions say of words and of the table.
+//!
+//! # Why it is so
+//!
+//! - `clap`'s definition of a simple command is cited. The table is `'static`. A FILE may be IN.
 #![tactic(auto)]
 
 mod apps;

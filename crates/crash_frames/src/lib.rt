@@ -5,6 +5,10 @@
 //! - `flaws`: what is wrong with a line that tells none;
 //! - `reading`: frames, read;
 //! - [`laws`]: what holds of frames.
+//!
+//! # Why it is so
+//!
+//! - Too many bytes of frames are want of memory. The flaw of a line is found from that line alone.
 #![tactic(auto)]
 
 mod fields;

@@ -7,6 +7,12 @@
 //! - `find`, `list`, `summary`: commands that read the index alone, and the archive's length;
 //! - `symbolicate`, `frames`: commands that read slices, at their places;
 //! - [`laws`]: what they tell by the index of a content.
+//!
+//! # Why it is so
+//!
+//! - `frames` joins what stands under all keys at once.
+//! - Archives with an index and archives without one are two lists.
+//! - `Stale` is said of INDEX, and not of the archive.
 #![tactic(auto)]
 
 mod find;

@@ -13,6 +13,13 @@
 //! - `said`: what is said on standard error;
 //! - `runs`: the words of a command line, carried out over files of the system;
 //! - `laws`: what is said of an output without a path.
+//!
+//! # Why it is so
+//!
+//! - A plan that only reports has an OUT without a path.
+//! - `Plan` has a case a command, with its values and no path. It is made once and matched once.
+//! - Each pattern of values stands beside its row of the table, since one generic step over names and values did
+//!   not prove.
 #![tactic(auto)]
 
 mod asking;

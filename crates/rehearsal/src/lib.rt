@@ -7,6 +7,10 @@
 //! - `flaws`: what is wrong with a faulty line;
 //! - `reading`: a script, read;
 //! - [`laws`]: what holds of scripts.
+//!
+//! # Why it is so
+//!
+//! - Too many bytes of a script are want of memory. The flaw of a line is found from that line alone.
 #![tactic(auto)]
 
 mod event;

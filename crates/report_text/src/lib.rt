@@ -7,6 +7,10 @@
 //! - `answers`: the lines of `symbolicate`;
 //! - `names`: the lines of `name`;
 //! - [`laws`]: what holds of the lines of `find` and of `list`.
+//!
+//! # Why it is so
+//!
+//! - The texts of the faults of lower crates are here, so that no lower crate prints.
 #![tactic(auto)]
 
 mod answers;

@@ -9,6 +9,14 @@
 //! - `range`: the operations of one kind under one key;
 //! - `plain`: an archive as a sorted list;
 //! - `indexed`: the same, whose slices have tables of addresses.
+//!
+//! # Why it is so
+//!
+//! - An archive is one ascending list, retirements first, and no map.
+//! - `absorb` sorts both lists in one pass, or takes up to eight operations one by one. [`take_each`] takes
+//!   admissions, then retirements.
+//! - Seven lines run only for the fact that they give. Names are scanned: only `symbolicate` and `frames` use
+//!   [`IndexedArchive`].
 #![tactic(auto)]
 
 mod asked;
