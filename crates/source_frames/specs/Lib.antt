@@ -7,3 +7,6 @@ pub mod Names
 pub mod UnitLines
 pub mod Frames
 pub mod FrameViews
+pub mod UnitAddresses
+-- the words of inner functions: no contract of a public one has them
+pub mod Inner

@@ -3,7 +3,7 @@
 //!
 //! The modules in reading order: `debug_sections`, the DWARF sections of an image; `debug_unit`, its units;
 //! `unit_code`, where the ranges of their entries stand;
-//! `debug_info`, the entries at their places; `names`, the names of functions;
+//! `debug_info`, the entries at their places; `unit_addresses`, the units of many addresses; `names`, the names of functions;
 //! `unit_lines`, the texts, names and program of a unit; `frame`, the frame of an entry at a place, and
 //! `chain`, those of the entries of an address.
 #![tactic(auto)]
@@ -14,6 +14,7 @@ mod debug_sections;
 mod debug_unit;
 mod frame;
 mod names;
+mod unit_addresses;
 mod unit_code;
 mod unit_lines;
 
