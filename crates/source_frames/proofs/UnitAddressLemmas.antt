@@ -1,5 +1,5 @@
 -- Steps over the units that have addresses in ranges of their own.
-use Rattle.std.proofs.Common.{◌≡◌, ℕ, ◌-◌, List, [], ◌∷◌, length, Bool, true, false, cond, Option, Some, None, refl, sym, ap, ◌∙◌}
+use Rattle.std.proofs.Common.{◌≡◌, ℕ, ◌-◌, List, length, Bool, true, false, cond, Option, Some, None, refl, sym, ap, ◌∙◌}
 use Rattle.std.specs.Prelude.{IfOk, Result, Ok, Err}
 use Rattle.std.specs.List.{find}
 use Rattle.std.specs.Option.{option_map, option_or}
@@ -10,7 +10,6 @@ use Rattle.dwarf_numbers.proofs.UnitLemmas.{unit_shortens}
 use Rattle.code_ranges.specs.Lists.{in_ranges}
 use Rattle.source_frames.specs.DebugSections.{DebugSectionsRecord}
 use Rattle.source_frames.specs.UnitAddresses.{own_ranges}
-
 
 -- of those from some bytes on
 abbrev pub place_from : DebugSectionsRecord → ℕ → ℕ → List ℕ → Option ℕ

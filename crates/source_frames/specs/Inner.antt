@@ -1,5 +1,5 @@
 -- Steps to the units of addresses: the words of inner functions. No contract of a public one has them.
-use Rattle.std.specs.Prelude.{ℕ, List, ◌≡◌, ◌<◌, length, slice_index, true, Option, Some, None}
+use Rattle.std.specs.Prelude.{ℕ, List, ◌≡◌, ◌<◌, length, slice_index, true, Some, None}
 use Rattle.std.specs.Ordering.{nat_cmp}
 use Rattle.std.specs.BTreeMap as tree_map
 use Rattle.std.specs.BTreeSet as tree_set

@@ -98,12 +98,7 @@ impl<'a> DebugInfo<'a> {
 
     /// The ranges of a unit that no set names.
     #[tactic(auto, unfolding(crate::specs::UnitAddresses::own_ranges))]
-    fn own_ranges(
-        &self,
-        named: &BTreeSet<u64, Heap>,
-        offset: u64,
-        bytes: &'a [u8],
-    ) -> Ranges<'a>
+    fn own_ranges(&self, named: &BTreeSet<u64, Heap>, offset: u64, bytes: &'a [u8]) -> Ranges<'a>
         requires { AreNamed self.now.sections.debug_aranges.now named.now }
         ensures { result ≡ own_ranges (sections_view self.now.sections) offset bytes.now }
     {
@@ -140,6 +135,26 @@ impl<'a> DebugInfo<'a> {
         Ok(())
     }
 
+    /// Gives to each pending address the offset of the first unit that no set names and that has it in its ranges.
+    fn assign_pending(
+        &self,
+        heap: Heap,
+        places: &mut BTreeMap<u64, u64, Heap>,
+        pending: BTreeSet<u64, Heap>,
+    ) -> Result<(), NoMemory>
+        requires { (a : ℕ) → tree_set.contains nat_cmp pending a ≡ true → tree_map.get nat_cmp places.now a ≡ None }
+        ensures found { OnOk result ((a : ℕ) → tree_set.contains nat_cmp pending a ≡ true →
+            tree_map.get nat_cmp places.new a ≡ place_by_ranges (sections_view self.now.sections) a) }
+        ensures others { OnOk result ((a : ℕ) → tree_set.contains nat_cmp pending a ≡ false →
+            tree_map.get nat_cmp places.new a ≡ tree_map.get nat_cmp places.old a) }
+    {
+        if pending.is_empty() {
+            return Ok(());
+        }
+        let named = named_units(heap, self.sections.debug_aranges)?;
+        self.assign_units(&named, places, pending)
+    }
+
     /// For each of the addresses, the offset of its unit in `__debug_info`, or `None`. It takes the time of
     /// `__debug_aranges`, of the units if an address has no tuple, and of finding each address among the others.
     pub fn units_of(
@@ -155,8 +170,7 @@ impl<'a> DebugInfo<'a> {
             addresses,
         )?;
         let (mut places, pending) = self.places_by_tuples(heap.clone()?, &tuples, addresses)?;
-        let named = named_units(heap.clone()?, self.sections.debug_aranges)?;
-        self.assign_units(&named, &mut places, pending)?;
+        self.assign_pending(heap.clone()?, &mut places, pending)?;
         answers_for(heap, &places, addresses)
     }
 }

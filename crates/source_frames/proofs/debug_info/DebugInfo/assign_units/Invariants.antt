@@ -1,10 +1,7 @@
 use Rattle.std.proofs.Common.{◌≡◌, ◌≤◌, ℕ, true, false, None, length}
-use Rattle.std.specs.List.{find}
 use Rattle.std.specs.Ordering.{nat_cmp}
 use Rattle.std.specs.BTreeMap as tree_map
 use Rattle.std.specs.BTreeSet as tree_set
-use Rattle.dwarf_numbers.specs.Sequences.{placed_from}
-use Rattle.dwarf_numbers.specs.Units.{unit_at}
 use Rattle.source_frames.specs.SectionsViews.{sections_view}
 use Rattle.source_frames.specs.UnitAddresses.{place_by_ranges}
 use Rattle.source_frames.proofs.UnitAddressLemmas.{place_from}

@@ -1,5 +1,4 @@
 use Rattle.std.proofs.Common.{arith}
-use Rattle.source_frames.specs.Inner.{ArePlacesByTuples}
 use Rattle.source_frames.proofs.debug_info.DebugInfo.places_by_tuples.Goals as goal
 
 pub returns : goal.returns
