@@ -4,7 +4,8 @@
 //! The modules in reading order: `debug_sections`, the DWARF sections of an image; `debug_unit`, its units, and
 //! `unit_code`, where the ranges of their entries stand; `debug_info`, the entries at their places; `unit_addresses`,
 //! the units of many addresses; `names`, the names of functions; `unit_lines`, the texts, names and program of a unit;
-//! `frame`, the frame of an entry at a place, and `chain`, those of the entries of an address.
+//! `frame`, the frame of an entry at a place, and `chain`, those of the entries of an address; `laws`,
+//! what the definitions say of each other.
 #![tactic(auto)]
 
 mod chain;
@@ -12,6 +13,7 @@ mod debug_info;
 mod debug_sections;
 mod debug_unit;
 mod frame;
+pub mod laws;
 mod names;
 mod unit_addresses;
 mod unit_code;
