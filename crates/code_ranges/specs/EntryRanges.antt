@@ -95,9 +95,3 @@ left_after_entry unit left entry =
     (λ range. left)
     (low_to_high unit entry)
     (left_after_list unit left (option_and_then (list_offset unit) entry.ranges))
-
--- the ranges of each of some entries, of whose lists together so many entries count at most, the first ones
-abbrev pub counted_ranges : UnitRangesRecord → ℕ → List RangeAttributesRecord → List (List CodeRange)
-counted_ranges unit left [] = []
-counted_ranges unit left (e ∷ es) =
-    entry_ranges unit left e ∷ counted_ranges unit (left_after_entry unit left e) es
