@@ -2,7 +2,11 @@ pub mod DebugSections
 pub mod SectionsViews
 pub mod DebugUnits
 pub mod UnitViews
+pub mod UnitCode
 pub mod Names
 pub mod UnitLines
 pub mod Frames
 pub mod FrameViews
+pub mod UnitAddresses
+-- the words of inner functions: no contract of a public one has them
+pub mod Inner
