@@ -33,7 +33,7 @@ import os
 import sys
 from typing import Any, Dict, NoReturn, Optional, Sequence, Set
 
-from .keeping import adding, checking, exchanging, finding, folding, naming, repairing, retiring, stating
+from .keeping import adding, checking, exchanging, finding, folding, listing, naming, repairing, retiring, stating
 from .keeping import symbolicating
 from .keeping.screen import Failed, Screen, shown, system_text
 from .signals import Stopped, signals
@@ -44,6 +44,7 @@ WORDS = {
     "find": finding,
     "symbolicate": symbolicating,
     "name": naming,
+    "list": listing,
     "fold": folding,
     "retire": retiring,
     "exchange": exchanging,
@@ -54,7 +55,7 @@ WORDS = {
 
 
 # Words that are asked print what they find; the others may be quiet.
-ASKING = ("find", "symbolicate", "name")
+ASKING = ("find", "symbolicate", "name", "list")
 QUIET = "print nothing if nothing is wrong, as cron mails what is printed"
 
 

@@ -9,6 +9,7 @@
 - upgrading         what was kept before there were indexes
 - archive_file      an archive file, and what is known of it
 - lock              the lock of an archive
+- builds            the names of builds: ARCHIVE.builds
 - log               the lines of the words with their dates
 - losing            what was there and is not
 - placing           the folder of an archive, and how a new file takes the place of one
@@ -18,6 +19,8 @@
 - finding           `find`
 - symbolicating     `symbolicate`
 - naming            `name`
+- listing           `list`
+- bundles           what Info.plist and the path say of a slice
 - adding            `add`
 - folding           `fold`
 - retiring          `retire`

@@ -1,7 +1,9 @@
 """Words of a command line that are no paths: what each means. One of another form ends the call, and is named."""
+import os
 import re
 import uuid
 
+from .builds import is_day
 from .contents import numbers_of
 from .screen import Failed, shown
 
@@ -50,4 +52,11 @@ def name_of(word: str) -> str:
         word.encode()
     except UnicodeEncodeError:
         raise other_form("NAME", word, "UTF-8 text") from None
+    return word
+
+
+def day_of(word: str) -> str:
+    """A day of UTC, as it is kept."""
+    if not re.fullmatch("[0-9]{4}-[0-9]{2}-[0-9]{2}", word, re.ASCII) or not is_day(os.fsencode(word)):
+        raise other_form("DATE", word, "a day as YYYY-MM-DD")
     return word
