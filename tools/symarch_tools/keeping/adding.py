@@ -57,6 +57,7 @@ from typing import Dict, List, Sequence, Set, Union
 
 from .archive import Archive
 from .archive_file import NO_UUID, ArchiveFile
+from .builds import rest_of, today
 from .contents import Content
 from .packed import ZIP
 from .program import DESCRIPTORS, Program
@@ -143,9 +144,11 @@ def put_new(
         if is_dry_run:
             return refusals(program, new)
         lines = [one.line() for one in slices]
+        archive.builds.news = {rest_of(it.entry(), it.build): today() for it in slices if it.word != "retired"}
         if not new:
             if archive.main.exists():
                 archive.log.note(lines, screen)
+                archive.keep_builds(screen)
             return []
         news = Content((), {one.entry(): one.length for one in new})
         with archive.room() as room:
@@ -215,6 +218,7 @@ def carry_out(words: argparse.Namespace) -> int:
             finder.places[STANDARD_INPUT] = standard_input(ends)
         finder.find(paths)
         readable = read_all(finder.slices, screen)
+        finder.name_builds()
         # Where nothing was found nothing is made beside an archive that is not there.
         is_writing = not words.dry_run and (archive.main.exists() or bool(readable))
         archive = Archive(os.fsencode(words.archive), is_made=True, writes=is_writing)

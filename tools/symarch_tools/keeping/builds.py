@@ -154,8 +154,8 @@ class Builds:
         """What is damaged of the file; nothing if it is whole or not there."""
         bad = [] if self.is_whole else [number for number, line in lines_of(self.text) if not line_in(line)]
         if len(bad) > 1:
-            return f"line {bad[0]} and {len(bad) - 1} others are damaged"
-        return f"line {bad[0]} is damaged" if bad else "" if self.is_whole else "lines of it are lost"
+            return f"line {bad[0]} and {len(bad) - 1} others are damaged, and passed over"
+        return f"line {bad[0]} is damaged, and passed over" if bad else "" if self.is_whole else "lines of it are lost"
 
     def is_changed(self) -> bool:
         """Whether the file has to be written."""
@@ -186,14 +186,33 @@ class Builds:
             found.setdefault(entry_in(uuid, arch, digest), []).append(Named(day.decode(), Build(*words)))
         return found
 
-    def of(self, held: Iterable[bytes]) -> Dict[bytes, List[Named]]:
-        """Of each slice of an archive the lines that name its app. One that has none is of the apps of its UUID and
-        architecture; if there are none either, it has the lines without an app."""
-        every = self.of_slices()
-        of_keys: Dict[bytes, List[Named]] = {}
+    def of(self, held: Iterable[bytes]) -> "Lines":
+        return Lines(self.of_slices(), held)
+
+
+class Lines:
+    """The lines of the slices that an archive has. Each version of an app has the first day on which a slice of its
+    UUID and architecture came in."""
+
+    def __init__(self, every: Dict[bytes, List[Named]], held: Iterable[bytes]) -> None:
+        self.every = every
+        self.of_keys: Dict[bytes, List[Named]] = {}
         for entry in held:
-            of_keys.setdefault(entry[:KEY], []).extend(every.get(entry, []))
-        return {it: with_app(every.get(it, [])) or with_app(of_keys[it[:KEY]]) or every.get(it, []) for it in held}
+            self.of_keys.setdefault(entry[:KEY], []).extend(every.get(entry, []))
+        self.first: Dict[Tuple[bytes, Tuple[str, ...]], str] = {}
+        for key, lines in self.of_keys.items():
+            for one in lines:
+                at = key, one.build[:3]
+                self.first[at] = min(one.day, self.first.get(at, one.day))
+        self.of_keys = {key: self.dated(key, with_app(lines) or lines) for key, lines in self.of_keys.items()}
+
+    def dated(self, key: bytes, lines: Iterable[Named]) -> List[Named]:
+        return sorted({one._replace(day=self.first[key, one.build[:3]]) for one in lines})
+
+    def of_slice(self, entry: bytes) -> List[Named]:
+        """Those that name the app of a slice. One that has none is of the apps of its UUID and architecture."""
+        own = with_app(self.every.get(entry, []))
+        return self.dated(entry[:KEY], own) if own else self.of_keys[entry[:KEY]]
 
 
 def with_app(lines: Iterable[Named]) -> List[Named]:

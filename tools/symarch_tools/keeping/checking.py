@@ -145,7 +145,7 @@ def damaged_lines(archive: Archive) -> List[str]:
     """The lines of what is kept beside an archive and is damaged."""
     paths = [file.beside(INDEX) for file in archive.files if file.doubt]
     paths += [file.beside(INDEX_SUM) for file in archive.files if file.has_damaged_sum()]
-    paths += [archive.lost.path] * bool(archive.lost.fault)
+    paths += [archive.lost.path] * bool(archive.lost.fault) + [archive.builds.path] * bool(archive.builds.fault())
     return [f"damaged {shown(path)}" for path in paths]
 
 
