@@ -1,7 +1,9 @@
 """The words of symarch-keep. In reading order:
 
-- screen            what is said, and the faults
+- progress          how far a work is, on a terminal
 - contents          what an archive has, and the bytes of archives, summaries and the files beside an archive
+- json_lines        what --json prints
+- screen            what is said, and the faults
 - indexes           the index of an archive: its bytes, and what changed by it
 - looks             what a file looks like of which nothing goes in
 - slices            what files and folders have
@@ -15,6 +17,7 @@
 - placing           the folder of an archive, and how a new file takes the place of one
 - archive           an archive with what came in lately, and how more comes in
 - forms             words of a command line that are no paths
+- ordering          what to type if ARCHIVE does not stand first
 - asking            how both archives are asked, each by its index
 - finding           `find`
 - symbolicating     `symbolicate`

@@ -8,6 +8,8 @@ from .contents import numbers_of
 from .screen import Failed, shown
 
 ARCHITECTURES = "x86_64, x86_64h, arm64, arm64e or cpu:CCCCCCCC/00SSSSSS"
+# The help of words, of which those after a colon are completed.
+HELP = {"ARCH": f"the architecture: {ARCHITECTURES}"}
 # Where the high byte of the cpusubtype stands in what an ARCH means. No slice has a bit in it.
 HIGH_BYTE = 4
 

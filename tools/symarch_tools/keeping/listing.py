@@ -28,16 +28,18 @@ import argparse
 import os
 from typing import Dict, List, NamedTuple, Optional, Tuple
 
-from .asking import Asked, opened_archive, show
+from .asking import Asked, opened_archive
 from .builds import Build, Builds, Named, field_shown
 from .checking import index_read
 from .contents import KEY, words_of
 from .forms import app_of, day_of
 from .indexes import HEAD, Row
-from .screen import Screen
+from .json_lines import Members, line_of
+from .screen import Screen, screen_of, unshown
 
-USAGE = "symarch-keep list [--app ID] [--since DATE] ARCHIVE"
+USAGE = "symarch-keep list [--json] [--app ID] [--since DATE] ARCHIVE"
 ABOUT = "print its builds by their names"
+KEYS = ("builds",)
 # What stands in the place of a day that nobody knows. It is before all others.
 NO_DAY = ""
 
@@ -60,7 +62,13 @@ class Listed(NamedTuple):
         """The line that is printed. In it a name alone has spaces."""
         app, version, build = (text.replace(" ", r"\x20") for text in (self.app, self.version, self.build))
         kind = "dsym" if self.has_dsym else "image"
-        return f"{self.day} {app} {version} {build} {self.uuid} {self.arch} {self.size} {kind} {self.name}"
+        text = f"{self.day} {app} {version} {build} {self.uuid} {self.arch} {self.size} {kind} {self.name}"
+        return line_of(text, "build", **self.members())
+
+    def members(self) -> Members:
+        """What it is as JSON: texts as they were, and null for what nothing says."""
+        said = {name: None if text == "?" else unshown(text) for name, text in zip(self._fields, self[:5])}
+        return {**said, "uuid": self.uuid, "arch": self.arch, "bytes": self.size, "dsym": self.has_dsym}
 
 
 def define(parser: argparse.ArgumentParser) -> None:
@@ -105,9 +113,10 @@ def fits(one: Listed, app: Optional[str], since: str) -> bool:
 
 
 def carry_out(words: argparse.Namespace) -> int:
-    since, screen = day_of(words.since) if words.since is not None else "", Screen()
+    since, screen = day_of(words.since) if words.since is not None else "", screen_of(words)
     app = None if words.app is None else field_shown(app_of(words.app))
     with opened_archive(os.fsencode(words.archive)) as asked:
         asked.archive.say_damaged_builds(screen)
         lines = [one.line() for one in listed(asked, asked.archive.builds, screen) if fits(one, app, since)]
-    return show(lines, screen, 0 if lines else 1)
+    screen.show(lines)
+    return screen.end(0 if lines else 1, {"builds": len(lines)})

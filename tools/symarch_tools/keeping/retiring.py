@@ -37,9 +37,9 @@ from .archive import Archive
 from .archive_file import write_synced
 from .builds import UNKNOWN, Lines, Named, field_shown
 from .contents import END, LENGTH, MAGICS, RETIREMENT, Content, words_of
-from .forms import app_of, arch_of, day_of, digest_of, other_form, uuid_of
+from .forms import HELP, app_of, arch_of, day_of, digest_of, other_form, uuid_of
 from .program import Program
-from .screen import Failed, Screen, shown
+from .screen import Failed, Screen, screen_of, shown
 
 USAGE = """symarch-keep retire [--quiet] [--dry-run] [--before-it-comes] ARCHIVE UUID ARCH DIGEST
     symarch-keep retire [--quiet] [--dry-run] --app ID --before DATE ARCHIVE"""
@@ -53,7 +53,7 @@ def define(parser: argparse.ArgumentParser) -> None:
     parser.add_argument("--before", metavar="DATE", help="what came in before this day of UTC, as YYYY-MM-DD")
     parser.add_argument("archive", metavar="ARCHIVE")
     for name in ("UUID", "ARCH", "DIGEST"):
-        parser.add_argument(name.lower(), metavar=name, nargs="?")
+        parser.add_argument(name.lower(), metavar=name, nargs="?", help=HELP.get(name))
     parser.set_defaults(refuse=parser.error)
 
 
@@ -80,7 +80,7 @@ def refuse_words(words: argparse.Namespace) -> None:
 
 def carry_out(words: argparse.Namespace) -> int:
     refuse_words(words)
-    screen, is_of_app = Screen(is_quiet=words.quiet), words.app is not None
+    screen, is_of_app = screen_of(words), words.app is not None
     entry = b"" if is_of_app else entry_in(words)
     app = App(app_of(words.app), day_of(words.before)) if is_of_app else None
     program = Program()
