@@ -1,11 +1,9 @@
 """`symarch-keep add` on trees that the tests make. What has to be in the archive and what has to be printed is made by
 tests.support, from mach-o/loader.h, mach-o/fat.h and docs/FILES.md."""
-import contextlib
 import fcntl
 import functools
 import os
 import pathlib
-import pty
 import re
 import resource
 import shutil
@@ -13,7 +11,7 @@ import signal
 import subprocess
 import sys
 import time
-from typing import Any, Callable, Dict, List, Mapping, Tuple
+from typing import Any, Callable, Dict, List, Tuple
 
 from .support.cases import Without, Wrong, is_done, powerless_over, same
 from .support.made_images import EMPTY, archive, image, line, symbols_outside, thirty_two_bit, universal
@@ -675,8 +673,8 @@ class Faults(RoomCase):
             f"symarch-keep: {self.folder}/nowhere: No such file or directory; the archive is as it was"
         ])
         self.room.archive = self.folder
-        said = f"symarch-keep: {self.folder}: Is a directory; the archive is as it was"
-        same("errors", self.room.add("one", status=4)[1], [said])
+        told = f"is a folder, and ARCHIVE comes first: symarch-keep add ARCHIVE {self.folder} one"
+        same("errors", self.room.add("one", status=3)[1], [f"symarch-keep: {self.folder} {told}"])
 
     def test_full_disk(self) -> None:
         """On a full disk the archive stays as it was, with status 4, and nothing is left."""
@@ -748,23 +746,6 @@ class Faults(RoomCase):
             same("lock", pathlib.Path(f"{self.room.archive}.lock").read_bytes(), b"")
 
 
-def on_terminal(room: Room, slow: Mapping[str, str], names: List[str]) -> bytes:
-    """What a terminal gets by these standard streams of a first add."""
-    room.begin_anew()
-    shows, terminal = pty.openpty()
-    how: Dict[str, Any] = dict.fromkeys(names, terminal)
-    with room.start("add", room.archive, "many", environment=slow, **how) as process:
-        os.close(terminal)
-        said = b""
-        with contextlib.suppress(OSError):
-            while chunk := os.read(shows, 1 << 16):
-                said += chunk
-        process.communicate()
-    os.close(shows)
-    same("status", process.returncode, 0)
-    return said
-
-
 def by_path(room: Room, tool: pathlib.Path, path: str) -> Tuple[int, bytes]:
     """The status of a tool without SYMARCH, and how its errors begin."""
     environment = {**os.environ, "PATH": f"{path}{os.path.dirname(sys.executable)}:/usr/bin:/bin", "SYMARCH": ""}
@@ -774,28 +755,9 @@ def by_path(room: Room, tool: pathlib.Path, path: str) -> Tuple[int, bytes]:
 
 
 class Words(RoomCase):
-    """What a terminal gets; programs; other words."""
+    """Programs, and other words."""
 
     seconds = 10
-
-    def test_progress(self) -> None:
-        """A terminal shows the progress, and nothing else does."""
-        made = self.room.make_many(60, more=bytes(100_000))
-        drafting = "head -c 3000000 /dev/zero >.symarch-1-0; sleep 0.5; rm .symarch-1-0"
-        given = self.folder / "given"
-        waits = f'[ "$1" != merge ] || {{ cat >{given}; {drafting}; exec <{given}; }}'
-        slow = self.room.program(f'{waits}\nexec "$symarch" "$@"')
-        said, both = (on_terminal(self.room, slow, streams) for streams in (["stderr"], ["stdout", "stderr"]))
-        self.room.has(archive(made))
-        for form in (rb"finding: \d+ files", rb"writing: 60 of 60 slices, 3 of 6 MB, \d+:\d\d left"):
-            if not re.search(form, said):
-                raise Wrong(f"a terminal shows no {form!r}: {said[:500]!r}")
-        last = said.split(b"\n")[-2].split(b"\x1b[K")[-1].strip()
-        same("last line", last, b"symarch-keep: 60 added, 0 known, 0 retired, 0 refused, passed over 0")
-        _, errors = self.room.add("many", environment=slow)
-        same("lines where there is no terminal", len(errors), 1)
-        if b"\x1b[Kadded" not in both:
-            raise Wrong(f"the first line stands behind the progress: {both[-500:]!r}")
 
     def test_programs(self) -> None:
         """Without a program nothing is built, and SYMARCH is said where it is wrong."""

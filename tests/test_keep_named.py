@@ -6,7 +6,8 @@ import pathlib
 import subprocess
 
 from .support.cases import same
-from .support.made_images import EXECUTE, archive, image, line, symbols_outside, thirty_two_bit, universal, without_uuid
+from .support.made_images import EXECUTE, archive, image, line, slice_words, symbols_outside, thirty_two_bit
+from .support.made_images import universal, without_uuid
 from .support.program import TOP, call, symarch
 from .support.rooms import RoomCase, today_of
 
@@ -131,11 +132,15 @@ class Cut(RoomCase):
             told = f"Fat(SliceOutside(1)): part 1 is bytes {second} to {end} by the table, and the file has {size}"
             self.refused(made[:size], told)
         self.refused(made[:47], "Fat(TableTruncated): its table takes 48 bytes, and the file has 47")
-        self.refused(made[:7], "Fat(HeaderTruncated)")
+        for size in (4, 7):
+            self.refused(made[:size], f"Fat(HeaderTruncated): its header takes 8 bytes, and the file has {size}")
 
     def test_an_image(self) -> None:
         told = f"Slice(0, Image(CommandsOutside)): its commands promise 56 bytes, and there are {len(image(4)) - 1}"
         self.refused(image(4)[:-1], told)
+        for size in (4, 31):
+            told = f"Slice(0, Image(HeaderTruncated)): its header takes 32 bytes, and there are {size}"
+            self.refused(image(4)[:size], told)
         made = symbols_outside(5)
         told = f"Slice(0, Symbols(SymbolsOutside)): its commands promise {4096 + 16} bytes, and there are {len(made)}"
         self.refused(made, told)
@@ -187,6 +192,49 @@ class Order(RoomCase):
         _, errors = self.room.call("exchange", "shared", "site.sym", "east", status=3)
         told = "shared is a folder, and ARCHIVE comes first: symarch-keep exchange site.sym shared east"
         same("errors", (errors, sorted(os.listdir(self.folder))), ([f"symarch-keep: {told}"], before))
+
+    def test_standard_input(self) -> None:
+        """It is no archive, and what is to be typed does not have it as one."""
+        self.room.archive.write_bytes(archive([image(3)]))
+        self.room.file("dSYMs/one", image(1))
+        first = "ARCHIVE comes first: symarch-keep add"
+        for words, told in (
+            (("-", "site.sym"), f"- is standard input, and {first} site.sym -"),
+            (("-", "new.sym"), f"- is standard input, and {first} new.sym -"),
+            (("dSYMs", "-"), f"dSYMs is a folder, and {first} ARCHIVE dSYMs -"),
+            (("--json", "dSYMs", "dSYMs/one"), f"dSYMs is a folder, and {first} --json ARCHIVE dSYMs dSYMs/one"),
+        ):
+            same(f"{words}", self.said(*words), f"symarch-keep: {told}")
+        for words in (("check", "-"), ("exchange", "-", "dSYMs", "east"), ("find", "-", "a")):
+            _, errors = self.room.call(*words, status=3)
+            same(f"{words}", errors, ["symarch-keep: - is standard input, and ARCHIVE is a file"])
+        same("made", sorted(os.listdir(self.folder)), ["dSYMs", "site.sym"])
+
+    def test_of_other_words(self) -> None:
+        """Those that name an archive after what they ask of it. `repair` has two archives, and says nothing of them."""
+        self.room.archive.write_bytes(archive([image(3)]))
+        uuid, arch, digest = slice_words(image(3))
+        (self.folder / "shared").mkdir()
+        for words, typed in (
+            (["find", uuid, "site.sym"], f"find site.sym {uuid}"),
+            (["name", "--", "-[A b]", "site.sym"], "name -- site.sym '-[A b]'"),
+            (["symbolicate", uuid, arch, "0", "site.sym", "--load", "0"],
+             f"symbolicate --load 0 site.sym {uuid} {arch} 0"),
+            (["retire", uuid, arch, digest, "site.sym"], f"retire site.sym {uuid} {arch} {digest}"),
+            (["exchange", "nowhere", "site.sym", "east"], "exchange site.sym nowhere east"),
+            (["exchange", "east", "site.sym", "shared"], "exchange site.sym shared east"),
+        ):
+            _, errors = self.room.call(*words, status=3)
+            told = "is no archive, and ARCHIVE comes first: symarch-keep"
+            first = words[2 if words[1] == "--" else 1]
+            same(f"{words}", errors, [f"symarch-keep: {first} {told} {typed}"])
+        _, errors = self.room.call("exchange", "site.sym", "east", "shared", status=3)
+        told = "east is no folder, and FOLDER comes before NAME: symarch-keep exchange site.sym shared east"
+        same("a name", errors, [f"symarch-keep: {told}"])
+        _, errors = self.room.call("repair", "nowhere", "site.sym", status=4)
+        self.assertIn("nowhere: No such file", errors[0])
+        _, errors = self.room.call("repair", "shared", "site.sym", status=4)
+        same("a folder", errors, ["symarch-keep: shared is a folder, and no archive; the archive is as it was"])
 
     def test_what_is_said_may_be_typed(self) -> None:
         self.room.file("dSYMs/one", (TOP / "examples/crash/spool-1").read_bytes())

@@ -3,7 +3,6 @@ never by the path that its name would be."""
 import contextlib
 import fcntl
 import gzip
-import io
 import os
 import signal
 import struct
@@ -18,6 +17,7 @@ from typing import Any, Callable, Dict, Iterator, List, Mapping, Tuple
 
 from .support.cases import Without, Wrong, is_done, same
 from .support.made_images import archive, image, line, thirty_two_bit, universal
+from .support.packed_files import tarred, zipped
 from .support.program import TOP
 from .support.rooms import RoomCase
 
@@ -34,24 +34,6 @@ from symarch_tools.keeping import packed
 packed.MOST = 5000
 sys.exit(__import__("symarch_tools.keep").keep.main())
 """
-
-
-def zipped(members: Mapping[str, bytes], method: int = zipfile.ZIP_DEFLATED) -> bytes:
-    made = io.BytesIO()
-    with zipfile.ZipFile(made, "w", method) as packed:
-        for name, content in members.items():
-            packed.writestr(name, content)
-    return made.getvalue()
-
-
-def tarred(members: Mapping[str, bytes], mode: str = "w:gz") -> bytes:
-    made = io.BytesIO()
-    with tarfile.open(fileobj=made, mode=mode) as packed:
-        for name, content in members.items():
-            entry = tarfile.TarInfo(name)
-            entry.size = len(content)
-            packed.addfile(entry, io.BytesIO(content))
-    return made.getvalue()
 
 
 def changed(made: bytes, number: int, of_local: Tuple[int, bytes], of_list: Tuple[int, bytes]) -> bytes:
@@ -129,11 +111,40 @@ class Taken(PackedCase):
         self.room.has(archive(made))
 
     def test_of_a_folder(self) -> None:
-        """One that a folder or a zip file has is passed over."""
-        self.room.file("folder/a.zip", zipped(self.members))
-        _, errors = self.room.add("folder", status=1)
-        same("errors", errors[0].endswith("passed over 1 (other files 1)"), True)
+        """One that a folder has goes in by its name, and one within another is passed over."""
+        made = {"folder/a.zip": zipped(self.members), "folder/b/c.TGZ": tarred({"e": image(5)}),
+                "folder/d.tar.gz": tarred({"f": image(6), "g.zip": zipped({"h": image(7)})}),
+                "folder/i.apk": zipped({"j": image(8)})}  # fmt: skip
+        for name, content in made.items():
+            self.room.file(name, content)
+        said, errors = self.room.add("folder")
+        places = [(1, f"a.zip: {ONE}"), (3, f"a.zip: {TWO}"), (2, f"a.zip: {TWO}"), (4, f"a.zip: {OUT}")]
+        places += [(5, "b/c.TGZ: e"), (6, "d.tar.gz: f")]
+        same("lines", said, [line("added", image(number), f"folder/{path}") for number, path in places])
+        counts = "6 added, 0 known, 0 retired, 0 refused, passed over 3 (other files 3)"
+        same("errors", errors, [f"symarch-keep: {counts}"])
+        self.room.has(archive([image(number) for number in (1, 2, 3, 4, 5, 6)]))
         self.says("b.zip", zipped({"a.zip": zipped(self.members)}), [], ["b.zip: a zip file that holds no Mach-O file"])
+
+    def test_of_a_folder_without_an_image(self) -> None:
+        """It is as silent as other files are, whatever it has."""
+        self.room.file("folder/one", image(1))
+        for name, content in (("a.zip", zipped({"a.txt": TEXT})), ("b.tgz", tarred({"b.txt": TEXT})), ("c.zip", TEXT),
+                              ("d.tgz", gzip.compress(TEXT)), ("e.zip", zipped({})), ("f.tgz", tarred({}))):
+            self.room.file(f"folder/{name}", content)
+        said, errors = self.room.add("folder")
+        counts = "1 added, 0 known, 0 retired, 0 refused, passed over 6 (other files 6)"
+        same("lines, errors", (len(said), errors), (1, [f"symarch-keep: {counts}"]))
+
+    def test_damaged_ones_of_a_folder(self) -> None:
+        """They are told as those that were named, and the others go in."""
+        self.room.file("folder/a.zip", zipped({ONE: image(1)})[:-30])
+        self.room.file("folder/b.tgz", tarred({"more": os.urandom(50_000)})[:-1000])
+        self.room.file("folder/c.zip", zipped({TWO: image(2)}))
+        said, errors = self.room.add("folder", status=2)
+        same("lines", said, [line("added", image(2), f"folder/c.zip: {TWO}")])
+        told = ["a.zip: a zip file that is cut or damaged", "b.tgz: a gzipped tar file that is cut or damaged"]
+        same("errors", errors[:2], [f"symarch-keep: folder/{it}" for it in told])
 
     def test_dsyms_only(self) -> None:
         for name, made in (("a.zip", zipped(self.members)), ("a.tgz", tarred(self.members))):
@@ -152,6 +163,9 @@ class Taken(PackedCase):
         same("last line", errors[-1], f"symarch-keep: {counts}")
         said, _ = self.room.add("folder/x", words=["--dsyms-only"])
         same("lines of a file", said, [line("added", image(4), "folder/x")])
+        self.room.file("others/a.zip", zipped({"one": image(8), ONE: image(9)}))
+        said, _ = self.room.add("others", words=["--dsyms-only"])
+        same("lines of a zip file in a folder", said, [line("added", image(9), f"others/a.zip: {ONE}")])
 
 
 class Refused(PackedCase):

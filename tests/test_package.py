@@ -468,6 +468,22 @@ class Words(PackageCase):
             self.assertEqual(self.completed("symarch", word, "--index", ""), ["paths"], word)
         architectures = ["x86_64", "x86_64h", "arm64", "arm64e"]
         self.assertEqual(self.completed("symarch", "symbolicate", "--index", "i", "a", "u", ""), architectures)
+
+    def test_completion_of_architectures_of_a_tool(self) -> None:
+        """Where `symarch-keep` takes one, and nowhere else."""
+        architectures = ["x86_64", "x86_64h", "arm64", "arm64e"]
+        for words, wanted in (
+            (("symbolicate", "a", "u", ""), architectures),
+            (("symbolicate", "--load", "0", "a", "u", "x"), architectures[:2]),
+            (("symbolicate", "a", "u", "arm64", ""), []),
+            (("retire", "a", "u", ""), architectures),
+            (("retire", "--before-it-comes", "a", "u", "arm"), architectures[2:]),
+            (("retire", "a", "u", "arm64", ""), []),
+            (("find", "a", ""), []),
+        ):
+            self.assertEqual(self.completed("symarch-keep", *words), wanted, words)
+        text = self.made.tree()[f"{ZSH['tar']}/_symarch-keep"].decode()
+        self.assertEqual(text.count(f":ARCH:({' '.join(architectures)})'"), 2)
         zsh = self.made.tree()[f"{ZSH['tar']}/_symarch"].decode()
         self.assertEqual(re.findall(r"--index\[[^]]*\]:INDEX:(\S+?)'", zsh), ["_files"] * 5)
 

@@ -21,7 +21,7 @@ NO_DYLD, NO_DYLD_ARM64E = f"not in the archive: dyld {DYLD}", f"not in the archi
 NO_LIBDYLD = "libdyld.dylib b3f1a5d2-7c44-3e0b-9a61-5d2c8e7f4a90"
 OLD_LIBDYLD = "not in the archive: libdyld.dylib 9fd01a5a-d3e5-3b0f-8b7c-6d5e4f3a2b10 arm64e"
 ABSENT_HELPER = f"Spool Helper (Renderer) 5e0c7b1a-26d4-3f98-8c3b-a9f1e2d4c507, dyld {DYLD}"
-OPTIONS = "[--missing | [--text] [--demangle | --raw] [--out FOLDER] | --group [--demangle | --raw]]"
+OPTIONS = "[--missing | [--json] [--text] [--demangle | --raw] [--out FOLDER] | --group [--demangle | --raw]]"
 USAGE = f"usage: symbolicate-report {OPTIONS} REPORT... ARCHIVE..."
 
 
@@ -95,6 +95,20 @@ class Forms(ReportCase):
                 counts = "4 of 4 frames named, 0 named before, 0 not named"
                 path = self.file(name, change(source("crash")))
                 self.prints([path, "shipped"], change(named("crash")), counts, BY_DSYM)
+
+    def test_decimal_addresses_of_each_line(self) -> None:
+        """As a Mac's report has them: with a source file after the offset, after a name, and of an exception."""
+        decimal = lambda found: str(int(found[0], 16)).encode()
+        data = re.sub(rb"0x[0-9a-f]+", decimal, source("mac"))
+        came = self.report(self.file("x.crash", data), "shipped")
+        line = "7 of 9 frames named, 1 named before, 1 not named; 1 of images that the report does not list"
+        self.assertTrue(came.error_lines[0].startswith(line), came.errors)
+        wanted = re.sub(rb"(?<=\t {7})0x[0-9a-f]+|(?<=\t)0x[0-9a-f]+(?= 0x)", decimal, named("mac"))
+        for name in (b"copy_body + 12", b"file_message + 32 (spool.c:27)", b"spool_one + 24", b"start + 2476"):
+            lines = [line for line in re.findall(rb"(?m)^[0-9]+ .*", came.out) if line.endswith(b" " + name)]
+            others = [line for line in re.findall(rb"(?m)^[0-9]+ .*", wanted) if line.endswith(b" " + name)]
+            self.assertEqual(len(lines), len(others), name)
+        self.assertNotIn(b"(4375938064 4375938040)", came.out)
 
     def test_decimal_addresses_of_trees(self) -> None:
         """Of the frames, of the images, and of both. Other numbers in brackets are none."""
@@ -487,6 +501,7 @@ class Refused(ReportCase):
             (["shipped", "--", "-"], f"shipped is an archive, and stands after the reports: {typed} - shipped"),
             (["frames", path, "shipped"], f"frames is a command of symarch: {typed} arm64.crash shipped"),
             (["symbolicate", path, "shipped"], f"symbolicate is a command of symarch: {typed} arm64.crash shipped"),
+            (["symbolicate", "shipped", path], f"symbolicate is a command of symarch: {typed} arm64.crash shipped"),
         )
         for words, why in refused:
             self.is_refused(words, USAGE, self.unread(why), status=3)

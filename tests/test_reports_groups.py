@@ -6,7 +6,7 @@ import signal
 import subprocess
 import sys
 import time
-from typing import Any, List, Optional, Sequence
+from typing import Any, List, Optional, Sequence, Tuple
 
 from .support.kills import interrupted
 from .support.program import call, symarch
@@ -19,6 +19,20 @@ NO_THREAD = "no crashed thread"
 def without_top(data: bytes) -> bytes:
     """A crash of another place: that of the second frame."""
     return re.sub(rb"^0 .*\n", b"", data, count=1, flags=re.M)
+
+
+def thrown(name: str, more: bytes) -> bytes:
+    """A crash by an exception: the frames of the throw, then those of spool, and a thread that ends in `abort`, of
+    which one report knows the names."""
+    throw = [b"0   CoreFoundation   0x000000019a2b3c4d __exceptionPreprocess + 164",
+             b"1   libobjc.A.dylib   0x000000019a1b3c4d objc_exception_throw + 60"]  # fmt: skip
+    frames = [b"%d   spool   %b 0x104d38000 + 1" % (at, address) for at, address in
+              ((2, b"0x104d38410"), (3, b"0x104d383f8"), (4, b"0x104d384ac"))]  # fmt: skip
+    backtrace = b"\n".join([b"Last Exception Backtrace:", *throw, *frames, b"", b""])
+    crash = source("crash")
+    abort = b"0   libsystem_%b.dylib   0x000000019b000001 __pthread_kill + 8\n" % (more + name.encode())
+    heading, _, rest = crash[crash.index(b"Thread 0 Crashed") :].partition(b"\n")
+    return crash[: crash.index(b"Thread 0 Crashed")] + backtrace + heading + b"\n" + abort + rest
 
 
 class GroupCase(ReportCase):
@@ -144,10 +158,45 @@ class Groups(GroupCase):
         came = self.report("--group", *paths, FIXTURES / "spool.sample.txt", "shipped")
         self.assertEqual([line.rpartition("\t")[0] for line in came.lines], [
             f"3\t{NO_THREAD}",
-            "1\tcopy_body (Spool Server); file_message (Spool Server); spool_two (Spool Server)",
+            "1\tcopy_body (Spool Server); file_message (Spool Server)",
             "1\tcopy_body (spool); file_message (spool); start (libdyld.dylib)",
             "1\tspool_one (spool); start (spool); dyld + 25204",
         ])
+
+    def test_an_exception(self) -> None:
+        """That nothing caught: by its backtrace, and not by `abort` in the thread that crashed. The frames of the
+        throw are in all of these. The names are those of `llvm-nm`."""
+        lines = {name: thrown(name, more) for name, more in (("a", b""), ("b", b"_"), ("c", b""))}
+        self.file("in/a.crash", lines["a"])
+        self.file("in/b.crash", lines["b"])
+        self.file("in/c.crash", lines["c"].replace(b"0x104d38410", b"0x104d38470"))
+        self.grouped(
+            ["in", "shipped"],
+            "2\t" + COPY.replace("spool_one", "shelf_of") + "\tin/a.crash",
+            "1\tspool_one (spool); file_message (spool); shelf_of (spool)\tin/c.crash",
+        )
+
+    def test_an_exception_in_other_forms(self) -> None:
+        """As a line of addresses, and in JSON; a report whose list is empty has none, and no frame may be known."""
+        line = b"Last Exception Backtrace:\n(0x104d38470 0x104d383f8)\n\n"
+        crash = source("crash")
+        self.file("in/a.crash", crash.replace(b"Thread 0 Crashed", line + b"Thread 0 Crashed", 1))
+        for name, frames in (("b", [(1136, 0), (1016, 0)]), ("c", []), ("d", [(3, 1), (5, 1), (7, 1)])):
+            self.file(f"in/{name}.ips", self.with_exception(frames))
+        self.grouped(
+            ["in", "shipped"],
+            "2\tspool_one (spool); file_message (spool)\tin/a.crash",
+            f"1\t{COPY}\tin/c.ips",
+            "1\tdyld + 3; dyld + 5; dyld + 7\tin/d.ips",
+        )
+
+    @staticmethod
+    def with_exception(frames: List[Tuple[int, int]]) -> str:
+        """An .ips with such a backtrace, of offsets and images."""
+        first, _, rest = source("ips").decode().partition("\n")
+        document = json.loads(rest)
+        document["lastExceptionBacktrace"] = [{"imageOffset": at, "imageIndex": it} for at, it in frames]
+        return f"{first}\n{json.dumps(document)}"
 
     def test_other_images(self) -> None:
         """Equal names in images of other names are other groups, also where a function was inlined."""

@@ -5,12 +5,14 @@ import os
 import pathlib
 import re
 import subprocess
-from typing import Iterable, List, NamedTuple, Sequence, Set, Tuple, Union
+from typing import Dict, Iterable, List, Mapping, NamedTuple, Sequence, Set, Tuple, Union
 
 # As `  admit        Add Mach-O images to an archive`.
 COMMAND = re.compile(r" +([a-z][\w-]*)(?:  +(.*))?")
 # As `  <FILE>...  The Mach-O files to take`.
 ARGUMENT = re.compile(r"  <(\w+)>(\.\.\.)?(?:  +(.*))?")
+# As `  ARCH         the architecture: arm64 or arm64e`.
+PLACED = re.compile(r"  ([A-Z]+)  +(.*)")
 # As `      --load <HEX>  Where the image was loaded`, and `  --out FOLDER  print into a folder`.
 OPTION = re.compile(r" +(?:(-\w)(?: [A-Z]+)?, )?(--[\w-]+)(?: <?([A-Z]+)>?)?(?:  +(.*))?")
 # An option in a form of a tool, and the word after it, which is its value unless it is an argument.
@@ -142,11 +144,18 @@ def names_in(usages: Sequence[str]) -> Set[str]:
     return {it.rstrip(".") for it in IN_BRACKETS.sub("", usages[0]).split() if it.rstrip(".").isupper()}
 
 
-def form_of(usage: str, names: Set[str], about: str, options: List[Option]) -> Form:
+def helps_in(text: str) -> Dict[str, str]:
+    """The help of each argument that has one."""
+    found = [PLACED.fullmatch(it) for it in section(text, "positional arguments")]
+    return {one[1]: one[2] for one in found if one}
+
+
+def form_of(usage: str, names: Set[str], about: str, options: List[Option], helps: Mapping[str, str] = {}) -> Form:
     """A form of a tool. A command is a word in lower case that stands first."""
     words = IN_FORM.sub(lambda it: it[2] if it[2] in names else "", IN_BRACKETS.sub("", usage)).split()
     name = words[0] if words and words[0].islower() else ""
-    arguments = [Argument(it.rstrip("."), it.endswith("."), "") for it in words if it.rstrip(".").isupper()]
+    placed = [(it.rstrip("."), it.endswith(".")) for it in words if it.rstrip(".").isupper()]
+    arguments = [Argument(it, is_last, helps.get(it, "")) for it, is_last in placed]
     return Form(name, about, usage, arguments, options)
 
 
@@ -174,7 +183,7 @@ def commands_of_tool(path: pathlib.Path, name: str, text: str) -> Tuple[List[For
     for one in filter(None, found):
         its = said([path, one[1], "--help"])
         usages = usages_in(its, name)
-        form = form_of(usages[0], names_in(usages), one[2] or "", options_in(its))
+        form = form_of(usages[0], names_in(usages), one[2] or "", options_in(its), helps_in(its))
         forms.append(form)
         helps.append(f"### `{form.usage}`\n\n{prose_in(its, name)}")
     return forms, helps

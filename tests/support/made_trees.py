@@ -17,6 +17,7 @@ def part(number: int, begin: int, end: int, size: int) -> str:
     return f": part {number} is bytes {begin} to {end} by the table, and the file has {size}"
 
 
+HEADER = "its header takes 32 bytes, and"
 TABLE = ": its table takes 48 bytes, and the file has 47"
 OUTSIDE = f"Symbols(SymbolsOutside)){promised(4112, 80)}"
 
@@ -84,8 +85,8 @@ def refused_files(room: Room) -> List[str]:
     whole = image(40)
     with_two = struct.pack("<8I", 0xFEEDFACF, *X86_64, EXECUTE, 2, 48, 0, 0) + image(41)[32:] * 2
     places = {
-        "head": (whole[:20], "Slice(0, Image(HeaderTruncated))"),
-        "magic": (whole[:4], "Slice(0, Image(HeaderTruncated))"),
+        "head": (whole[:20], f"Slice(0, Image(HeaderTruncated)): {HEADER} there are 20"),
+        "magic": (whole[:4], f"Slice(0, Image(HeaderTruncated)): {HEADER} there are 4"),
         "cut": (whole[:-1], f"Slice(0, Image(CommandsOutside)){promised(56, 55)}"),
         "small": (image(0, commands=struct.pack("<II", 5, 4)), "Slice(0, Image(BadCommand(0)))"),
         "long": (image(0, commands=struct.pack("<II", 5, 16)), "Slice(0, Image(BadCommand(0)))"),
@@ -93,7 +94,7 @@ def refused_files(room: Room) -> List[str]:
         "second": (with_two, "Slice(0, Image(SecondUuid(1)))"),
         "symbols": (symbols_outside(42), f"Slice(0, {OUTSIDE}"),
         "part": (universal([thirty_two_bit(), whole[:50]]), f"Slice(1, Image(CommandsOutside)){promised(56, 50)}"),
-        "fat-head": (bytes.fromhex("cafebabe0000"), "Fat(HeaderTruncated)"),
+        "fat-head": (bytes.fromhex("cafebabe0000"), "Fat(HeaderTruncated): its header takes 8 bytes, and the file has 6"),
         "fat-count": (struct.pack(">II", 0xCAFEBABE, 33) + bytes(33 * 20), "Fat(TooManyArches(33))"),
         "fat-table": (struct.pack(">II", 0xCAFEBABE, 2) + bytes(39), f"Fat(TableTruncated){TABLE}"),
         "fat-cut": (universal([thirty_two_bit(), whole])[:-1], f"Fat(SliceOutside(1)){part(1, 128, 184, 183)}"),

@@ -18,6 +18,29 @@ is what both have together: `find`, `symbolicate` and `name` ask both, and so do
 A word that is called with --quiet, and ends with 0, prints nothing; one that ends otherwise prints what it would print
 without it. So cron, which mails what is printed, mails what is wrong.
 
+On a terminal, work that takes more than two seconds has a line that says how far it is, which is gone at its end.
+
+With --json a word prints an object of JSON a line on standard output, and nothing else. Standard error and the status
+are as without it. What is not known is null. A path is text; if it is no UTF-8, U+FFFD stands in the place of bytes,
+and `path_hex`, which is null otherwise, has all of them in hex digits. The lines of `status` are in its `end`.
+
+  added, known, retired           of `add`: record, uuid, arch, digest, bytes, path, path_hex
+  refused                         of `add`: path, path_hex, why
+  passed_over                     of `add`, as standard error names it: path, path_hex, part, why
+  build                           of `list`: day, app, version, build, name, uuid, arch, bytes, dsym
+  changed, lost, damaged, unknown
+                                  of `check`: record, uuid, arch, digest, at, path, path_hex. The record is `slice` or
+                                  `retirement`, or null, as of a file or of its first and last bytes
+  end                             the last one, without which some are missing: status, faults, which is what standard
+                                  error says is wrong, and of `add` added, known, retired, refused, passed_over, which
+                                  has the number of each kind, made, dry_run; of `list` builds; of `check` slices,
+                                  retirements, wrong; of `status` images, companions, retirements, conflicts, bytes,
+                                  today, sites, with name, asked, answered, joined, lost, with record, uuid, arch,
+                                  digest, and left, with path, path_hex
+
+The first column is `type`, which each object has. If a word fails, the others of its end are null. A command line that
+is wrong, which ends with 3, prints none.
+
 Each word that writes replaces one of the two by a new file that is synced and then renamed. Killed at any moment, it
 leaves the old one or the new one. One of them works at a time, by a lock on the file ARCHIVE.lock, which stays; others
 wait, but for those that ask. The new file is written in a folder ARCHIVE.making-*, so the disk needs room for a second
@@ -31,10 +54,12 @@ version 1 has no index, and becomes one of version 2 by the next word that write
 import argparse
 import os
 import sys
-from typing import Any, Dict, NoReturn, Optional, Sequence, Set
+from typing import Any, Dict, List, NoReturn, Optional, Sequence, Set
 
-from .keeping import adding, checking, exchanging, finding, folding, naming, repairing, retiring, stating
+from .keeping import adding, checking, exchanging, finding, folding, listing, naming, repairing, retiring, stating
 from .keeping import symbolicating
+from .keeping.ordering import refuse_order
+from .keeping.progress import progress
 from .keeping.screen import Failed, Screen, shown, system_text
 from .signals import Stopped, signals
 from .version import PrintVersion
@@ -44,6 +69,7 @@ WORDS = {
     "find": finding,
     "symbolicate": symbolicating,
     "name": naming,
+    "list": listing,
     "fold": folding,
     "retire": retiring,
     "exchange": exchanging,
@@ -54,8 +80,11 @@ WORDS = {
 
 
 # Words that are asked print what they find; the others may be quiet.
-ASKING = ("find", "symbolicate", "name")
+ASKING = ("find", "symbolicate", "name", "list")
+# Words that may print JSON. Each has the keys of its last object, whose values are null if it fails.
+WITH_JSON = (adding, listing, stating, checking)
 QUIET = "print nothing if nothing is wrong, as cron mails what is printed"
+JSON = "print an object of JSON for each line, as `symarch-keep --help` describes them"
 
 
 class Parser(argparse.ArgumentParser):
@@ -63,12 +92,33 @@ class Parser(argparse.ArgumentParser):
 
     def __init__(self, *words: Any, **more: Any) -> None:
         self.options: Set[str] = set()
+        self.names: List[str] = []
+        self.valued: Set[str] = set()
         super().__init__(*words, **more)
 
     def add_argument(self, *words: Any, **more: Any) -> argparse.Action:
         action = super().add_argument(*words, **more)
         self.options.update(action.option_strings)
+        self.names += [] if action.option_strings else [action.dest]
+        self.valued.update(action.option_strings if action.nargs != 0 else [])
         return action
+
+    def names_in(self, words: argparse.Namespace) -> List[str]:
+        """The words of a call that are no options, in their order."""
+        found = [vars(words)[name] for name in self.names]
+        return [word for one in found for word in (one if isinstance(one, list) else [one]) if word is not None]
+
+    def options_in(self, words: Sequence[str]) -> List[str]:
+        """The options of a call, with their values, and the word -- if it stands there."""
+        found: List[str] = []
+        rest = iter(words)
+        for word in rest:
+            if word.startswith("-") and word != "-":
+                found.append(word)
+                found += [next(rest, "")] if word in self.valued else []
+            if word == "--":
+                break
+        return found
 
     def refuse_options(self, words: Sequence[str]) -> None:
         """Refuses a word that is no option, though it begins as one."""
@@ -105,8 +155,10 @@ def parse(words: Sequence[str]) -> argparse.Namespace:
         )
         if name not in ASKING:
             its.add_argument("--quiet", action="store_true", help=QUIET)
+        if module in WITH_JSON:
+            its.add_argument("--json", action="store_true", help=JSON)
         module.define(its)
-        its.set_defaults(carry_out=module.carry_out)
+        its.set_defaults(carry_out=module.carry_out, keys=getattr(module, "KEYS", ()))
     first = words[0] if words else ""
     if first in parsers:
         parsers[first].refuse_options(words[1:])
@@ -117,6 +169,8 @@ def parse(words: Sequence[str]) -> argparse.Namespace:
     found, others = parser.parse_known_args(words)
     if others:
         parsers[first].error(f"`{shown(others[0])}` is one word too many")
+    options = parsers[first].options_in(words[1:])
+    found.refuse_order = lambda: refuse_order(first, options, parsers[first].names_in(found))
     return found
 
 
@@ -132,15 +186,18 @@ def open_standard_streams() -> None:
 def carry_out(words: argparse.Namespace) -> int:
     """Carries out a word, and says why it failed."""
     try:
+        words.refuse_order()
         return words.carry_out(words)
     except Failed as fault:
         failed = fault
     except OSError as error:
         failed = Failed(system_text(error))
-    screen = Screen()
-    screen.line(f"{failed.text}; the archive is as it was" if failed.status == 4 else failed.text)
-    if failed.more:
-        screen.write(f"{failed.more}\n")
+    screen: Screen = vars(words).get("screen") or Screen()
+    screen.release()
+    screen.fault(f"{failed.text}; the archive is as it was" if failed.status == 4 else failed.text, failed.more)
+    if screen.is_json and failed.status != 3:
+        screen.refused, screen.has_failed = 0, False
+        screen.end(failed.status, dict.fromkeys(words.keys))
     return failed.status
 
 
@@ -154,6 +211,6 @@ def main(given: Optional[Sequence[str]] = None) -> int:
         signals.ignore()
     except Stopped:
         # The exception is gone after this, and with it what it met.
-        pass
+        progress.wipe()
     signals.end()
     return status

@@ -59,12 +59,23 @@ it, its architecture:
 Inlined functions do not count as frames. With --out each report has such a line after its path, and the last line is
 for all reports.
 
+With --json standard output has an object of JSON a line in the place of a report. What is not known is null; of a path
+that is no UTF-8 `path_hex`, else null, has the bytes. By `type` they are
+
+  report     path, path_hex, frames, images, and faults, which says where it is cut. The frames are counted as named,
+             named_before, not_named, several and not_listed. Each image with frames has name, uuid, arch, answered_by,
+             `dsym`, `image`, `dsym_or_image`, `changed`, `other_architecture` or `absent`, and others: architectures
+  refused    path, path_hex, why
+  end        the last one, without which some are missing: reports, how many they are, frames, counted of all, faults,
+             which is what standard error says is wrong, and status. If nothing could be asked, the first two are null
+
 With --group two reports are of one group if the top three frames of their crashed threads are the same: each has the
 same name and an image of the same name or, where it has not one name, the same offset in an image of that name. UUIDs
 are not compared, so builds of one program are counted together. A frame that was inlined is one of the three. The
-crashed thread is the one that the report says crashed, of a payload the first; a backtrace of an exception is not
-looked at. Its frames stand as `NAME (IMAGE)` or `IMAGE + OFFSET`, by `; `. Reports without one, as hangs and samples,
-are the group `no crashed thread`. Lines with equal counts are in order of their text.
+crashed thread is the one that the report says crashed, of a payload the first. If the report has the backtrace of an
+exception that nothing caught, this stands in its place, without its first two frames if they are of CoreFoundation and
+libobjc.A.dylib, which throw. The frames stand as `NAME (IMAGE)` or `IMAGE + OFFSET`, by `; `. Reports without either,
+as hangs and samples, are the group `no crashed thread`. Lines with equal counts are in order of their text.
 
 A return address may lie after its function's end, so the address before it is asked for; the offset printed is that of
 the frame. Return addresses are:
@@ -116,6 +127,8 @@ import uuid
 from typing import Dict, Iterable, List, Optional, Sequence, Tuple
 
 from .keeping.screen import about, shown, system_text
+from .keeping.json_lines import Members, path_members
+from .reports.account import Account, print_end, print_objects
 from .reports.answers import Origin
 from .reports.archives import Archives
 from .reports.demangling import demangled, without_underscores
@@ -123,7 +136,7 @@ from .reports.faults import Failure, NoReport, Status
 from .reports.folders import files_below, is_named_as_report
 from .reports.groups import group_lines
 from .reports.report import Count, Report
-from .reports.streams import drop, encoded, note, printing, say
+from .reports.streams import drop, encoded, note, printing
 from .reports.words import NAME, Words, is_folder
 from .signals import Stopped, signals
 
@@ -137,6 +150,7 @@ class Reader:
     def __init__(self, words: Words) -> None:
         self.words, self.status = words, int(Status.DONE)
         self.found: List[Report] = []
+        self.refused: List[Members] = []
         # What a folder need not have again.
         self.seen = {os.path.realpath(path) for path in words.reports if not is_folder(path)}
 
@@ -154,27 +168,28 @@ class Reader:
         except NoReport as failure:
             if is_found and not is_named_as_report(path):
                 return False
-            self.refuse(failure.reason, failure.status)
+            self.refuse(path, failure.reason, failure.status)
         except Failure as failure:
-            self.refuse(failure.reason, failure.status)
+            self.refuse(path, failure.reason, failure.status)
         except OSError as error:
-            self.refuse(system_text(error, os.fsencode(path)))
+            self.refuse(path, system_text(error, os.fsencode(path)))
         return True
 
     def read_folder(self, folder: str) -> None:
         paths, errors = files_below(folder)
         for error in errors:
-            self.refuse(system_text(error, os.fsencode(folder)))
+            self.refuse(folder, system_text(error, os.fsencode(folder)))
         has_report = False
         for path in paths:
             real = os.path.realpath(path)
             has_report |= real in self.seen or self.read(path, is_found=True)
             self.seen.add(real)
         if not has_report and not errors:
-            self.refuse(f"{shown(folder)}: no report in this folder")
+            self.refuse(folder, f"{shown(folder)}: no report in this folder")
 
-    def refuse(self, reason: str, status: int = Status.REFUSED) -> None:
+    def refuse(self, path: str, reason: str, status: int = Status.REFUSED) -> None:
         note(reason)
+        self.refused.append({"type": "refused", **path_members(path), "why": reason})
         self.status = status
 
 
@@ -256,39 +271,6 @@ def identity(path: str) -> Optional[Tuple[int, int]]:
     return found.st_dev, found.st_ino
 
 
-# ---- what is said
-
-
-def say_counts(reports: Iterable[Report], is_each: bool) -> bool:
-    """Says what came of each report where they are written to files, and of all of them; and whether a frame has a
-    name."""
-    every, labels = Count(), labels_of([])
-    for report in reports:
-        for text in report.notes:
-            note(f"{report.label}: {text}")
-        count, its = report.count(), labels_of([report])
-        every.add_count(count)
-        for origin, some in its.items():
-            labels[origin].update(some)
-        if is_each:
-            say(f"{report.label}: {count.text()}{by_origin(its)}\n")
-    say(f"{every.text()}{by_origin(labels)}\n")
-    return every.named > 0
-
-
-def labels_of(reports: Iterable[Report]) -> Dict[Origin, Dict[str, None]]:
-    """The images of reports, each of them once, by what answered for them."""
-    labels: Dict[Origin, Dict[str, None]] = {origin: {} for origin in Origin}
-    for report in reports:
-        for image in report.images.with_frames():
-            labels[image.origin()][image.label()] = None
-    return labels
-
-
-def by_origin(labels: Dict[Origin, Dict[str, None]]) -> str:
-    return "".join(f"; {origin.value}: {', '.join(some)}" for origin, some in labels.items() if some)
-
-
 # ---- the whole
 
 
@@ -301,6 +283,9 @@ def carry_out(words: Words) -> int:
     if len(named) < len(words.reports):
         refuse_clash(words, list(dict.fromkeys([*named, *(report.path for report in reports)])))
     if not reports:
+        if words.is_json:
+            print_objects(reader.refused)
+            print_end(0, vars(Count()), status)
         return status
     archives = Archives(words.archives)
     archives.look_up([image for report in reports for image in report.images.with_frames()])
@@ -314,19 +299,43 @@ def carry_out(words: Words) -> int:
         archives.names.shown = demangled(archives.names.shown)
     if words.is_group:
         print_groups(reports)
-    elif words.out is None:
-        print_report(reports[0])
-    else:
+    elif words.out is not None:
         os.makedirs(words.out, exist_ok=True)
         for report in reports:
             write_report(report, words.out)
-    has_names = say_counts(reports, words.out is not None)
-    return status or (Status.DONE if has_names else Status.NONE_NAMED)
+    elif not words.is_json:
+        print_report(reports[0])
+    account = Account(reports, words.out is not None)
+    account.say()
+    status = status or (Status.DONE if account.every.named else Status.NONE_NAMED)
+    if words.is_json:
+        print_objects([*account.objects(), *reader.refused])
+        print_end(len(reports), vars(account.every), status)
+    return status
+
+
+def carry_out_or_end(words: Words) -> int:
+    """Carries out the words. If that fails, JSON has an end that says it."""
+    try:
+        return carry_out(words)
+    except Failure as failure:
+        if not words.is_json or failure.status == Status.BAD_WORDS:
+            raise
+        if failure.reason:
+            note(failure.reason)
+        status = failure.status
+    except OSError as error:
+        if not words.is_json or error.filename == b"standard output":
+            raise
+        note(system_text(error))
+        status = Status.REFUSED
+    print_end(None, None, status)
+    return status
 
 
 def carry_out_words(words: Sequence[str]) -> int:
     try:
-        return carry_out(Words(words, __doc__))
+        return carry_out_or_end(Words(words, __doc__))
     except Failure as failure:
         if failure.reason:
             note(failure.reason)

@@ -1,7 +1,9 @@
 """The words of symarch-keep. In reading order:
 
-- screen            what is said, and the faults
+- progress          how far a work is, on a terminal
 - contents          what an archive has, and the bytes of archives, summaries and the files beside an archive
+- json_lines        what --json prints
+- screen            what is said, and the faults
 - indexes           the index of an archive: its bytes, and what changed by it
 - looks             what a file looks like of which nothing goes in
 - slices            what files and folders have
@@ -9,15 +11,19 @@
 - upgrading         what was kept before there were indexes
 - archive_file      an archive file, and what is known of it
 - lock              the lock of an archive
+- builds            the names of builds: ARCHIVE.builds
 - log               the lines of the words with their dates
 - losing            what was there and is not
 - placing           the folder of an archive, and how a new file takes the place of one
 - archive           an archive with what came in lately, and how more comes in
 - forms             words of a command line that are no paths
+- ordering          what to type if ARCHIVE does not stand first
 - asking            how both archives are asked, each by its index
 - finding           `find`
 - symbolicating     `symbolicate`
 - naming            `name`
+- listing           `list`
+- bundles           what Info.plist and the path say of a slice
 - adding            `add`
 - folding           `fold`
 - retiring          `retire`

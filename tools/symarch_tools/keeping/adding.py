@@ -11,9 +11,10 @@ bundles, .xcarchive, .app, frameworks, dylibs and all else that a PATH has at an
 file go in one by one, so a part that stays out keeps no other part out. The PATH - is standard input.
 
 A PATH that is a zip file, or a tar file packed by gzip, is read as a folder of its members, printed as ZIP: MEMBER.
-They are unpacked into files without names, all images at once if they do not stand in the order of their UUIDs; one of
-more than 4294967295 bytes is refused, as is one that is encrypted, cut or damaged. The others go in, but for those
-after a fault in a tar file. Those that a folder or such a file has in it are passed over.
+So is one in a folder that is called NAME.zip, NAME.tar.gz or NAME.tgz. Members are unpacked into files without names,
+all images at once if they do not stand in the order of their UUIDs; one of more than 4294967295 bytes is refused, as is
+one that is encrypted, cut or damaged. The others go in, but for those after a fault in a tar file. What is packed
+within such a file is passed over.
 
 These are passed over: object files and images without a UUID, static libraries, 32-bit and big-endian images, all
 other files, links to folders, links that lead nowhere. The last line on standard error counts them; --verbose names
@@ -49,23 +50,24 @@ import collections
 import contextlib
 import functools
 import os
-import shlex
 import shutil
 import sys
 import tempfile
 from typing import Dict, List, Sequence, Set, Union
 
 from .archive import Archive
-from .archive_file import NO_UUID, ArchiveFile
+from .archive_file import NO_UUID
+from .builds import rest_of, today
 from .contents import Content
-from .packed import ZIP
 from .program import DESCRIPTORS, Program
-from .screen import Failed, Screen, SliceRefused, shown
-from .slices import THIN, UNIVERSAL, Finder, Slice, compared, promised
+from .screen import Screen, SliceRefused, screen_of, shown
+from .slices import Finder, Slice, compared, promised
 
-USAGE = "symarch-keep add [--quiet] [--verbose] [--dry-run] [--dsyms-only] ARCHIVE PATH..."
+USAGE = "symarch-keep add [--quiet] [--json] [--verbose] [--dry-run] [--dsyms-only] ARCHIVE PATH..."
 ABOUT = "put images and dSYMs into it"
 STANDARD_INPUT = b"-"
+WORDS = ("added", "known", "retired")
+KEYS = (*WORDS, "refused", "passed_over", "made", "dry_run")
 
 
 def define(parser: argparse.ArgumentParser) -> None:
@@ -143,9 +145,11 @@ def put_new(
         if is_dry_run:
             return refusals(program, new)
         lines = [one.line() for one in slices]
+        archive.builds.news = {rest_of(it.entry(), it.build): today() for it in slices if it.word != "retired"}
         if not new:
             if archive.main.exists():
                 archive.log.note(lines, screen)
+                archive.keep_builds(screen)
             return []
         news = Content((), {one.entry(): one.length for one in new})
         with archive.room() as room:
@@ -168,32 +172,6 @@ def refusals(program: Program, slices: Sequence[Slice]) -> List[SliceRefused]:
     return found
 
 
-def refuse_order(words: argparse.Namespace) -> None:
-    """Says what to type if ARCHIVE stands after the paths."""
-    first, *_ = found = [os.fsencode(path) for path in (words.archive, *words.paths)]
-    if begins_as_archive(first) or not os.path.exists(first):
-        return
-    archives = [path for path in found if begins_as_archive(path)]
-    if not archives and begins_as_input(first) and not os.path.exists(found[-1]):
-        archives = found[-1:]
-    if archives:
-        names = ("quiet", "verbose", "dry-run", "dsyms-only")
-        options = [f"--{name}" for name in names if vars(words)[name.replace("-", "_")]]
-        typed = [*map(os.fsencode, options), archives[0], *(path for path in found if path != archives[0])]
-        line = " ".join(shown(shlex.quote(os.fsdecode(word))) for word in typed)
-        kind = "a folder" if os.path.isdir(first) else "no archive"
-        raise Failed(f"{shown(first)} is {kind}, and ARCHIVE comes first: symarch-keep add {line}", 3)
-
-
-def begins_as_archive(path: bytes) -> bool:
-    return os.path.isfile(path) and ArchiveFile(path, b"").begins_as_archive()
-
-
-def begins_as_input(path: bytes) -> bool:
-    """Whether a path is a folder, or a file as `add` puts into an archive."""
-    return os.path.isdir(path) or (ArchiveFile(path, b"").magic() or b"")[:4] in (THIN, ZIP, *UNIVERSAL)
-
-
 def standard_input(ends: contextlib.ExitStack) -> bytes:
     """A path of what standard input has, since each slice is read more than once."""
     copy = ends.enter_context(tempfile.TemporaryFile())
@@ -204,8 +182,7 @@ def standard_input(ends: contextlib.ExitStack) -> bytes:
 
 
 def carry_out(words: argparse.Namespace) -> int:
-    refuse_order(words)
-    screen = Screen(words.verbose, words.quiet)
+    screen = screen_of(words)
     program = Program()
     archive = Archive(os.fsencode(words.archive), is_made=True, writes=False)
     os.stat(archive.folder)
@@ -215,6 +192,7 @@ def carry_out(words: argparse.Namespace) -> int:
             finder.places[STANDARD_INPUT] = standard_input(ends)
         finder.find(paths)
         readable = read_all(finder.slices, screen)
+        finder.name_builds()
         # Where nothing was found nothing is made beside an archive that is not there.
         is_writing = not words.dry_run and (archive.main.exists() or bool(readable))
         archive = Archive(os.fsencode(words.archive), is_made=True, writes=is_writing)
@@ -222,15 +200,18 @@ def carry_out(words: argparse.Namespace) -> int:
         is_there = archive.main.exists()
         slices = put(archive, program, readable, screen, words.dry_run)
     screen.show([one.line() for one in slices])
-    if archive.main.exists() and not is_there:
+    is_made = archive.main.exists() and not is_there
+    if is_made:
         screen.line(f"made {shown(archive.path)}")
-    say_counts(slices, screen, words.dry_run)
-    return screen.status(0 if slices else 1)
-
-
-def say_counts(slices: Sequence[Slice], screen: Screen, is_dry_run: bool) -> None:
     count = collections.Counter(one.word for one in slices)
+    counts = {**{word: count[word] for word in WORDS}, "refused": screen.refused}
+    say_counts(counts, screen, words.dry_run)
+    flags = {"passed_over": dict(sorted(screen.passed_over.items())), "made": is_made, "dry_run": words.dry_run}
+    return screen.end(0 if slices else 1, {**counts, **flags})
+
+
+def say_counts(counts: Dict[str, int], screen: Screen, is_dry_run: bool) -> None:
     kinds = ", ".join(f"{kind} {number}" for kind, number in sorted(screen.passed_over.items()))
-    told = ", ".join(f"{count[word]} {word}" for word in ("added", "known", "retired")) + f", {screen.refused} refused"
+    told = ", ".join(f"{number} {word}" for word, number in counts.items())
     told += f", passed over {sum(screen.passed_over.values())}{f' ({kinds})' if kinds else ''}"
     screen.line(f"{told}; nothing was written" if is_dry_run else told)

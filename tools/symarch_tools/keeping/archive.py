@@ -5,14 +5,16 @@ What comes in goes into ARCHIVE.today, and `fold` joins that into ARCHIVE. ARCHI
 all of it, so at any moment both have together what they had."""
 import contextlib
 import os
-from typing import List, Optional, Sequence, Tuple
+from typing import Callable, List, Optional, Sequence, Tuple
 
 from ..signals import signals
 from . import upgrading
 from .archive_file import INDEX, INDEX_SUM, NEXT_INDEX, ArchiveFile
 from .archive_file import size_of, write_synced
+from .builds import Builds
 from .contents import EMPTY, Content, heads_in
 from .indexes import Index, Row, held_against, index_by, index_in, index_of
+from .json_lines import line_of, path_members, record_members
 from .lock import Lock
 from .looks import MOST_LOOKED_AT, look_of
 from .losing import LOST, Lost, counted, lost_lines
@@ -39,6 +41,8 @@ class Archive(Placing):
         self.files = self.main, self.today
         if not is_made:
             os.stat(self.path)
+        if os.path.isdir(self.path):
+            raise Failed(f"{shown(path)} is a folder, and no archive")
         for file, named in zip(self.files, (path, path + TODAY)):
             if not may_be_damaged and not file.begins_as_archive():
                 with open(file.path, "rb") as opened:
@@ -55,9 +59,19 @@ class Archive(Placing):
             signals.at_end.append(self.remove_rooms)
             self.remove_rooms()
             self.go_on(screen)
+        self.builds = Builds(self.path)
+        if self.say_damaged_builds(screen) and self.writes:
+            self.keep_builds(screen)
         self.lost = Lost(self.beside(LOST))
         if self.lost.fault:
             screen.fail(f"{shown(self.lost.path)}: {self.lost.fault}, so what is lost is not known")
+
+    def say_damaged_builds(self, screen: Screen) -> bool:
+        """Says what is damaged of the names of builds, if something is. The rest counts."""
+        fault = self.builds.fault()
+        if fault:
+            screen.fail(f"{shown(self.builds.path)}: {fault}")
+        return bool(fault)
 
     def release_lock(self) -> None:
         if self.remove_rooms in signals.at_end:
@@ -118,8 +132,9 @@ class Archive(Placing):
             return index_of([])
         path = file.path
         if file.is_of_version_1():
-            screen.begin("migrating the archive")
-            program.run_over(path, "migrate", os.fsdecode(file.name), folder=room)
+            screen.begin("migrating", file.size())
+            moved = watched(screen, room)
+            program.run_over(path, "migrate", os.fsdecode(file.name), folder=room, moved=moved)
             path = os.path.join(room, file.name)
         return index_made(path, room, program, screen)
 
@@ -247,7 +262,7 @@ class Archive(Placing):
             words = ["merge", first, os.fsdecode(name), *(others or ["/dev/stdin"])]
             names = dict(zip(words[1:], map(shown, filter(None, (old, new, more)))))
             held = [*read, *filter(None, [self.lock.descriptor])]
-            program.run(words, slices, room, held, lambda done: screen.progress(done, written_in(room)), names)
+            program.run(words, slices, room, held, watched(screen, room), names)
         if not os.path.exists(new):
             raise Failed(f"{program.path} wrote no archive")
 
@@ -276,6 +291,7 @@ class Archive(Placing):
                 file.drop(NEXT_INDEX, upgrading.NEXT_SUM)
         if not following and not before:
             self.log.drop_pending()
+            self.builds.drop_next()
         self.upgrade(screen)
 
     def upgrade(self, screen: Screen) -> None:
@@ -295,15 +311,27 @@ class Archive(Placing):
 
 def index_made(path: bytes, room: bytes, program: Program, screen: Screen) -> Index:
     """The index of an archive, by the program."""
-    screen.begin("indexing the archive")
-    program.run_over(path, "index", "index", folder=room)
+    screen.begin("indexing")
+    program.run_over(path, "index", "index", folder=room, moved=screen.progress)
     with open(os.path.join(room, b"index"), "rb") as file:
         return index_in(file.read())
 
 
 def changed_line(row: Row, path: bytes, word: str = "changed") -> str:
     """The line of a record that changed: what it was, and where in which file it stands."""
-    return f"{word} {row.words()} {row.at} {shown(path)}"
+    members = {**record_members(row.entry[1:], not row.is_slice()), "at": row.at, **path_members(path)}
+    return line_of(f"{word} {row.words()} {row.at} {shown(path)}", word, **members)
+
+
+def file_line(word: str, path: bytes, is_of_ends: bool = False) -> str:
+    """The line of a file, or of its first and last bytes."""
+    members = {**record_members(None), "at": None, **path_members(path)}
+    return line_of(f"{word} {'ends ' if is_of_ends else ''}{shown(path)}", word, **members)
+
+
+def watched(screen: Screen, room: bytes) -> Callable[[int], None]:
+    """What shows how many slices the program was given, and how much it has written in a room."""
+    return lambda done: screen.progress(done, lambda: written_in(room))
 
 
 def written_in(room: bytes) -> int:

@@ -10,6 +10,7 @@ from typing import BinaryIO, Dict, Iterator, List, NamedTuple, Optional, Sequenc
 from .archive import Archive
 from .archive_file import INDEX, ArchiveFile
 from .contents import EMPTY, Content, entry_in
+from .forms import HELP
 from .indexes import Index
 from .program import DESCRIPTORS, Program
 from .screen import Failed, Screen, shown, system_text, write
@@ -122,7 +123,7 @@ class Asked:
 
 def define(parser: argparse.ArgumentParser, *words: str) -> None:
     for name in ("ARCHIVE", *words):
-        parser.add_argument(name.lower(), metavar=name)
+        parser.add_argument(name.lower(), metavar=name, help=HELP.get(name))
 
 
 @contextlib.contextmanager

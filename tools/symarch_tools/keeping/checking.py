@@ -26,17 +26,18 @@ import argparse
 import os
 from typing import BinaryIO, Iterable, List, Set, Tuple
 
-from .archive import Archive, changed_line
+from .archive import Archive, changed_line, file_line
 from .archive_file import INDEX, INDEX_SUM, ArchiveFile, is_same_but_for_retirements
 from .contents import ADMISSION, DIGEST, END, KEY, LENGTH, MAGIC, MAGICS, Content, Malformed, Moved
 from .contents import digest_in, record_size, records_in
 from .indexes import HEAD, TAIL, Index, Row, held_against, index_by, index_of, is_companion
 from .losing import lost_lines
 from .program import Program
-from .screen import Failed, Screen, shown
+from .screen import Failed, Screen, screen_of, shown
 
-USAGE = "symarch-keep check [--quiet] ARCHIVE"
+USAGE = "symarch-keep check [--quiet] [--json] ARCHIVE"
 ABOUT = "find each byte that changed"
+KEYS = ("slices", "retirements", "wrong")
 
 
 def define(parser: argparse.ArgumentParser) -> None:
@@ -77,7 +78,7 @@ class Findings:
         """The lines of rows: slices first, then retirements, then the ends."""
         rows = sorted(rows, key=lambda row: (not row.is_slice(), row))
         lines = [changed_line(row, self.path, word) for row in rows]
-        return lines + ([] if has_ends else [f"{word} ends {shown(self.path)}"])
+        return lines + ([] if has_ends else [file_line(word, self.path, is_of_ends=True)])
 
 
 def is_damaged(file: ArchiveFile, index: Index, program: Program) -> bool:
@@ -138,15 +139,15 @@ def held(file: ArchiveFile, program: Program, screen: Screen) -> Tuple[List[str]
     file.index, changed, lost = held_against(file.content, made)
     file.content = file.index.content()
     lines = [changed_line(row, file.path) for row in changed]
-    return lines + [f"unknown {shown(file.path)}"] * is_unknown, lost
+    return lines + [file_line("unknown", file.path)] * is_unknown, lost
 
 
 def damaged_lines(archive: Archive) -> List[str]:
     """The lines of what is kept beside an archive and is damaged."""
     paths = [file.beside(INDEX) for file in archive.files if file.doubt]
     paths += [file.beside(INDEX_SUM) for file in archive.files if file.has_damaged_sum()]
-    paths += [archive.lost.path] * bool(archive.lost.fault)
-    return [f"damaged {shown(path)}" for path in paths]
+    paths += [archive.lost.path] * bool(archive.lost.fault) + [archive.builds.path] * bool(archive.builds.fault())
+    return [file_line("damaged", path) for path in paths]
 
 
 def look_through(archive: Archive, files: List[ArchiveFile], screen: Screen) -> List[str]:
@@ -154,16 +155,16 @@ def look_through(archive: Archive, files: List[ArchiveFile], screen: Screen) -> 
     found = [(open(file.path, "rb"), Findings(file.path, file.index)) for file in files if file.index]
     lines: List[str] = []
     archive.release_lock()
+    screen.begin("reading", sum(os.fstat(opened.fileno()).st_size for opened, _ in found))
     for opened, findings in found:
         with opened:
-            screen.begin("reading", os.fstat(opened.fileno()).st_size)
             findings.look_through(opened, screen.moved)
         lines += findings.lines()
     return lines
 
 
 def carry_out(words: argparse.Namespace) -> int:
-    screen = Screen(is_quiet=words.quiet)
+    screen = screen_of(words)
     program = Program()
     archive = Archive(os.fsencode(words.archive), writes=False, may_be_damaged=True)
     archive.take_lock(screen)
@@ -181,8 +182,11 @@ def carry_out(words: argparse.Namespace) -> int:
     told = "all is there that was known" if others else "all is as it was"
     counts = f"{len(content.held)} slices, {len(content.retired)} retirements"
     wrong = f"{len(lines)} changed, lost, damaged or unknown"
+    if lines:
+        screen.faults.append(wrong)
     screen.line(f"{shown(archive.path)}: {counts}: {wrong if lines else told}")
-    return screen.status(2 if lines else 0)
+    numbers = (len(content.held), len(content.retired), len(lines))
+    return screen.end(2 if lines else 0, dict(zip(KEYS, numbers)))
 
 
 def advice(file: ArchiveFile) -> str:

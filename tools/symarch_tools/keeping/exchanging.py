@@ -39,18 +39,18 @@ Status:
 import argparse
 import os
 import re
-import shlex
 import time
 import uuid
-from typing import Callable, Dict, List, Optional, Sequence, Set, Tuple
+from typing import BinaryIO, Callable, Dict, Iterator, List, Optional, Sequence, Set, Tuple
 
-from .archive import ASKED, Archive
+from .archive import ASKED, Archive, watched
+from .archive_file import size_of
 from .contents import ADMISSION, Content, Malformed, chunks_in
 from .contents import content_in, content_of, digest_in, entries_in, kept_text, summary_of, words_of
 from .log import DATE
 from .losing import counted, lost_lines
 from .program import Program
-from .screen import Failed, Screen, about, shown, system_text
+from .screen import Failed, Screen, about, screen_of, shown, system_text
 from .shared_folder import SHORT, SITE, TIME, Answer, Mark, Question, SharedFolder
 from .shared_folder import digest_of, mark_name, question_name, time_after
 
@@ -170,10 +170,11 @@ class Exchange:
         """Joins the answers that are there, whatever this site asked since."""
         prefixes = {digest[:SHORT] for _, digest in self.asked.questions}
         origins: Dict[bytes, str] = {}
-        for answer in self.folder.answers:
-            if answer.to != self.folder.site:
-                continue
-            if self.folder.fetch(answer, os.path.join(room, b"answer")):
+        mine = [answer for answer in self.folder.answers if answer.to == self.folder.site]
+        for number, answer in enumerate(mine, 1):
+            # It is copied, and read for what it has.
+            self.screen.begin(f"fetching: {number} of {len(mine)} answers", 2 * (self.folder.size(answer.name) or 0))
+            if self.folder.fetch(answer, os.path.join(room, b"answer"), self.screen.moved):
                 self.take(room, answer, origins)
             elif answer.question in prefixes or len(self.archive.lost.content):
                 self.pass_over(answer.name)
@@ -199,10 +200,12 @@ class Exchange:
         """Joins one answer with those before it, and notes of each entry from where it came."""
         try:
             with open(os.path.join(room, b"answer"), "rb") as file:
-                came = content_in(file)
+                came = content_in(file, self.screen.moved)
             self.make_total(room)
             names = {"answer": shown(self.folder.at(answer.name))}
-            self.program.run(["merge", "total", "joined", "answer"], folder=room, names=names)
+            self.screen.begin("joining", sum(size_of(os.path.join(room, name)) for name in (b"total", b"answer")))
+            words, moved = ["merge", "total", "joined", "answer"], watched(self.screen, room)
+            self.program.run(words, folder=room, moved=moved, names=names)
         except (Failed, Malformed) as fault:
             self.screen.refuse(self.folder.at(answer.name), fault)
             return
@@ -215,9 +218,11 @@ class Exchange:
     def put(self, room: bytes, origins: Dict[bytes, str]) -> None:
         """Puts what the archive lacks of the answers into it."""
         write_file(room, b"ours", self.content.summary())
-        self.program.run(["delta", "total", "ours", "missing"], folder=room)
+        self.screen.begin("comparing")
+        self.program.run(["delta", "total", "ours", "missing"], folder=room, moved=watched(self.screen, room))
         with open(os.path.join(room, b"missing"), "rb") as file:
-            missing = content_in(file)
+            self.screen.begin("reading what came", os.fstat(file.fileno()).st_size)
+            missing = content_in(file, self.screen.moved)
         content = self.content.joined(missing)
         news = content.beyond(self.content)
         lines = [f"added {words_of(entry)} {origins[entry]}" for entry in sorted(news.held)]
@@ -304,15 +309,22 @@ class Exchange:
             if is_this and self.folder.size(answer.name) == lacking.size():
                 self.kept.add(answer.name)
                 return
+        # The answer is written, read for what it has and for its digest, and copied.
+        self.screen.begin(f"answering {question.site}", 4 * lacking.size())
         self.make_answer(room, theirs, lacking)
         with open(os.path.join(room, b"answer"), "rb") as file:
-            digest = digest_in(file, 0, lacking.size()).hex()
+            digest = digest_in(file, 0, lacking.size(), self.screen.moved).hex()
             name = f"{self.folder.site}.answers.{question.site}.{question.digest[:SHORT]}.{has}.{digest}.sym"
             file.seek(0)
-            self.folder.put(chunks_in(file), name)
+            self.folder.put(self.moved_chunks(file), name)
         self.kept.add(name)
         self.asked.note(question.site, "answered", time.gmtime())
         self.lines.append(f"answered {question.site} {name}")
+
+    def moved_chunks(self, file: BinaryIO) -> Iterator[bytes]:
+        for chunk in chunks_in(file):
+            yield chunk
+            self.screen.moved(len(chunk))
 
     def make_answer(self, room: bytes, theirs: Content, lacking: Content) -> None:
         """Makes the archive of what is lacking, of those files that have some of it. What the other site withdrew it
@@ -322,14 +334,15 @@ class Exchange:
         names = []
         for name, file in (("answer", self.archive.main), ("more", self.archive.today)):
             if len(file.content.beyond(theirs)):
-                self.program.run_over(file.path, "delta", "theirs", name, folder=room)
+                self.program.run_over(file.path, "delta", "theirs", name, folder=room, moved=watched(self.screen, room))
                 names.append(name)
         if len(names) == 2:
             self.program.run(["merge", *names[:1], "both", *names[1:]], folder=room)
             names = ["both"]
         os.replace(os.path.join(room, os.fsencode(names[0])), os.path.join(room, b"answer"))
         with open(os.path.join(room, b"answer"), "rb") as made:
-            if content_in(made) != lacking:
+            self.screen.moved(lacking.size())
+            if content_in(made, self.screen.moved) != lacking:
                 raise Failed(f"a slice of {shown(self.archive.path)} changed; `symarch-keep check` says which")
 
     # ---- what is done with
@@ -382,20 +395,10 @@ def refuse_name(folder: SharedFolder, identity: Identity) -> None:
         raise Failed(f"{told}; choose another NAME, or take this one by --take-name if the other is gone")
 
 
-def refuse_order(words: argparse.Namespace) -> None:
-    """Says what to type if FOLDER stands before ARCHIVE."""
-    if os.path.isdir(words.archive) and not os.path.isdir(words.folder):
-        options = [f"--{name}" for name in ("quiet", "take-name") if vars(words)[name.replace("-", "_")]]
-        typed = " ".join(shlex.quote(word) for word in (*options, words.folder, words.archive, words.name))
-        told = f"{shown(words.archive)} is a folder, and ARCHIVE comes first: symarch-keep exchange"
-        raise Failed(f"{told} {shown(typed)}", 3)
-
-
 def carry_out(words: argparse.Namespace) -> int:
     if not re.fullmatch(SITE, words.name):
         raise Failed(f"NAME is {shown(os.fsencode(words.name))}, and has other letters than a-z, 0-9, - and _", 3)
-    refuse_order(words)
-    screen = Screen(is_quiet=words.quiet)
+    screen = screen_of(words)
     program = Program()
     archive = Archive(os.fsencode(words.archive), is_made=True)
     archive.take_lock(screen)

@@ -25,7 +25,7 @@ import os
 from . import asking
 from .asking import opened_archive, show
 from .forms import uuid_of
-from .screen import Screen
+from .screen import screen_of
 
 USAGE = "symarch-keep find ARCHIVE UUID"
 ABOUT = "print what it has of a UUID"
@@ -39,4 +39,4 @@ def carry_out(words: argparse.Namespace) -> int:
     uuid = str(uuid_of(words.uuid))
     with opened_archive(os.fsencode(words.archive)) as asked:
         lines, status = asked.answer("find", [uuid])
-    return show(lines, Screen(), status)
+    return show(lines, screen_of(words), status)

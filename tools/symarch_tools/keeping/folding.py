@@ -20,7 +20,7 @@ import os
 
 from .archive import Archive
 from .program import Program
-from .screen import Screen, shown
+from .screen import screen_of, shown
 
 USAGE = "symarch-keep fold [--quiet] ARCHIVE"
 ABOUT = "join what came in lately into it"
@@ -31,7 +31,7 @@ def define(parser: argparse.ArgumentParser) -> None:
 
 
 def carry_out(words: argparse.Namespace) -> int:
-    screen = Screen(is_quiet=words.quiet)
+    screen = screen_of(words)
     program = Program()
     archive = Archive(os.fsencode(words.archive))
     archive.take_lock(screen)

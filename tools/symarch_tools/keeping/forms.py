@@ -1,11 +1,15 @@
 """Words of a command line that are no paths: what each means. One of another form ends the call, and is named."""
+import os
 import re
 import uuid
 
+from .builds import MOST_OF_FIELD, field, is_day
 from .contents import numbers_of
 from .screen import Failed, shown
 
 ARCHITECTURES = "x86_64, x86_64h, arm64, arm64e or cpu:CCCCCCCC/00SSSSSS"
+# The help of words, of which those after a colon are completed.
+HELP = {"ARCH": f"the architecture: {ARCHITECTURES}"}
 # Where the high byte of the cpusubtype stands in what an ARCH means. No slice has a bit in it.
 HIGH_BYTE = 4
 
@@ -50,4 +54,19 @@ def name_of(word: str) -> str:
         word.encode()
     except UnicodeEncodeError:
         raise other_form("NAME", word, "UTF-8 text") from None
+    return word
+
+
+def app_of(word: str) -> str:
+    """An identifier of a bundle, as it stands in a line of ARCHIVE.builds."""
+    text = os.fsencode(word)
+    if not 0 < len(text) <= MOST_OF_FIELD:
+        raise other_form("ID", word, f"1 to {MOST_OF_FIELD} bytes")
+    return field(text)
+
+
+def day_of(word: str) -> str:
+    """A day of UTC, as it is kept."""
+    if not re.fullmatch("[0-9]{4}-[0-9]{2}-[0-9]{2}", word, re.ASCII) or not is_day(os.fsencode(word)):
+        raise other_form("DATE", word, "a day as YYYY-MM-DD")
     return word

@@ -2,6 +2,7 @@
 from typing import Iterable, List, Optional
 
 from .contents import Content, Kept, Malformed, kept_text, words_of
+from .json_lines import NO_PATH, line_of, record_members
 
 LOST = b".lost"
 # How the lines begin of what is taken as lost: a question that this site asked long ago may still name it.
@@ -56,8 +57,12 @@ class Lost:
 
 
 def lost_lines(lost: Content) -> List[str]:
-    lines = [f"lost {words_of(entry)}" for entry in sorted(lost.held)]
-    return lines + [f"lost retired {words_of(entry)}" for entry in sorted(lost.retired)]
+    return [*map(lost_line, sorted(lost.held)), *(lost_line(entry, True) for entry in sorted(lost.retired))]
+
+
+def lost_line(entry: bytes, is_retirement: bool = False) -> str:
+    members = {**record_members(entry, is_retirement), "at": None, **NO_PATH}
+    return line_of(f"lost {'retired ' if is_retirement else ''}{words_of(entry)}", "lost", **members)
 
 
 def counted(lines: Iterable[str]) -> str:

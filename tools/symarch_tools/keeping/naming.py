@@ -21,7 +21,7 @@ import os
 from . import asking
 from .asking import opened_archive, show
 from .forms import name_of
-from .screen import Screen
+from .screen import screen_of
 
 USAGE = "symarch-keep name ARCHIVE NAME"
 ABOUT = "find a symbol by its exact name"
@@ -33,7 +33,7 @@ def define(parser: argparse.ArgumentParser) -> None:
 
 
 def carry_out(words: argparse.Namespace) -> int:
-    name, screen = name_of(words.name), Screen()
+    name, screen = name_of(words.name), screen_of(words)
     with opened_archive(os.fsencode(words.archive)) as asked:
         lines, status = asked.answer("name", [name], is_by_index=False)
         lines = asked.vouched(lines, screen)

@@ -18,6 +18,8 @@ from .contents import CHUNK, TOO_LARGE
 DESCRIPTORS = "/dev/fd"
 ZIP, GZIP = b"PK\3\4", b"\x1f\x8b"
 BLOCK, MAGIC_AT, TAR = 512, 257, b"ustar"
+# What such files are called that are taken of folders.
+NAMES_OF_PACKED = (b".zip", b".tar.gz", b".tgz")
 # How many bytes a member may unpack to, and the headers of a tar file that have long names.
 MOST, MOST_OF_NAMES = TOO_LARGE - 1, 1 << 20
 NAMES = (tarfile.GNUTYPE_LONGNAME, tarfile.GNUTYPE_LONGLINK, tarfile.XHDTYPE, tarfile.XGLTYPE, tarfile.SOLARIS_XHDTYPE)
@@ -267,6 +269,10 @@ class Unpacker:
         if self.file is not None:
             self.file.close()
         self.file, self.place = None, (None, 0)
+
+
+def is_named_as_packed(path: bytes) -> bool:
+    return path.lower().endswith(NAMES_OF_PACKED)
 
 
 def is_of_dsym(path: bytes) -> bool:

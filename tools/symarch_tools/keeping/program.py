@@ -81,11 +81,14 @@ class Program:
             raise fault(os.fsdecode(words[0]), told, process.returncode, slices, places)
         return printed or b"", process.returncode
 
-    def run_over(self, path: bytes, command: str, *more: str, folder: Optional[bytes] = None) -> bytes:
+    def run_over(
+        self, path: bytes, command: str, *more: str, folder: Optional[bytes] = None, moved: Moved = not_moved
+    ) -> bytes:
         """Runs a command over the archive of a path. Words that are no UTF-8 are refused, so it gets another word."""
         with open(path, "rb") as file:
             words = [command, f"{DESCRIPTORS}/{file.fileno()}", *more]
-            return self.run(words, folder=folder, open_files=(file.fileno(),), names={words[1]: shown(path)})
+            names = {words[1]: shown(path)}
+            return self.run(words, folder=folder, open_files=(file.fileno(),), moved=moved, names=names)
 
 
 def answering_program() -> str:

@@ -26,7 +26,7 @@ from .contents import KEY, RETIREMENT, Malformed
 from .contents import digest_in, head_of, record_size, records_in
 from .indexes import HEAD, Index, Row, index_by
 from .program import Program, give
-from .screen import Failed, Screen, SliceRefused, shown, system_text
+from .screen import Failed, Screen, SliceRefused, screen_of, shown, system_text
 from .slices import Slice, compared
 
 USAGE = "symarch-keep repair [--quiet] ARCHIVE FROM"
@@ -89,10 +89,10 @@ def put(
     what is known of it."""
     retirements = sorted(RETIREMENT + entry for entry in file.content.retired)
     with archive.room() as room:
-        screen.begin(f"writing: {{}} of {len(slices)} slices")
+        screen.begin(f"writing: {{}} of {len(slices)} slices", sum(one.length for one in slices))
         new = os.path.join(room, b"new")
         with open(new, "wb", buffering=0) as written:
-            give(written.fileno(), slices, screen.progress, retirements)
+            give(written.fileno(), slices, lambda done: screen.progress(done, lambda: size_of(new)), retirements)
             os.fsync(written.fileno())
         index = index_by(file.content, new)
         if is_whole and index_made(new, room, program, screen).text != index.text:
@@ -142,7 +142,7 @@ def tried(
 
 
 def carry_out(words: argparse.Namespace) -> int:
-    screen = Screen(is_quiet=words.quiet)
+    screen = screen_of(words)
     program = Program()
     archive, other = Archive(os.fsencode(words.archive), may_be_damaged=True), os.fsencode(words.other)
     os.stat(other)

@@ -1,10 +1,17 @@
 """What the tool says: lines on the standard streams, and the faults that end a word or keep a slice out."""
+import argparse
 import collections
 import contextlib
 import os
+import re
 import sys
-import time
-from typing import Any, Counter, Iterable, Iterator, List, Optional, Tuple, Union
+from typing import Any, Callable, Counter, Iterable, Iterator, List, Optional, Tuple, Union
+
+from .json_lines import Line, Members, encoded, line_of, path_members
+from .progress import progress
+
+
+ESCAPED = re.compile(rb"\\x([0-9a-f]{2})")
 
 
 class Failed(Exception):
@@ -36,6 +43,11 @@ def shown_character(character: str) -> str:
     return "".join(f"\\x{byte:02x}" for byte in character.encode(errors="surrogateescape"))
 
 
+def unshown(text: str) -> str:
+    """What a text was before it was shown."""
+    return os.fsdecode(ESCAPED.sub(lambda found: bytes([int(found[1], 16)]), os.fsencode(text)))
+
+
 def system_text(error: OSError, path: Optional[bytes] = None) -> str:
     """What the system said, after the path that it is about: that of the error, or else this one."""
     about = error.filename if isinstance(error.filename, (bytes, str)) else path
@@ -60,25 +72,27 @@ def write(descriptor: int, data: bytes) -> None:
 
 
 class Screen:
-    """Standard error: lines, and on a terminal the progress of a stage below them. It counts what stays out. A quiet
-    one holds all back until something is wrong."""
+    """The standard streams: lines, and how far a stage is. It counts what stays out. A quiet one holds all back until
+    something is wrong; one of JSON prints objects in the place of lines on standard output."""
 
-    def __init__(self, is_verbose: bool = False, is_quiet: bool = False) -> None:
-        self.is_verbose = is_verbose
-        self.is_terminal = not is_quiet and sys.stderr is not None and sys.stderr.isatty()
+    def __init__(self, is_verbose: bool = False, is_quiet: bool = False, is_json: bool = False) -> None:
+        self.is_verbose, self.is_quiet, self.is_json = is_verbose, is_quiet, is_json
         # What is held back, of which standard stream.
         self.held: Optional[List[Tuple[int, str]]] = [] if is_quiet else None
         self.refused = 0
         self.passed_over: Counter[str] = collections.Counter()
-        self.has_failed, self.next = False, 0.0
-        self.stage, self.size, self.began, self.done = "", 0, 0.0, 0
+        self.has_failed, self.is_unread = False, False
+        # What is wrong; and the objects of what stays out, which stand after those of the lines.
+        self.faults: List[str] = []
+        self.others: List[Line] = []
 
     def write(self, text: str) -> None:
         if self.held is not None:
             self.held.append((2, text))
             return
+        progress.wipe()
         with contextlib.suppress(OSError, AttributeError):
-            sys.stderr.buffer.write((("\r\x1b[K" if self.is_terminal else "") + text).encode())
+            sys.stderr.buffer.write(text.encode())
             sys.stderr.flush()
 
     def line(self, text: str) -> None:
@@ -88,6 +102,11 @@ class Screen:
         """Says what could not be done or is wrong, if the rest was done; and the second line of the program."""
         self.release()
         self.has_failed = True
+        self.fault(text, more)
+
+    def fault(self, text: str, more: str = "") -> None:
+        """Says what is wrong."""
+        self.faults.append(text)
         self.line(text)
         if more:
             self.write(f"{more}\n")
@@ -101,58 +120,78 @@ class Screen:
             else:
                 self.write(text)
 
-    def show(self, lines: Iterable[str]) -> None:
-        """Prints lines on standard output, which may be the terminal on which the progress stands."""
-        text = "".join(f"{line}\n" for line in lines)
+    def show(self, lines: Iterable[str]) -> bool:
+        """Prints lines on standard output, or their objects. Returns whether that was done, or is held back."""
+        texts = [encoded(line.members) if self.is_json and isinstance(line, Line) else line for line in lines]
+        return self.print("".join(f"{text}\n" for text in texts))
+
+    def print(self, text: str) -> bool:
         if self.held is not None:
             self.held.append((1, text))
-        else:
-            self.write("")
-            self.print(text)
-
-    def print(self, text: str) -> None:
+            return True
+        # Standard output may be the terminal on which the line stands.
+        progress.wipe()
         try:
-            write(1, text.encode())
+            if not self.is_unread:
+                write(1, text.encode())
         except BrokenPipeError:
             # Nobody reads on, as after `head`, and nobody has to be told.
-            self.has_failed = True
+            self.has_failed = self.is_unread = True
         except OSError as error:
+            self.is_unread = True
             self.fail(f"standard output: {error.strerror}")
+        return not self.is_unread
 
     def status(self, otherwise: int = 0) -> int:
         """The status of the word, after which nothing is said. Nothing is wrong if that is 0."""
+        progress.wipe()
         status = 2 if self.refused or self.has_failed else otherwise
         if status:
             self.release()
         return status
 
+    def end(self, otherwise: int, members: Members) -> int:
+        """Ends a word that may print JSON, and returns its status. The last object says whether all is there."""
+        if self.is_json:
+            self.show(self.others)
+            status = self.status(otherwise)
+            self.show([line_of("", "end", **members, faults=self.faults, status=status)])
+        return self.status(otherwise)
+
     def refuse(self, path: bytes, reason: object) -> None:
         self.release()
         self.refused += 1
-        self.line(f"{shown(path)}: {reason}")
+        self.fault(f"{shown(path)}: {reason}")
+        self.others.append(line_of("", "refused", **path_members(path), why=str(reason)))
 
     def pass_over(self, path: bytes, kind: str, part: Optional[int] = None) -> None:
         self.passed_over[kind] += 1
         if self.is_verbose:
             self.line(f"{shown(path)}: passed over: {'' if part is None else f'part {part}, '}{kind}")
+            self.others.append(line_of("", "passed_over", **path_members(path), part=part, why=kind))
+
+    def tell(self, path: bytes, look: str) -> None:
+        """Says what a file is of which nothing goes in."""
+        self.line(f"{shown(path)}: {look}")
+        self.others.append(line_of("", "passed_over", **path_members(path), part=None, why=look))
+
+    # ---- how far a stage is
 
     def begin(self, stage: str, size: int = 0) -> None:
-        """Begins a stage of so many bytes; its text may have {} in the place of how many files or slices are
-        done."""
-        self.stage, self.size, self.began, self.done = stage, size, time.monotonic(), 0
+        """Begins a stage of so many bytes; its text may have {} in the place of how many files or slices are done."""
+        progress.begin(stage, size)
 
     def moved(self, size: int) -> None:
-        """Shows that so many bytes more of the stage are done."""
-        self.done += size
-        self.progress(0, self.done)
+        if not self.is_quiet:
+            progress.moved(size)
 
-    def progress(self, count: int, size: int = 0) -> None:
-        """Shows how much of the stage is done, at most five times a second."""
-        now = time.monotonic()
-        if self.is_terminal and now >= self.next:
-            self.next = now + 0.2
-            left = (now - self.began) * max(self.size - size, 0) / max(size, 1)
-            text = self.stage.format(count)
-            if self.size:
-                text += f", {size / 1e6:.0f} of {self.size / 1e6:.0f} MB, {left // 60:.0f}:{left % 60:02.0f} left"
-            self.write(text)
+    def progress(self, count: int, size: Union[int, Callable[[], int]] = 0) -> None:
+        if not self.is_quiet:
+            progress.show(count, size)
+
+
+def screen_of(words: argparse.Namespace) -> Screen:
+    """The screen of a word, which also says why the word failed."""
+    said = vars(words)
+    words.screen = Screen(said.get("verbose", False), said.get("quiet", False), said.get("json", False))
+    return words.screen

@@ -16,7 +16,7 @@ import time
 from typing import Iterable, NamedTuple, Optional
 
 from .archive_file import sync_folder, write_synced
-from .contents import chunks_in
+from .contents import Moved, chunks_in, unmoved
 from .screen import about
 
 SITE = "[a-z0-9][a-z0-9_-]{0,31}"
@@ -111,7 +111,7 @@ class SharedFolder:
             return data if digest_of(data) == question.digest else None
         return None
 
-    def fetch(self, answer: Answer, path: bytes) -> bool:
+    def fetch(self, answer: Answer, path: bytes, moved: Moved = unmoved) -> bool:
         """Copies an answer, and returns whether it is whole."""
         digest = hashlib.sha256()
         try:
@@ -122,6 +122,7 @@ class SharedFolder:
             for chunk in chunks_in(source):
                 digest.update(chunk)
                 file.write(chunk)
+                moved(len(chunk))
         return digest.hexdigest() == answer.digest
 
     def put(self, chunks: Iterable[bytes], name: str) -> None:

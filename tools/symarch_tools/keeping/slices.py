@@ -9,14 +9,17 @@ import stat
 import struct
 from typing import BinaryIO, Callable, Dict, Iterable, Iterator, List, Optional, Sequence, Set, Tuple
 
+from .builds import Build
+from .bundles import MOST_OF_LIST, Bundles
 from .contents import CHUNK, KEY, TOO_LARGE, head_of, words_of
+from .json_lines import line_of, path_members, record_members
 from .looks import MOST_LOOKED_AT, ONE, look_of
-from .packed import Damaged, Member, Packed, Unpacker, is_of_dsym, packed_at
+from .packed import Damaged, Member, Packed, Unpacker, is_named_as_packed, is_of_dsym, packed_at
 from .screen import Screen, SliceRefused, shown
 
 # mach-o/fat.h: an entry of each table, of which offset and size count. mach-o/loader.h: the header and its commands.
 UNIVERSAL = {bytes.fromhex("cafebabe"): struct.Struct(">8xII4x"), bytes.fromhex("cafebabf"): struct.Struct(">8xQQ8x")}
-MOST_PARTS = 32
+FAT_HEADER, MOST_PARTS = 8, 32
 # A Java class file begins as a universal file, and has its version in the place of the number of parts.
 JAVA, LEAST_OF_JAVA = bytes.fromhex("cafebabe"), 45
 THIN = bytes.fromhex("cffaedfe")
@@ -58,7 +61,9 @@ class Slice:
         self.opens = opens
         self.head = head_of(key, length)
         self.digest: Optional[bytes] = None
-        self.word = ""
+        self.word, self.build = "", Build()
+        # The name of a member, and of the file that has it.
+        self.member: Optional[Tuple[bytes, bytes]] = None
 
     def open(self) -> BinaryIO:
         return self.opens() if self.opens else open(self.path, "rb", buffering=0)
@@ -89,7 +94,8 @@ class Slice:
         return self.head[1 : 1 + KEY] + (self.digest or b"")
 
     def line(self) -> str:
-        return f"{self.word} {words_of(self.entry())} {shown(self.name)}"
+        members = {**record_members(self.entry()), "bytes": self.length, **path_members(self.name)}
+        return line_of(f"{self.word} {words_of(self.entry())} {shown(self.name)}", self.word, **members)
 
 
 def compared(one: Slice, other: Slice) -> int:
@@ -112,6 +118,8 @@ class Finder:
         self.path, self.name = b"", b""
         self.over: List[str] = []
         self.opens: Optional[Callable[[], BinaryIO]] = None
+        self.member: Optional[Tuple[bytes, bytes]] = None
+        self.bundles = Bundles()
         self.unpacker = Unpacker()
         # What stands where in the place of its name.
         self.places: Dict[bytes, bytes] = {}
@@ -121,9 +129,9 @@ class Finder:
         for name, size, is_named in self.walk(paths):
             self.begin_file(self.places.get(name, name), name)
             try:
-                packed = packed_at(self.path) if is_named else None
+                packed = packed_at(self.path) if is_named or is_named_as_packed(name) else None
                 if packed:
-                    self.take_packed(packed)
+                    self.take_packed(packed, is_named)
                 elif self.dsyms_only and not is_named and not is_of_dsym(os.path.abspath(name)):
                     self.pass_over(OUTSIDE)
                 else:
@@ -133,10 +141,15 @@ class Finder:
             except (Damaged, SliceRefused) as refused:
                 self.screen.refuse(self.name, refused)
 
+    def name_builds(self) -> None:
+        """Notes of each slice what is known of its build, once all was found."""
+        for one in self.slices:
+            one.build = self.bundles.build_of(*(one.member or (one.name,)))
+
     def begin_file(self, path: bytes, name: bytes) -> None:
         self.files += 1
         self.screen.progress(self.files)
-        self.path, self.name, self.over, self.opens = path, name, [], None
+        self.path, self.name, self.over, self.opens, self.member = path, name, [], None, None
 
     def take_path(self, size: int, is_named: bool) -> None:
         before = len(self.slices)
@@ -145,13 +158,16 @@ class Finder:
             if is_named and self.over and len(self.slices) == before:
                 self.say_look(file)
 
-    def take_packed(self, packed: Packed) -> None:
-        """Takes the members of a zip or tar file as the files of a folder, and says it if none goes in."""
+    def take_packed(self, packed: Packed, is_named: bool) -> None:
+        """Takes the members of a zip or tar file as the files of a folder, and says it if it was named and none goes
+        in."""
         name, path, before, refused = self.name, self.path, len(self.slices), self.screen.refused
         kinds: List[str] = []
-        for member in packed.members():
+        members = 0
+        for members, member in enumerate(packed.members(), 1):
             self.begin_file(path, name + b": " + member.name)
             self.opens = functools.partial(self.unpacker.open, packed, member.number)
+            self.member = member.name, name
             found = len(self.slices)
             try:
                 self.take_member(member)
@@ -166,27 +182,39 @@ class Finder:
             kinds += [kind for kind in self.over if kind not in kinds]
             # A fault of the file itself is none of its last member.
             self.name = name
-        if len(self.slices) == before and self.screen.refused == refused:
+        if not is_named and not members:
+            self.pass_over("other files")
+        if is_named and len(self.slices) == before and self.screen.refused == refused:
             others = "; ".join(ONE.get(it, it) for it in kinds if it not in ("other files", OUTSIDE))
             what = "no dSYM" if self.dsyms_only else "no Mach-O file"
-            self.screen.line(f"{shown(name)}: {packed.kind} that holds {others or what}")
+            self.screen.tell(name, f"{packed.kind} that holds {others or what}")
 
     def take_member(self, member: Member) -> None:
         if self.dsyms_only and not is_of_dsym(member.name):
+            self.take_list(member, b"")
             self.pass_over(OUTSIDE)
             return
-        front = member.read(8)
-        if front[:4] == THIN or front[:4] in UNIVERSAL and not is_java(front):
+        front = self.take_list(member, member.read(8))
+        if front[:4] == THIN or front[:4] in UNIVERSAL and not is_java(front[:8]):
             with member.unpacked(front) as file:
                 self.take_file(file, file.seek(0, os.SEEK_END))
         else:
             self.take_file(io.BytesIO(front), len(front))
 
+    def take_list(self, member: Member, front: bytes) -> bytes:
+        """Takes what a member says of a bundle if it is an Info.plist, of which the first bytes were read, and returns
+        what was read of it."""
+        if Bundles.is_list(member.name) and self.member:
+            with contextlib.suppress(Damaged, OSError):
+                front += member.read(MOST_OF_LIST + 1 - len(front))
+                self.bundles.take(self.member[1], member.name, front)
+        return front
+
     def say_look(self, file: BinaryIO) -> None:
         """Says of a file that was named, and of which nothing goes in, what it is."""
         file.seek(0)
         look = look_of(file.read(MOST_LOOKED_AT)) if self.over == ["other files"] else None
-        self.screen.line(f"{shown(self.name)}: {look or '; '.join(ONE.get(it, it) for it in self.over)}")
+        self.screen.tell(self.name, look or "; ".join(ONE.get(it, it) for it in self.over))
 
     def pass_over(self, kind: str, part: Optional[int] = None) -> None:
         self.screen.pass_over(self.name, kind, part)
@@ -241,6 +269,7 @@ class Finder:
         key = key_of(front, file, length - len(front)) if front[:4] == THIN else None
         if key is not None:
             self.slices.append(Slice(self.path, part, offset, length, size, key, self.name, self.opens))
+            self.slices[-1].member = self.member
         elif front[:4] == THIN:
             self.pass_over(f"{'object files' if front[12] == MH_OBJECT else 'images'} without a UUID", part)
         else:
@@ -259,14 +288,21 @@ def table(
     entries = file.read(count * layout.size) if count <= MOST_PARTS else b""
     is_whole = len(entries) == count * layout.size
     parts = [(offset, length) for offset, length in layout.iter_unpack(entries)] if is_whole else []
-    faults = [(len(first) < 8, "HeaderTruncated"), (count > MOST_PARTS, f"TooManyArches({count})")]
+    faults = [(len(first) < FAT_HEADER, "HeaderTruncated"), (count > MOST_PARTS, f"TooManyArches({count})")]
     faults.append((len(parts) < count, "TableTruncated"))
     faults += [(sum(part) > size, f"SliceOutside({number})") for number, part in enumerate(parts)]
     faults += [(part[1] >= TOO_LARGE, f"TooLarge({number})") for number, part in enumerate(parts)]
     for is_there, fault in faults:
         if is_there:
-            raise SliceRefused(f"Fat({fault}){cut(parts, len(first) + count * layout.size, size)}")
+            is_header = len(first) == FAT_HEADER
+            end = len(first) + count * layout.size
+            told = cut(parts, end, size) if is_header else header_cut(FAT_HEADER, size, "the file has")
+            raise SliceRefused(f"Fat({fault}){told}")
     return parts
+
+
+def header_cut(wanted: int, size: int, there: str) -> str:
+    return f": its header takes {wanted} bytes, and {there} {size}"
 
 
 def cut(parts: Sequence[Tuple[int, int]], end_of_table: int, size: int) -> str:
@@ -285,6 +321,8 @@ def promised(one: Slice) -> str:
     with contextlib.suppress(OSError, struct.error, Damaged), one.open() as file:
         file.seek(one.offset)
         front = file.read(min(one.length, HEADER.size))
+        if len(front) < HEADER.size:
+            return header_cut(HEADER.size, len(front), "there are")
         *_, count, size = HEADER.unpack(front)
         end, at = HEADER.size + size, 0
         commands = file.read(min(size, one.length - len(front), MOST_OF_COMMANDS))

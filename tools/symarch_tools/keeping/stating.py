@@ -24,19 +24,23 @@ Status:
 import argparse
 import collections
 import os
-from typing import Counter, List, NamedTuple, Sequence
+from typing import Counter, Dict, List, NamedTuple, Sequence
 
 from .archive import ASKED, TODAY, Archive
 from .archive_file import NEXT_INDEX, ArchiveFile
+from .builds import NEXT_BUILDS
 from .contents import DIGEST, KEY, RETIREMENT, Content, Malformed, digest_in, record_size, records_in
 from .indexes import HEAD, is_companion
+from .json_lines import Line, Members, path_members
 from .log import NEXT_LOG
 from .losing import counted, lost_lines
 from .program import Program
-from .screen import Failed, Screen, shown
+from .screen import Failed, Screen, screen_of, shown
 
-USAGE = "symarch-keep status [--quiet] [--accept] ARCHIVE"
+USAGE = "symarch-keep status [--quiet] [--json] [--accept] ARCHIVE"
 ABOUT = "print what it has, in numbers"
+KEYS = ("images", "companions", "retirements", "conflicts", "bytes", "today", "sites", "lost", "left")
+DATES = ("asked", "answered", "joined")
 
 
 def define(parser: argparse.ArgumentParser) -> None:
@@ -45,17 +49,38 @@ def define(parser: argparse.ArgumentParser) -> None:
 
 
 def carry_out(words: argparse.Namespace) -> int:
-    screen = Screen(is_quiet=words.quiet)
+    screen = screen_of(words)
     archive = Archive(os.fsencode(words.archive), writes=words.accept)
     if words.accept:
         archive.take_lock(screen)
         archive.content(Program(), screen)
         accept(archive, screen)
-    lines = numbers_of([record for file in archive.files if file.exists() for record in records_of(file, screen)])
-    lines += [f"bytes {archive.main.size()}"] + [f"today {archive.today.size()}"] * archive.today.exists()
-    lost = lost_lines(lost_of(archive, screen))
-    screen.show([*lines, *sites_of(archive), *lost, *left_of(archive)])
+    else:
+        archive.say_damaged_builds(screen)
+    numbers = numbers_of([record for file in archive.files if file.exists() for record in records_of(file, screen)])
+    numbers.update({"bytes": archive.main.size(), "today": archive.today.size()})
+    lost, sites, left = lost_lines(lost_of(archive, screen)), sites_of(archive), left_of(archive)
+    if screen.is_json:
+        found = [site_members(note) for note in sites], [members_of_lost(line) for line in lost]
+        lists = [*found, [path_members(path) for path in left]]
+        screen.faults += [str(line) for line in lost]
+        return screen.end(2 if lost else 0, {**numbers, **dict(zip(KEYS[len(numbers):], lists))})
+    is_there = archive.today.exists()
+    lines = [f"{name} {number}" for name, number in numbers.items() if name != "today" or is_there]
+    screen.show([*lines, *sites, *lost, *(f"left {shown(path)}" for path in left)])
     return screen.status(2 if lost else 0)
+
+
+def site_members(note: str) -> Members:
+    """What a note says of a site. A date of what never was is null."""
+    _, name, *words = note.split(" ")
+    dates = dict(zip(words[::2], words[1::2]))
+    return {"name": name, **{word: dates.get(word) for word in DATES}}
+
+
+def members_of_lost(line: str) -> Members:
+    members = line.members if isinstance(line, Line) else {}
+    return {name: members[name] for name in ("record", "uuid", "arch", "digest")}
 
 
 def accept(archive: Archive, screen: Screen) -> None:
@@ -123,7 +148,7 @@ def read(archive_file: ArchiveFile) -> List[Record]:
     return records
 
 
-def numbers_of(records: Sequence[Record]) -> List[str]:
+def numbers_of(records: Sequence[Record]) -> Dict[str, int]:
     """The numbers. Of slices that may be retired, or may be one, the bytes are read."""
     retired = {one.head[1:] for one in records if one.head[:1] == RETIREMENT}
     slices = [one for one in records if one.head[:1] != RETIREMENT]
@@ -141,7 +166,7 @@ def numbers_of(records: Sequence[Record]) -> List[str]:
     answering = {**images, **companions}
     conflicts = sum(count > 1 for count in answering.values())
     counts = {"images": sum(images.values()), "companions": sum(companions.values()), "retirements": len(retired)}
-    return [f"{name} {count}" for name, count in {**counts, "conflicts": conflicts}.items()]
+    return {**counts, "conflicts": conflicts}
 
 
 def sites_of(archive: Archive) -> List[str]:
@@ -150,10 +175,10 @@ def sites_of(archive: Archive) -> List[str]:
     return [note for note in kept.notes if note.startswith("site ")] if kept else []
 
 
-def left_of(archive: Archive) -> List[str]:
+def left_of(archive: Archive) -> List[bytes]:
     """What a kill left. What belongs to one that works now is not."""
     if archive.writes or not archive.lock.is_free():
         return []
-    paths = [archive.beside(ending) for ending in (NEXT_INDEX, TODAY + NEXT_INDEX, NEXT_LOG)]
+    paths = [archive.beside(ending) for ending in (NEXT_INDEX, TODAY + NEXT_INDEX, NEXT_LOG, NEXT_BUILDS)]
     paths += [os.path.join(archive.folder, name) for name in archive.rooms()]
-    return [f"left {shown(path)}" for path in paths if os.path.exists(path)]
+    return [path for path in paths if os.path.exists(path)]

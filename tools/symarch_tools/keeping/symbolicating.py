@@ -33,7 +33,7 @@ from . import asking
 from .asking import opened_archive, show
 from .contents import arch_in
 from .forms import arch_of, hex_of, uuid_of
-from .screen import Failed, Screen
+from .screen import Failed, screen_of
 
 USAGE = "symarch-keep symbolicate [--load HEX] ARCHIVE UUID ARCH ADDRESS..."
 ABOUT = "name the symbols at addresses"
@@ -61,4 +61,4 @@ def carry_out(words: argparse.Namespace) -> int:
     addresses = addresses_of(words.addresses)
     with opened_archive(os.fsencode(words.archive)) as asked:
         lines, status = asked.answer("symbolicate", [*key, *addresses], load)
-    return show(lines, Screen(), status)
+    return show(lines, screen_of(words), status)

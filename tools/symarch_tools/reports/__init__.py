@@ -13,6 +13,7 @@
 - readable          JSON reports as people read them
 - readable_header   what stands above their threads, and below them
 - report            a whole file, and what is said of it
+- account           the counts of all, as text and as JSON
 - groups            reports by the top frames of the thread that crashed
 - words             the words of a call
 - folders           the files below a folder that may be reports

@@ -12,7 +12,7 @@ from .faults import Failure, Status
 from .images import Image, unique
 from .kept import IndexFile, Kept, changed_keys, is_damaged, key_in
 from .program import IndexFault, Program
-from .streams import note, say
+from .streams import note, noted, say
 
 # What `symarch-keep` has beside an archive: what came in lately, the index, the index of a file that takes the place of
 # the archive just now, and the SHA-256 of both.
@@ -87,7 +87,9 @@ class Archives:
             if fault is None or fault.number >= len(indexed):
                 break
             answers = self.without_changed(indexed[fault.number], fault, answers)
-        say(reply.said.decode(errors="surrogateescape"))
+        said = reply.said.decode(errors="surrogateescape")
+        noted.extend(line.strip() for line in said.splitlines())
+        say(said)
         self.program.judge(reply)
 
     def without_changed(self, file: ArchiveFile, fault: IndexFault, answers: List[Answers]) -> List[Answers]:

@@ -3,19 +3,22 @@ from __future__ import annotations
 
 import bisect
 import re
-from typing import Any, Dict, Iterable, Iterator, List, Match, Optional
+from typing import Any, Dict, Iterable, Iterator, List, Match, NamedTuple, Optional, Pattern
 
 from ..keeping.screen import shown
 from .images import HAD_NAME, Frames
 from .json_report import JsonReport
 from .readable import name_of, text_in
-from .report import Report
-from .text_report import CRASH, INLINED, NO_NAME, TextReport, frames_in
+from .report import Part, Report
+from .text_report import BACKTRACE, CRASH, INLINED, NO_NAME, TextReport, frames_in
 
-# So many frames make a group.
+# So many frames make a group, below those that threw the exception: the images that have these.
 TOP = 3
+THROWING = ("CoreFoundation", "libobjc.A.dylib")
+EXCEPTION_IN_JSON = "lastExceptionBacktrace"
 NO_THREAD = "no crashed thread"
 CRASHED = re.compile(rb"(?<![^\r\n])Thread [0-9]+ Crashed:[^\r\n]*(?:\r\n|\r|\n|\Z)")
+EXCEPTION = re.compile(rb"(?<![^\r\n])[ \t]*Last Exception Backtrace[^\r\n]*(?:\r\n|\r|\n|\Z)")
 # What stands after a name in a line of a crash.
 AFTER_NAME = re.compile(rb"(?: \+ [0-9]+)?(?: \[inlined\])?(?: \([^()]*:[0-9]+\))?\s*\Z")
 
@@ -30,19 +33,49 @@ def group_lines(reports: Iterable[Report]) -> Iterator[str]:
 
 
 def group_of(report: Report) -> str:
-    """The top frames of the first thread that a report says crashed."""
-    for part in report.parts:
-        found: List[str] = []
-        if isinstance(part, JsonReport):
-            found = [json_frame(part, at) for at in crashed_places(part)]
-        elif isinstance(part, TextReport):
-            found = text_frames(part)
-        if found:
-            return "; ".join(found)
+    """The top frames of the backtrace of an exception that nothing caught, whose thread crashed in `abort`; or else of
+    the first thread that a report says crashed."""
+    for frames_of in (exception_frames, crashed_frames):
+        for part in report.parts:
+            found = frames_of(part)
+            if found:
+                return "; ".join(one.text() for one in found)
     return NO_THREAD
 
 
-def frame_text(frames: Frames, at: Optional[int], written: Optional[str], had: Optional[str]) -> str:
+class Frame(NamedTuple):
+    """A frame by its name, if it has one, and its image, or by the offset in it, if that is known."""
+
+    name: Optional[str]
+    image: str
+    offset: Optional[int]
+
+    def text(self) -> str:
+        if self.name:
+            return f"{self.name} ({self.image})"
+        return self.image if self.offset is None else f"{self.image} + {self.offset}"
+
+
+def exception_frames(part: Part) -> List[Frame]:
+    """The top frames of what called for the throw. Those of the throw are the same in all reports."""
+    found: List[Frame] = []
+    most = TOP + len(THROWING)
+    if isinstance(part, JsonReport):
+        stacks = [stack for stack in part.stacks if stack.name == EXCEPTION_IN_JSON and stack.end > stack.first]
+        found = [json_frame(part, at) for one in stacks[:1] for at in range(one.first, min(one.end, one.first + most))]
+    elif isinstance(part, TextReport):
+        found = text_frames(part, EXCEPTION, most)
+    is_throw = tuple(one.image for one in found[: len(THROWING)]) == THROWING and len(found) > len(THROWING)
+    return found[len(THROWING) :] if is_throw else found[:TOP]
+
+
+def crashed_frames(part: Part) -> List[Frame]:
+    if isinstance(part, JsonReport):
+        return [json_frame(part, at) for at in crashed_places(part)]
+    return text_frames(part, CRASHED, TOP) if isinstance(part, TextReport) else []
+
+
+def frame_of(frames: Frames, at: Optional[int], written: Optional[str], had: Optional[str]) -> Frame:
     """A frame by its name and its image, or by the offset in the image. `had` is the name that the report has for it,
     and `written` the image. A frame without a number stands in text, and was inlined."""
     image = frames.image(at) if at is not None else None
@@ -50,9 +83,8 @@ def frame_text(frames: Frames, at: Optional[int], written: Optional[str], had: O
     symbol = frames.name(at) if at is not None else None
     name = symbol[0] if symbol else None if len(answers) > 1 else had
     image_name = one_line((image.name if image else None) or written or "???")
-    if name:
-        return f"{one_line(name)} ({image_name})"
-    return f"{image_name} + {frames.offset(at)}" if image and at is not None else image_name
+    offset = frames.offset(at) if image and at is not None else None
+    return Frame(one_line(name) if name else None, image_name, offset)
 
 
 def one_line(text: str) -> str:
@@ -74,7 +106,7 @@ def crashed_places(document: JsonReport) -> range:
     return range(0)
 
 
-def json_frame(document: JsonReport, at: int) -> str:
+def json_frame(document: JsonReport, at: int) -> Frame:
     said: Any = document.said(at)
     if isinstance(said, dict):
         index, symbol, written = said.get("imageIndex"), said.get("symbol"), text_in(said.get("binaryName"))
@@ -82,19 +114,22 @@ def json_frame(document: JsonReport, at: int) -> str:
         index, symbol, written = said[0], said[2] if len(said) > 2 else None, None
     if type(index) is int and 0 <= index < len(document.listed):
         written = name_of(document.listed[index])
-    return frame_text(document.frames, at, written, text_in(symbol))
+    return frame_of(document.frames, at, written, text_in(symbol))
 
 
 # ---- text
 
 
-def text_frames(part: TextReport) -> List[str]:
-    heading = CRASHED.search(part.data, part.begin, part.end)
-    found: List[str] = []
-    place = heading.end() if heading else part.end
-    while place < part.end and len(found) < TOP:
+def text_frames(part: TextReport, heading: Pattern[bytes], most: int) -> List[Frame]:
+    """The first frames below a heading: numbered, or as a line of addresses."""
+    begins = heading.search(part.data, part.begin, part.end)
+    found: List[Frame] = []
+    place = begins.end() if begins else part.end
+    while place < part.end and len(found) < most:
         line = part.line_at(place)
         form, frame = frames_in(line[1])
+        if form is BACKTRACE and not found:
+            return addressed_frames(part, place, most)
         if frame is None or form is not CRASH:
             break
         found.append(text_frame(part, place, frame))
@@ -102,11 +137,18 @@ def text_frames(part: TextReport) -> List[str]:
     return found
 
 
-def text_frame(part: TextReport, place: int, found: Match[bytes]) -> str:
+def addressed_frames(part: TextReport, place: int, most: int) -> List[Frame]:
+    """The first frames of a line of addresses."""
+    first = bisect.bisect_left(part.frames.places, place)
+    end = bisect.bisect_right(part.frames.places, place)
+    return [frame_of(part.frames, at, None, None) for at in range(first, min(end, first + most))]
+
+
+def text_frame(part: TextReport, place: int, found: Match[bytes]) -> Frame:
     places = part.frames.places
     number = bisect.bisect_left(places, place)
     at = number if number < len(places) and places[number] == place else None
     is_inlined = INLINED in found.string and not NO_NAME.fullmatch(found["said"])
     has_name = is_inlined if at is None else part.frames.kinds[at] & HAD_NAME
     had = AFTER_NAME.sub(b"", found["said"], count=1).decode(errors="surrogateescape") if has_name else None
-    return frame_text(part.frames, at, found["image"].decode(errors="surrogateescape"), had)
+    return frame_of(part.frames, at, found["image"].decode(errors="surrogateescape"), had)

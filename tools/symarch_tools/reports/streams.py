@@ -6,10 +6,12 @@ import errno
 import os
 import re
 import sys
-from typing import BinaryIO, Iterator
+from typing import BinaryIO, Iterator, List
 
 from ..keeping.screen import about
 
+# What was said that is wrong, as --json prints it.
+noted: List[str] = []
 # What JSON may escape and UTF-8 does not have, but for what stands for bytes that were no UTF-8.
 LONE_SURROGATE = re.compile("[\ud800-\udc7f\udd00-\udfff]")
 
@@ -31,6 +33,7 @@ def say(text: str) -> None:
 
 
 def note(text: object) -> None:
+    noted.append(str(text))
     say(f"symbolicate-report: {text}\n")
 
 

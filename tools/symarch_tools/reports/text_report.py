@@ -21,19 +21,22 @@ PROCESSOR = re.compile(rb"^Code Type:\s+([\w-]+)", re.MULTILINE)
 LINE = re.compile(rb"([^\r\n]*)(\r\n|\r|\n|\Z)")
 
 # As `0   spool   0x0000000104d38410 0x104d38000 + 1040`, and with a name in the place of the last words; a source file
-# and line stay after it. In some copies the address is decimal; then so is that before the offset.
+# and line stay after it. In some copies the address is decimal; then so is that before the offset, if no name is there.
+OF_CRASH = rb"(?P<head>(?P<number>[0-9]+)\s+(?P<image>\S.*?)\s(?P<addresses>%b) )(?P<said>.*)"
 CRASH = re.compile(
-    rb"(?P<head>(?P<number>[0-9]+)\s+(?P<image>\S.*?)\s"
-    rb"(?P<addresses>0x[0-9a-fA-F]{1,16}|[0-9]{5,20}(?= +[0-9]{5,20} \+ [0-9]+\s*$)) )(?P<said>.*)"
+    OF_CRASH % rb"0x[0-9a-fA-F]{1,16}|[0-9]{5,20}(?= +[0-9]{5,20} \+ [0-9]+\s*(?:\([^()]*:[0-9]+\)\s*)?$)"
 )
+NAMED_DECIMAL = re.compile(OF_CRASH % rb"[0-9]{9,20}(?= +[^\s0-9])")
+OFFSET = re.compile(rb" \+ [0-9]")
 INLINED = b"[inlined]"
 SOURCE = re.compile(rb" \([^()]*:[0-9]+\)$")
 # What stands in the place of a name that is not known, but for the name of the image itself and an offset.
-NO_NAME = re.compile(rb"\s*(?:\?\?\?.*|0x[0-9a-fA-F]+ \+ [0-9]+.*|[0-9]{5,20} \+ [0-9]+\s*|)")
+NO_NAME = re.compile(rb"\s*(?:\?\?\?.*|0x[0-9a-fA-F]+ \+ [0-9]+.*|[0-9]{5,20} \+ [0-9]+.*|)")
 
 # As `(0x104d38410 0x104d383f8)`, after this heading.
 EXCEPTION = b"Last Exception Backtrace"
-BACKTRACE = re.compile(rb"\((?P<addresses>0x[0-9a-fA-F]{1,16}(?:\s+0x[0-9a-fA-F]{1,16})*)\)\s*")
+IN_BACKTRACE = rb"(?:0x[0-9a-fA-F]{1,16}|[0-9]{5,20})"
+BACKTRACE = re.compile(rb"\((?P<addresses>" + IN_BACKTRACE + rb"(?:\s+" + IN_BACKTRACE + rb")*)\)\s*")
 
 # Lines of call trees begin with the bars of the tree and a number of samples, which stands further in the deeper it is.
 BARS = rb"[\s+!:|*]*"
@@ -156,7 +159,7 @@ class Part:
             return
         if kind == BACKTRACE and self.heading.startswith(EXCEPTION):
             for number, address in enumerate(found["addresses"].split()):
-                self.add(place, int(address, 16), NOT_SAID, IS_RETURN if number else 0)
+                self.add(place, address_of(address), NOT_SAID, IS_RETURN if number else 0)
         elif kind == CRASH:
             self.take_crash(place, found)
         elif kind in (SAMPLE, SPINDUMP):
@@ -225,12 +228,13 @@ def frames_in(line: bytes) -> Tuple[Optional[Pattern[bytes]], Optional[Match[byt
         for form in (SAMPLE, SPINDUMP):
             if found := form.fullmatch(line):
                 return form, found
-    if b"0x" not in line:
-        found = CRASH.match(line) if b" + " in line else None
-        return (CRASH, found) if found else (None, None)
     if found := BACKTRACE.fullmatch(line):
         return BACKTRACE, found
-    found = CRASH.match(line)
+    found = CRASH.match(line) if b"0x" in line or b" + " in line else None
+    if not found and b" + " in line:
+        # A name may have any length, so what stands after it is looked for once.
+        found = NAMED_DECIMAL.match(line)
+        found = found if found and OFFSET.search(found["said"]) else None
     return (CRASH, found) if found else (None, None)
 
 

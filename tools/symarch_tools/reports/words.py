@@ -16,7 +16,7 @@ from .report import BEGINNING, DOCUMENT, STANDARD_INPUT
 from .streams import printing, say
 
 NAME = "symbolicate-report"
-OPTIONS = "[--missing | [--text] [--demangle | --raw] [--out FOLDER] | --group [--demangle | --raw]]"
+OPTIONS = "[--missing | [--json] [--text] [--demangle | --raw] [--out FOLDER] | --group [--demangle | --raw]]"
 USAGE = f"{NAME} {OPTIONS} REPORT... ARCHIVE..."
 MAGICS = (b"MSYMARC1", b"MSYMARC2")
 # How long an archive without records is.
@@ -54,6 +54,7 @@ def parser_of_words(description: Optional[str]) -> Parser:
     flag: Dict[str, Any] = {"action": Once, "nargs": 0, "default": False}
     parser.add_argument("--missing", help=MISSING, **flag)
     parser.add_argument("--group", help=GROUP, **flag)
+    parser.add_argument("--json", help=JSON, **flag)
     parser.add_argument("--text", help=TEXT, **flag)
     parser.add_argument("--demangle", help=DEMANGLE, **flag)
     parser.add_argument("--raw", help=RAW, **flag)
@@ -67,6 +68,8 @@ MISSING = """print the UUID and the name of each image with frames that the repo
 has no dSYM, whether it has the image or not: a line each, once for all reports, and nothing else"""
 GROUP = """print in place of the reports a line for each group of them, those of most reports first: how many they are,
 the top three frames of the crashed thread, and the path of the first report, between tabs"""
+JSON = """print in place of the report what standard error says of it and of its images, as an object a line; with
+--out the reports are written too"""
 TEXT = """print a JSON report as people read a crash: its header, what the system said of its end, the threads with
 names and offsets, the images. It leaves out a `Full Report` that repeats the text before it"""
 DEMANGLE = """make names of C++ and Swift readable: run `swift demangle`, and the first of `llvm-cxxfilt`,
@@ -89,6 +92,7 @@ class Words:
             parser.error(f"there is no option {unknown[0]}")
         self.is_missing: bool = asked.missing
         self.is_group: bool = asked.group
+        self.is_json: bool = asked.json
         self.is_text: bool = asked.text
         self.is_demangled: bool = asked.demangle
         self.is_raw: bool = asked.raw
@@ -102,11 +106,12 @@ class Words:
 
     def fault_of_options(self) -> Optional[str]:
         """Why the options do not stand together, if they do not."""
-        is_other = self.is_group or self.is_text or self.is_demangled or self.is_raw or self.out is not None
-        if self.is_missing and is_other:
+        of_reports = {"--text": self.is_text, "--json": self.is_json, "--out": self.out is not None}
+        others = [option for option, is_given in of_reports.items() if is_given]
+        if self.is_missing and (others or self.is_group or self.is_demangled or self.is_raw):
             return "--missing stands alone"
-        if self.is_group and (self.is_text or self.out is not None):
-            return f"--group prints no report, so {'--text' if self.is_text else '--out'} does not stand beside it"
+        if self.is_group and others:
+            return f"--group prints no report, so {others[0]} does not stand beside it"
         if self.is_raw and self.is_demangled:
             return "--raw keeps what --demangle changes: name one of them"
         if self.need_out(self.reports):
@@ -118,7 +123,7 @@ class Words:
     def need_out(self, reports: Sequence[str]) -> bool:
         """Whether these are several reports, as a folder is whatever stands in it, and are printed."""
         are_several = len(reports) > 1 or any(map(is_folder, reports))
-        return are_several and self.out is None and not self.is_missing and not self.is_group
+        return are_several and self.out is None and not (self.is_missing or self.is_group or self.is_json)
 
     def fault_of_names(self, names: Sequence[str]) -> Optional[str]:
         """What is wrong with the reports and archives, and what to type, if something is."""
@@ -127,7 +132,8 @@ class Words:
             return f"there is no archive after {names[0]}" if is_lacking else "there is no report before the archive"
         command, rest = names[0], names[1:]
         if command in ANSWERING and not os.path.lexists(command):
-            return f"{command} is a command of symarch: {self.line(rest)}"
+            last = [name for name in rest if is_archive(name)]
+            return f"{command} is a command of symarch: {self.line([it for it in rest if it not in last] + last)}"
         archives = {name: None for name in names if is_archive(name)}
         others = [name for name in names if name not in archives]
         if not others:
@@ -146,7 +152,8 @@ class Words:
 
     def line(self, names: Sequence[str], more: Sequence[str] = ()) -> str:
         """The line to type for these reports and archives, with more options."""
-        given = {"--missing": self.is_missing, "--group": self.is_group, "--text": self.is_text}
+        given = {"--missing": self.is_missing, "--group": self.is_group, "--json": self.is_json}
+        given["--text"] = self.is_text
         given.update({"--demangle": self.is_demangled, "--raw": self.is_raw})
         options = [option for option, is_given in given.items() if is_given]
         options += ["--out", self.out] if self.out is not None else []

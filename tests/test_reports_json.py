@@ -1,0 +1,125 @@
+"""What symbolicate-report prints by --json: an object for each report, with what answered for its images, and an
+end."""
+import json
+import os
+import signal
+import subprocess
+from typing import Any, Dict, List, Tuple
+
+from .support.program import Ended
+from .support.reports import CRASHES, DYLD, FIXTURES, SPOOL, SPOOL_X86_64, ReportCase, source
+
+FRAMES = ["named", "named_before", "several", "not_named", "not_listed"]
+
+
+class Json(ReportCase):
+    """Standard output has JSON and nothing else, and standard error what it has without it."""
+
+    seconds = 10
+
+    def objects(self, *words: Any, status: int = 0, **how: Any) -> Tuple[List[Dict[str, Any]], Dict[str, Any], Ended]:
+        came = self.report("--json", *words, **how)
+        *found, end = [json.loads(line) for line in came.out.decode().splitlines()]
+        self.assertEqual((came.status, end["status"]), (status, status), came.errors)
+        self.assertEqual([*end], ["type", "reports", "frames", "faults", "status"])
+        for one in [*found, end]:
+            if one.get("frames") is not None:
+                self.assertEqual(sorted(one["frames"]), sorted(FRAMES))
+        return found, end, came
+
+    def image(self, name: str, uuid: str, arch: Any, word: str, *others: str) -> Dict[str, Any]:
+        return {"name": name, "uuid": uuid, "arch": arch, "answered_by": word, "others": list(others)}
+
+    def test_a_report(self) -> None:
+        """The counts are those of the line on standard error, and nothing is printed of the report."""
+        found, end, came = self.objects(CRASHES / "arm64.ips", "shipped")
+        (one,) = found
+        images = [self.image("spool", SPOOL, "arm64", "dsym"), self.image("dyld", DYLD, "arm64e", "absent")]
+        self.assertEqual([*one], ["type", "path", "path_hex", "frames", "images", "faults"])
+        self.assertEqual((one["path"], one["path_hex"], one["images"]), (str(CRASHES / "arm64.ips"), None, images))
+        self.assertEqual(one["frames"], dict(zip(FRAMES, (4, 1, 0, 0, 0))))
+        self.assertEqual((end["reports"], end["frames"], end["faults"]), (1, one["frames"], []))
+        self.assertEqual(came.errors, self.report(CRASHES / "arm64.ips", "shipped").errors)
+
+    def test_what_answered(self) -> None:
+        """Each word of it."""
+        crash = CRASHES / "arm64.ips"
+        for archive, word, status in (("alike", "image", 0), ("empty", "absent", 1)):
+            found, _, _ = self.objects(crash, archive, status=status)
+            self.assertEqual(found[0]["images"][0]["answered_by"], word)
+        path = self.file("x.crash", source("crash").replace(b"spool arm64 <", b"spool arm64e <"))
+        found, _, _ = self.objects(path, "shipped", status=1)
+        self.assertEqual(found[0]["images"], [self.image("spool", SPOOL, "arm64e", "other_architecture", "arm64")])
+        pipe = self.folder / "archive.pipe"
+        os.mkfifo(pipe)
+        with subprocess.Popen(["cp", self.archives / "shipped", pipe]):
+            found, _, _ = self.objects(crash, pipe)
+        self.assertEqual(found[0]["images"][0]["answered_by"], "dsym_or_image")
+
+    def test_several(self) -> None:
+        """A line for each, also of those that are refused and of those in a folder; without --out none is written."""
+        self.file("in/a.crash", source("crash"))
+        self.file("in/b.ips", b"")
+        os.rename(self.file("in/x", source("crash")), os.fsencode(self.folder / "in") + b"/\xff.crash")
+        cut = self.file("cut.crash", source("crash")[:-1])
+        found, end, came = self.objects("in", cut, self.folder / "gone", "shipped", status=2)
+        types = [(it["type"], it["path"].rpartition("/")[2]) for it in found]
+        wanted = [("report", "a.crash"), ("report", "\ufffd.crash"), ("report", "cut.crash")]
+        self.assertEqual(types, [*wanted, ("refused", "b.ips"), ("refused", "gone")])
+        self.assertEqual([it["path_hex"] for it in found[:2]], [None, b"in/\xff.crash".hex()])
+        self.assertIn("within a line", found[2]["faults"][0])
+        said = [f"symbolicate-report: {it}" for it in end["faults"]]
+        self.assertEqual(said, came.errors.decode().splitlines()[:-1])
+        self.assertEqual((len(said), end["reports"]), (3, 3))
+
+    def test_written_too(self) -> None:
+        """With --out the reports are as without it."""
+        paths = [CRASHES / "arm64.crash", FIXTURES / "older.ips"]
+        made, came = self.written(paths, "shipped", "--json")
+        without, other = self.written(paths, "shipped")
+        self.assertEqual((made, came.errors.replace(b"made", b""), len(came.lines)), (without, other.errors, 3))
+
+    def test_what_fails(self) -> None:
+        crash = CRASHES / "arm64.crash"
+        for words, status, fault in (
+            ([crash, "gone.sym"], 2, "symarch: archive 0: cannot open"),
+            (["gone.ips", "shipped"], 2, "gone.ips: No such file or directory"),
+            (["--out", "/dev/null", crash, "shipped"], 2, "/dev/null: File exists"),
+        ):
+            found, end, _ = self.objects(*words, status=status)
+            self.assertEqual((end["faults"][0], end["images"] if "images" in end else None), (fault, None))
+            self.assertEqual(end["reports"], 0 if "gone.ips" in words else None)
+        gone = {"SYMARCH": "/gone"}
+        end = self.objects(crash, "shipped", status=126, environment=gone)[1]
+        self.assertEqual(end["frames"], None)
+
+    def test_words(self) -> None:
+        crash = CRASHES / "arm64.crash"
+        for words, why in (
+            (["--missing"], "--missing stands alone"),
+            (["--group"], "--group prints no report, so --json does not stand beside it"),
+        ):
+            came = self.report("--json", *words, crash, "shipped")
+            self.assertEqual((came.status, came.out), (3, b""))
+            self.assertEqual(came.error_lines[-1], f"symbolicate-report: {why}")
+
+    def test_names_that_are_no_text(self) -> None:
+        """JSON of a report may escape what is no character; the line is UTF-8 all the same."""
+        first, _, rest = source("ips").decode().partition("\n")
+        document = json.loads(rest)
+        document["usedImages"][0]["name"] = "cut \ud83d"
+        path = self.file("x.ips", f"{first}\n{json.dumps(document)}")
+        found, _, _ = self.objects(path, "shipped")
+        self.assertEqual(found[0]["images"][0]["name"], "cut \ufffd")
+
+    def test_x86_64(self) -> None:
+        """An image whose architecture the report does not state."""
+        found, _, _ = self.objects(CRASHES / "x86_64.crash", "shipped")
+        self.assertEqual(found[0]["images"][0], self.image("spool", SPOOL_X86_64, None, "dsym"))
+
+    def test_nobody_reads(self) -> None:
+        reader, writer = os.pipe()
+        os.close(reader)
+        with open(writer, "wb") as pipe:
+            came = self.report("--json", CRASHES / "arm64.crash", "shipped", stdout=pipe)
+        self.assertEqual((came.status, len(came.error_lines)), (-signal.SIGPIPE, 1))

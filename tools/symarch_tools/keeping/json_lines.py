@@ -1,0 +1,50 @@
+"""What --json prints: an object a line. A path is text, in which U+FFFD stands in the place of each byte that is no
+UTF-8; then `path_hex` has its bytes."""
+import json
+import os
+import re
+import uuid
+from typing import Any, Dict, Optional, Union
+
+from .contents import KEY, arch_in
+
+Members = Dict[str, Any]
+# What is no character, as what Python decodes a byte to that is no UTF-8.
+SURROGATE = re.compile("[\ud800-\udfff]")
+
+
+class Line(str):
+    """A line that is printed, and the members of the object that is printed in its place."""
+
+    members: Members
+
+
+def line_of(text: str, kind: str, **members: Any) -> Line:
+    """A line whose object is of a type."""
+    line = Line(text)
+    line.members = {"type": kind, **members}
+    return line
+
+
+def path_members(path: Union[bytes, str], name: str = "path") -> Members:
+    data = os.fsencode(path)
+    try:
+        return {name: data.decode(), f"{name}_hex": None}
+    except UnicodeDecodeError:
+        return {name: os.fsdecode(data), f"{name}_hex": data.hex()}
+
+
+NO_PATH: Members = {"path": None, "path_hex": None}
+
+
+def record_members(entry: Optional[bytes], is_retirement: bool = False) -> Members:
+    """A slice or a retirement, by its key and digest."""
+    if entry is None:
+        return {"record": None, "uuid": None, "arch": None, "digest": None}
+    record = "retirement" if is_retirement else "slice"
+    name, arch, digest = str(uuid.UUID(bytes=entry[:16])), arch_in(entry[16:KEY]), entry[KEY:].hex()
+    return {"record": record, "uuid": name, "arch": arch, "digest": digest}
+
+
+def encoded(members: Members) -> str:
+    return SURROGATE.sub("\ufffd", json.dumps(members, ensure_ascii=False))

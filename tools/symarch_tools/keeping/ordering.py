@@ -1,0 +1,77 @@
+"""What to type if ARCHIVE does not stand first among the words of a call."""
+import os
+import shlex
+import stat
+from typing import List, NoReturn, Optional, Sequence
+
+from .contents import MAGIC, MAGICS
+from .packed import ZIP
+from .screen import Failed, shown
+from .slices import THIN, UNIVERSAL
+
+# In a call a word for standard input; and in the place of ARCHIVE, if no word may be that.
+STANDARD_INPUT, ARCHIVE = "-", "ARCHIVE"
+
+
+def beginning(path: str) -> bytes:
+    """The first bytes of a file. What is none, as a pipe, is not read."""
+    try:
+        if stat.S_ISREG(os.stat(path).st_mode):
+            with open(path, "rb") as file:
+                return file.read(MAGIC)
+    except (OSError, ValueError):
+        pass
+    return b""
+
+
+def is_archive(path: str) -> bool:
+    return beginning(path) in MAGICS
+
+
+def is_input(path: str) -> bool:
+    """Whether a word names what `add` puts into an archive."""
+    return path == STANDARD_INPUT or os.path.isdir(path) or beginning(path)[:4] in (THIN, ZIP, *UNIVERSAL)
+
+
+def archive_in(word: str, names: Sequence[str]) -> Optional[str]:
+    """Which of the names after the first is the archive."""
+    found = next(filter(is_archive, names[1:]), None)
+    if word == "exchange" and os.path.isdir(names[0]) and not os.path.isdir(names[1]):
+        return names[1]
+    if word != "add" or found or not is_input(names[0]):
+        return found
+    # One that is still to be made, if it stands last.
+    is_new = names[-1] != STANDARD_INPUT and not os.path.exists(names[-1])
+    return names[-1] if is_new else ARCHIVE if names[0] == STANDARD_INPUT or os.path.isdir(names[0]) else None
+
+
+def refuse_order(word: str, options: Sequence[str], names: Sequence[str]) -> None:
+    """Fails if the first of the names of a call, which are its words but for the options, is not ARCHIVE, and another
+    one is."""
+    first = names[0]
+    if word == "exchange" and not os.path.isdir(names[1]) and os.path.isdir(names[2]) and is_archive(first):
+        refuse(f"{shown(names[1])} is no folder, and FOLDER comes before NAME", word, options, names, first)
+    if is_archive(first):
+        return
+    archive = archive_in(word, names) if word != "repair" and len(names) > 1 else None
+    is_standard_input = first == STANDARD_INPUT and not os.path.exists(first)
+    if archive is not None and (word != "add" or is_input(first) or os.path.exists(first)):
+        kind = "standard input" if is_standard_input else "a folder" if os.path.isdir(first) else "no archive"
+        refuse(f"{shown(first)} is {kind}, and ARCHIVE comes first", word, options, names, archive)
+    if is_standard_input:
+        raise Failed("- is standard input, and ARCHIVE is a file", 3)
+
+
+def refuse(why: str, word: str, options: Sequence[str], names: Sequence[str], archive: str) -> NoReturn:
+    typed = " ".join(shown(shlex.quote(one)) for one in ordered(word, options, names, archive))
+    raise Failed(f"{why}: symarch-keep {word} {typed}", 3)
+
+
+def ordered(word: str, options: Sequence[str], names: Sequence[str], archive: str) -> List[str]:
+    """The words with the options first, and the archive before the other names."""
+    left = list(names)
+    if archive in left:
+        left.remove(archive)
+    if word == "exchange":
+        left.sort(key=lambda name: not os.path.isdir(name))
+    return [*options, archive, *left]
