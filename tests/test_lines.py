@@ -1,0 +1,184 @@
+"""Source lines and inlined frames beside those of LLVM's tools: of the companions that tests/fixtures/lines keeps, by
+the model and by the program, and of others that clang, lld and dsymutil build, by the model; these are left out without
+clang, lld and llvm."""
+import pathlib
+import struct
+import unittest
+import uuid
+from typing import Dict, Iterator, List, Optional, Sequence, Tuple
+
+from .model.dwarf_frames import debug_of, frames_of
+from .model.dwarf_lines import rows_of
+from .model.dwarf_numbers import units_of
+from .model.images import image_of
+from .model.lines import frame_line
+from .support import kept_lines, llvm, made_dsyms
+from .support.cases import FolderCase, ProgramCase, Without, same
+from .support.made_images import EMPTY, WORDS, index
+from .support.program import call, symarch
+
+AT_ONCE = 500
+LOAD = 0x7FFF_1234_5000
+
+
+def rows_by_model(content: bytes) -> Dict[int, List[llvm.Row]]:
+    """The rows of each program of a companion, by its offset."""
+    section, found = debug_of(content).section("line"), {}
+    for at, end in units_of(section).items():
+        found[at] = [(it.address, it.file, it.line, it.column, it.is_end) for it in rows_of(section[at:end])]
+    return found
+
+
+def lines_by_model(content: bytes, address: int) -> List[str]:
+    return [frame_line(it) for it in frames_of(content, address)]
+
+
+def asked_of(said: kept_lines.Said) -> Tuple[List[int], List[List[str]]]:
+    """All addresses of what was said, and the lines of each."""
+    addresses = [it for first, last, _ in said.spans for it in range(first, last)]
+    return addresses, [lines for first, last, lines in said.spans for _ in range(first, last)]
+
+
+class Kept(unittest.TestCase):
+    """The kept companions."""
+
+    def test_rows(self) -> None:
+        for one in kept_lines.kept():
+            same(one.name, rows_by_model(one.content), one.said.rows)
+
+    def test_frames(self) -> None:
+        """At each byte of the code and beside it."""
+        for one in kept_lines.kept():
+            addresses, wanted = asked_of(one.said)
+            self.assertGreater(len(addresses), 200, one.name)
+            same(one.name, [lines_by_model(one.content, it) for it in addresses], wanted)
+
+
+def frames_in(lines: Sequence[str]) -> Iterator[List[str]]:
+    """The lines of frames after each line of an answer."""
+    found: List[List[str]] = []
+    for line in lines:
+        if line.startswith("    "):
+            found[-1].append(line)
+        else:
+            found.append([])
+    yield from found
+
+
+class Printed(ProgramCase):
+    """What `symarch` prints with `--lines`."""
+
+    seconds = 20
+
+    def setUp(self) -> None:
+        super().setUp()
+        if b"--lines" not in call([symarch, "symbolicate", "--help"]).out:
+            raise Without("the program has no --lines")
+        self.file("empty.sym", EMPTY)
+
+    def key(self, one: kept_lines.Kept) -> List[str]:
+        """Admits a companion as NAME.sym, and gives its UUID and architecture."""
+        self.file(f"{one.name}.dsym", one.content)
+        self.expect(["admit", "empty.sym", f"{one.name}.sym", f"{one.name}.dsym"], prints=None)
+        key = image_of(one.content).key
+        return [str(uuid.UUID(bytes=key[:16])), WORDS[struct.unpack(">II", key[16:])]]
+
+    def answers(self, words: Sequence[str], addresses: Sequence[int], moved: int = 0) -> List[List[str]]:
+        """The lines of frames of each address; the others have to be those without `--lines`."""
+        found: List[List[str]] = []
+        for place in range(0, len(addresses), AT_ONCE):
+            asked = [*words, *(hex(it + moved) for it in addresses[place : place + AT_ONCE])]
+            plain, came = self.call("symbolicate", *asked), self.call("symbolicate", "--lines", *asked)
+            self.assertEqual((came.status, came.errors), (plain.status, plain.errors))
+            self.assertEqual([it for it in came.lines if not it.startswith("    ")], plain.lines)
+            found += frames_in(came.lines)
+        return found
+
+    def test_symbolicate(self) -> None:
+        for one in kept_lines.kept():
+            words = [f"{one.name}.sym", *self.key(one)]
+            addresses, wanted = asked_of(one.said)
+            same(one.name, self.answers(words, addresses), wanted)
+            text = image_of(one.content).base
+            assert text is not None
+            loaded = self.answers([*words, "--load", hex(LOAD)], addresses, LOAD - text)
+            same(f"{one.name}, loaded", loaded, wanted)
+
+    def test_with_an_index(self) -> None:
+        for one in kept_lines.kept():
+            words = [f"{one.name}.sym", *self.key(one), "--index", f"{one.name}.idx"]
+            self.file(f"{one.name}.idx", index([one.content]))
+            addresses, wanted = asked_of(one.said)
+            same(one.name, self.answers(words, addresses), wanted)
+
+    def test_frames(self) -> None:
+        """Frames of all companions in turn, over their archives."""
+        asked: List[Tuple[str, List[str]]] = []
+        archives = []
+        for one in kept_lines.kept():
+            key = " ".join(self.key(one))
+            archives.append(f"{one.name}.sym")
+            asked += [(f"{key} - {address:#x}\n", lines) for address, lines in zip(*asked_of(one.said))]
+        asked.sort(key=lambda it: it[0][::-1])
+        self.file("crash.frames", "".join(line for line, _ in asked))
+        came = self.call("frames", "--lines", "crash.frames", *archives)
+        same("frames", list(frames_in(came.lines)), [lines for _, lines in asked])
+
+
+class Built(FolderCase):
+    """Companions that are built here."""
+
+    is_side_by_side = True
+    seconds = 15
+
+    def symbols(self, path: pathlib.Path) -> Dict[int, List[str]]:
+        """The names of the symbols at each address, as the table of symbols has them."""
+        found: Dict[int, List[str]] = {}
+        for line in llvm.output(llvm.tool("llvm-nm"), "--format=posix", path).decode().splitlines():
+            name, _, value = line.split()[:3]
+            found.setdefault(int(value, 16), []).append(name[1:] if name.startswith("_") else name)
+        return found
+
+    def as_here(self, lines: List[str], ours: List[str], names: Optional[List[str]]) -> List[str]:
+        """What LLVM says, with our outermost name where it takes that of a symbol instead: of a unit that has no
+        linkage names."""
+        if lines and ours and lines != ours and names is not None:
+            name, at, rest = lines[-1].partition(" at ")
+            if name.strip() in names:
+                return [*lines[:-1], ours[-1].partition(" at ")[0] + at + rest]
+        return lines
+
+    def compare(self, path: pathlib.Path) -> None:
+        content = path.read_bytes()
+        said = kept_lines.said_by_llvm(path)
+        same(str(path), rows_by_model(content), said.rows)
+        names = [name for its in self.symbols(path).values() for name in its] if "tables" in str(path) else None
+        frames = 0
+        for address, lines in zip(*asked_of(said)):
+            ours = lines_by_model(content, address)
+            same(f"{path} {address:#x}", ours, self.as_here(lines, ours, names))
+            frames += len(ours)
+        self.assertGreater(frames, 200, path)
+
+    def compare_all(self, arch: str, linker: str) -> None:
+        for recipe in made_dsyms.all_recipes():
+            if (recipe.arch, recipe.linker) == (arch, linker):
+                self.compare(recipe.build(self.folder))
+
+    def test_dsymutil_arm64(self) -> None:
+        self.compare_all("arm64", "ld64.lld")
+
+    def test_dsymutil_x86_64(self) -> None:
+        self.compare_all("x86_64", "ld64.lld")
+
+    def test_packed_arm64(self) -> None:
+        self.compare_all("arm64", "ld.lld")
+
+    def test_packed_x86_64(self) -> None:
+        self.compare_all("x86_64", "ld.lld")
+
+    def test_together_arm64(self) -> None:
+        self.compare_all("arm64", "llvm-link")
+
+    def test_together_x86_64(self) -> None:
+        self.compare_all("x86_64", "llvm-link")
