@@ -5,7 +5,7 @@ import pathlib
 import struct
 import unittest
 import uuid
-from typing import Dict, Iterator, List, Optional, Sequence, Tuple
+from typing import Dict, List, Optional, Sequence, Tuple
 
 from .model.dwarf_frames import debug_of, frames_of
 from .model.dwarf_lines import rows_of
@@ -54,17 +54,6 @@ class Kept(unittest.TestCase):
             same(one.name, [lines_by_model(one.content, it) for it in addresses], wanted)
 
 
-def frames_in(lines: Sequence[str]) -> Iterator[List[str]]:
-    """The lines of frames after each line of an answer."""
-    found: List[List[str]] = []
-    for line in lines:
-        if line.startswith("    "):
-            found[-1].append(line)
-        else:
-            found.append([])
-    yield from found
-
-
 class Printed(ProgramCase):
     """What `symarch` prints with `--lines`."""
 
@@ -91,7 +80,7 @@ class Printed(ProgramCase):
             plain, came = self.call("symbolicate", *asked), self.call("symbolicate", "--lines", *asked)
             self.assertEqual((came.status, came.errors), (plain.status, plain.errors))
             self.assertEqual([it for it in came.lines if not it.startswith("    ")], plain.lines)
-            found += frames_in(came.lines)
+            found += kept_lines.frames_in(came.lines)
         return found
 
     def test_symbolicate(self) -> None:
@@ -122,7 +111,7 @@ class Printed(ProgramCase):
         asked.sort(key=lambda it: it[0][::-1])
         self.file("crash.frames", "".join(line for line, _ in asked))
         came = self.call("frames", "--lines", "crash.frames", *archives)
-        same("frames", list(frames_in(came.lines)), [lines for _, lines in asked])
+        same("frames", kept_lines.frames_in(came.lines), [lines for _, lines in asked])
 
 
 class Built(FolderCase):

@@ -3,8 +3,7 @@ from __future__ import annotations
 
 from bisect import bisect_right
 from functools import lru_cache
-from itertools import islice
-from typing import Dict, Iterator, List, NamedTuple, Optional, Tuple
+from typing import Dict, List, NamedTuple, Optional, Tuple
 
 from .dwarf_entries import Attributes, Entry, Unit, unit_at
 from .dwarf_lines import names_of, path_of, row_of
@@ -14,7 +13,7 @@ from .images import image_of
 
 SUBPROGRAM, INLINED_SUBROUTINE = 0x2E, 0x1D
 MOST_FRAMES, MOST_STEPS = 256, 16
-RANGES_A_BYTE = 4
+ENTRIES_A_BYTE = 4
 
 
 class Frame(NamedTuple):
@@ -51,7 +50,8 @@ class DebugUnit:
         bases = self.base("rnglists_base", 12), self.base("addr_base", 8)
         places = RangeSections(unit.version, pairs, lists, table, *bases, 0)
         self.ranges = places._replace(base=places.address_of(self.attributes.get("low_pc")) or 0)
-        self.most_ranges = RANGES_A_BYTE * (unit.end - unit.offset)
+        # How many entries of lists of ranges count.
+        self.most_entries = ENTRIES_A_BYTE * (unit.end - unit.offset)
         self.found_scopes: Optional[List[Scope]] = None
         self.lines = self.line_unit()
 
@@ -59,12 +59,12 @@ class DebugUnit:
         offset = number_of(self.attributes.get(name), "sec_offset")
         return default if offset is None else offset
 
-    def own_ranges(self) -> Iterator[Range]:
+    def own_ranges(self) -> List[Range]:
         """The ranges of the first entry."""
-        return islice(self.ranges.ranges_of(self.attributes), self.most_ranges)
+        return self.ranges.ranges_of(self.attributes, self.most_entries)[0]
 
     def scopes(self) -> List[Scope]:
-        """The function entries, in their order; so many ranges of them count as the unit allows."""
+        """The function entries, in their order; of their lists of ranges so many entries count as the unit allows."""
         if self.found_scopes is None:
             self.found_scopes = self.made_scopes()
         return self.found_scopes
@@ -79,11 +79,10 @@ class DebugUnit:
             opened.append(number)
         for number in opened:
             ends[number] = len(entries)
-        left, found = self.most_ranges, []
+        left, found = self.most_entries, []
         for number, (depth, entry) in enumerate(entries):
             if entry.tag in (SUBPROGRAM, INLINED_SUBROUTINE):
-                ranges = list(islice(self.ranges.ranges_of(entry.attributes), left))
-                left -= len(ranges)
+                ranges, left = self.ranges.ranges_of(entry.attributes, left)
                 found.append(Scope(depth, number, ends[number], ranges, entry))
         return found
 

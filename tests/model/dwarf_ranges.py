@@ -1,5 +1,6 @@
 """The ranges of entries and of units, told a second time by DWARF 5, sections 2.17, 6.1.2 and 7.25."""
 from functools import lru_cache
+from itertools import islice
 from typing import Iterator, List, NamedTuple, Optional, Tuple
 
 from .dwarf_entries import Attributes
@@ -69,18 +70,20 @@ class RangeSections(NamedTuple):
         index = number_of(value, "addrx")
         return number_of(value, "address") if index is None else self.indexed_address(index)
 
-    def ranges_of(self, attributes: Attributes) -> Iterator[Range]:
-        """The ranges of an entry: from low_pc to high_pc if it has both, and else those that DW_AT_ranges names."""
+    def ranges_of(self, attributes: Attributes, left: int) -> Tuple[List[Range], int]:
+        """The ranges of an entry: from low_pc to high_pc if it has both, and else those that DW_AT_ranges names, of
+        whose list so many entries count at most; and how many are left of these."""
         low, high = self.address_of(attributes.get("low_pc")), attributes.get("high_pc")
         if low is not None:
             count = number_of(high, "constant")
             end = self.address_of(high) if count is None else (low + count) & MASK
             if end is not None:
-                yield low, end
-                return
+                return [(low, end)], left
         offset = self.list_offset(attributes.get("ranges"))
-        if offset is not None:
-            yield from self.list_at(offset)
+        if offset is None:
+            return [], left
+        entries = list(islice(self.list_at(offset), left))
+        return [it for it in entries if it is not None], left - len(entries)
 
     def list_offset(self, value: Optional[Value]) -> Optional[int]:
         """The offset of a list; before version 4 a constant is one."""
@@ -90,8 +93,9 @@ class RangeSections(NamedTuple):
             return None if relative is None else self.rnglists_base + relative
         return number_of(value, "sec_offset", *(["constant"] if self.version < 4 else []))
 
-    def list_at(self, offset: int) -> Iterator[Range]:
-        """The ranges of a list, up to its end or the first entry that cannot be read."""
+    def list_at(self, offset: int) -> Iterator[Optional[Range]]:
+        """The range of each entry of a list, or None of one that says none, up to the end of the list or the first
+        entry that cannot be read."""
         try:
             if self.version < 5:
                 yield from self.pairs(Reader(self.debug_ranges, offset))
@@ -100,7 +104,7 @@ class RangeSections(NamedTuple):
         except Unread:
             return
 
-    def pairs(self, r: Reader) -> Iterator[Range]:
+    def pairs(self, r: Reader) -> Iterator[Optional[Range]]:
         """DWARF 4, section 2.17.3: the greatest number selects a base address."""
         base = self.base
         while True:
@@ -109,10 +113,11 @@ class RangeSections(NamedTuple):
                 return
             if begin == MASK:
                 base = end
+                yield None
             else:
                 yield (base + begin) & MASK, (base + end) & MASK
 
-    def entries(self, r: Reader) -> Iterator[Range]:
+    def entries(self, r: Reader) -> Iterator[Optional[Range]]:
         """Section 7.25: DW_RLE_end_of_list, base_addressx, startx_endx, startx_length, offset_pair, base_address,
         start_end, start_length."""
         base = self.base
@@ -120,25 +125,21 @@ class RangeSections(NamedTuple):
             kind = r.number(1)
             if kind == 0:
                 return
-            start: Optional[int]
-            end: Optional[int]
-            if kind == 1:
-                base = self.indexed_address(r.unsigned()) or 0
-                continue
-            if kind == 5:
-                base = r.number(8)
-                continue
-            if kind in (2, 3):
-                start, second = self.indexed_address(r.unsigned()), r.unsigned()
-                end = self.indexed_address(second) if kind == 2 else None if start is None else (start + second) & MASK
+            if kind in (1, 5):
+                base = r.number(8) if kind == 5 else self.indexed_address(r.unsigned()) or 0
+                yield None
             elif kind == 4:
-                start, end = (base + r.unsigned()) & MASK, (base + r.unsigned()) & MASK
-            elif kind == 6:
-                start, end = r.number(8), r.number(8)
-            elif kind == 7:
-                start = r.number(8)
-                end = (start + r.unsigned()) & MASK
+                yield (base + r.unsigned()) & MASK, (base + r.unsigned()) & MASK
             else:
-                raise Unread
-            if start is not None and end is not None:
-                yield start, end
+                yield self.of_addresses(kind, r)
+
+    def of_addresses(self, kind: int, r: Reader) -> Optional[Range]:
+        """The range of an entry that has addresses; None if one that is indexed is not there."""
+        if kind in (2, 3):
+            start, number = self.indexed_address(r.unsigned()), r.unsigned()
+            end = self.indexed_address(number) if kind == 2 else (start or 0) + number & MASK
+            return None if start is None or end is None else (start, end)
+        if kind not in (6, 7):
+            raise Unread
+        low = r.number(8)
+        return low, r.number(8) if kind == 6 else (low + r.unsigned()) & MASK

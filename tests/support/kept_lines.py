@@ -85,6 +85,17 @@ def said_by_llvm(path: pathlib.Path) -> Said:
     return Said(list(spans_of(addresses, lines)), llvm.rows(path))
 
 
+def frames_in(lines: Sequence[str]) -> List[List[str]]:
+    """The lines of frames after each line of an answer."""
+    found: List[List[str]] = []
+    for line in lines:
+        if line.startswith("    "):
+            found[-1].append(line)
+        else:
+            found.append([])
+    return found
+
+
 class Kept(NamedTuple):
     """A companion that is kept."""
 

@@ -9,7 +9,9 @@ from .made_images import ARM64, UUID_COMMAND, X86_64, number_uuid
 from .program import TOP, Word
 
 SOURCES = TOP / "tests" / "fixtures" / "lines"
-DSYM = 10
+DSYM, SYMTAB = 10, 2
+# Flags of a section, the type of one with symbols, and the kind of a symbol, in ELF.
+EXECUTED, SYMBOLS, FUNCTION = 4, 2, 2
 LOWEST = 0x1_0000_0000
 ARCHES = {"arm64": ARM64, "x86_64": X86_64}
 C, CC = ("a.c", "b.c"), ("one.cc", "two.cc")
@@ -19,6 +21,8 @@ PLAIN = ["-ffreestanding", "-nostdinc", "-fno-exceptions", "-fno-rtti", "-fno-st
 PLACE = [f"-fdebug-prefix-map={SOURCES}=/src", "-fdebug-compilation-dir=/src"]
 # An address and a size.
 Code = Tuple[int, int]
+# A name and an address.
+Symbol = Tuple[bytes, int]
 # A section of a segment: its name, address, size and offset.
 Part = Tuple[bytes, int, int, int]
 
@@ -35,35 +39,72 @@ def segment(name: bytes, parts: Sequence[Part], offset: int = 0, size: int = 0) 
     return front + sections
 
 
-def companion(debug: Dict[str, bytes], code: Sequence[Code], arch: str = "x86_64", number: int = 0) -> bytes:
-    """A companion with these DWARF sections, by their names after `__debug_`, of an image with this code."""
+def symbols_of(symbols: Sequence[Symbol], code: Sequence[Code]) -> Tuple[bytes, bytes]:
+    """The entries of external symbols in sections of code, and their names."""
+    entries, names = bytearray(), bytearray(1)
+    for name, value in symbols:
+        sections = (number for number, (first, size) in enumerate(code, 1) if first <= value < first + size)
+        entries += struct.pack("<IBBHQ", len(names), 0x0F, next(sections, 0), 0, value)
+        names += name + b"\0"
+    return bytes(entries), bytes(names)
+
+
+def companion(
+    debug: Dict[str, bytes],
+    code: Sequence[Code],
+    arch: str = "x86_64",
+    number: int = 0,
+    symbols: Sequence[Symbol] = (),
+) -> bytes:
+    """A companion with these DWARF sections, by their names after `__debug_`, of an image with this code and these
+    symbols."""
     text = segment(b"__TEXT", [(b"__text", address, size, 0) for address, size in code])
-    uuid = struct.pack("<II", UUID_COMMAND, 24) + number_uuid(number)
-    first = at = 32 + len(text) + 72 + 80 * len(debug) + len(uuid)
+    entries, names = symbols_of(symbols, code)
+    symtab = 24 if symbols else 0
+    first = at = 32 + len(text) + 72 + 80 * len(debug) + 24 + symtab
     parts: List[Part] = []
     for name, content in debug.items():
         parts.append((b"__debug_" + name.encode(), 0x7_0000_0000 + at, len(content), at))
         at += len(content)
-    commands = text + segment(b"__DWARF", parts, first, at - first) + uuid
-    head = struct.pack("<IIIIIIII", 0xFEEDFACF, *ARCHES[arch], DSYM, 3, len(commands), 0, 0)
-    return head + commands + b"".join(debug.values())
+    commands = text + segment(b"__DWARF", parts, first, at - first)
+    commands += struct.pack("<II", UUID_COMMAND, 24) + number_uuid(number)
+    if symbols:
+        commands += struct.pack("<6I", SYMTAB, 24, at, len(symbols), at + len(entries), len(names))
+    count = 4 if symbols else 3
+    head = struct.pack("<IIIIIIII", 0xFEEDFACF, *ARCHES[arch], DSYM, count, len(commands), 0, 0)
+    return b"".join([head, commands, *debug.values(), *([entries, names] if symbols else [])])
 
 
-def of_elf(path: pathlib.Path, arch: str, number: int = 0) -> bytes:
-    """The companion that has the code and the DWARF of an ELF file, with the names of sections as Mach-O cuts them."""
-    whole = path.read_bytes()
-    table, size, count, names = struct.unpack_from("<Q10xHHH", whole, 40)
-    headers = [struct.unpack_from("<IIQQQQ", whole, table + size * place) for place in range(count)]
-    texts = headers[names][4]
-    code: List[Code] = []
-    debug: Dict[str, bytes] = {}
-    for name, _, flags, address, offset, length in headers:
-        text = whole[texts + name : whole.index(b"\0", texts + name)].decode()
-        if flags & 4:
-            code.append((address, length))
-        if text.startswith(".debug_"):
-            debug[text[len(".debug_") : len(".debug_") + 8]] = whole[offset : offset + length]
-    return companion(debug, code, arch, number)
+class Elf:
+    """An ELF file of 64 bits: its code, its DWARF sections by the names that Mach-O cuts, and its functions."""
+
+    def __init__(self, path: pathlib.Path) -> None:
+        self.whole = path.read_bytes()
+        table, size, count, names = struct.unpack_from("<Q10xHHH", self.whole, 40)
+        headers = [struct.unpack_from("<IIQQQQI", self.whole, table + size * place) for place in range(count)]
+        self.code: List[Code] = []
+        self.debug: Dict[str, bytes] = {}
+        self.functions: List[Symbol] = []
+        for name, kind, flags, address, offset, length, link in headers:
+            text = self.text(headers[names][4] + name)
+            if flags & EXECUTED:
+                self.code.append((address, length))
+            if text.startswith(b".debug_"):
+                self.debug[text[7:15].decode()] = self.whole[offset : offset + length]
+            if kind == SYMBOLS:
+                self.add_functions(offset, length, headers[link][4])
+
+    def text(self, at: int) -> bytes:
+        return self.whole[at : self.whole.index(b"\0", at)]
+
+    def add_functions(self, offset: int, length: int, names: int) -> None:
+        for at in range(offset, offset + length, 24):
+            name, info, _, section, value = struct.unpack_from("<IBBHQ", self.whole, at)
+            if info & 15 == FUNCTION and section:
+                self.functions.append((b"_" + self.text(names + name), value))
+
+    def companion(self, arch: str, number: int, with_symbols: bool = False) -> bytes:
+        return companion(self.debug, self.code, arch, number, self.functions if with_symbols else ())
 
 
 # ---- built ones
@@ -117,7 +158,7 @@ class Recipe(NamedTuple):
         else:
             objects = self.compile(folder, target)
         output(tool("ld.lld"), f"--image-base={LOWEST:#x}", "-e", "start", "-o", image, *objects)
-        made.write_bytes(of_elf(image, self.arch, zlib.crc32(self.name.encode())))
+        made.write_bytes(Elf(image).companion(self.arch, zlib.crc32(self.name.encode())))
         return made
 
 
