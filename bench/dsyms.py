@@ -1,6 +1,6 @@
-"""A large companion with DWARF, for the benchmark that asks for lines. Clang compiles six units of C++ with containers of
-libstdc++, whose objects are linked seven times, each time under other names of symbols. The companion has the sections
-that dsymutil would write, packed from an ELF file, and its symbols."""
+"""A large companion with DWARF, for the benchmark that asks for lines. Clang compiles six units of C++ with containers
+of libstdc++, whose objects are linked seven times, each time under other names of symbols. The companion has the
+sections that dsymutil would write, packed from an ELF file, and its symbols."""
 import struct
 import subprocess
 from concurrent.futures import ThreadPoolExecutor
