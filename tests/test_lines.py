@@ -1,29 +1,33 @@
 """Source lines and inlined frames beside those of LLVM's tools: of the companions that tests/fixtures/lines keeps, by
 the model and by the program, and of others that clang, lld and dsymutil build, by the model; these are left out without
-clang, lld and llvm."""
+clang, lld and llvm; and what the program prints of companions with changed bytes beside the model."""
 import pathlib
+import random
 import struct
 import unittest
 import uuid
 from typing import Dict, List, Optional, Sequence, Tuple
 
+from .model.contents import archive_of
 from .model.dwarf_frames import debug_of, frames_of
 from .model.dwarf_lines import rows_of
 from .model.dwarf_numbers import units_of
 from .model.images import image_of
-from .model.lines import frame_line
+from .model.lines import answer_lines, frame_line
 from .support import kept_lines, llvm, made_dsyms
 from .support.cases import FolderCase, ProgramCase, Without, same
-from .support.made_images import EMPTY, WORDS, index
+from .support.made_images import EMPTY, WORDS, archive, index
 from .support.program import call, symarch
 
 AT_ONCE = 500
+CHANGED, ASKED = 12, 25
 LOAD = 0x7FFF_1234_5000
 
 
 def rows_by_model(content: bytes) -> Dict[int, List[llvm.Row]]:
     """The rows of each program of a companion, by its offset."""
-    section, found = debug_of(content).section("line"), {}
+    section = debug_of(content).section("line")
+    found: Dict[int, List[llvm.Row]] = {}
     for at, end in units_of(section).items():
         found[at] = [(it.address, it.file, it.line, it.column, it.is_end) for it in rows_of(section[at:end])]
     return found
@@ -54,10 +58,24 @@ class Kept(unittest.TestCase):
             same(one.name, [lines_by_model(one.content, it) for it in addresses], wanted)
 
 
-class Printed(ProgramCase):
-    """What `symarch` prints with `--lines`."""
+def key_words(key: bytes) -> List[str]:
+    """A UUID and an architecture."""
+    return [str(uuid.UUID(bytes=key[:16])), WORDS[struct.unpack(">II", key[16:])]]
 
-    seconds = 20
+
+def changed(content: bytes) -> bytes:
+    """A companion with other bytes at some places of its DWARF, and often at the first ones of a section."""
+    made = bytearray(content)
+    sections = [it for it in image_of(content).sections if it.segment == b"__DWARF" and it.size]
+    for _ in range(random.randrange(1, 5)):
+        section = random.choice(sections)
+        size = min(section.size, random.choice((16, 64, section.size)))
+        made[section.offset + random.randrange(size)] = random.choice((0, 1, 0x7F, 0x80, 0xFF, random.randrange(256)))
+    return bytes(made)
+
+
+class LinesCase(ProgramCase):
+    """Cases over a program that has `--lines`."""
 
     def setUp(self) -> None:
         super().setUp()
@@ -65,12 +83,45 @@ class Printed(ProgramCase):
             raise Without("the program has no --lines")
         self.file("empty.sym", EMPTY)
 
+
+class Changed(LinesCase):
+    """Companions whose DWARF has other bytes at some places: what the program prints is what the model says."""
+
+    is_side_by_side = True
+    seconds = 10
+
+    def compare(self, turn: int) -> None:
+        random.seed(turn)
+        for one in kept_lines.kept():
+            images = [changed(one.content) for _ in range(CHANGED)]
+            text = archive(images)
+            self.file("changed.sym", text)
+            key = image_of(one.content).key
+            asked = random.sample(asked_of(one.said)[0], ASKED)
+            answering = archive_of(text).answering(key)
+            wanted = [line for it in asked for line in answer_lines(answering, it, None, True)[0]]
+            words = ["symbolicate", "--lines", "changed.sym", *key_words(key), *map(hex, asked)]
+            same(f"{one.name}, turn {turn}", self.call(*words).lines, wanted)
+
+    def test_0_to_4(self) -> None:
+        for turn in range(5):
+            self.compare(turn)
+
+    def test_5_to_9(self) -> None:
+        for turn in range(5, 10):
+            self.compare(turn)
+
+
+class Printed(LinesCase):
+    """What `symarch` prints with `--lines`."""
+
+    seconds = 20
+
     def key(self, one: kept_lines.Kept) -> List[str]:
         """Admits a companion as NAME.sym, and gives its UUID and architecture."""
         self.file(f"{one.name}.dsym", one.content)
         self.expect(["admit", "empty.sym", f"{one.name}.sym", f"{one.name}.dsym"], prints=None)
-        key = image_of(one.content).key
-        return [str(uuid.UUID(bytes=key[:16])), WORDS[struct.unpack(">II", key[16:])]]
+        return key_words(image_of(one.content).key)
 
     def answers(self, words: Sequence[str], addresses: Sequence[int], moved: int = 0) -> List[List[str]]:
         """The lines of frames of each address; the others have to be those without `--lines`."""
