@@ -2,17 +2,15 @@
 slice of examples/crash, and at sampled ones of images of 20,000 functions that clang and ld64.lld build, also with half
 of their symbols disturbed. Takes some minutes; left out without clang, lld and llvm."""
 import bisect
-import os
 import pathlib
 import random
 import re
-import shutil
 import subprocess
 from typing import Dict, Iterator, List, Optional, Tuple
 
-from .support.cases import ProgramCase, Without
+from .support.cases import ProgramCase
 from .support.crash import CRASH
-from .support.program import Word
+from .support.llvm import output, tool
 
 FUNCTIONS = 20_000
 SAMPLES = 4_000
@@ -21,20 +19,6 @@ SECTIONS = ("__TEXT,__text,regular,pure_instructions", "__TEXT,__hot,regular,pur
 ODD_ENDS = ("", "", "", " of two", "[a\\b]", "é")
 ODD_TYPES = (0x02, 0x03, 0x0E, 0x0F, 0x1E, 0x1F, 0x2E, 0x4F, 0x8E, 0xEF)
 LOAD = 0x7FFF_1234_5000
-
-
-def tool(name: str) -> str:
-    """The path of a tool: by its plain name, or the highest version of it."""
-    versions = [path for folder in os.get_exec_path() for path in pathlib.Path(folder).glob(name + "-[0-9]*")]
-    versions.sort(key=lambda path: int(path.name.rsplit("-", 1)[1]))
-    found = shutil.which(name) or (str(versions[-1]) if versions else None)
-    if found is None:
-        raise Without(f"no {name}: apt-get install clang lld llvm")
-    return found
-
-
-def output(*words: Word) -> bytes:
-    return subprocess.run(words, stdout=subprocess.PIPE, check=True).stdout
 
 
 def one_in(form: str, text: str) -> str:

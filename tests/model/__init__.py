@@ -1,6 +1,9 @@
 """A model of archives and commands that shares nothing with the program. In reading order:
 
 - images            images and universal files
+- dwarf_numbers     numbers, texts, units and values of DWARF; dwarf_entries, dwarf_ranges and dwarf_lines, what is
+                    made of them
+- dwarf_frames      the frames of an address
 - contents          the content of archives, and the texts of files
 - lines             the lines that commands print, and the words that they take
 - worlds            scripts of rehearsals, their sites, and frames

@@ -338,16 +338,16 @@ class Run:
         content = self.join([plan.one["archive"], *plan.more])
         return self.told(name_lines(content, plan.one["name"].encode()))
 
-    @takes("archive uuid arch address*", is_asking=True, indexes=ANY_NUMBER)
+    @takes("archive uuid arch address*", is_asking=True, indexes=ANY_NUMBER, is_telling_lines=True)
     def run_symbolicate(self, plan: Plan) -> int:
         images = self.asked_of(plan, plan.key).answering(plan.key)
-        return self.answered([answer_lines(images, it, plan.load) for it in plan.addresses])
+        return self.answered([answer_lines(images, it, plan.load, plan.lines) for it in plan.addresses])
 
     def answered(self, answers: Sequence[Tuple[List[str], bool]]) -> int:
         self.tell([line for lines, _ in answers for line in lines])
         return 0 if all(is_one for _, is_one in answers) else 1
 
-    @takes("frames archives*", indexes=ANY_NUMBER)
+    @takes("frames archives*", indexes=ANY_NUMBER, is_telling_lines=True)
     def run_frames(self, plan: Plan) -> int:
         self.test_indexes(plan.archives, plan.indexes)
         frames = read_frames(self.whole(plan.one["frames"], "frames"))
@@ -356,7 +356,7 @@ class Run:
         keys = sorted({frame.key for frame in frames})
         content = self.asked(plan.archives, plan.indexes, keys)
         images = {key: content.answering(key) for key in keys}
-        return self.answered([answer_lines(images[it.key], it.address, it.load) for it in frames])
+        return self.answered([answer_lines(images[it.key], it.address, it.load, plan.lines) for it in frames])
 
     @takes("archive out", indexes=1)
     def run_summary(self, plan: Plan) -> int:

@@ -22,12 +22,13 @@ def le(b: bytes, at: int, width: int) -> int:
 
 
 class Section(NamedTuple):
-    """A section: the names of its segment and of itself, its first address and its size."""
+    """A section: the names of its segment and of itself, its first address, its size, and where its bytes begin."""
 
     segment: bytes
     name: bytes
     addr: int
     size: int
+    offset: int
 
 
 class Candidate(NamedTuple):
@@ -158,7 +159,7 @@ def text_in(b: bytes, at: int) -> bytes:
 
 
 def section_at(b: bytes, at: int) -> Section:
-    return Section(text_in(b, at + 16), text_in(b, at), le(b, at + 32, 8), le(b, at + 40, 8))
+    return Section(text_in(b, at + 16), text_in(b, at), le(b, at + 32, 8), le(b, at + 40, 8), le(b, at + 48, 4))
 
 
 def fault_of_symtab(b: bytes, symtab: Optional[Tuple[int, ...]]) -> Optional[str]:

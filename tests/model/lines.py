@@ -1,13 +1,16 @@
 """The lines that commands print, and the words that they take, told a second time by docs/COMMANDS.md."""
 import itertools
+import re
 import struct
 from typing import List, Optional, Sequence, Set, Tuple
 
 from .contents import RETIREMENT, Content
+from .dwarf_frames import Frame, frames_of
 from .images import Candidate, Image, image_of, sha
 
 ARCHS = {(0x01000007, 3): "x86_64", (0x01000007, 8): "x86_64h", (0x0100000C, 0): "arm64", (0x0100000C, 2): "arm64e"}
 HEX = set("0123456789abcdefABCDEF")
+AT = re.compile(" (?=at( |$))")
 
 # A key, what stands under it, and its digest.
 Row = Tuple[bytes, str, bytes]
@@ -88,6 +91,11 @@ def own(image: Image, address: int, load: Optional[int]) -> Tuple[Optional[Candi
     return (image.nearest(moved), moved) if 0 <= moved < 1 << 64 else (None, address)
 
 
+def is_of_file(image: Image, address: int, load: Optional[int]) -> bool:
+    """Whether an address of memory stands for one of the image's file."""
+    return load is None or image.base is not None and 0 <= address - load + image.base < 1 << 64
+
+
 def answer_text(image: Image, address: int, load: Optional[int]) -> str:
     found, moved = own(image, address, load)
     if found is None:
@@ -95,16 +103,34 @@ def answer_text(image: Image, address: int, load: Optional[int]) -> str:
     return f"{escaped(found.name)} + {moved - found.value} {section_text(image, found.sect)}"
 
 
-def answer_lines(images: Sequence[Image], address: int, load: Optional[int] = None) -> Tuple[List[str], bool]:
-    """The lines of an address, and whether its answer is one symbol."""
+def frame_line(frame: Frame) -> str:
+    """The line of a frame. A space of the name that could be taken for that before `at ` is escaped."""
+    name = "?" if frame.name is None else AT.sub(r"\\x20", escaped(frame.name))
+    path = "?" if frame.path is None else escaped(frame.path)
+    return f"    {name} at {path}:{frame.line}:{frame.column}"
+
+
+def frame_lines(image: Image, address: int, load: Optional[int]) -> List[str]:
+    if not is_of_file(image, address, load):
+        return []
+    return [frame_line(it) for it in frames_of(image.bytes, own(image, address, load)[1])]
+
+
+def answer_lines(
+    images: Sequence[Image], address: int, load: Optional[int] = None, with_frames: bool = False
+) -> Tuple[List[str], bool]:
+    """The lines of an address, with those of its frames after each slice's if they are asked for; and whether its
+    answer is one symbol."""
     shown = address_text(address)
     if not images:
         return [f"{shown} ?"], False
     texts = [answer_text(it, address, load) for it in images]
+    frames = [frame_lines(it, address, load) if with_frames else [] for it in images]
     if len(images) == 1:
-        return [f"{shown} {texts[0]}"], texts[0] != "-"
+        return [f"{shown} {texts[0]}", *frames[0]], texts[0] != "-"
     several = [f"  {sha(it.bytes).hex()} {text}" for it, text in zip(images, texts)]
-    return [f"{shown} !{len(images)}", *several], False
+    lines = [line for front, those in zip(several, frames) for line in (front, *those)]
+    return [f"{shown} !{len(images)}", *lines], False
 
 
 def name_lines(content: Content, name: bytes) -> List[str]:

@@ -10,11 +10,13 @@ ANY_NUMBER = 1 << 62
 
 class Taken(NamedTuple):
     """What a command takes: its words by their names, in their order, of which the last may stand several times, with
-    a star after it; whether it asks several archives by `--with`; and how often `--index` may stand."""
+    a star after it; whether it asks several archives by `--with`; how often `--index` may stand; and whether `--lines`
+    may."""
 
     words: Sequence[str]
     is_asking: bool
     indexes: int
+    is_telling_lines: bool
 
 
 # What each command takes, by its name; `takes` notes it.
@@ -22,11 +24,13 @@ TAKEN: Dict[str, Taken] = {}
 Method = TypeVar("Method", bound=Callable[..., int])
 
 
-def takes(words: str, is_asking: bool = False, indexes: int = 0) -> Callable[[Method], Method]:
+def takes(
+    words: str, is_asking: bool = False, indexes: int = 0, is_telling_lines: bool = False
+) -> Callable[[Method], Method]:
     """Notes what the command takes that a method `run_` and its name carries out."""
 
     def note(method: Method) -> Method:
-        TAKEN[method.__name__[len("run_") :]] = Taken(words.split(), is_asking, indexes)
+        TAKEN[method.__name__[len("run_") :]] = Taken(words.split(), is_asking, indexes, is_telling_lines)
         return method
 
     return note
@@ -55,6 +59,7 @@ class Plan:
         self.command = words[0]
         self.taken = TAKEN[self.command]
         self.load: Optional[int] = None
+        self.lines = False
         self.more: List[str] = []
         self.indexes: List[str] = []
         self.one: Dict[str, str] = {}
@@ -83,6 +88,8 @@ class Plan:
                 found.append(word)
             elif word == "--":
                 return found + left
+            elif word == "--lines" and self.taken.is_telling_lines and not self.lines:
+                self.lines = True
             else:
                 self.take_option(*self.option(word, left))
         return found

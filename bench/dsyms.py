@@ -1,0 +1,103 @@
+"""A large companion with DWARF, for the benchmark that asks for lines. Clang compiles six units of C++ with containers
+of libstdc++, whose objects are linked seven times, each time under other names of symbols. The companion has the
+sections that dsymutil would write, packed from an ELF file, and its symbols."""
+import struct
+import subprocess
+from concurrent.futures import ThreadPoolExecutor
+
+from measure import folder
+from tests.support.llvm import output, tool
+from tests.support.made_dsyms import Elf
+
+UNITS, COPIES, KINDS = 6, 7, 12
+LOWEST = 0x1_0000_0000
+INCLUDES = ("algorithm", "deque", "functional", "map", "memory", "set", "string", "unordered_map", "vector")
+# What a unit has of each of its kinds, whose number is K.
+KIND = """
+struct ItemK {
+    std::string name;
+    std::vector<long> numbers;
+    long weight = 1;
+    bool operator<(const ItemK &other) const
+    {
+        return weight < other.weight || (weight == other.weight && name < other.name);
+    }
+};
+
+long workK(const std::vector<std::string> &words, long seed)
+{
+    std::map<std::string, ItemK> by_name;
+    std::unordered_map<long, std::shared_ptr<ItemK>> by_number;
+    std::set<ItemK> ordered;
+    std::deque<ItemK> waiting;
+    for (const auto &word : words) {
+        auto &item = by_name[word];
+        item.name = word;
+        item.numbers.push_back(seed + item.weight++);
+        by_number.emplace(seed++, std::make_shared<ItemK>(item));
+        ordered.insert(item);
+        waiting.push_back(item);
+    }
+    std::function<long(const ItemK &)> rate = [seed](const ItemK &item) {
+        long all = seed;
+        for (auto number : item.numbers)
+            all = all * 31 + number;
+        return all;
+    };
+    std::vector<ItemK> sorted(ordered.begin(), ordered.end());
+    std::sort(sorted.begin(), sorted.end(), [&](const ItemK &a, const ItemK &b) { return rate(a) < rate(b); });
+    std::stable_sort(waiting.begin(), waiting.end());
+    long all = 0;
+    for (const auto &item : sorted)
+        all += rate(item) + by_number.count(item.weight) + by_name.count(item.name);
+    for (const auto &item : waiting)
+        all ^= rate(item);
+    return all;
+}
+"""
+
+
+def source(unit):
+    """The text of a unit."""
+    kinds = (KIND.replace("K", f"{unit}_{number}") for number in range(KINDS))
+    return "".join(f"#include <{it}>\n" for it in INCLUDES) + "".join(kinds)
+
+
+def objects(unit):
+    """The object of a unit, under seven names of its symbols."""
+    place, made = folder / f"unit{unit}.cc", folder / f"unit{unit}.o"
+    place.write_text(source(unit))
+    words = ["-target", "x86_64-linux-gnu", "-std=c++17", "-g", "-gdwarf-4", "-gdwarf-aranges", "-O2", "-fPIC"]
+    output(tool("clang++"), *words, f"-fdebug-prefix-map={folder}=/src", "-c", place, "-o", made)
+    copies = [folder / f"unit{unit}-{number}.o" for number in range(COPIES)]
+    for number, copy in enumerate(copies):
+        output(tool("llvm-objcopy"), f"--prefix-symbols=c{number}_", made, copy)
+    for path in (place, made):
+        path.unlink()
+    return copies
+
+
+def large_companion():
+    """The path of the companion, which is made if it is not there: that takes some minutes."""
+    path = folder / "lines-large.dsym"
+    if not path.exists():
+        with ThreadPoolExecutor(4) as threads:
+            copies = sum(threads.map(objects, range(UNITS)), [])
+        image = folder / "lines.so"
+        subprocess.run([tool("ld.lld"), "-shared", f"--image-base={LOWEST:#x}", "-o", image, *copies], check=True)
+        elf = Elf(image)
+        for file in (*copies, image):
+            file.unlink()
+        # The names as they were before `c0_` and the like came before them.
+        elf.functions = [(name[:1] + name[len("_c0_") :], value) for name, value in elf.functions]
+        path.write_bytes(elf.companion("x86_64", 0, with_symbols=True))
+    return path
+
+
+def code_of(companion):
+    """The address and the size of the largest section of code of a companion."""
+    with companion.open("rb") as file:
+        front = file.read(1 << 16)
+    count = struct.unpack_from("<I", front, 32 + 64)[0]
+    sections = (struct.unpack_from("<QQ", front, 32 + 72 + 80 * number + 32) for number in range(count))
+    return max(sections, key=lambda it: it[1])

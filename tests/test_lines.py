@@ -1,0 +1,224 @@
+"""Source lines and inlined frames beside those of LLVM's tools: of the companions that tests/fixtures/lines keeps, by
+the model and by the program, and of others that clang, lld and dsymutil build, by the model; these are left out without
+clang, lld and llvm; and what the program prints of companions with changed bytes beside the model."""
+import pathlib
+import random
+import struct
+import unittest
+import uuid
+from typing import Dict, List, Optional, Sequence, Tuple
+
+from .model.contents import archive_of
+from .model.dwarf_frames import debug_of, frames_of
+from .model.dwarf_lines import rows_of
+from .model.dwarf_numbers import units_of
+from .model.images import image_of
+from .model.lines import answer_lines, frame_line
+from .support import kept_lines, llvm, made_dsyms
+from .support.cases import FolderCase, ProgramCase, Without, same
+from .support.made_images import EMPTY, WORDS, archive, index
+from .support.program import call, symarch
+
+AT_ONCE = 500
+CHANGED, ASKED = 12, 25
+LOAD = 0x7FFF_1234_5000
+
+
+def rows_by_model(content: bytes) -> Dict[int, List[llvm.Row]]:
+    """The rows of each program of a companion, by its offset."""
+    section = debug_of(content).section("line")
+    found: Dict[int, List[llvm.Row]] = {}
+    for at, end in units_of(section).items():
+        found[at] = [(it.address, it.file, it.line, it.column, it.is_end) for it in rows_of(section[at:end])]
+    return found
+
+
+def lines_by_model(content: bytes, address: int) -> List[str]:
+    return [frame_line(it) for it in frames_of(content, address)]
+
+
+def asked_of(said: kept_lines.Said) -> Tuple[List[int], List[List[str]]]:
+    """All addresses of what was said, and the lines of each."""
+    addresses = [it for first, last, _ in said.spans for it in range(first, last)]
+    return addresses, [lines for first, last, lines in said.spans for _ in range(first, last)]
+
+
+class Kept(unittest.TestCase):
+    """The kept companions."""
+
+    def test_rows(self) -> None:
+        for one in kept_lines.kept():
+            same(one.name, rows_by_model(one.content), one.said.rows)
+
+    def test_frames(self) -> None:
+        """At each byte of the code and beside it."""
+        for one in kept_lines.kept():
+            addresses, wanted = asked_of(one.said)
+            self.assertGreater(len(addresses), 200, one.name)
+            same(one.name, [lines_by_model(one.content, it) for it in addresses], wanted)
+
+
+def key_words(key: bytes) -> List[str]:
+    """A UUID and an architecture."""
+    return [str(uuid.UUID(bytes=key[:16])), WORDS[struct.unpack(">II", key[16:])]]
+
+
+def changed(content: bytes) -> bytes:
+    """A companion with other bytes at some places of its DWARF, and often at the first ones of a section."""
+    made = bytearray(content)
+    sections = [it for it in image_of(content).sections if it.segment == b"__DWARF" and it.size]
+    for _ in range(random.randrange(1, 5)):
+        section = random.choice(sections)
+        size = min(section.size, random.choice((16, 64, section.size)))
+        made[section.offset + random.randrange(size)] = random.choice((0, 1, 0x7F, 0x80, 0xFF, random.randrange(256)))
+    return bytes(made)
+
+
+class LinesCase(ProgramCase):
+    """Cases over a program that has `--lines`."""
+
+    def setUp(self) -> None:
+        super().setUp()
+        if b"--lines" not in call([symarch, "symbolicate", "--help"]).out:
+            raise Without("the program has no --lines")
+        self.file("empty.sym", EMPTY)
+
+
+class Changed(LinesCase):
+    """Companions whose DWARF has other bytes at some places: what the program prints is what the model says."""
+
+    is_side_by_side = True
+    seconds = 10
+
+    def compare(self, turn: int) -> None:
+        random.seed(turn)
+        for one in kept_lines.kept():
+            images = [changed(one.content) for _ in range(CHANGED)]
+            text = archive(images)
+            self.file("changed.sym", text)
+            key = image_of(one.content).key
+            asked = random.sample(asked_of(one.said)[0], ASKED)
+            answering = archive_of(text).answering(key)
+            wanted = [line for it in asked for line in answer_lines(answering, it, None, True)[0]]
+            words = ["symbolicate", "--lines", "changed.sym", *key_words(key), *map(hex, asked)]
+            same(f"{one.name}, turn {turn}", self.call(*words).lines, wanted)
+
+    def test_0_to_4(self) -> None:
+        for turn in range(5):
+            self.compare(turn)
+
+    def test_5_to_9(self) -> None:
+        for turn in range(5, 10):
+            self.compare(turn)
+
+
+class Printed(LinesCase):
+    """What `symarch` prints with `--lines`."""
+
+    seconds = 20
+
+    def key(self, one: kept_lines.Kept) -> List[str]:
+        """Admits a companion as NAME.sym, and gives its UUID and architecture."""
+        self.file(f"{one.name}.dsym", one.content)
+        self.expect(["admit", "empty.sym", f"{one.name}.sym", f"{one.name}.dsym"], prints=None)
+        return key_words(image_of(one.content).key)
+
+    def answers(self, words: Sequence[str], addresses: Sequence[int], moved: int = 0) -> List[List[str]]:
+        """The lines of frames of each address; the others have to be those without `--lines`."""
+        found: List[List[str]] = []
+        for place in range(0, len(addresses), AT_ONCE):
+            asked = [*words, *(hex(it + moved) for it in addresses[place : place + AT_ONCE])]
+            plain, came = self.call("symbolicate", *asked), self.call("symbolicate", "--lines", *asked)
+            self.assertEqual((came.status, came.errors), (plain.status, plain.errors))
+            self.assertEqual([it for it in came.lines if not it.startswith("    ")], plain.lines)
+            found += kept_lines.frames_in(came.lines)
+        return found
+
+    def test_symbolicate(self) -> None:
+        for one in kept_lines.kept():
+            words = [f"{one.name}.sym", *self.key(one)]
+            addresses, wanted = asked_of(one.said)
+            same(one.name, self.answers(words, addresses), wanted)
+            text = image_of(one.content).base
+            assert text is not None
+            loaded = self.answers([*words, "--load", hex(LOAD)], addresses, LOAD - text)
+            same(f"{one.name}, loaded", loaded, wanted)
+
+    def test_with_an_index(self) -> None:
+        for one in kept_lines.kept():
+            words = [f"{one.name}.sym", *self.key(one), "--index", f"{one.name}.idx"]
+            self.file(f"{one.name}.idx", index([one.content]))
+            addresses, wanted = asked_of(one.said)
+            same(one.name, self.answers(words, addresses), wanted)
+
+    def test_frames(self) -> None:
+        """Frames of all companions in turn, over their archives."""
+        asked: List[Tuple[str, List[str]]] = []
+        archives = []
+        for one in kept_lines.kept():
+            key = " ".join(self.key(one))
+            archives.append(f"{one.name}.sym")
+            asked += [(f"{key} - {address:#x}\n", lines) for address, lines in zip(*asked_of(one.said))]
+        asked.sort(key=lambda it: it[0][::-1])
+        self.file("crash.frames", "".join(line for line, _ in asked))
+        came = self.call("frames", "--lines", "crash.frames", *archives)
+        same("frames", kept_lines.frames_in(came.lines), [lines for _, lines in asked])
+
+
+class Built(FolderCase):
+    """Companions that are built here."""
+
+    is_side_by_side = True
+    seconds = 15
+
+    def symbols(self, path: pathlib.Path) -> Dict[int, List[str]]:
+        """The names of the symbols at each address, as the table of symbols has them."""
+        found: Dict[int, List[str]] = {}
+        for line in llvm.output(llvm.tool("llvm-nm"), "--format=posix", path).decode().splitlines():
+            name, _, value = line.split()[:3]
+            found.setdefault(int(value, 16), []).append(name[1:] if name.startswith("_") else name)
+        return found
+
+    def as_here(self, lines: List[str], ours: List[str], names: Optional[List[str]]) -> List[str]:
+        """What LLVM says, with our outermost name where it takes that of a symbol instead: of a unit that has no
+        linkage names."""
+        if lines and ours and lines != ours and names is not None:
+            name, at, rest = lines[-1].partition(" at ")
+            if name.strip() in names:
+                return [*lines[:-1], ours[-1].partition(" at ")[0] + at + rest]
+        return lines
+
+    def compare(self, path: pathlib.Path) -> None:
+        content = path.read_bytes()
+        said = kept_lines.said_by_llvm(path)
+        same(str(path), rows_by_model(content), said.rows)
+        names = [name for its in self.symbols(path).values() for name in its] if "tables" in str(path) else None
+        frames = 0
+        for address, lines in zip(*asked_of(said)):
+            ours = lines_by_model(content, address)
+            same(f"{path} {address:#x}", ours, self.as_here(lines, ours, names))
+            frames += len(ours)
+        self.assertGreater(frames, 200, path)
+
+    def compare_all(self, arch: str, linker: str) -> None:
+        for recipe in made_dsyms.all_recipes():
+            if (recipe.arch, recipe.linker) == (arch, linker):
+                self.compare(recipe.build(self.folder))
+
+    def test_dsymutil_arm64(self) -> None:
+        self.compare_all("arm64", "ld64.lld")
+
+    def test_dsymutil_x86_64(self) -> None:
+        self.compare_all("x86_64", "ld64.lld")
+
+    def test_packed_arm64(self) -> None:
+        self.compare_all("arm64", "ld.lld")
+
+    def test_packed_x86_64(self) -> None:
+        self.compare_all("x86_64", "ld.lld")
+
+    def test_together_arm64(self) -> None:
+        self.compare_all("arm64", "llvm-link")
+
+    def test_together_x86_64(self) -> None:
+        self.compare_all("x86_64", "llvm-link")
