@@ -96,7 +96,8 @@ class Added(JsonCase):
         """The end has what is not known as null, and the words on standard error."""
         self.room.file("one", image(1))
         self.room.file("site.sym", b"no archive")
-        for word, more in (("add", ["one"]), ("status", []), ("check", []), ("list", [])):
+        words: Dict[str, List[str]] = {"add": ["one"], "status": [], "check": [], "list": []}
+        for word, more in words.items():
             status = 2 if word == "list" else 4
             out, errors = self.room.call(word, "--json", self.room.path / "gone/a.sym", *more, status=status)
             said = errors[0].partition(": ")[2]

@@ -6,7 +6,7 @@ import subprocess
 import sys
 import time
 import unittest
-from typing import Any, List, Optional, Tuple
+from typing import Any, Dict, List, Optional, Tuple
 from unittest import mock
 
 from .support.cases import same
@@ -36,7 +36,8 @@ class TerminalCase(RoomCase):
     def start(self, terminal: Terminal, step: float, *words: Any, **more: Any) -> "subprocess.Popen[bytes]":
         """A word by a clock of steps, with a terminal as standard error."""
         before = [sys.executable, "-BI", "-c", CLOCKED, str(step)]
-        return self.room.start(*words, before=before, **{"stderr": terminal.writer, **more})
+        streams: Dict[str, Any] = {"stderr": terminal.writer, **more}
+        return self.room.start(*words, before=before, **streams)
 
     def shown(
         self, *words: Any, step: float = 1, columns: int = 80, status: int = 0, **more: Any

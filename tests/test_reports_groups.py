@@ -6,7 +6,7 @@ import signal
 import subprocess
 import sys
 import time
-from typing import Any, List, Optional, Sequence, Tuple
+from typing import Any, Dict, List, Optional, Sequence, Tuple
 
 from .support.kills import interrupted
 from .support.program import call, symarch
@@ -181,8 +181,9 @@ class Groups(GroupCase):
         line = b"Last Exception Backtrace:\n(0x104d38470 0x104d383f8)\n\n"
         crash = source("crash")
         self.file("in/a.crash", crash.replace(b"Thread 0 Crashed", line + b"Thread 0 Crashed", 1))
-        for name, frames in (("b", [(1136, 0), (1016, 0)]), ("c", []), ("d", [(3, 1), (5, 1), (7, 1)])):
-            self.file(f"in/{name}.ips", self.with_exception(frames))
+        frames: Dict[str, List[Tuple[int, int]]] = {"b": [(1136, 0), (1016, 0)], "c": [], "d": [(3, 1), (5, 1), (7, 1)]}
+        for name, backtrace in frames.items():
+            self.file(f"in/{name}.ips", self.with_exception(backtrace))
         self.grouped(
             ["in", "shipped"],
             "2\tspool_one (spool); file_message (spool)\tin/a.crash",

@@ -81,11 +81,12 @@ class Json(ReportCase):
 
     def test_what_fails(self) -> None:
         crash = CRASHES / "arm64.crash"
-        for words, status, fault in (
+        failing: List[Tuple[List[Any], int, str]] = [
             ([crash, "gone.sym"], 2, "symarch: archive 0: cannot open"),
             (["gone.ips", "shipped"], 2, "gone.ips: No such file or directory"),
             (["--out", "/dev/null", crash, "shipped"], 2, "/dev/null: File exists"),
-        ):
+        ]
+        for words, status, fault in failing:
             found, end, _ = self.objects(*words, status=status)
             self.assertEqual((end["faults"][0], end["images"] if "images" in end else None), (fault, None))
             self.assertEqual(end["reports"], 0 if "gone.ips" in words else None)
