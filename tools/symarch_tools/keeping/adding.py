@@ -32,6 +32,11 @@ For each slice a line is printed after ARCHIVE is in place, in the order in whic
 DIGEST is the SHA-256 that `symarch-keep find` prints. PATH is printed as UTF-8; the backslash, each byte that is no
 UTF-8 and each byte of a character that does not print, as a newline, stand as \x and two hex digits.
 
+ARCHIVE.builds keeps of each slice that is added or known the name of its file, the day in UTC, and the bundle
+identifier, version and build of Info.plist, which `symarch-keep list` prints: of the innermost bundle that states an
+identifier, as .dSYM, .app, .framework or .xcarchive. An Info.plist that is damaged, or of more than 65536 bytes, says
+nothing, and keeps nothing out. Of the same name the first day stays.
+
 The lines are kept in ARCHIVE.log too, with the date. If no slice is new, ARCHIVE is not touched, and what it has is
 not read again. What is new goes into ARCHIVE.today, so that ARCHIVE is not written anew, and is asked together with it;
 `symarch-keep fold` joins the two. An `add` does so by itself where it finds more than a tenth of ARCHIVE in
@@ -57,6 +62,7 @@ from typing import Dict, List, Sequence, Set, Union
 
 from .archive import Archive
 from .archive_file import NO_UUID, ArchiveFile
+from .builds import rest_of, today
 from .contents import Content
 from .packed import ZIP
 from .program import DESCRIPTORS, Program
@@ -143,9 +149,11 @@ def put_new(
         if is_dry_run:
             return refusals(program, new)
         lines = [one.line() for one in slices]
+        archive.builds.news = {rest_of(it.entry(), it.build): today() for it in slices if it.word != "retired"}
         if not new:
             if archive.main.exists():
                 archive.log.note(lines, screen)
+                archive.keep_builds(screen)
             return []
         news = Content((), {one.entry(): one.length for one in new})
         with archive.room() as room:
@@ -215,6 +223,7 @@ def carry_out(words: argparse.Namespace) -> int:
             finder.places[STANDARD_INPUT] = standard_input(ends)
         finder.find(paths)
         readable = read_all(finder.slices, screen)
+        finder.name_builds()
         # Where nothing was found nothing is made beside an archive that is not there.
         is_writing = not words.dry_run and (archive.main.exists() or bool(readable))
         archive = Archive(os.fsencode(words.archive), is_made=True, writes=is_writing)

@@ -11,6 +11,7 @@ from ..signals import signals
 from . import upgrading
 from .archive_file import INDEX, INDEX_SUM, NEXT_INDEX, ArchiveFile
 from .archive_file import size_of, write_synced
+from .builds import Builds
 from .contents import EMPTY, Content, heads_in
 from .indexes import Index, Row, held_against, index_by, index_in, index_of
 from .lock import Lock
@@ -46,6 +47,8 @@ class Archive(Placing):
                 raise Failed(f"{shown(named)} is no archive{f', but {look}' if look else ''}")
         self.lock = Lock(self.path, writes)
         self.lost = Lost(self.beside(LOST))
+        # Whether names of builds were damaged as the word began.
+        self.had_damaged_builds = False
 
     def take_lock(self, screen: Screen) -> None:
         """Waits until no other call has the lock, and goes on where one was killed."""
@@ -55,9 +58,20 @@ class Archive(Placing):
             signals.at_end.append(self.remove_rooms)
             self.remove_rooms()
             self.go_on(screen)
+        self.builds = Builds(self.path)
+        self.had_damaged_builds = self.say_damaged_builds(screen)
+        if self.had_damaged_builds and self.writes:
+            self.keep_builds(screen)
         self.lost = Lost(self.beside(LOST))
         if self.lost.fault:
             screen.fail(f"{shown(self.lost.path)}: {self.lost.fault}, so what is lost is not known")
+
+    def say_damaged_builds(self, screen: Screen) -> bool:
+        """Says what is damaged of the names of builds, if something is. The rest counts."""
+        fault = self.builds.fault()
+        if fault:
+            screen.fail(f"{shown(self.builds.path)}: {fault}")
+        return bool(fault)
 
     def release_lock(self) -> None:
         if self.remove_rooms in signals.at_end:
@@ -276,6 +290,7 @@ class Archive(Placing):
                 file.drop(NEXT_INDEX, upgrading.NEXT_SUM)
         if not following and not before:
             self.log.drop_pending()
+            self.builds.drop_next()
         self.upgrade(screen)
 
     def upgrade(self, screen: Screen) -> None:

@@ -1,8 +1,8 @@
-"""ARCHIVE.builds: of which app, version, build and file each slice is, and the day on which that came in. ARCHIVE.builds.next
-is the one of a new archive that is being put in place. docs/FILES.md has the bytes.
+"""ARCHIVE.builds: of which app, version, build and file each slice is, and the day on which that came in; and
+ARCHIVE.builds.next, that of a new archive which is being put in place. docs/FILES.md has the bytes.
 
-What two files have together is the union of their lines, where of lines that differ in the day alone the earliest stays.
-So sites that know the same have the same bytes, in whatever order it came."""
+What two files have together is the union of their lines, where of lines that differ in the day alone the earliest
+stays. So sites that know the same have the same bytes, in whatever order it came."""
 import contextlib
 import datetime
 import functools
@@ -69,14 +69,14 @@ def today() -> bytes:
     return time.strftime("%Y-%m-%d", time.gmtime()).encode()
 
 
-@functools.lru_cache(maxsize=None)
+@functools.lru_cache(maxsize=4096)
 def is_day(text: bytes) -> bool:
     with contextlib.suppress(ValueError):
         return datetime.date.fromisoformat(text.decode()).isoformat() == text.decode()
     return False
 
 
-@functools.lru_cache(maxsize=None)
+@functools.lru_cache(maxsize=4096)
 def is_arch(text: bytes) -> bool:
     """Whether it is an architecture as it is printed, and of a slice."""
     with contextlib.suppress(ValueError):
@@ -111,12 +111,19 @@ def is_framed(text: bytes) -> bool:
 
 
 def lines_of(text: bytes) -> Iterator[Tuple[int, bytes]]:
-    """The lines between the first and the last one, with their numbers. One that is not its first or last is one too."""
+    """The lines between the first and the last one, with their numbers. What should be one of these two, and is not,
+    is a line too."""
     first, last = FRAME
     for number, line in enumerate(io.BytesIO(text), 1):
         is_frame = line == first if number == 1 else line.startswith(last) and len(line) == len(last) + 65
         if not is_frame:
             yield number, line[:-1] if line.endswith(b"\n") else line
+
+
+def add_line(days: Days, line: Tuple[bytes, bytes]) -> None:
+    """Adds what follows the day in a line, and the day."""
+    rest, day = line
+    days[rest] = min(day, days.get(rest, day))
 
 
 def earliest(days: Days, more: Mapping[bytes, bytes]) -> Days:
@@ -148,18 +155,21 @@ class Builds:
         """The lines of the file that are as they were written."""
         if self.is_whole:
             return {line[REST_AT:]: line[DAY_AT : REST_AT - 1] for _, line in lines_of(self.text)}
-        return dict(filter(None, (line_in(line) for _, line in lines_of(self.text))))
+        days: Days = {}
+        for line in filter(None, (line_in(line) for _, line in lines_of(self.text))):
+            add_line(days, line)
+        return days
 
     def fault(self) -> str:
         """What is damaged of the file; nothing if it is whole or not there."""
         bad = [] if self.is_whole else [number for number, line in lines_of(self.text) if not line_in(line)]
         if len(bad) > 1:
-            return f"line {bad[0]} and {len(bad) - 1} others are damaged"
-        return f"line {bad[0]} is damaged" if bad else "" if self.is_whole else "lines of it are lost"
+            return f"line {bad[0]} and {len(bad) - 1} others are damaged, and passed over"
+        return f"line {bad[0]} is damaged, and passed over" if bad else "" if self.is_whole else "lines of it are lost"
 
     def is_changed(self) -> bool:
         """Whether the file has to be written."""
-        return not self.is_whole or earliest(self.known, self.news) is not self.known
+        return not self.is_whole or bool(self.news) and earliest(self.known, self.news) is not self.known
 
     def new_text(self) -> bytes:
         """What the file has to have."""
@@ -186,14 +196,32 @@ class Builds:
             found.setdefault(entry_in(uuid, arch, digest), []).append(Named(day.decode(), Build(*words)))
         return found
 
-    def of(self, held: Iterable[bytes]) -> Dict[bytes, List[Named]]:
-        """Of each slice of an archive the lines that name its app. One that has none is of the apps of its UUID and
-        architecture; if there are none either, it has the lines without an app."""
-        every = self.of_slices()
-        of_keys: Dict[bytes, List[Named]] = {}
+    def of(self, held: Iterable[bytes]) -> "Lines":
+        return Lines(self.of_slices(), held)
+
+
+class Lines:
+    """The lines of the slices that an archive has. Each version of an app has the first day on which a slice of its
+    UUID and architecture came in."""
+
+    def __init__(self, every: Dict[bytes, List[Named]], held: Iterable[bytes]) -> None:
+        self.every = every
+        self.of_keys: Dict[bytes, List[Named]] = {}
         for entry in held:
-            of_keys.setdefault(entry[:KEY], []).extend(every.get(entry, []))
-        return {it: with_app(every.get(it, [])) or with_app(of_keys[it[:KEY]]) or every.get(it, []) for it in held}
+            self.of_keys.setdefault(entry[:KEY], []).extend(every.get(entry, []))
+        self.first: Dict[Tuple[bytes, Tuple[str, ...]], str] = {}
+        for key, lines in self.of_keys.items():
+            for one in lines:
+                at = key, one.build[:3]
+                self.first[at] = min(one.day, self.first.get(at, one.day))
+        self.of_keys = {key: self.dated(key, with_app(lines) or lines) for key, lines in self.of_keys.items()}
+
+    def dated(self, key: bytes, lines: Iterable[Named]) -> List[Named]:
+        return sorted({one._replace(day=self.first[key, one.build[:3]]) for one in lines})
+
+    def of_slice(self, entry: bytes) -> List[Named]:
+        """Those that name the app of a slice."""
+        return self.dated(entry[:KEY], with_app(self.every.get(entry, [])))
 
 
 def with_app(lines: Iterable[Named]) -> List[Named]:

@@ -3,7 +3,7 @@ import os
 import re
 import uuid
 
-from .builds import is_day
+from .builds import MOST_OF_FIELD, field, is_day
 from .contents import numbers_of
 from .screen import Failed, shown
 
@@ -53,6 +53,14 @@ def name_of(word: str) -> str:
     except UnicodeEncodeError:
         raise other_form("NAME", word, "UTF-8 text") from None
     return word
+
+
+def app_of(word: str) -> str:
+    """An identifier of a bundle, as it stands in a line of ARCHIVE.builds."""
+    text = os.fsencode(word)
+    if not 0 < len(text) <= MOST_OF_FIELD:
+        raise other_form("ID", word, f"1 to {MOST_OF_FIELD} bytes")
+    return field(text)
 
 
 def day_of(word: str) -> str:

@@ -13,7 +13,8 @@ Each UUID and architecture has a line for each version of an app that it is of, 
 DAY is the first one on which it came in at a site, in UTC; BYTES counts its slices together; NAME is that of its file.
 APP, VERSION and BUILD are of the Info.plist of its bundle. ? stands for what nothing says, as of slices that came in
 before names were kept: `add` of their files names them. A slice without an app is of those of its UUID and
-architecture. What is retired has no line. A space in APP, VERSION or BUILD stands as \\x20.
+architecture. What is retired has no line. A space in APP, VERSION or BUILD stands as \\x20. A name that is damaged in
+ARCHIVE.builds is said and passed over, and the status is 2.
 
 Both archives are asked by their indexes, so no slice is read. An archive without an index is read whole. No lock is
 taken, and nothing is written.
@@ -21,20 +22,20 @@ taken, and nothing is written.
 Status:
   0    they are printed
   1    there is no such build
-  2    an archive, or what is beside it, could not be read or vouched for, or a line not be printed
+  2    an archive, or what is beside it, is damaged, or could not be read or vouched for, or a line not be printed
   3    the words have another form
   126  there is no program"""
 import argparse
 import os
-from typing import Dict, List, NamedTuple, Optional, Set, Tuple
+from typing import Dict, List, NamedTuple, Optional, Tuple
 
 from .asking import Asked, opened_archive, show
-from .builds import Build, Builds, Named, field, field_shown
+from .builds import Build, Builds, Named, field_shown
 from .checking import index_read
 from .contents import KEY, words_of
-from .forms import day_of
+from .forms import app_of, day_of
 from .indexes import HEAD, Row
-from .screen import Screen, shown
+from .screen import Screen
 
 USAGE = "symarch-keep list [--app ID] [--since DATE] ARCHIVE"
 ABOUT = "print its builds by their names"
@@ -81,27 +82,23 @@ def listed(asked: Asked, builds: Builds, screen: Screen) -> List[Listed]:
     """The builds of which the archives have slices, in the order of their lines."""
     held = held_by(asked, screen)
     of_keys: Dict[bytes, List[Row]] = {}
-    names: Dict[bytes, Set[Named]] = {}
-    for entry, lines in builds.of(held).items():
-        of_keys.setdefault(entry[:KEY], []).append(held[entry])
-        names.setdefault(entry[:KEY], set()).update(lines)
-    found: List[Listed] = []
+    for entry, row in held.items():
+        of_keys.setdefault(entry[:KEY], []).append(row)
+    lines, found = builds.of(held), []
     for key, rows in of_keys.items():
         uuid, arch, _ = words_of(key).split(" ")
         size, has_dsym = sum(row.length - HEAD for row in rows), any(row.is_companion for row in rows)
-        for day, build in first_of(names[key]):
+        for day, build in first_of(lines.of_keys[key]):
             found.append(Listed(day, *map(field_shown, build), uuid, arch, size, has_dsym))
     return [one if one.day else one._replace(day="?") for one in sorted(found)]
 
 
-def first_of(lines: Set[Named]) -> List[Named]:
-    """The first line of each version of an app. Other lines differ in the name of the file."""
-    if not lines:
-        return [Named(NO_DAY, Build())]
+def first_of(lines: List[Named]) -> List[Named]:
+    """The first line of each version of an app. Others of it differ in the name of the file."""
     first: Dict[Tuple[str, ...], Named] = {}
-    for one in sorted(lines):
+    for one in lines:
         first.setdefault(one.build[:3], one)
-    return list(first.values())
+    return list(first.values()) or [Named(NO_DAY, Build())]
 
 
 def fits(one: Listed, app: Optional[str], since: str) -> bool:
@@ -110,10 +107,8 @@ def fits(one: Listed, app: Optional[str], since: str) -> bool:
 
 def carry_out(words: argparse.Namespace) -> int:
     since, screen = day_of(words.since) if words.since is not None else "", Screen()
-    app = None if words.app is None else field_shown(field(os.fsencode(words.app)))
+    app = None if words.app is None else field_shown(app_of(words.app))
     with opened_archive(os.fsencode(words.archive)) as asked:
-        builds = Builds(asked.archive.path)
-        if builds.fault():
-            screen.fail(f"{shown(builds.path)}: {builds.fault()}, and passed over")
-        lines = [one.line() for one in listed(asked, builds, screen) if fits(one, app, since)]
+        asked.archive.say_damaged_builds(screen)
+        lines = [one.line() for one in listed(asked, asked.archive.builds, screen) if fits(one, app, since)]
     return show(lines, screen, 0 if lines else 1)

@@ -1,9 +1,10 @@
 """The folder of an archive: the rooms in which a word works there, the files that are kept beside the archive, and how
 a new file takes the place of one.
 
-That goes by four steps: ARCHIVE.log.next, FILE.idx.sum and FILE.idx.next are written, the archive is renamed, the lines
-are added to ARCHIVE.log, and FILE.idx.next becomes FILE.idx. Whoever comes after a kill sees by the file which of these
-were done, and does the others."""
+That goes by five steps: ARCHIVE.log.next, FILE.idx.sum, FILE.idx.next and, if names came in, ARCHIVE.builds.next are
+written, the archive is renamed, ARCHIVE.builds.next becomes ARCHIVE.builds, the lines are added to ARCHIVE.log, and
+FILE.idx.next becomes FILE.idx. Whoever comes after a kill sees by the file which of these were done, and does the
+others."""
 import contextlib
 import os
 import shutil
@@ -14,10 +15,11 @@ from typing import Iterator, List, Optional, Sequence
 from ..signals import signals
 from .archive_file import INDEX, INDEX_SUM, NEXT_INDEX, ArchiveFile
 from .archive_file import note_of, sync_folder, write_synced
+from .builds import Builds
 from .contents import Content, kept_text
 from .indexes import Index
 from .log import Log, dated
-from .screen import Screen, shown
+from .screen import Screen, shown, system_text
 
 # What a kill may leave; rooms are folders in which a word works.
 ROOM = b".making-"
@@ -30,7 +32,7 @@ class Placing:
         self.path = path
         self.folder, self.name = os.path.split(path)
         self.rooms_made = 0
-        self.log = Log(path, self.room)
+        self.log, self.builds = Log(path, self.room), Builds(path)
 
     def beside(self, ending: bytes) -> bytes:
         return self.path + ending
@@ -68,6 +70,8 @@ class Placing:
         before = self.log.pending()
         try:
             self.lay(room, self.log.next, before + dated(lines))
+            if self.builds.is_changed():
+                self.lay(room, self.builds.next, self.builds.new_text())
             self.lay_index(room, file, NEXT_INDEX, index, new)
             self.give_rights(new)
             # What is known of the new archive is there before it.
@@ -75,6 +79,7 @@ class Placing:
             os.replace(new, file.path)
         except OSError:
             file.drop(NEXT_INDEX)
+            self.builds.drop_next()
             self.log.leave_pending(len(before))
             raise
         sync_folder(self.folder)
@@ -92,10 +97,25 @@ class Placing:
     ) -> None:
         """The steps after the rename. The archive has all, also where one of them fails."""
         try:
+            if self.builds.put_next():
+                # It is there before the index goes that says so.
+                sync_folder(self.folder)
+                self.builds = Builds(self.path)
             self.log.add_pending()
             os.replace(file.beside(following), file.beside(last))
         except OSError as error:
             screen.fail(f"{shown(self.log.path)}: {error.strerror}; the archive has all, and the next call goes on")
+
+    def keep_builds(self, screen: Screen) -> None:
+        """Keeps names of builds that came in where no archive is written. What is damaged of them is gone then."""
+        if not self.builds.is_changed():
+            return
+        try:
+            with self.room() as room:
+                self.lay(room, self.builds.path, self.builds.new_text())
+            self.builds = Builds(self.path)
+        except OSError as error:
+            screen.fail(system_text(error, self.builds.path))
 
     def lay(self, room: bytes, path: bytes, data: bytes) -> None:
         """Makes a file beside the archive, whole and synced."""

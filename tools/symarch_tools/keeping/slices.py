@@ -9,6 +9,8 @@ import stat
 import struct
 from typing import BinaryIO, Callable, Dict, Iterable, Iterator, List, Optional, Sequence, Set, Tuple
 
+from .builds import Build
+from .bundles import MOST_OF_LIST, Bundles
 from .contents import CHUNK, KEY, TOO_LARGE, head_of, words_of
 from .looks import MOST_LOOKED_AT, ONE, look_of
 from .packed import Damaged, Member, Packed, Unpacker, is_of_dsym, packed_at
@@ -58,7 +60,9 @@ class Slice:
         self.opens = opens
         self.head = head_of(key, length)
         self.digest: Optional[bytes] = None
-        self.word = ""
+        self.word, self.build = "", Build()
+        # The name of a member, and of the file that has it.
+        self.member: Optional[Tuple[bytes, bytes]] = None
 
     def open(self) -> BinaryIO:
         return self.opens() if self.opens else open(self.path, "rb", buffering=0)
@@ -112,6 +116,8 @@ class Finder:
         self.path, self.name = b"", b""
         self.over: List[str] = []
         self.opens: Optional[Callable[[], BinaryIO]] = None
+        self.member: Optional[Tuple[bytes, bytes]] = None
+        self.bundles = Bundles()
         self.unpacker = Unpacker()
         # What stands where in the place of its name.
         self.places: Dict[bytes, bytes] = {}
@@ -133,10 +139,16 @@ class Finder:
             except (Damaged, SliceRefused) as refused:
                 self.screen.refuse(self.name, refused)
 
+    def name_builds(self) -> None:
+        """Notes of each slice what is known of its build, once all was found."""
+        for one in self.slices:
+            path, packed = one.member or (one.name, None)
+            one.build = self.bundles.build_of(path, packed)
+
     def begin_file(self, path: bytes, name: bytes) -> None:
         self.files += 1
         self.screen.progress(self.files)
-        self.path, self.name, self.over, self.opens = path, name, [], None
+        self.path, self.name, self.over, self.opens, self.member = path, name, [], None, None
 
     def take_path(self, size: int, is_named: bool) -> None:
         before = len(self.slices)
@@ -152,6 +164,7 @@ class Finder:
         for member in packed.members():
             self.begin_file(path, name + b": " + member.name)
             self.opens = functools.partial(self.unpacker.open, packed, member.number)
+            self.member = member.name, name
             found = len(self.slices)
             try:
                 self.take_member(member)
@@ -172,15 +185,28 @@ class Finder:
             self.screen.line(f"{shown(name)}: {packed.kind} that holds {others or what}")
 
     def take_member(self, member: Member) -> None:
+        is_list = Bundles.is_list(member.name)
         if self.dsyms_only and not is_of_dsym(member.name):
+            if is_list:
+                self.take_list(member)
             self.pass_over(OUTSIDE)
             return
-        front = member.read(8)
-        if front[:4] == THIN or front[:4] in UNIVERSAL and not is_java(front):
+        front = self.take_list(member) if is_list else member.read(8)
+        if front[:4] == THIN or front[:4] in UNIVERSAL and not is_java(front[:8]):
             with member.unpacked(front) as file:
                 self.take_file(file, file.seek(0, os.SEEK_END))
         else:
             self.take_file(io.BytesIO(front), len(front))
+
+    def take_list(self, member: Member) -> bytes:
+        """Takes what an Info.plist says of its bundle, and returns what was read of it: nothing of one that is
+        damaged."""
+        assert self.member
+        with contextlib.suppress(Damaged, OSError):
+            text = member.read(MOST_OF_LIST + 1)
+            self.bundles.take(self.member[1], member.name, text)
+            return text
+        return b""
 
     def say_look(self, file: BinaryIO) -> None:
         """Says of a file that was named, and of which nothing goes in, what it is."""
@@ -241,6 +267,7 @@ class Finder:
         key = key_of(front, file, length - len(front)) if front[:4] == THIN else None
         if key is not None:
             self.slices.append(Slice(self.path, part, offset, length, size, key, self.name, self.opens))
+            self.slices[-1].member = self.member
         elif front[:4] == THIN:
             self.pass_over(f"{'object files' if front[12] == MH_OBJECT else 'images'} without a UUID", part)
         else:

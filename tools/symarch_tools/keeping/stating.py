@@ -17,7 +17,7 @@ more: it is not looked for then, and no word ends with 2 for it. Its lines are k
 
 Status:
   0    it is printed, and nothing is lost
-  2    something is lost, or some line could not be printed or kept
+  2    something is lost, names of builds are damaged, or some line could not be printed or kept
   3    the words have another form
   4    ARCHIVE or ARCHIVE.today could not be read, or ARCHIVE.lost not be written
   126  there is no program"""
@@ -28,6 +28,7 @@ from typing import Counter, List, NamedTuple, Sequence
 
 from .archive import ASKED, TODAY, Archive
 from .archive_file import NEXT_INDEX, ArchiveFile
+from .builds import NEXT_BUILDS
 from .contents import DIGEST, KEY, RETIREMENT, Content, Malformed, digest_in, record_size, records_in
 from .indexes import HEAD, is_companion
 from .log import NEXT_LOG
@@ -51,6 +52,8 @@ def carry_out(words: argparse.Namespace) -> int:
         archive.take_lock(screen)
         archive.content(Program(), screen)
         accept(archive, screen)
+    else:
+        archive.say_damaged_builds(screen)
     lines = numbers_of([record for file in archive.files if file.exists() for record in records_of(file, screen)])
     lines += [f"bytes {archive.main.size()}"] + [f"today {archive.today.size()}"] * archive.today.exists()
     lost = lost_lines(lost_of(archive, screen))
@@ -154,6 +157,6 @@ def left_of(archive: Archive) -> List[str]:
     """What a kill left. What belongs to one that works now is not."""
     if archive.writes or not archive.lock.is_free():
         return []
-    paths = [archive.beside(ending) for ending in (NEXT_INDEX, TODAY + NEXT_INDEX, NEXT_LOG)]
+    paths = [archive.beside(ending) for ending in (NEXT_INDEX, TODAY + NEXT_INDEX, NEXT_LOG, NEXT_BUILDS)]
     paths += [os.path.join(archive.folder, name) for name in archive.rooms()]
     return [f"left {shown(path)}" for path in paths if os.path.exists(path)]
