@@ -101,23 +101,26 @@ class Screen:
             else:
                 self.write(text)
 
-    def show(self, lines: Iterable[str]) -> None:
-        """Prints lines on standard output, which may be the terminal on which the progress stands."""
+    def show(self, lines: Iterable[str]) -> bool:
+        """Prints lines on standard output, which may be the terminal on which the progress stands. Returns whether that
+        was done, or is held back."""
         text = "".join(f"{line}\n" for line in lines)
         if self.held is not None:
             self.held.append((1, text))
-        else:
-            self.write("")
-            self.print(text)
+            return True
+        self.write("")
+        return self.print(text)
 
-    def print(self, text: str) -> None:
+    def print(self, text: str) -> bool:
         try:
             write(1, text.encode())
+            return True
         except BrokenPipeError:
             # Nobody reads on, as after `head`, and nobody has to be told.
             self.has_failed = True
         except OSError as error:
             self.fail(f"standard output: {error.strerror}")
+        return False
 
     def status(self, otherwise: int = 0) -> int:
         """The status of the word, after which nothing is said. Nothing is wrong if that is 0."""
