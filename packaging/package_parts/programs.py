@@ -174,9 +174,9 @@ def commands_of_tool(path: pathlib.Path, name: str, text: str) -> Tuple[List[For
     for one in filter(None, found):
         its = said([path, one[1], "--help"])
         usages = usages_in(its, name)
-        form = form_of(usages[0], names_in(usages), one[2] or "", options_in(its))
-        forms.append(form)
-        helps.append(f"### `{form.usage}`\n\n{prose_in(its, name)}")
+        names, options = names_in(usages), options_in(its)
+        forms += [form_of(usage, names, one[2] or "", options) for usage in usages]
+        helps.append("".join(f"### `{usage}`\n\n" for usage in usages) + prose_in(its, name))
     return forms, helps
 
 

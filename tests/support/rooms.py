@@ -27,7 +27,7 @@ def compiled() -> str:
 # The tool that the environment variable KEEP names, or else that of this tree.
 keep = os.environ.get("KEEP") or compiled()
 # What stays beside an archive.
-BESIDE = ("lock", "log", "idx", "idx.sum", "today", "today.idx", "today.idx.sum", "asked", "site", "lost")
+BESIDE = ("lock", "log", "idx", "idx.sum", "today", "today.idx", "today.idx.sum", "asked", "site", "lost", "builds")
 
 
 def today_of(archive: Union[str, pathlib.Path]) -> pathlib.Path:
