@@ -518,9 +518,9 @@ def steps_of(room: Room, trace: pathlib.Path) -> List[str]:
     return [step.replace(f"fsync {room.path.name}", "fsync folder") for step in steps]
 
 
-def put_in_place(name: str, *more: str) -> List[str]:
-    """The steps by which a file takes the place of one, and those of its log."""
-    steps = laid("site.sym.log.next", f"{name}.idx.sum", f"{name}.idx.next")
+def put_in_place(name: str, *more: str, names: str = "") -> List[str]:
+    """The steps by which a file takes the place of one, and those of its names and its log."""
+    steps = laid("site.sym.log.next", *([names] if names else []), f"{name}.idx.sum", f"{name}.idx.next")
     steps += ["fsync folder", f"replace new {name}", "fsync folder"]
     return steps + [*more, f"replace {name}.idx.next {name}.idx"]
 
@@ -547,7 +547,10 @@ class InPlace(RoomCase):
         how: Dict[str, Any] = {"before": [sys.executable, "-c", TRACE], "environment": {"TRACE": str(trace)}}
         self.room.add("one", **how)
         self.room.has(archive([image(1), image(2)]))
-        steps = laid("site.sym.idx.sum", "site.sym.idx") + put_in_place("site.sym.today", "fsync site.sym.log")
+        builds = "site.sym.builds"
+        rest = f"replace {builds}.next {builds}", "fsync folder", "fsync site.sym.log"
+        steps = laid("site.sym.idx.sum", "site.sym.idx")
+        steps += put_in_place("site.sym.today", *rest, names=f"{builds}.next")
         same("steps of add", steps_of(self.room, trace), steps)
         with open(self.room.archive, "rb") as old, open(today_of(self.room.archive), "rb") as old_today:
             self.room.call("fold", self.room.archive, **how)

@@ -61,7 +61,7 @@ class ThreeSites(RoomCase):
         until_same(self.sites, wanted)
         folded(self.sites, wanted)
         kinds = {name.split(".")[1] for name in os.listdir(self.sites[0].folder)}
-        self.assertEqual(kinds, {"asks", "is"}, "kinds of files that stay")
+        self.assertEqual(kinds, {"asks", "builds", "is"}, "kinds of files that stay")
 
     def test_all_at_once(self) -> None:
         made = [image(number, more=bytes(1000)) for number in range(3)]

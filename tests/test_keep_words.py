@@ -1,8 +1,10 @@
 """`retire`, `status` and dry runs of symarch-keep; each word that writes on a full disk, and where files may have no
 more bytes; and the command lines of docs/OPERATING.md. What has to be in an archive is made by tests.support, from
 docs/FILES.md."""
+import hashlib
 import os
 import pathlib
+import plistlib
 import re
 import resource
 import shutil
@@ -11,7 +13,7 @@ import subprocess
 from typing import List, NamedTuple, Tuple
 
 from .support.cases import Without, digest_of, is_done, pieces_in, same
-from .support.made_images import EMPTY, archive, image, line, slice_words
+from .support.made_images import EMPTY, archive, image, line, slice_text, slice_words, slices_in
 from .support.program import TOP, call, symarch
 from .support.rooms import RoomCase, keep, today_of
 from .support.sites import DATE, Site, bring_back, state_of
@@ -209,6 +211,7 @@ class FullDiskCase(RoomCase):
         same(f"{what}: status", status == 4, "; the archive is as it was\n" in said)
         if status == 4:
             same(f"{what}: whether both are as they were", came == word.states[0], True)
+            same(f"{what}: whether names were kept", os.path.exists(f"{self.room.archive}.builds"), False)
         (self.disk / "full").unlink()
         if status:
             self.room.call(*words)
@@ -334,6 +337,16 @@ class Operating(RoomCase):
         inside = self.folder / "dSYMs/spool.app.dSYM/Contents/Resources/DWARF"
         inside.mkdir(parents=True)
         shutil.copy(crash / "spool-1.dSYM", inside / "spool")
+        stated = {"CFBundleIdentifier": "com.apple.xcode.dsym.com.example.spool"}
+        (inside.parents[1] / "Info.plist").write_bytes(plistlib.dumps(stated))
+        # The dSYM came in long ago.
+        lines = []
+        for made in slices_in((crash / "spool-1.dSYM").read_bytes()):
+            text = f"2025-06-01 {slice_text(made)} com.example.spool ? ? spool"
+            lines.append(f"{hashlib.sha256(text.encode()).hexdigest()[:16]} {text}\n")
+        names = f"symarch-keep 1\n{''.join(sorted(lines, key=lambda it: it[17:]))}"
+        names += f"sha256 {hashlib.sha256(names.encode()).hexdigest()}\n"
+        self.room.file("builds.sym.builds", names.encode())
         shutil.copy(crash / "spool-2", self.folder / "dSYMs/spool-2")
         shutil.make_archive(str(self.folder / "dSYMs"), "zip", self.folder, "dSYMs")
         shutil.copy(crash / "arm64.ips", self.folder / "report.ips")
@@ -372,7 +385,7 @@ class Operating(RoomCase):
 
     def test_each_example_names_what_it_retires(self) -> None:
         """No line retires what happens to stand there: what is retired are the slices of the file that it says."""
-        retiring = [one for one in self.lines() if " retire " in one]
+        retiring = [one for one in self.lines() if " retire " in one and " --app " not in one]
         for one in retiring:
             self.assertRegex(one, " [0-9a-f-]{36} [a-z0-9_]+ [0-9a-f]{64}$")
         self.carry_out("symarch-keep add builds.sym dSYMs")
@@ -386,6 +399,18 @@ class Operating(RoomCase):
         same("retired", sorted(retired), sorted(wanted))
         self.assertEqual(len(added), 2)
 
+    def test_old_builds_of_an_app(self) -> None:
+        """The lines retire the dSYM of the app, and nothing else."""
+        self.carry_out("symarch-keep add builds.sym dSYMs")
+        known = self.carry_out("symarch-keep add builds.sym dSYMs/spool.app.dSYM").splitlines()
+        first, second = [one for one in self.lines() if " retire " in one and " --app " in one]
+        told = self.carry_out(first)
+        self.assertEqual(self.carry_out(second), told)
+        wanted = sorted(one.split(" ")[1:4] for one in known)
+        self.assertEqual(sorted(one.split(" ")[1:4] for one in told.splitlines()), wanted)
+        listed = self.carry_out("symarch list builds.sym.today").splitlines()
+        same("retired", sorted([it[0], *it[1:4:2]] for it in map(str.split, listed) if "retired" in it), wanted)
+
     def test_a_backup_before_a_first_exchange(self) -> None:
         found = re.search(r"^## Backup and restore\n.*?```sh\n(.*?)```.*?```sh\n(.*?)```", self.text, re.M | re.S)
         assert found
@@ -393,6 +418,8 @@ class Operating(RoomCase):
         before = (self.folder / "builds.sym").read_bytes()
         for one in found[1].splitlines():
             self.carry_out(one)
+        names = (self.folder / "builds.sym.builds").read_bytes()
+        self.assertEqual((self.folder / "backup/builds.sym.builds").read_bytes(), names)
         (self.folder / "builds.sym").write_bytes(EMPTY)
         for one in found[2].splitlines()[:2]:
             self.carry_out(one)

@@ -179,13 +179,15 @@ def listed_options(options: Iterable[Option]) -> str:
 def commands_of_tool(path: pathlib.Path, name: str, text: str) -> Tuple[List[Form], List[str]]:
     """The commands of a tool, and the help of each below its form."""
     found = [COMMAND.fullmatch(it) for it in section(text, "positional arguments")]
+    every = [(one, said([path, one[1], "--help"])) for one in found if one]
+    # An argument has one help, whichever command shows it.
+    arguments = {argument: help for _, its in every for argument, help in helps_in(its).items()}
     forms, helps = [], []
-    for one in filter(None, found):
-        its = said([path, one[1], "--help"])
+    for one, its in every:
         usages = usages_in(its, name)
-        form = form_of(usages[0], names_in(usages), one[2] or "", options_in(its), helps_in(its))
-        forms.append(form)
-        helps.append(f"### `{form.usage}`\n\n{prose_in(its, name)}")
+        names, options = names_in(usages), options_in(its)
+        forms += [form_of(usage, names, one[2] or "", options, arguments) for usage in usages]
+        helps.append("".join(f"### `{usage}`\n\n" for usage in usages) + prose_in(its, name))
     return forms, helps
 
 

@@ -5,6 +5,7 @@ Examples:
   symarch-keep add builds.sym dSYMs               puts the images and dSYMs of a folder into it
   symarch-keep find builds.sym UUID               prints what it has of a UUID
   symarch-keep name builds.sym _copy_body         prints which builds have a symbol, and where
+  symarch-keep list builds.sym                    prints its builds by name: app, version, build, day
   symarch-keep exchange builds.sym shared east    exchanges with the other sites over a folder
   symarch-keep check builds.sym                   finds each byte that changed on the disk
   symarch-keep fold builds.sym                    joins what came in lately into it, as at night
@@ -13,7 +14,7 @@ The program is the one that SYMARCH names; else the one that ./symarch built, or
 `symarch` in PATH. None is built here: if SYMARCH names the script ./symarch, the program that it built is called.
 
 What comes in goes into ARCHIVE.today, a small archive beside ARCHIVE, and `fold` joins it into ARCHIVE. What a site has
-is what both have together: `find`, `symbolicate` and `name` ask both, and so does `symbolicate-report`.
+is what both have together: `find`, `symbolicate`, `name` and `list` ask both, and so does `symbolicate-report`.
 
 A word that is called with --quiet, and ends with 0, prints nothing; one that ends otherwise prints what it would print
 without it. So cron, which mails what is printed, mails what is wrong.
@@ -47,10 +48,10 @@ wait, but for those that ask. The new file is written in a folder ARCHIVE.making
 ARCHIVE. What a kill leaves the next call removes.
 
 Beside them stand their indexes, ARCHIVE.idx and ARCHIVE.today.idx, with the SHA-256 of each slice as it came in and
-where it stands; ARCHIVE.idx.sum and ARCHIVE.today.idx.sum, the SHA-256 of each index; ARCHIVE.log, the lines of the
-words with their dates; ARCHIVE.asked, what `exchange` asked with; ARCHIVE.site, which tells this site from another one
-of its name; and ARCHIVE.lost, what was there and is not, if there is such. Keep them with ARCHIVE. An archive of
-version 1 has no index, and becomes one of version 2 by the next word that writes."""
+where it stands; ARCHIVE.idx.sum and ARCHIVE.today.idx.sum, the SHA-256 of each index; ARCHIVE.builds, the names of
+builds; ARCHIVE.log, the lines of the words with their dates; ARCHIVE.asked, what `exchange` asked with; ARCHIVE.site,
+which tells this site from another one of its name; and ARCHIVE.lost, what was there and is not, if there is such. Keep
+them with ARCHIVE. An archive of version 1 has no index, and becomes one of version 2 by the next word that writes."""
 import argparse
 import os
 import sys
@@ -167,7 +168,10 @@ def parse(words: Sequence[str]) -> argparse.Namespace:
     else:
         parser.refuse_options(words)
     found, others = parser.parse_known_args(words)
-    if others:
+    if "more" in found:
+        # Words that follow an option, which the module takes for others.
+        found.more += others
+    elif others:
         parsers[first].error(f"`{shown(others[0])}` is one word too many")
     options = parsers[first].options_in(words[1:])
     found.refuse_order = lambda: refuse_order(first, options, parsers[first].names_in(found))

@@ -6,12 +6,13 @@
 - screen            what is said, and the faults
 - indexes           the index of an archive: its bytes, and what changed by it
 - looks             what a file looks like of which nothing goes in
+- builds            the names of builds: ARCHIVE.builds
+- bundles           what Info.plist and the path say of a slice
 - slices            what files and folders have
 - program           the program symarch
 - upgrading         what was kept before there were indexes
 - archive_file      an archive file, and what is known of it
 - lock              the lock of an archive
-- builds            the names of builds: ARCHIVE.builds
 - log               the lines of the words with their dates
 - losing            what was there and is not
 - placing           the folder of an archive, and how a new file takes the place of one
@@ -23,7 +24,6 @@
 - symbolicating     `symbolicate`
 - naming            `name`
 - listing           `list`
-- bundles           what Info.plist and the path say of a slice
 - adding            `add`
 - folding           `fold`
 - retiring          `retire`
@@ -31,5 +31,6 @@
 - checking          `check`, and what changed
 - repairing         `repair`
 - shared_folder     the questions and answers of sites, by their names
+- telling           how sites tell each other the names of builds
 - exchanging        `exchange`
 """

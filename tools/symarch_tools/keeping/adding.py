@@ -33,6 +33,11 @@ For each slice a line is printed after ARCHIVE is in place, in the order in whic
 DIGEST is the SHA-256 that `symarch-keep find` prints. PATH is printed as UTF-8; the backslash, each byte that is no
 UTF-8 and each byte of a character that does not print, as a newline, stand as \x and two hex digits.
 
+ARCHIVE.builds keeps of each slice that is added or known the name of its file, the day in UTC, and the bundle
+identifier, version and build of Info.plist, which `symarch-keep list` prints: of the innermost bundle that states an
+identifier, as .dSYM, .app, .framework or .xcarchive. An Info.plist that is damaged, or of more than 65536 bytes, says
+nothing, and keeps nothing out. Of the same name the first day stays.
+
 The lines are kept in ARCHIVE.log too, with the date. If no slice is new, ARCHIVE is not touched, and what it has is
 not read again. What is new goes into ARCHIVE.today, so that ARCHIVE is not written anew, and is asked together with it;
 `symarch-keep fold` joins the two. An `add` does so by itself where it finds more than a tenth of ARCHIVE in

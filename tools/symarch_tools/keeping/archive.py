@@ -50,6 +50,8 @@ class Archive(Placing):
                 raise Failed(f"{shown(named)} is no archive{f', but {look}' if look else ''}")
         self.lock = Lock(self.path, writes)
         self.lost = Lost(self.beside(LOST))
+        # Whether names of builds were damaged as the word began.
+        self.had_damaged_builds = False
 
     def take_lock(self, screen: Screen) -> None:
         """Waits until no other call has the lock, and goes on where one was killed."""
@@ -60,7 +62,8 @@ class Archive(Placing):
             self.remove_rooms()
             self.go_on(screen)
         self.builds = Builds(self.path)
-        if self.say_damaged_builds(screen) and self.writes:
+        self.had_damaged_builds = self.say_damaged_builds(screen)
+        if self.had_damaged_builds and self.writes:
             self.keep_builds(screen)
         self.lost = Lost(self.beside(LOST))
         if self.lost.fault:

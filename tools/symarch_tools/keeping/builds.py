@@ -1,8 +1,8 @@
-"""ARCHIVE.builds: of which app, version, build and file each slice is, and the day on which that came in. ARCHIVE.builds.next
-is the one of a new archive that is being put in place. docs/FILES.md has the bytes.
+"""ARCHIVE.builds: of which app, version, build and file each slice is, and the day on which that came in; and
+ARCHIVE.builds.next, that of a new archive which is being put in place. docs/FILES.md has the bytes.
 
-What two files have together is the union of their lines, where of lines that differ in the day alone the earliest stays.
-So sites that know the same have the same bytes, in whatever order it came."""
+What two files have together is the union of their lines, where of lines that differ in the day alone the earliest
+stays. So sites that know the same have the same bytes, in whatever order it came."""
 import contextlib
 import datetime
 import functools
@@ -69,14 +69,14 @@ def today() -> bytes:
     return time.strftime("%Y-%m-%d", time.gmtime()).encode()
 
 
-@functools.lru_cache(maxsize=None)
+@functools.lru_cache(maxsize=4096)
 def is_day(text: bytes) -> bool:
     with contextlib.suppress(ValueError):
         return datetime.date.fromisoformat(text.decode()).isoformat() == text.decode()
     return False
 
 
-@functools.lru_cache(maxsize=None)
+@functools.lru_cache(maxsize=4096)
 def is_arch(text: bytes) -> bool:
     """Whether it is an architecture as it is printed, and of a slice."""
     with contextlib.suppress(ValueError):
@@ -111,12 +111,19 @@ def is_framed(text: bytes) -> bool:
 
 
 def lines_of(text: bytes) -> Iterator[Tuple[int, bytes]]:
-    """The lines between the first and the last one, with their numbers. One that is not its first or last is one too."""
+    """The lines between the first and the last one, with their numbers. What should be one of these two, and is not,
+    is a line too."""
     first, last = FRAME
     for number, line in enumerate(io.BytesIO(text), 1):
         is_frame = line == first if number == 1 else line.startswith(last) and len(line) == len(last) + 65
         if not is_frame:
             yield number, line[:-1] if line.endswith(b"\n") else line
+
+
+def add_line(days: Days, line: Tuple[bytes, bytes]) -> None:
+    """Adds what follows the day in a line, and the day."""
+    rest, day = line
+    days[rest] = min(day, days.get(rest, day))
 
 
 def earliest(days: Days, more: Mapping[bytes, bytes]) -> Days:
@@ -148,7 +155,10 @@ class Builds:
         """The lines of the file that are as they were written."""
         if self.is_whole:
             return {line[REST_AT:]: line[DAY_AT : REST_AT - 1] for _, line in lines_of(self.text)}
-        return dict(filter(None, (line_in(line) for _, line in lines_of(self.text))))
+        days: Days = {}
+        for line in filter(None, (line_in(line) for _, line in lines_of(self.text))):
+            add_line(days, line)
+        return days
 
     def fault(self) -> str:
         """What is damaged of the file; nothing if it is whole or not there."""
@@ -159,7 +169,7 @@ class Builds:
 
     def is_changed(self) -> bool:
         """Whether the file has to be written."""
-        return not self.is_whole or earliest(self.known, self.news) is not self.known
+        return not self.is_whole or bool(self.news) and earliest(self.known, self.news) is not self.known
 
     def new_text(self) -> bytes:
         """What the file has to have."""
@@ -210,9 +220,8 @@ class Lines:
         return sorted({one._replace(day=self.first[key, one.build[:3]]) for one in lines})
 
     def of_slice(self, entry: bytes) -> List[Named]:
-        """Those that name the app of a slice. One that has none is of the apps of its UUID and architecture."""
-        own = with_app(self.every.get(entry, []))
-        return self.dated(entry[:KEY], own) if own else self.of_keys[entry[:KEY]]
+        """Those that name the app of a slice."""
+        return self.dated(entry[:KEY], with_app(self.every.get(entry, [])))
 
 
 def with_app(lines: Iterable[Named]) -> List[Named]:

@@ -1,5 +1,6 @@
-"""What the Info.plist of a bundle, and the path, say of an image or a dSYM. An Info.plist that is damaged or hostile says
-nothing: it keeps nothing out."""
+"""What the Info.plist of a bundle, and the path, say of an image or a dSYM. An Info.plist that is damaged or hostile
+says nothing, and keeps nothing out."""
+import itertools
 import os
 import plistlib
 import stat
@@ -14,7 +15,7 @@ ENDINGS = (
 LIST = b"Info.plist"
 # Where a folder in a bundle may have it: that of an app for a phone, of one for a Mac, of a version of a framework.
 PLACES = (LIST, b"Contents/" + LIST, b"Resources/" + LIST)
-# Property lists are read whole. In memory one may become some hundred times as long.
+# Property lists are read whole. In memory one that is binary may become some thousand times as long.
 MOST_OF_LIST = 1 << 16
 # So many folders above a file are looked through.
 MOST_FOLDERS = 40
@@ -114,7 +115,9 @@ class Bundles:
         if path == STANDARD_INPUT and packed is None:
             return Build()
         if packed is None:
-            found = map(self.at, places_above(os.path.abspath(path)))
+            # As it is named, and where it is, if a bundle is named by a link.
+            paths = os.path.abspath(path), os.path.realpath(path)
+            found = map(self.at, itertools.chain.from_iterable(map(places_above, paths)))
         else:
             found = map(self.of_members.get, ((packed, place) for place in places_above(path)))
         stated = next(filter(None, found), Stated(UNKNOWN, UNKNOWN, UNKNOWN))

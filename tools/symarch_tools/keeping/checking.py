@@ -7,14 +7,16 @@ archive. It changes nothing, so it may be called on a disk that is read-only.
   changed ends FILE                               the first 8 or the last 9 bytes are others
   lost UUID ARCH DIGEST                           the slice was there, and neither it nor its retirement is
   lost retired UUID ARCH DIGEST                   the retirement was there, and is not
-  damaged FILE                                    an index, or what is kept of it, is not as symarch-keep wrote it
+  damaged FILE                                    an index, what is kept of it, what is lost, or names of builds are not
+                                                  as symarch-keep wrote them
   unknown FILE                                    nothing says whether the file is as it was
 
 FILE is ARCHIVE, ARCHIVE.today or a file beside them, and OFFSET where in it the record stands, in bytes from the first.
 Something is lost if ARCHIVE was replaced, as by an older one. `symarch-keep repair` mends what changed, and
 `symarch-keep exchange` brings back what is lost. An index that is damaged is made anew by the next word that writes, if
-the file is as it was. A file is unknown before the first word that writes, and if its index is lost or damaged and the
-file is another one. While it reads, other words may write; it reads on in the files that were there.
+the file is as it was. Of names of builds it drops those that are damaged; `exchange` and `add` bring them back. A file
+is unknown before the first word that writes, and if its index is lost or damaged and the file is another one. While it
+reads, other words may write; it reads on in the files that were there.
 
 Status:
   0    all is as it was

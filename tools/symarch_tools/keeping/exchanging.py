@@ -20,6 +20,9 @@ there is joined before it is removed. ARCHIVE.lost has what is lost, and each ca
 or `symarch-keep status --accept` takes it as lost. A slice that changed is not sent. ARCHIVE is made if it does not
 exist; FOLDER is not, so a disk that is not mounted is told.
 
+FOLDER has the names of builds too, ARCHIVE.builds of each site, which this one joins with its own. Names that have
+another form are refused by their lines, and the others are taken.
+
 The lines, which are kept in ARCHIVE.log with the date:
 
   added UUID ARCH DIGEST SITE      the slice came from SITE
@@ -27,11 +30,13 @@ The lines, which are kept in ARCHIVE.log with the date:
   took FILE                        the mark FILE was put into FOLDER by --take-name
   asked FILE                       a question was put into FOLDER
   answered SITE FILE               an answer was put into FOLDER
+  named N SITE                     N names of builds came from SITE
+  told FILE                        ARCHIVE.builds was put into FOLDER, as FILE
 
 Status:
   0    done, also if nothing was to do
-  2    some answer or question was refused, some file of FOLDER not read, written or removed, a slice changed, something
-       is lost, or some line not printed or kept; the rest is done
+  2    some answer, question or name was refused, some file of FOLDER not read, written or removed, a slice changed,
+       something is lost, or some line not printed or kept; the rest is done
   3    the words have another form
   4    ARCHIVE could not be read or written, there is no FOLDER, NAME is another site's, or memory ran out: ARCHIVE is
        as it was
@@ -53,6 +58,7 @@ from .program import Program
 from .screen import Failed, Screen, about, screen_of, shown, system_text
 from .shared_folder import SHORT, SITE, TIME, Answer, Mark, Question, SharedFolder
 from .shared_folder import digest_of, mark_name, question_name, time_after
+from .telling import Telling
 
 USAGE = "symarch-keep exchange [--quiet] [--take-name] ARCHIVE FOLDER NAME"
 ABOUT = "exchange with other sites over a folder"
@@ -144,6 +150,7 @@ class Exchange:
     def __init__(self, archive: Archive, folder: SharedFolder, program: Program, screen: Screen) -> None:
         self.archive, self.folder, self.program, self.screen = archive, folder, program, screen
         self.content, self.asked = archive.content(program, screen), Asked(archive)
+        self.telling = Telling(archive, folder, screen)
         # Names that stay in the folder, and those that are done with; sites of which no answer is removed.
         self.kept: Set[str] = set()
         self.done: Set[str] = set()
@@ -352,9 +359,9 @@ class Exchange:
         left."""
         self.folder.remove_part()
         mine = [one.name for one in self.folder.questions if one.site == self.folder.site]
-        mine += [one.name for one in self.folder.marks]
+        mine += [one.name for one in self.folder.marks] + [*self.telling.own]
         own = (one for one in self.folder.answers if one.site == self.folder.site and one.to not in self.unsure)
-        for name in sorted(self.done.union(mine, (one.name for one in own)) - self.kept):
+        for name in sorted(self.done.union(mine, (one.name for one in own)) - self.kept - self.telling.kept):
             self.folder.remove(name)
 
     def say_what_is_lost(self) -> None:
@@ -410,6 +417,8 @@ def carry_out(words: argparse.Namespace) -> int:
         exchange.join(room)
         # ARCHIVE has all now, so what fails is told, and the rest goes on.
         for step in (
+            exchange.telling.join,
+            exchange.telling.tell,
             lambda: exchange.mark(room, identity, words.take_name),
             lambda: exchange.ask(room),
             lambda: exchange.answer(room),
@@ -417,11 +426,13 @@ def carry_out(words: argparse.Namespace) -> int:
             lambda: exchange.asked.save(room),
         ):
             carry_out_step(step, folder, screen)
-    told = [line for line in exchange.lines if line.startswith(("took ", "asked ", "answered "))]
+    exchange.lines += exchange.telling.lines
+    told = [line for line in exchange.lines if line.startswith(("took ", "asked ", "answered ", "named ", "told "))]
     archive.log.note(told, screen)
     screen.show(exchange.lines)
     exchange.say_what_is_lost()
-    screen.line(f"{counts_of(exchange.lines)}; {exchange.not_whole} not whole, {screen.refused} refused")
+    not_whole = exchange.not_whole + exchange.telling.not_whole
+    screen.line(f"{counts_of(exchange.lines)}; {not_whole} not whole, {screen.refused} refused")
     return screen.status()
 
 

@@ -13,7 +13,8 @@ Each UUID and architecture has a line for each version of an app that it is of, 
 DAY is the first one on which it came in at a site, in UTC; BYTES counts its slices together; NAME is that of its file.
 APP, VERSION and BUILD are of the Info.plist of its bundle. ? stands for what nothing says, as of slices that came in
 before names were kept: `add` of their files names them. A slice without an app is of those of its UUID and
-architecture. What is retired has no line. A space in APP, VERSION or BUILD stands as \\x20.
+architecture. What is retired has no line. A space in APP, VERSION or BUILD stands as \\x20. A name that is damaged in
+ARCHIVE.builds is said and passed over, and the status is 2.
 
 Both archives are asked by their indexes, so no slice is read. An archive without an index is read whole. No lock is
 taken, and nothing is written.
@@ -21,7 +22,7 @@ taken, and nothing is written.
 Status:
   0    they are printed
   1    there is no such build
-  2    an archive, or what is beside it, could not be read or vouched for, or a line not be printed
+  2    an archive, or what is beside it, is damaged, or could not be read or vouched for, or a line not be printed
   3    the words have another form
   126  there is no program"""
 import argparse
@@ -96,7 +97,8 @@ def listed(asked: Asked, builds: Builds, screen: Screen) -> List[Listed]:
         uuid, arch, _ = words_of(key).split(" ")
         size, has_dsym = sum(row.length - HEAD for row in rows), any(row.is_companion for row in rows)
         for day, build in first_of(lines.of_keys[key]):
-            found.append(Listed(day, *map(field_shown, build), uuid, arch, size, has_dsym))
+            app, version, number, name = map(field_shown, build)
+            found.append(Listed(day, app, version, number, name, uuid, arch, size, has_dsym))
     return [one if one.day else one._replace(day="?") for one in sorted(found)]
 
 

@@ -98,6 +98,8 @@ class Placing:
         """The steps after the rename. The archive has all, also where one of them fails."""
         try:
             if self.builds.put_next():
+                # It is there before the index goes that says so.
+                sync_folder(self.folder)
                 self.builds = Builds(self.path)
             self.log.add_pending()
             os.replace(file.beside(following), file.beside(last))

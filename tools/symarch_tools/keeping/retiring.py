@@ -25,9 +25,10 @@ Call `exchange` before, so that this site knows the apps of the others.
 Status:
   0    the slices are retired
   1    neither file has such a slice, and nothing was done
-  2    they are retired, and some line could not be printed or kept; or names of builds are damaged
+  2    they are retired, and some line could not be printed or kept
   3    the words have another form
-  4    ARCHIVE could not be read or written, memory ran out, or lines not be printed before: ARCHIVE is as it was
+  4    ARCHIVE could not be read or written, memory ran out, names of builds were damaged, or lines not be printed
+       before: ARCHIVE is as it was
   126  there is no program"""
 import argparse
 import os
@@ -36,13 +37,14 @@ from typing import Dict, Iterable, List, NamedTuple, Optional, Sequence, Tuple
 from .archive import Archive
 from .archive_file import write_synced
 from .builds import UNKNOWN, Lines, Named, field_shown
-from .contents import END, LENGTH, MAGICS, RETIREMENT, Content, words_of
-from .forms import HELP, app_of, arch_of, day_of, digest_of, other_form, uuid_of
+from .contents import END, KEY, LENGTH, MAGICS, RETIREMENT, Content, words_of
+from .forms import app_of, arch_of, day_of, digest_of, other_form, uuid_of
 from .program import Program
 from .screen import Failed, Screen, screen_of, shown
 
 USAGE = """symarch-keep retire [--quiet] [--dry-run] [--before-it-comes] ARCHIVE UUID ARCH DIGEST
     symarch-keep retire [--quiet] [--dry-run] --app ID --before DATE ARCHIVE"""
+OF_SLICE = ("UUID", "ARCH", "DIGEST")
 ABOUT = "withdraw a slice, or builds of an app, for good"
 
 
@@ -52,28 +54,26 @@ def define(parser: argparse.ArgumentParser) -> None:
     parser.add_argument("--app", metavar="ID", help="the bundle identifier of an app, as `list` prints it")
     parser.add_argument("--before", metavar="DATE", help="what came in before this day of UTC, as YYYY-MM-DD")
     parser.add_argument("archive", metavar="ARCHIVE")
-    for name in ("UUID", "ARCH", "DIGEST"):
-        parser.add_argument(name.lower(), metavar=name, nargs="?", help=HELP.get(name))
+    parser.add_argument("more", metavar=" ".join(OF_SLICE), nargs="*")
     parser.set_defaults(refuse=parser.error)
 
 
 def entry_in(words: argparse.Namespace) -> bytes:
     """The key and the digest that the words mean."""
-    return uuid_of(words.uuid).bytes + arch_of(words.arch) + digest_of(words.digest)
+    uuid, arch, digest = words.more
+    return uuid_of(uuid).bytes + arch_of(arch) + digest_of(digest)
 
 
 def refuse_words(words: argparse.Namespace) -> None:
-    """Refuses words of which it is not clear what they retire."""
-    given = [name for name in ("uuid", "arch", "digest") if vars(words)[name] is not None]
-    if words.app is None and words.before is None:
-        missing = ", ".join(name.upper() for name in ("uuid", "arch", "digest") if name not in given)
-        if missing:
-            words.refuse(f"the following arguments are required: {missing}")
-    elif words.app is None or words.before is None:
-        words.refuse(f"the following arguments are required: {'--app' if words.app is None else '--before'}")
-    elif given or words.before_it_comes:
-        what = shown(vars(words)[given[0]]) if given else "--before-it-comes"
-        words.refuse(f"`{what}` is one word too many: --app and --before say what is retired")
+    """Refuses words that do not say what is retired."""
+    is_of_app = words.app is not None or words.before is not None
+    wanted = {"--app": words.app, "--before": words.before} if is_of_app else dict.fromkeys(OF_SLICE)
+    missing = [name for name, word in wanted.items() if word is None][0 if is_of_app else len(words.more) :]
+    others = words.more if is_of_app else words.more[len(OF_SLICE) :]
+    if missing:
+        words.refuse(f"the following arguments are required: {', '.join(missing)}")
+    elif others or is_of_app and words.before_it_comes:
+        words.refuse(f"`{shown([*others, '--before-it-comes'][0])}` is one word too many")
     elif words.app == UNKNOWN:
         raise other_form("ID", words.app, "the identifier of an app")
 
@@ -130,11 +130,11 @@ def of_app(held: Iterable[bytes], lines: Lines, app: App) -> Tuple[Dict[bytes, N
     """The slices of an app that go, each with its first line; and those that stay, with a line for which they do."""
     going: Dict[bytes, Named] = {}
     staying: Dict[bytes, Named] = {}
-    # Slices without an app have the same lines.
-    found: Dict[int, Tuple[Optional[Named], Optional[Named]]] = {}
+    of_keys = {key: app.found_in(its) for key, its in lines.of_keys.items()}
     for entry in held:
-        its = lines.of_slice(entry)
-        one, other = found.setdefault(id(its), found.get(id(its)) or app.found_in(its))
+        own = lines.of_slice(entry)
+        # A slice without an app is of those of its UUID and architecture.
+        one, other = app.found_in(own) if own else of_keys[entry[:KEY]]
         if one and other:
             staying[entry] = other
         elif one:
@@ -153,7 +153,12 @@ def told(word: str, found: Dict[bytes, Named]) -> List[str]:
 def retire_of_app(
     archive: Archive, program: Program, content: Content, app: App, screen: Screen, is_dry_run: bool
 ) -> int:
+    if archive.had_damaged_builds and not is_dry_run:
+        raise Failed("what other apps have may be among the damaged names; call `exchange`, and then this again")
     going, staying = of_app(content.held, archive.builds.of(content.held), app)
+    if not going and not staying:
+        name = field_shown(app.name)
+        raise Failed(f"{shown(archive.path)} has no build of {name} that came in before {app.before}", 1)
     if not screen.show([*told("retiring", going), *told("staying", staying)]):
         raise Failed("what was to be retired could not be printed")
     size = sum(content.held[entry] for entry in going)

@@ -3,10 +3,11 @@
     SITE.asks.TIME.DIGEST.sum                     a question: the summary of what SITE has
     SITE.answers.OTHER.QUESTION.HAS.DIGEST.sym    an answer to OTHER: what SITE has and OTHER had not
     SITE.is.TIME.DIGEST.site                      the mark of SITE: what ARCHIVE.site of the one has that has this name
+    SITE.builds.TIME.DIGEST.txt                   the names of builds: what ARCHIVE.builds of SITE has
 
 DIGEST is the SHA-256 of the file's bytes, so a file that is not whole is told by its name. QUESTION begins the digest
 of the question, and HAS that of the answer's summary. No file is rewritten, and a new one is renamed into place. Of the
-marks of a name the last one counts."""
+marks of a name the last one counts, and of names of builds the last file of a site that is whole."""
 import calendar
 import contextlib
 import hashlib
@@ -26,6 +27,7 @@ ANSWER = re.compile(
     r"\.(?P<has>[0-9a-f]{16})\.(?P<digest>[0-9a-f]{64})\.sym"
 )
 MARK = re.compile(rf"(?P<site>{SITE})\.is\.(?P<time>[0-9]{{8}}T[0-9]{{6}}Z)\.(?P<digest>[0-9a-f]{{64}})\.site")
+BUILDS = re.compile(rf"(?P<site>{SITE})\.builds\.(?P<time>[0-9]{{8}}T[0-9]{{6}}Z)\.(?P<digest>[0-9a-f]{{64}})\.txt")
 SHORT = 16
 TIME = "%Y%m%dT%H%M%SZ"
 DAY = 24 * 60 * 60
@@ -54,6 +56,13 @@ class Mark(NamedTuple):
     digest: str
 
 
+class BuildsFile(NamedTuple):
+    name: str
+    site: str
+    time: str
+    digest: str
+
+
 def digest_of(data: bytes) -> str:
     return hashlib.sha256(data).hexdigest()
 
@@ -64,6 +73,10 @@ def question_name(site: str, at: str, digest: str) -> str:
 
 def mark_name(site: str, at: str, digest: str) -> str:
     return f"{site}.is.{at}.{digest}.site"
+
+
+def builds_name(site: str, at: str, digest: str) -> str:
+    return f"{site}.builds.{at}.{digest}.txt"
 
 
 def is_time(text: str) -> bool:
@@ -88,6 +101,8 @@ class SharedFolder:
         self.questions = [one for one in questions if is_time(one.time)]
         marks = [Mark(name, **found.groupdict()) for name in names if (found := MARK.fullmatch(name))]
         self.marks = [one for one in marks if one.site == site and is_time(one.time)]
+        builds = [BuildsFile(name, **found.groupdict()) for name in names if (found := BUILDS.fullmatch(name))]
+        self.builds = [one for one in builds if is_time(one.time)]
         self.answers = [Answer(name, **found.groupdict()) for name in names if (found := ANSWER.fullmatch(name))]
 
     def at(self, name: str) -> bytes:
@@ -109,6 +124,13 @@ class SharedFolder:
         with contextlib.suppress(OSError), open(self.at(question.name), "rb") as file:
             data = file.read()
             return data if digest_of(data) == question.digest else None
+        return None
+
+    def builds_of(self, builds: BuildsFile, most: int) -> Optional[bytes]:
+        """The bytes of names of builds; None where they are not whole, or more than so many."""
+        with contextlib.suppress(OSError), open(self.at(builds.name), "rb") as file:
+            data = file.read(most + 1)
+            return data if len(data) <= most and digest_of(data) == builds.digest else None
         return None
 
     def fetch(self, answer: Answer, path: bytes, moved: Moved = unmoved) -> bool:

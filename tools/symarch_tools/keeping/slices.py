@@ -144,7 +144,8 @@ class Finder:
     def name_builds(self) -> None:
         """Notes of each slice what is known of its build, once all was found."""
         for one in self.slices:
-            one.build = self.bundles.build_of(*(one.member or (one.name,)))
+            path, packed = one.member or (one.name, None)
+            one.build = self.bundles.build_of(path, packed)
 
     def begin_file(self, path: bytes, name: bytes) -> None:
         self.files += 1
@@ -190,25 +191,28 @@ class Finder:
             self.screen.tell(name, f"{packed.kind} that holds {others or what}")
 
     def take_member(self, member: Member) -> None:
+        is_list = Bundles.is_list(member.name)
         if self.dsyms_only and not is_of_dsym(member.name):
-            self.take_list(member, b"")
+            if is_list:
+                self.take_list(member)
             self.pass_over(OUTSIDE)
             return
-        front = self.take_list(member, member.read(8))
+        front = self.take_list(member) if is_list else member.read(8)
         if front[:4] == THIN or front[:4] in UNIVERSAL and not is_java(front[:8]):
             with member.unpacked(front) as file:
                 self.take_file(file, file.seek(0, os.SEEK_END))
         else:
             self.take_file(io.BytesIO(front), len(front))
 
-    def take_list(self, member: Member, front: bytes) -> bytes:
-        """Takes what a member says of a bundle if it is an Info.plist, of which the first bytes were read, and returns
-        what was read of it."""
-        if Bundles.is_list(member.name) and self.member:
-            with contextlib.suppress(Damaged, OSError):
-                front += member.read(MOST_OF_LIST + 1 - len(front))
-                self.bundles.take(self.member[1], member.name, front)
-        return front
+    def take_list(self, member: Member) -> bytes:
+        """Takes what an Info.plist says of its bundle, and returns what was read of it: nothing of one that is
+        damaged."""
+        assert self.member
+        with contextlib.suppress(Damaged, OSError):
+            text = member.read(MOST_OF_LIST + 1)
+            self.bundles.take(self.member[1], member.name, text)
+            return text
+        return b""
 
     def say_look(self, file: BinaryIO) -> None:
         """Says of a file that was named, and of which nothing goes in, what it is."""

@@ -17,7 +17,7 @@ more: it is not looked for then, and no word ends with 2 for it. Its lines are k
 
 Status:
   0    it is printed, and nothing is lost
-  2    something is lost, or some line could not be printed or kept
+  2    something is lost, names of builds are damaged, or some line could not be printed or kept
   3    the words have another form
   4    ARCHIVE or ARCHIVE.today could not be read, or ARCHIVE.lost not be written
   126  there is no program"""

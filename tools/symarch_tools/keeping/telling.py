@@ -1,0 +1,90 @@
+"""How sites tell each other the names of builds: each puts its ARCHIVE.builds into the shared folder, and joins those
+of the others. A file is read only if it has other bytes than ARCHIVE.builds, so none is once all know the same."""
+import itertools
+from typing import List, Set
+
+from .archive import Archive
+from .builds import MOST_OF_LINE, Days, add_line, earliest, is_framed, line_in, lines_of
+from .screen import Screen
+from .shared_folder import BuildsFile, SharedFolder, builds_name, digest_of, time_after
+
+# Longer files are refused. One of a million slices is as long.
+MOST = 1 << 28
+
+
+class Telling:
+    """What one call joins and puts into the folder."""
+
+    def __init__(self, archive: Archive, folder: SharedFolder, screen: Screen) -> None:
+        self.archive, self.folder, self.screen = archive, folder, screen
+        self.own = {one.name for one in folder.builds if one.site == folder.site}
+        # The lines that are printed, the files of this site that stay, and how many of others are not whole.
+        self.lines: List[str] = []
+        self.kept: Set[str] = set(self.own)
+        self.not_whole = 0
+
+    def join(self) -> None:
+        """Joins what each site told last: also this one, which may have lost its file since."""
+        builds, digest = self.archive.builds, digest_of(self.archive.builds.text)
+        came: Days = {}
+        files = sorted(self.folder.builds, key=lambda it: (it.site, it.time, it.digest), reverse=True)
+        for site, its in itertools.groupby(files, lambda it: it.site):
+            more = self.names_in(list(its), digest)
+            new = [rest for rest, day in more.items() if day < min(builds.known.get(rest, b"~"), came.get(rest, b"~"))]
+            self.lines += [f"named {len(new)} {site}"] * bool(new)
+            came = earliest(came, more)
+        builds.news = came
+        self.archive.keep_builds(self.screen)
+
+    def names_in(self, files: List[BuildsFile], digest: str) -> Days:
+        """The lines of the last file of a site that is whole, if that has another digest than ARCHIVE.builds."""
+        for one in files:
+            if one.digest == digest:
+                break
+            text = self.folder.builds_of(one, MOST)
+            if text is not None:
+                return self.lines_in(one, text)
+            if (self.folder.size(one.name) or 0) > MOST:
+                self.screen.refuse(self.folder.at(one.name), f"has more than {MOST} bytes")
+            else:
+                self.not_whole += 1
+        return {}
+
+    def lines_in(self, one: BuildsFile, text: bytes) -> Days:
+        """The lines of a file that are not known, of which those that are none are refused."""
+        if not is_framed(text):
+            self.screen.refuse(self.folder.at(one.name), "has no names of builds")
+            return {}
+        known = {line for _, line in lines_of(self.archive.builds.text)}
+        found: Days = {}
+        first, count = "", 0
+        for number, line in lines_of(text):
+            if line in known:
+                continue
+            its = line_in(line)
+            if its:
+                add_line(found, its)
+            else:
+                first, count = first or fault_of(number, line), count + 1
+        if count:
+            others = f", and {count - 1} others are none" * (count > 1)
+            self.screen.refuse(self.folder.at(one.name), f"{first}{others}; the rest is taken")
+        return found
+
+    def tell(self) -> None:
+        """Puts what this site knows into the folder, unless that is there."""
+        text = self.archive.builds.text
+        digest, own = digest_of(text), [one for one in self.folder.builds if one.name in self.own]
+        there = [it.name for it in own if it.digest == digest and self.folder.size(it.name) == len(text)]
+        if text and not there:
+            there = [builds_name(self.folder.site, time_after(one.time for one in own), digest)]
+            self.folder.put([text], there[0])
+            self.lines.append(f"told {there[0]}")
+        self.kept = set(there[:1])
+
+
+def fault_of(number: int, line: bytes) -> str:
+    """Why a line is none."""
+    if len(line) >= MOST_OF_LINE:
+        return f"line {number} is of {len(line) + 1} bytes, and none has more than {MOST_OF_LINE}"
+    return f"line {number} is of no build"
