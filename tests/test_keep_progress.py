@@ -67,7 +67,8 @@ class Shown(TerminalCase):
 
     def test_each_word(self) -> None:
         self.room.make_many(10, more=bytes(100_000))
-        self.is_shown(r"(?m)^reading: \d+ of 10 files, \d+ [kM]B of 1 MB, " + LEFT + "$", "add", self.room.archive, "many")
+        line = r"(?m)^reading: \d+ of 10 files, \d+ [kM]B of 1 MB, " + LEFT + "$"
+        self.is_shown(line, "add", self.room.archive, "many")
         self.room.make_many(1, "more", bytes(100_000), 50)
         self.room.add("more")
         self.is_shown(rf"(?m)^writing, [\d.]+ [kM]B of 1 MB, {LEFT}$", "fold", self.room.archive)

@@ -94,7 +94,9 @@ def refused_files(room: Room) -> List[str]:
         "second": (with_two, "Slice(0, Image(SecondUuid(1)))"),
         "symbols": (symbols_outside(42), f"Slice(0, {OUTSIDE}"),
         "part": (universal([thirty_two_bit(), whole[:50]]), f"Slice(1, Image(CommandsOutside)){promised(56, 50)}"),
-        "fat-head": (bytes.fromhex("cafebabe0000"), "Fat(HeaderTruncated): its header takes 8 bytes, and the file has 6"),
+        "fat-head": (
+            bytes.fromhex("cafebabe0000"), "Fat(HeaderTruncated): its header takes 8 bytes, and the file has 6"
+        ),
         "fat-count": (struct.pack(">II", 0xCAFEBABE, 33) + bytes(33 * 20), "Fat(TooManyArches(33))"),
         "fat-table": (struct.pack(">II", 0xCAFEBABE, 2) + bytes(39), f"Fat(TableTruncated){TABLE}"),
         "fat-cut": (universal([thirty_two_bit(), whole])[:-1], f"Fat(SliceOutside(1)){part(1, 128, 184, 183)}"),
