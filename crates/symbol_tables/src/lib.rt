@@ -12,14 +12,19 @@
 #![tactic(auto)]
 
 mod asking;
+mod candidate;
 mod head;
 pub mod laws;
 mod names;
 mod nearest;
 mod opening;
 mod row;
+mod scan;
 mod search;
+mod strings;
+mod sweep;
 mod table;
+mod turns;
 
 pub use names::name_from;
 pub use nearest::NearestSymbol;

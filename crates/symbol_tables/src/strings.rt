@@ -1,0 +1,58 @@
+//! The tables of an image: where they lie, and the names in the string table.
+
+ghost use Rattle.std.specs.Prelude.{◌≡◌, ◌≤◌, ◌<◌, ◌==◌, length, nat_lt};
+ghost use Rattle.std.specs.List.{before_first};
+ghost use Rattle.macho_symbols.specs.Symbols.{name_of, strings_of, table_of};
+
+use crate::names::before_nul;
+use macho_image::{Image, Symtab};
+
+/// Where the tables of an image lie; nowhere, where it has no LC_SYMTAB.
+#[tactic(auto, unfolding(macho_symbols::specs::Symbols::table_of))]
+pub(crate) fn table_of(image: &Image<'_>) -> Symtab
+    ensures { result ≡ table_of image.now }
+{
+    image.symtab().unwrap_or(Symtab {
+        symoff: 0,
+        nsyms: 0,
+        stroff: 0,
+        strsize: 0,
+    })
+}
+
+/// The string table of an image.
+#[tactic(auto, unfolding(macho_symbols::specs::Symbols::strings_of))]
+pub(crate) fn strings_of<'a>(image: &Image<'a>) -> &'a [u8]
+    ensures { result.now ≡ strings_of image.now }
+{
+    let bytes = image.bytes();
+    let table = table_of(image);
+    let from = bytes.split_at(bytes.len().min(table.stroff as usize)).1;
+    from.split_at(from.len().min(table.strsize as usize)).0
+}
+
+/// The string table from the place of a name on; nothing where there is no name.
+fn from_place(strings: &[u8], n_strx: u32) -> &[u8]
+    ensures { before_first (λ b. b == 0) result.now ≡ name_of strings.now n_strx }
+{
+    let place = n_strx as usize;
+    if place == 0 || strings.len() <= place {
+        return &[];
+    }
+    strings.split_at(place).1
+}
+
+/// The name from a place of the string table.
+pub(crate) fn name_at(strings: &[u8], n_strx: u32) -> &[u8]
+    ensures { result.now ≡ name_of strings.now n_strx }
+{
+    before_nul(from_place(strings, n_strx))
+}
+
+/// Whether there is a name at a place of the string table. It looks at one byte.
+pub(crate) fn has_name(strings: &[u8], n_strx: u32) -> bool
+    ensures { result ≡ nat_lt 0 (length (name_of strings.now n_strx)) }
+{
+    let from = from_place(strings, n_strx);
+    !from.is_empty() && from[0] != 0
+}
