@@ -1,9 +1,8 @@
 -- Entries that are candidates, and what counts of them.
-use Rattle.std.proofs.Common.{◌≡◌, ◌≢◌, Fits, w8, lit<, get_or, ◌==◌, bit_and, ℕ, zero, suc, ◌+◌, ◌*◌, ◌<◌, ◌≤◌, ◌⊎◌, inl, inr, true, false, cond, List, [], ◌∷◌, ◌++◌, length, map, take, drop, refl, sym, ap, ◌∙◌, subst, arith, Option, Some, None, Contains, slice_get}
+use Rattle.std.proofs.Common.{◌≡◌, Fits, w8, lit<, get_or, ◌==◌, bit_and, ℕ, ◌+◌, ◌*◌, ◌<◌, inl, inr, true, cond, List, [], ◌∷◌, ◌++◌, take, drop, sym, ap, ◌∙◌, subst, arith, Some, None, Contains, slice_get}
 use Rattle.std.proofs.Math.Facts.{Fits-lt-pow}
-use Rattle.std.proofs.lemmas.Bool.{cases_lt, and_parts, false≢true}
-use Rattle.std.proofs.lemmas.Bool.Decides.{nat_tests}
-use Rattle.std.proofs.lemmas.Option.{cond_some, slice_get-get_or, slice_get_within, get_or_from_slice_get}
+use Rattle.std.proofs.lemmas.Bool.{cases_lt}
+use Rattle.std.proofs.lemmas.Option.{cond_some, slice_get_within, get_or_from_slice_get}
 use Rattle.std.proofs.lemmas.List.{drop-drop, get_or-take, get_or-drop}
 use Rattle.std.proofs.lemmas.List.Elements.{Contains-push, Contains-push_cases, Contains-append_left}
 use Rattle.macho_image.specs.declared.symtab_command.Symtab.{Symtab}

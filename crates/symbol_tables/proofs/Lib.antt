@@ -8,3 +8,5 @@ mod SectionLemmas
 mod EntryLemmas
 mod TurnLemmas
 mod SweepLemmas
+mod TextLemmas
+mod MakingLemmas

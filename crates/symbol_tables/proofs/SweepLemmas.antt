@@ -1,9 +1,8 @@
 -- The first candidates of sections, and the first of all that can stand for an address.
-use Rattle.std.proofs.Common.{◌≡◌, ◌≢◌, Fits, w64, replicate, ◌^◌, ◌↔◌, ℕ, zero, suc, ◌+◌, ◌-◌, ◌<◌, ◌≤◌, ◌⊎◌, inl, inr, true, false, cond, Bool, List, [], ◌∷◌, ◌++◌, length, map, take, get_or, set, refl, sym, ap, ◌∙◌, subst, arith, Option, Some, None, Contains, slice_get, get_or-set_same, get_or-set_other, length-set}
+use Rattle.std.proofs.Common.{◌≡◌, ◌≢◌, Fits, w64, replicate, ℕ, ◌+◌, ◌-◌, ◌<◌, ◌≤◌, ◌⊎◌, inl, inr, true, false, cond, List, length, map, get_or, set, refl, sym, ap, ◌∙◌, subst, arith, Option, Some, None, Contains, slice_get, get_or-set_same, get_or-set_other, length-set}
 use Rattle.std.specs.Prelude.{All, IfSome}
-use Rattle.std.specs.Ordering.{ordering_then, nat_cmp, is_lt, is_gt}
+use Rattle.std.specs.Ordering.{ordering_then, nat_cmp, is_lt}
 use Rattle.std.specs.Cmp.{IsTotalOrder}
-use Rattle.std.specs.declared.cmp.Ordering.{Ordering}
 use Rattle.std.specs.declared.cmp.Ordering.TheVariants.{Less}
 use Rattle.std.proofs.lemmas.Bool.{cases_lt, cases_Bool}
 use Rattle.std.proofs.lemmas.Bool.Decides.{nat_tests}
@@ -12,16 +11,14 @@ use Rattle.std.specs.List.Sorted.{IsPermutation}
 use Rattle.std.proofs.lemmas.List.Sorted.{Contains-permutation, IsPermutation-sym}
 use Rattle.std.proofs.Math.Facts.{Fits-lt-pow}
 use Rattle.std.proofs.lemmas.List.{get_or-map, get_or-replicate, get_or_default, length-map, length-replicate}
-use Rattle.std.proofs.lemmas.List.Elements.{All-push}
 use Rattle.std.proofs.lemmas.Option.{slice_get-get_or, slice_get_within, get_or_from_slice_get}
-use Rattle.macho_image.specs.Sections.{sections, is_inside}
+use Rattle.macho_image.specs.Sections.{is_inside}
 use Rattle.macho_image.specs.SectionViews.{section_view}
 use Rattle.macho_image.specs.declared.section.Section.{Section}
-use Rattle.macho_symbols.specs.Nlist.{n_strx}
-use Rattle.macho_symbols.specs.Symbols.{Tuple, candidates, strings_of, is_in_section, entry_of, entries_of, candidate_in}
-use Rattle.macho_symbols.specs.Nearest.{can_stand_for, tuple_cmp, IsNearest, StandsFor}
-use Rattle.macho_symbols.proofs.Order.{upto_other, upto_less, not_before, not_itself, earlier, tuples_total}
-use Rattle.symbol_tables.specs.Steps.{AreSteps, IsLeastIndexOf, Says, SaysNearest}
+use Rattle.macho_symbols.specs.Symbols.{strings_of, is_in_section, entry_of}
+use Rattle.macho_symbols.specs.Nearest.{can_stand_for, tuple_cmp}
+use Rattle.macho_symbols.proofs.Order.{upto_other, not_before, not_itself, earlier, tuples_total}
+use Rattle.symbol_tables.specs.Steps.{AreSteps, SaysNearest}
 use Rattle.symbol_tables.specs.Candidates.{AreAbove, AreByValue, AreCandidates, AreFirstsOf, AreNumbered, AreSectionsOf, AreTurns, AreUpTo, IsLeast, IsLeastOrNone, IsNoted, StandsAt, entry_cmp, first_of, is_before, numbered_in, row_saying, tuple_of}
 use Rattle.symbol_tables.specs.declared.candidate.Candidate.{Candidate}
 use Rattle.symbol_tables.specs.declared.row.Row.{Row}
@@ -57,7 +54,7 @@ least_of_both s P Q (Some f) (Some g) h k = elim (cases_Bool (is_before s g f)) 
     least = λ c i. elim i [
       | inl a ↦ h.least c a
       | inr b ↦ not_before (entry_cmp s) (entries_total s) c f
-        (upto (entries_total s) f g c (upto_other (entry_cmp s) (entries_total s) g f e) (upto_other (entry_cmp s) (entries_total s) c g (k.least c b)))
+          (upto (entries_total s) f g c (upto_other (entry_cmp s) (entries_total s) g f e) (upto_other (entry_cmp s) (entries_total s) c g (k.least c b)))
     ];
   })
 ]
@@ -195,15 +192,18 @@ module _ (image : List ℕ) (all : List Section) (cs : List Candidate) (address 
   seen_outside first best k d l out h =
       least_same (strings_of image) (Seen first k) (Seen first (k + 1)) best
       (λ c s. (s.0, elim s.1 [ inl m ↦ inl (omega (arith, m)) | inr e ↦ inr e ]))
-      (λ c s. (s.0, elim s.1 [
-        | inl m ↦ elim (cases_lt k c.sect) [
-          | inl o ↦
-              let own : c.sect ≡ k + 1 = omega (arith, m, o) in
-              absurd (cc ((stands_in image address c s.0.1).1, ap (λ n. is_in_section image n address) own, at_number k d l, out))
-          | inr o ↦ inl o
-        ]
-        | inr e ↦ inr e
-      ]))
+      (λ c s. (
+        s.0,
+        elim s.1 [
+          | inl m ↦ elim (cases_lt k c.sect) [
+            | inl o ↦
+                let own : c.sect ≡ k + 1 = omega (arith, m, o) in
+                absurd (cc ((stands_in image address c s.0.1).1, ap (λ n. is_in_section image n address) own, at_number k d l, out))
+            | inr o ↦ inl o
+          ]
+          | inr e ↦ inr e
+        ],
+      ))
       h
 
   pub seen_inside : (first best : Option Candidate) (firsts : List (Option Candidate)) (k n : ℕ) (d : Section) → k < length all → length firsts ≡ length all → is_inside address (section_view (get_or all k d)) ≡ true

@@ -1,6 +1,4 @@
-use Rattle.std.proofs.Common.{◌≡◌, ◌∙◌, ◌+◌, None, get_or, ap, arith, subst, sym, true, false}
-use Rattle.macho_image.specs.Sections.{is_inside}
-use Rattle.macho_image.specs.SectionViews.{section_view}
+use Rattle.std.proofs.Common.{◌∙◌, ◌+◌, None, get_or, ap, arith, subst, sym}
 use Rattle.macho_symbols.specs.Symbols.{strings_of}
 use Rattle.symbol_tables.specs.Candidates.{AreFirstsOf, IsLeastOrNone, StandsAt, first_of}
 use Rattle.symbol_tables.proofs.SweepLemmas.{Seen, seen_all, seen_inside, seen_none, seen_outside}

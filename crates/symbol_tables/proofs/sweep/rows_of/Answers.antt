@@ -1,10 +1,9 @@
-use Rattle.std.proofs.Common.{◌≡◌, ◌∙◌, ◌+◌, ◌<◌, ◌++◌, ◌∷◌, [], ℕ, length, map, take, get_or, ap, arith, subst, sym, Option, Some, None, refl}
+use Rattle.std.proofs.Common.{◌∙◌, ◌+◌, ◌++◌, ◌∷◌, [], map, get_or, ap, arith, subst, sym}
 use Rattle.std.specs.Prelude.{All}
 use Rattle.std.proofs.lemmas.List.{map-append, take_all, take_more}
 use Rattle.std.proofs.lemmas.List.Elements.{All-push}
-use Rattle.macho_symbols.specs.Symbols.{strings_of}
 use Rattle.symbol_tables.specs.Steps.{SaysNearest}
-use Rattle.symbol_tables.specs.Candidates.{AreFirstsOf, AreNumbered, IsLeastOrNone, StandsAt, row_saying}
+use Rattle.symbol_tables.specs.Candidates.{AreNumbered, IsLeastOrNone, StandsAt}
 use Rattle.symbol_tables.specs.declared.row.Row.{Row}
 use Rattle.symbol_tables.proofs.SweepLemmas.{are_steps, names_sections, start_said, turn_says, up_to_later}
 use Rattle.symbol_tables.proofs.sweep.rows_of.Goals as goal
@@ -29,7 +28,7 @@ turns-preserved c =
       firsts = c.note_up_to-count.ensures.firsts;
       below = λ l. up_to_later cs c.note_up_to-count.result.0 a _ (omega (arith, c.requires.turns.rising index (index + 1) 0 (omega arith) l)) (c.note_up_to-count.ensures.below (c.turns.invariant.below c.turns-test.true));
       starts = ap (map (λ (r : Row). r.start)) c.in_ok-push.ensures.items ∙ map-append (λ (r : Row). r.start) c.turns.rows.items (c.saying.result ∷ [])
-      ∙ (λ i. c.turns.invariant.starts i ++ (ap (λ (r : Row). r.start) c.saying.ensures ∙ start_said a c.first_at-nearest.result) i ∷ []) ∙ sym (take_more c.args.turns.now index 0 c.turns-test.true);
+          ∙ (λ i. c.turns.invariant.starts i ++ (ap (λ (r : Row). r.start) c.saying.ensures ∙ start_said a c.first_at-nearest.result) i ∷ []) ∙ sym (take_more c.args.turns.now index 0 c.turns-test.true);
       each = subst (All (λ (r : Row). SaysNearest image r.start r)) (sym c.in_ok-push.ensures.items) (All-push (λ (r : Row). SaysNearest image r.start r) c.turns.rows.items c.saying.result c.turns.invariant.each says);
     }
 

@@ -1,4 +1,4 @@
-use Rattle.std.proofs.Common.{◌≡◌, ◌∙◌, ◌-◌, ap, arith, sym, subst}
+use Rattle.std.proofs.Common.{◌∙◌, ap, arith, sym, subst}
 use Rattle.std.proofs.Math.Facts.{Fits-lt-pow}
 use Rattle.macho_image.specs.Sections.{is_inside}
 use Rattle.macho_image.specs.SectionViews.{section_view}
