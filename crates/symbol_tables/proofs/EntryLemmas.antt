@@ -10,7 +10,7 @@ use Rattle.macho_symbols.specs.Nlist.{n_strx, n_type, n_sect, n_value}
 use Rattle.macho_symbols.specs.Symbols.{Tuple, table_of, strings_of, name_in, is_in_section, is_candidate, tuple_in, candidate_in, entry_of, entries_of, candidates}
 use Rattle.macho_symbols.proofs.EntryLemmas.{entry_at, length-entries}
 use Rattle.macho_symbols.proofs.Members.{candidate_from, candidate_to}
-use Rattle.symbol_tables.specs.Candidates.{AreCandidatesBelow, AreCandidates, numbered_in, tuple_of}
+use Rattle.symbol_tables.specs.InnerCandidates.{AreCandidatesBelow, AreCandidates, numbered_in, tuple_of}
 use Rattle.symbol_tables.specs.declared.candidate.Candidate.{Candidate}
 
 -- what counts of an entry is what counts of its candidate

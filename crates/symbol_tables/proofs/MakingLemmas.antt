@@ -17,7 +17,7 @@ use Rattle.macho_symbols.specs.Symbols.{strings_of}
 use Rattle.symbol_tables.specs.Rows.{IsRow, rows_bytes}
 use Rattle.symbol_tables.specs.Steps.{AreSteps}
 use Rattle.symbol_tables.specs.Table.{FitsTable, IsTableOf, IsTableText, SectionNames, TableParts, base_flag, base_or_zero, head_bytes, names_of, section_bytes, table_bytes}
-use Rattle.symbol_tables.specs.Candidates.{AreSectionsOf}
+use Rattle.symbol_tables.specs.InnerCandidates.{AreSectionsOf}
 use Rattle.symbol_tables.specs.declared.row.Row.{Row}
 use Rattle.symbol_tables.proofs.RowLemmas.{length-rows_bytes}
 use Rattle.symbol_tables.proofs.OneSteps.{steps_once}

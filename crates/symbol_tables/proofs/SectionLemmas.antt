@@ -7,7 +7,7 @@ use Rattle.macho_image.specs.Sections.{SectionRecord, sections, is_inside}
 use Rattle.macho_image.specs.SectionViews.{section_view}
 use Rattle.macho_image.specs.declared.section.Section.{Section}
 use Rattle.macho_symbols.specs.Symbols.{is_in_section}
-use Rattle.symbol_tables.specs.Candidates.{AreSectionsOf}
+use Rattle.symbol_tables.specs.InnerCandidates.{AreSectionsOf}
 
 -- one section more, the next of those that are left
 pub section_added : (all : List SectionRecord) (so_far more : List Section) (section : Section) (n m : ℕ) (before after : List SectionRecord)

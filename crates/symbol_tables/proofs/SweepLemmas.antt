@@ -19,7 +19,7 @@ use Rattle.macho_symbols.specs.Symbols.{strings_of, is_in_section, entry_of}
 use Rattle.macho_symbols.specs.Nearest.{can_stand_for, tuple_cmp}
 use Rattle.macho_symbols.proofs.Order.{upto_other, not_before, not_itself, earlier, tuples_total}
 use Rattle.symbol_tables.specs.Steps.{AreSteps, SaysNearest}
-use Rattle.symbol_tables.specs.Candidates.{AreAbove, AreByValue, AreCandidates, AreFirstsOf, AreNumbered, AreSectionsOf, AreTurns, AreUpTo, IsLeast, IsLeastOrNone, IsNoted, StandsAt, entry_cmp, first_of, is_before, numbered_in, row_saying, tuple_of}
+use Rattle.symbol_tables.specs.InnerCandidates.{AreAbove, AreByValue, AreCandidates, AreFirstsOf, AreNumbered, AreSectionsOf, AreTurns, AreUpTo, IsLeast, IsLeastOrNone, IsNoted, StandsAt, entry_cmp, first_of, is_before, numbered_in, row_saying, tuple_of}
 use Rattle.symbol_tables.specs.declared.candidate.Candidate.{Candidate}
 use Rattle.symbol_tables.specs.declared.row.Row.{Row}
 use Rattle.symbol_tables.proofs.SectionLemmas.{in_no_section, inside_at, none_past}

@@ -15,7 +15,7 @@ use Rattle.macho_image.specs.SectionViews.{section_view}
 use Rattle.macho_image.specs.declared.section.Section.{Section}
 use Rattle.macho_symbols.specs.Symbols.{Tuple, candidates, strings_of}
 use Rattle.symbol_tables.specs.Steps.{ends_of, turns}
-use Rattle.symbol_tables.specs.Candidates.{AreCandidates, AreSectionsOf, AreTurns, ends_below, tuple_of}
+use Rattle.symbol_tables.specs.InnerCandidates.{AreCandidates, AreSectionsOf, AreTurns, ends_below, tuple_of}
 use Rattle.symbol_tables.specs.declared.candidate.Candidate.{Candidate}
 use Rattle.symbol_tables.proofs.EntryLemmas.{counted, counted_from}
 

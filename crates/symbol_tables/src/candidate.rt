@@ -4,9 +4,9 @@ ghost use Rattle.std.specs.Prelude.{◌≡◌};
 ghost use Rattle.std.specs.Ordering.{ordering_then, nat_cmp, bool_cmp};
 ghost use Rattle.std.specs.Cmp.Lexicographic.{slice_cmp};
 ghost use Rattle.macho_symbols.specs.Symbols.{name_of};
-ghost use Rattle.symbol_tables.specs.Candidates.{first_of, is_before, tuple_of};
+ghost use Rattle.symbol_tables.specs.InnerCandidates.{first_of, is_before, tuple_of};
 
-use crate::strings::name_at;
+use crate::strings::compare_names;
 use std::cmp::Ordering;
 
 /// An entry that is a candidate, with the place of its name in the string table.
@@ -27,7 +27,7 @@ impl Candidate {
         if self.n_strx == other.n_strx {
             return Ordering::Equal;
         }
-        name_at(strings, self.n_strx).cmp(name_at(strings, other.n_strx))
+        compare_names(strings, self.n_strx, other.n_strx)
     }
 
     /// Compares the values and the kinds.
@@ -42,7 +42,7 @@ impl Candidate {
     }
 
     /// Whether it comes before another one. Names are read only where all that counts more ties.
-    #[tactic(auto, unfolding(crate::specs::Candidates::tuple_of))]
+    #[tactic(auto, unfolding(crate::specs::InnerCandidates::tuple_of))]
     fn is_before(&self, other: &Candidate, strings: &[u8]) -> bool
         ensures { result ≡ is_before strings.now self.now other.now }
     {

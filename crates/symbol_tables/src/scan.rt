@@ -7,7 +7,7 @@ ghost use Rattle.macho_symbols.specs.Nlist.{n_strx, n_value};
 ghost use Rattle.macho_symbols.specs.Symbols.{is_candidate, is_in_section, strings_of};
 ghost use Rattle.macho_symbols.specs.Halving.{is_placed};
 ghost use Rattle.macho_symbols.specs.Fault.{HasSymbols};
-ghost use Rattle.symbol_tables.specs.Candidates.{AreCandidates, AreSectionsOf, numbered_in};
+ghost use Rattle.symbol_tables.specs.InnerCandidates.{AreCandidates, AreSectionsOf, numbered_in};
 
 use crate::candidate::Candidate;
 use crate::strings::{has_name, strings_of, table_of};
@@ -45,7 +45,7 @@ pub(crate) struct Scan<'a> {
 
 impl<'a> Model for Scan<'a> {
     ghost use Rattle.std.specs.Prelude.{ℕ, List};
-    ghost use Rattle.symbol_tables.specs.Candidates.{IsScanOf};
+    ghost use Rattle.symbol_tables.specs.InnerCandidates.{IsScanOf};
 
     ghost Value = { List ℕ };
 
@@ -160,7 +160,7 @@ impl<'a> Scan<'a> {
     }
 
     /// The candidate that an entry is, if it is one.
-    #[tactic(auto, unfolding(crate::specs::Candidates::numbered_in))]
+    #[tactic(auto, unfolding(crate::specs::InnerCandidates::numbered_in))]
     fn candidate(&self, entry: &[u8]) -> Option<Candidate>
         requires { 16 ≤ length entry.now }
         ensures { result ≡ numbered_in self.now entry.now }

@@ -6,8 +6,8 @@ ghost use Rattle.macho_image.specs.declared.section.Section.{Section};
 ghost use Rattle.macho_symbols.specs.Symbols.{strings_of};
 ghost use Rattle.macho_symbols.specs.Fault.{HasSymbols};
 ghost use Rattle.symbol_tables.specs.Steps.{AreSteps};
-ghost use Rattle.symbol_tables.specs.Candidates.{AreByValue, AreCandidates, AreFirstsOf, AreNumbered, AreSectionsOf, AreTurns};
-ghost use Rattle.symbol_tables.specs.Candidates.{AreUpTo, AreAbove, IsLeastOrNone, StandsAt, first_of, row_saying};
+ghost use Rattle.symbol_tables.specs.InnerCandidates.{AreByValue, AreCandidates, AreFirstsOf, AreNumbered, AreSectionsOf, AreTurns};
+ghost use Rattle.symbol_tables.specs.InnerCandidates.{AreUpTo, AreAbove, IsLeastOrNone, StandsAt, first_of, row_saying};
 ghost use Rattle.symbol_tables.specs.declared.candidate.Candidate.{Candidate};
 
 use crate::candidate::Candidate;

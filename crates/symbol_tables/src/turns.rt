@@ -2,7 +2,7 @@
 
 ghost use Rattle.std.specs.Prelude.{◌≡◌, ◌++◌, ℕ, List, IfOk, OnOk, map, flat_map};
 ghost use Rattle.macho_image.specs.SectionViews.{section_view};
-ghost use Rattle.symbol_tables.specs.Candidates.{AreCandidates, AreSectionsOf, AreTurns, ends_below};
+ghost use Rattle.symbol_tables.specs.InnerCandidates.{AreCandidates, AreSectionsOf, AreTurns, ends_below};
 
 use crate::candidate::Candidate;
 use macho_image::Section;

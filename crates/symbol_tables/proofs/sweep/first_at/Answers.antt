@@ -1,6 +1,6 @@
 use Rattle.std.proofs.Common.{◌∙◌, ◌+◌, None, get_or, ap, arith, subst, sym}
 use Rattle.macho_symbols.specs.Symbols.{strings_of}
-use Rattle.symbol_tables.specs.Candidates.{AreFirstsOf, IsLeastOrNone, StandsAt, first_of}
+use Rattle.symbol_tables.specs.InnerCandidates.{AreFirstsOf, IsLeastOrNone, StandsAt, first_of}
 use Rattle.symbol_tables.proofs.SweepLemmas.{Seen, seen_all, seen_inside, seen_none, seen_outside}
 use Rattle.symbol_tables.proofs.sweep.first_at.Goals as goal
 use Rattle.symbol_tables.proofs.sweep.first_at.Goals.{then-is_inside, else-is_inside}

@@ -1,7 +1,7 @@
 use Rattle.std.proofs.Common.{◌≡◌, ℕ, List, Contains}
 use Rattle.std.specs.Prelude.{IfSome}
 use Rattle.macho_symbols.specs.Symbols.{strings_of}
-use Rattle.symbol_tables.specs.Candidates.{AreAbove, AreCandidates, AreFirstsOf, AreSectionsOf, AreUpTo, IsLeastOrNone}
+use Rattle.symbol_tables.specs.InnerCandidates.{AreAbove, AreCandidates, AreFirstsOf, AreSectionsOf, AreUpTo, IsLeastOrNone}
 use Rattle.symbol_tables.specs.declared.candidate.Candidate.{Candidate}
 use Rattle.symbol_tables.proofs.SweepLemmas.{Seen}
 use Rattle.symbol_tables.proofs.sweep.first_at.Given as goal

@@ -1,7 +1,7 @@
 use Rattle.std.proofs.Common.{◌≡◌, ◌∙◌, ◌+◌, Contains, arith, subst, sym}
 use Rattle.std.specs.Prelude.{IfSome}
 use Rattle.std.proofs.lemmas.Option.{slice_get_within}
-use Rattle.symbol_tables.specs.Candidates.{AreFirstsOf}
+use Rattle.symbol_tables.specs.InnerCandidates.{AreFirstsOf}
 use Rattle.symbol_tables.specs.declared.candidate.Candidate.{Candidate}
 use Rattle.symbol_tables.proofs.SweepLemmas.{above_from, contained, first_is_one, firsts_noted, up_to_noted}
 use Rattle.symbol_tables.proofs.sweep.note_up_to.Goals as goal

@@ -1,6 +1,6 @@
 use Rattle.std.proofs.Common.{◌≡◌, ◌≤◌, ◌-◌, length, Contains}
 use Rattle.std.specs.Prelude.{IfSome}
-use Rattle.symbol_tables.specs.Candidates.{AreFirstsOf, AreUpTo}
+use Rattle.symbol_tables.specs.InnerCandidates.{AreFirstsOf, AreUpTo}
 use Rattle.symbol_tables.proofs.sweep.note_up_to.Given as goal
 
 abbrev pub invariant-noting : goal.invariant-noting

@@ -3,7 +3,7 @@ use Rattle.std.specs.Prelude.{All}
 use Rattle.std.proofs.lemmas.List.{map-append, take_all, take_more}
 use Rattle.std.proofs.lemmas.List.Elements.{All-push}
 use Rattle.symbol_tables.specs.Steps.{SaysNearest}
-use Rattle.symbol_tables.specs.Candidates.{AreNumbered, IsLeastOrNone, StandsAt}
+use Rattle.symbol_tables.specs.InnerCandidates.{AreNumbered, IsLeastOrNone, StandsAt}
 use Rattle.symbol_tables.specs.declared.row.Row.{Row}
 use Rattle.symbol_tables.proofs.SweepLemmas.{are_steps, names_sections, start_said, turn_says, up_to_later}
 use Rattle.symbol_tables.proofs.sweep.rows_of.Goals as goal

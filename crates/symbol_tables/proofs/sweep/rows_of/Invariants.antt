@@ -1,7 +1,7 @@
 use Rattle.std.proofs.Common.{◌≡◌, ◌≤◌, ◌<◌, length, map, take, slice_index}
 use Rattle.std.specs.Prelude.{All}
 use Rattle.symbol_tables.specs.Steps.{SaysNearest}
-use Rattle.symbol_tables.specs.Candidates.{AreFirstsOf, AreUpTo}
+use Rattle.symbol_tables.specs.InnerCandidates.{AreFirstsOf, AreUpTo}
 use Rattle.symbol_tables.proofs.sweep.rows_of.Given as goal
 
 abbrev pub invariant-turns : goal.invariant-turns

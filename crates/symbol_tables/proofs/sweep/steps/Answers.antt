@@ -3,7 +3,7 @@ use Rattle.std.proofs.lemmas.List.{length-map}
 use Rattle.std.proofs.lemmas.List.Sorted.{IsNonDecreasingBy-from_sort_by_key}
 use Rattle.macho_image.specs.SectionViews.{section_view}
 use Rattle.macho_symbols.specs.Symbols.{strings_of}
-use Rattle.symbol_tables.specs.Candidates.{AreByValue, AreCandidates, AreFirstsOf, AreTurns}
+use Rattle.symbol_tables.specs.InnerCandidates.{AreByValue, AreCandidates, AreFirstsOf, AreTurns}
 use Rattle.symbol_tables.specs.declared.candidate.Candidate.{Candidate}
 use Rattle.symbol_tables.proofs.SweepLemmas.{are_permuted, none_noted}
 use Rattle.symbol_tables.proofs.sweep.steps.Goals as goal

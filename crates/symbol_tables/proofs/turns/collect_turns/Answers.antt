@@ -2,7 +2,7 @@ use Rattle.std.proofs.Common.{◌∙◌, ◌++◌, List, ℕ, ap, map}
 use Rattle.std.specs.Prelude.{flat_map}
 use Rattle.std.proofs.lemmas.List.Filters.{dedup_is}
 use Rattle.macho_image.specs.SectionViews.{section_view}
-use Rattle.symbol_tables.specs.Candidates.{ends_below}
+use Rattle.symbol_tables.specs.InnerCandidates.{ends_below}
 use Rattle.symbol_tables.specs.declared.candidate.Candidate.{Candidate}
 use Rattle.symbol_tables.proofs.TurnLemmas.{are_turns}
 use Rattle.symbol_tables.proofs.turns.collect_turns.Goals as goal

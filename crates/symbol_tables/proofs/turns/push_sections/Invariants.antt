@@ -1,6 +1,6 @@
 use Rattle.std.proofs.Common.{◌≡◌, ◌++◌, flat_map, take}
 use Rattle.macho_image.specs.SectionViews.{section_view}
-use Rattle.symbol_tables.specs.Candidates.{ends_below}
+use Rattle.symbol_tables.specs.InnerCandidates.{ends_below}
 use Rattle.symbol_tables.proofs.turns.push_sections.Given as goal
 
 abbrev pub invariant-loop-section : goal.invariant-loop-section

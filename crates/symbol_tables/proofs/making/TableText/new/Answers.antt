@@ -3,7 +3,7 @@ use Rattle.std.specs.Prelude.{All}
 use Rattle.symbol_tables.specs.Rows.{IsRow, rows_bytes}
 use Rattle.macho_symbols.specs.Symbols.{strings_of}
 use Rattle.symbol_tables.specs.Steps.{AreSteps}
-use Rattle.symbol_tables.specs.Candidates.{AreSectionsOf}
+use Rattle.symbol_tables.specs.InnerCandidates.{AreSectionsOf}
 use Rattle.symbol_tables.proofs.MakingLemmas.{text_is}
 use Rattle.symbol_tables.proofs.making.TableText.new.Goals as goal
 

@@ -1,6 +1,6 @@
 use Rattle.std.proofs.Common.{◌≡◌, ◌∙◌, ◌+◌, ℕ, List, Fits, w8, get_or, ap, arith, subst, sym}
 use Rattle.macho_symbols.specs.Symbols.{table_of}
-use Rattle.symbol_tables.specs.Candidates.{AreCandidatesBelow, numbered_in}
+use Rattle.symbol_tables.specs.InnerCandidates.{AreCandidatesBelow, numbered_in}
 use Rattle.symbol_tables.proofs.EntryLemmas.{entry_read, none_more, one_more, small_at}
 use Rattle.symbol_tables.proofs.scan.Scan.candidates.Goals as goal
 use Rattle.symbol_tables.proofs.scan.Scan.candidates.Goals.{in-Some+in_ok-push, in_default}

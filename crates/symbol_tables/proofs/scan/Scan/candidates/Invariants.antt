@@ -1,4 +1,4 @@
-use Rattle.symbol_tables.specs.Candidates.{AreCandidatesBelow}
+use Rattle.symbol_tables.specs.InnerCandidates.{AreCandidatesBelow}
 use Rattle.symbol_tables.proofs.scan.Scan.candidates.Given as goal
 
 abbrev pub invariant-entries : goal.invariant-entries

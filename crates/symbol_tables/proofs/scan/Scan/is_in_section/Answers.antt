@@ -2,7 +2,7 @@ use Rattle.std.proofs.Common.{◌∙◌, ap, arith, sym, subst}
 use Rattle.std.proofs.Math.Facts.{Fits-lt-pow}
 use Rattle.macho_image.specs.Sections.{is_inside}
 use Rattle.macho_image.specs.SectionViews.{section_view}
-use Rattle.symbol_tables.specs.Candidates.{AreSectionsOf}
+use Rattle.symbol_tables.specs.InnerCandidates.{AreSectionsOf}
 use Rattle.symbol_tables.proofs.SectionLemmas.{inside_at, none_past, in_no_section}
 use Rattle.symbol_tables.proofs.scan.Scan.is_in_section.Goals as goal
 
