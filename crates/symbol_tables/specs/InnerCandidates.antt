@@ -1,6 +1,7 @@
 -- The candidates of an image with the places of their names, and the first of some.
-use Rattle.std.specs.Prelude.{◌≡◌, ◌<◌, ◌≤◌, ◌==◌, ◌+◌, ◌^◌, ℕ, Bool, true, false, List, [], ◌∷◌, map, take, bit_and, Contains}
-use Rattle.std.specs.Prelude.{length, nat_lt, slice_get, slice_index_or, Option, Some, None, MatchOption, if◌then◌else◌, cond}
+use Rattle.std.specs.Prelude.{◌≡◌, ◌<◌, ◌≤◌, ◌==◌, ◌+◌, ◌^◌, ℕ, Bool, true, false, List, [], ◌∷◌, map, take, bit_and}
+use Rattle.std.specs.Prelude.{Contains, length, nat_lt, slice_get, slice_index_or, Option, Some, None, MatchOption}
+use Rattle.std.specs.Prelude.{if◌then◌else◌, cond}
 use Rattle.std.specs.Ordering.{ordering_then, nat_cmp, is_lt}
 use Rattle.std.specs.declared.cmp.Ordering.{Ordering}
 use Rattle.macho_image.specs.Sections.{SectionRecord, sections}
@@ -100,11 +101,13 @@ IsNoted candidates count c = (i : ℕ) × (i < count) × (slice_get candidates i
 
 -- the first so many candidates are not above an address
 abbrev pub AreUpTo : List Candidate → ℕ → ℕ → Type 0
-AreUpTo candidates count address = (i : ℕ) (c : Candidate) → i < count → slice_get candidates i ≡ Some c → c.value ≤ address
+AreUpTo candidates count address =
+    (i : ℕ) (c : Candidate) → i < count → slice_get candidates i ≡ Some c → c.value ≤ address
 
 -- the others are above it
 abbrev pub AreAbove : List Candidate → ℕ → ℕ → Type 0
-AreAbove candidates count address = (i : ℕ) (c : Candidate) → count ≤ i → slice_get candidates i ≡ Some c → address < c.value
+AreAbove candidates count address =
+    (i : ℕ) (c : Candidate) → count ≤ i → slice_get candidates i ≡ Some c → address < c.value
 
 -- of each section the first of the first so many candidates
 abbrev pub AreFirstsOf : List ℕ → List Candidate → ℕ → List (Option Candidate) → Type 0

@@ -1,13 +1,14 @@
 //! The rows of an image, from its first turn to its last.
 
-ghost use Rattle.std.specs.Prelude.{◌≡◌, ◌≤◌, ◌<◌, ◌+◌, ◌-◌, ℕ, List, IfOk, IfSome, Option, Some, None, MatchOption, Contains, length};
-ghost use Rattle.std.specs.Prelude.{slice_get, slice_index_or, slice_set};
+ghost use Rattle.std.specs.Prelude.{◌≡◌, ◌≤◌, ◌<◌, ◌+◌, ◌-◌, ℕ, List, IfOk, IfSome, Option, Some, None, MatchOption};
+ghost use Rattle.std.specs.Prelude.{Contains, length, slice_get, slice_index_or, slice_set};
 ghost use Rattle.macho_image.specs.declared.section.Section.{Section};
 ghost use Rattle.macho_symbols.specs.Symbols.{strings_of};
 ghost use Rattle.macho_symbols.specs.Fault.{HasSymbols};
 ghost use Rattle.symbol_tables.specs.Steps.{AreSteps};
-ghost use Rattle.symbol_tables.specs.InnerCandidates.{AreByValue, AreCandidates, AreFirstsOf, AreNumbered, AreSectionsOf, AreTurns};
-ghost use Rattle.symbol_tables.specs.InnerCandidates.{AreUpTo, AreAbove, IsLeastOrNone, StandsAt, first_of, row_saying};
+ghost use Rattle.symbol_tables.specs.InnerCandidates.{AreAbove, AreByValue, AreCandidates, AreFirstsOf, AreNumbered};
+ghost use Rattle.symbol_tables.specs.InnerCandidates.{AreSectionsOf, AreTurns, AreUpTo, IsLeastOrNone, StandsAt};
+ghost use Rattle.symbol_tables.specs.InnerCandidates.{first_of, row_saying};
 ghost use Rattle.symbol_tables.specs.declared.candidate.Candidate.{Candidate};
 
 use crate::candidate::Candidate;
