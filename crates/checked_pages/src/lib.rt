@@ -24,5 +24,6 @@ mod storing;
 
 pub use claim::Claim;
 pub use fault::CheckFault;
+pub use opening::{PAGE_LEN, pages_in};
 pub use pages::Pages;
 pub use storing::page_digests;

@@ -4,3 +4,9 @@ pub mod StepLemmas
 pub mod OneSteps
 pub mod Asked
 pub mod TableLemmas
+mod SectionLemmas
+mod EntryLemmas
+mod TurnLemmas
+mod SweepLemmas
+mod TextLemmas
+mod MakingLemmas

@@ -4,3 +4,4 @@ pub mod Stored
 pub mod Asked
 pub mod Table
 pub mod Opened
+pub mod InnerCandidates

@@ -1,8 +1,8 @@
 -- The table of a slice, and its bytes: a head of 40 bytes, the names of its sections, its rows, and its strings.
-use Rattle.std.specs.Prelude.{◌≡◌, ◌<◌, ◌≤◌, ◌+◌, ◌*◌, ◌^◌, ◌-◌, ℕ, zero, suc, List, [], ◌∷◌, ◌++◌, length, map, take, flat_map, All}
-use Rattle.std.specs.Prelude.{Option, Some, None}
+use Rattle.std.specs.Prelude.{◌≡◌, ◌<◌, ◌≤◌, ◌+◌, ◌*◌, ◌^◌, ◌-◌, ℕ, zero, suc, List, [], ◌∷◌, ◌++◌, length}
+use Rattle.std.specs.Prelude.{map, take, flat_map, All, Option, Some, None}
 use Rattle.std.specs.Int.{w64, to_be_bytes}
-use Rattle.macho_image.specs.Sections.{sections, text_base_of}
+use Rattle.macho_image.specs.Sections.{SectionRecord, sections, text_base_of}
 use Rattle.macho_symbols.specs.Symbols.{strings_of}
 use Rattle.symbol_tables.specs.Rows.{AreRows, rows_bytes}
 use Rattle.symbol_tables.specs.Steps.{AreSteps}
@@ -12,6 +12,10 @@ use Rattle.symbol_tables.specs.declared.row.Row.{Row}
 pub record SectionNames : Type 0 where
   pub segment : List ℕ
   pub section : List ℕ
+
+-- the names of a section of an image
+abbrev pub names_of : SectionRecord → SectionNames
+names_of s = record { segment = s.segment; section = s.section }
 
 -- what a table has: the vmaddr of the first segment named __TEXT, the names of the sections, the rows and the strings
 pub record TableParts : Type 0 where
@@ -62,6 +66,10 @@ pub record FitsTable (t : TableParts) : Type 0 where
 -- the table of an image
 pub record IsTableOf (image : List ℕ) (t : TableParts) : Type 0 where
   pub base : t.base ≡ text_base_of image
-  pub names : t.names ≡ map (λ s. record { segment = s.segment; section = s.section }) (take 255 (sections image))
+  pub names : t.names ≡ map names_of (take 255 (sections image))
   pub rows : AreSteps image t.rows
   pub strings : t.strings ≡ strings_of image
+
+-- these bytes are the table of an image, whose parts fit
+abbrev pub IsTableText : List ℕ → List ℕ → Type 0
+IsTableText image bytes = (t : TableParts) × IsTableOf image t × FitsTable t × (bytes ≡ table_bytes t)

@@ -3,24 +3,53 @@
 //! At each address at which the nearest symbol may change a row says which one it is from there on. So an answer is one
 //! halving over one list, with no section, tie or order of names in it.
 //!
+//! Made:
+//!
+//! - `strings`, `candidate`: the string table and its names; an entry that counts, and the order of those;
+//! - `scan`: the entries of an image that are candidates;
+//! - `turns`: the addresses at which the nearest candidate may change;
+//! - `sweep`: the rows of an image, from its first turn to its last;
+//! - `text`, `making`: [`TableText`], the table of an image, with the digests of its pages, and written.
+//!
+//! Asked:
+//!
 //! - `row`: [`Row`], 21 bytes of a table;
 //! - `search`: [`row_for`], the row that an address belongs to;
 //! - `names`: [`name_from`], a name among the strings of a table;
 //! - `head`, `table`: [`Table`], a table whose head was read; `opening`: [`Table::open`];
-//! - `nearest`: [`NearestSymbol`]; `asking`: [`Table::nearest`], the nearest symbol of an address;
+//! - `nearest`: [`NearestSymbol`]; `asking`: [`Table::nearest`], the nearest symbol of an address, and
+//!   [`nearest_by_claim`], of a table that is opened for it;
 //! - `laws`: what the definitions say of each other.
+//!
+//! Decided:
+//!
+//! - A sweep over the candidates by value keeps the first one of each section. An address at which candidates begin
+//!   has the first of them; so names are compared once for each candidate, and once more for each begin and end of a
+//!   section. No candidate is looked for among those of other addresses.
+//! - The order of candidates goes on with `n_strx`, so the first one has the least place of its name.
+//! - A table is its front (head, sections, rows) in memory and the strings where they lie: a page is hashed in these
+//!   two parts, and no string is copied.
 #![tactic(auto)]
 
 mod asking;
+mod candidate;
 mod head;
 pub mod laws;
+mod making;
 mod names;
 mod nearest;
 mod opening;
 mod row;
+mod scan;
 mod search;
+mod strings;
+mod sweep;
 mod table;
+mod text;
+mod turns;
 
+pub use asking::nearest_by_claim;
+pub use making::TableText;
 pub use names::name_from;
 pub use nearest::NearestSymbol;
 pub use row::Row;

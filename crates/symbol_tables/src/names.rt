@@ -17,7 +17,7 @@ const PIECE: usize = 64;
 
 /// What stands before the first NUL, or all.
 #[tactic(auto, using(crate::proofs::NameLemmas::parts_at_nul))]
-fn before_nul(bytes: &[u8]) -> &[u8]
+pub(crate) fn before_nul(bytes: &[u8]) -> &[u8]
     ensures { result.now ≡ before_first (λ b. b == 0) bytes.now }
 {
     match memchr(0, bytes) {

@@ -1,6 +1,7 @@
 //! The head of a stored table.
 
-ghost use Rattle.std.specs.Prelude.{◌≡◌, ◌+◌, ◌*◌, ◌<◌, ◌≤◌, ◌^◌, ℕ, List, ◌↔◌, Option, IsTrue, length, take, drop};
+ghost use Rattle.std.specs.Prelude.{◌≡◌, ◌+◌, ◌*◌, ◌<◌, ◌≤◌, ◌^◌, ℕ, List, ◌↔◌, Option, IfOk, IsTrue};
+ghost use Rattle.std.specs.Prelude.{length, take, drop};
 ghost use Rattle.std.specs.Int.{w64, from_be_bytes};
 ghost use Rattle.checked_pages.specs.Pages.{AreStored, MayBeStored};
 ghost use Rattle.checked_pages.specs.Views.{claim_view};
@@ -57,6 +58,7 @@ impl Table {
     ///
     /// `Changed` also where the head says of another size than the claim.
     pub fn open<P: Placed>(heap: Heap, device: &mut P, claim: Claim) -> Result<Table, CheckFault>
+        ensures claim { IfOk result (λ table. table.pages.claim ≡ claim) }
         ensures read { ReadsStored P.whole P.failures device.old device.new result
             (λ text table. (t : TableParts) → FitsTable t → MayBeStored text (claim_view claim) (table_bytes t)
             → IsOpened table text t)

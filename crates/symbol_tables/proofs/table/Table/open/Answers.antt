@@ -8,52 +8,46 @@ use Rattle.symbol_tables.specs.Table.{table_bytes}
 use Rattle.symbol_tables.proofs.TableLemmas.{head_in, length-table, table_has_size}
 use Rattle.symbol_tables.proofs.table.Table.open.Goals as goal
 
-pub returns-in_err-pages : goal.returns-in_err-pages
-returns-in_err-pages g c =
+pub returns-in_err-pages-clause-read : goal.returns-in_err-pages-clause-read
+returns-in_err-pages-clause-read g c =
     let p = err_from_is_err_and c.from_residual.result c.from_residual.ensures.1 in
-    record { read = passed_on _ _ _ _ _ _ _ _ _ _ _ c.in_err-pages.was (p.1 ∙ ap Err p.2) (λ text known absent long t fits stored. absent long (table_bytes t) stored) c.open.ensures.read }
+    passed_on _ _ _ _ _ _ _ _ _ _ _ c.in_err-pages.was (p.1 ∙ ap Err p.2) (λ text known absent long t fits stored. absent long (table_bytes t) stored) c.open.ensures.read
 
-pub returns-in_err-read : goal.returns-in_err-read
-returns-in_err-read g c =
+pub returns-in_err-read-clause-read : goal.returns-in_err-read-clause-read
+returns-in_err-read-clause-read g c =
     let p = err_from_is_err_and c.from_residual-in_err-read.result c.from_residual-in_err-read.ensures.1 in
     let opened = c.in_ok-pages.ensures.read in
-    record {
-      read = passed_on _ _ _ _ _ _ _ _ _ _ _ c.in_err-read.was (p.1 ∙ ap Err p.2)
-          (λ text known absent long t fits stored.
-          absent (table_bytes t) (subst (λ claim. AreStored text (claim_view claim) (table_bytes t)) (sym c.in_ok-pages.ensures.claim) stored)
-          (opened.says text known (table_bytes t) (may_be text (table_bytes t) (claim_view c.args.claim) stored)) (omega (arith, length-table t fits, c.read.auto.buf)))
-          (after_ok _ _ _ _ _ _ _ _ opened.keeps opened.counts c.read.ensures.read);
-    }
+    passed_on _ _ _ _ _ _ _ _ _ _ _ c.in_err-read.was (p.1 ∙ ap Err p.2)
+    (λ text known absent long t fits stored.
+    absent (table_bytes t) (subst (λ claim. AreStored text (claim_view claim) (table_bytes t)) (sym c.in_ok-pages.ensures.claim) stored)
+    (opened.says text known (table_bytes t) (may_be text (table_bytes t) (claim_view c.args.claim) stored)) (omega (arith, length-table t fits, c.read.auto.buf)))
+    (after_ok _ _ _ _ _ _ _ _ opened.keeps opened.counts c.read.ensures.read)
 
-pub returns-then-not-has_size : goal.returns-then-not-has_size
-returns-then-not-has_size g c =
+pub returns-then-not-has_size-clause-read : goal.returns-then-not-has_size-clause-read
+returns-then-not-has_size-clause-read g c =
     let opened = c.in_ok-pages.ensures.read in
     let read = after_ok _ _ _ _ _ _ _ _ opened.keeps opened.counts c.in_ok-read.ensures.read in
     record {
-      read = record {
-        says = λ text known long t fits stored.
-            let pages = opened.says text known (table_bytes t) (may_be text (table_bytes t) (claim_view c.args.claim) stored) in
-            let head = c.head_of-head.ensures t fits (head_in t _ _ c.read.auto.buf (read.says text known (table_bytes t) pages)) in
-            absurd (cc (c.if-not-has_size.ensures.1 (table_has_size t c.head_of-head.result c.args.claim.size fits head stored.size)));
-        keeps = read.keeps;
-        counts = read.counts;
-      };
+      says = λ text known long t fits stored.
+          let pages = opened.says text known (table_bytes t) (may_be text (table_bytes t) (claim_view c.args.claim) stored) in
+          let head = c.head_of-head.ensures t fits (head_in t _ _ c.read.auto.buf (read.says text known (table_bytes t) pages)) in
+          absurd (cc (c.if-not-has_size.ensures.1 (table_has_size t c.head_of-head.result c.args.claim.size fits head stored.size)));
+      keeps = read.keeps;
+      counts = read.counts;
     }
 
-pub returns : goal.returns
-returns g c =
+pub returns-clause-read : goal.returns-clause-read
+returns-clause-read g c =
     let opened = c.in_ok-pages.ensures.read in
     let read = after_ok _ _ _ _ _ _ _ _ opened.keeps opened.counts c.in_ok-read.ensures.read in
     record {
-      read = record {
-        says = λ text known t fits may.
-            let pages : ArePagesOf c.in_ok-pages.pages text (table_bytes t) = opened.says text known (table_bytes t) may in
-            record {
-              fits = fits;
-              pages = c.in_ok-read.ensures.keeps text (table_bytes t) (opened.keeps ∙ known) pages;
-              head = c.head_of-head.ensures t fits (head_in t _ _ c.read.auto.buf (read.says text known (table_bytes t) pages));
-            };
-        keeps = read.keeps;
-        counts = read.counts;
-      };
+      says = λ text known t fits may.
+          let pages : ArePagesOf c.in_ok-pages.pages text (table_bytes t) = opened.says text known (table_bytes t) may in
+          record {
+            fits = fits;
+            pages = c.in_ok-read.ensures.keeps text (table_bytes t) (opened.keeps ∙ known) pages;
+            head = c.head_of-head.ensures t fits (head_in t _ _ c.read.auto.buf (read.says text known (table_bytes t) pages));
+          };
+      keeps = read.keeps;
+      counts = read.counts;
     }

@@ -1,0 +1,5 @@
+use Rattle.symbol_tables.proofs.MakingLemmas.{one_text}
+use Rattle.symbol_tables.proofs.laws.one_text.Goals as goal
+
+pub returns : goal.returns
+returns c = one_text

@@ -1,0 +1,16 @@
+use Rattle.std.proofs.Common.{◌∙◌, ◌++◌, append_assoc}
+use Rattle.std.specs.Int.{w64, to_be_bytes}
+use Rattle.symbol_tables.specs.Table.{base_flag, base_or_zero}
+use Rattle.symbol_tables.proofs.TextLemmas.{pushed_four}
+use Rattle.symbol_tables.proofs.text.push_head.Goals as goal
+
+pub returns-clause-pushed : goal.returns-clause-pushed
+returns-clause-pushed c =
+    let old = c.args.text.now.items in
+    let flag = to_be_bytes w64 (base_flag c.args.base) in
+    let base = to_be_bytes w64 (base_or_zero c.args.base) in
+    let sections = to_be_bytes w64 c.args.sections in
+    let rows = to_be_bytes w64 c.args.rows in
+    let strings = to_be_bytes w64 c.args.strings in
+    pushed_four (old ++ flag) base sections rows strings _ _ _ _ c.in_ok-push_base.ensures c.in_ok-push_u64.ensures c.in_ok-push_u64-2.ensures c.in_ok-push_u64-3.ensures
+    ∙ append_assoc old flag (base ++ (sections ++ (rows ++ strings)))

@@ -1,0 +1,75 @@
+//! The entries of a symbol table that are candidates, and the order in which they are.
+
+ghost use Rattle.std.specs.Prelude.{◌≡◌};
+ghost use Rattle.std.specs.Ordering.{ordering_then, nat_cmp, bool_cmp};
+ghost use Rattle.std.specs.Cmp.Lexicographic.{slice_cmp};
+ghost use Rattle.macho_symbols.specs.Symbols.{name_of};
+ghost use Rattle.symbol_tables.specs.InnerCandidates.{first_of, is_before, tuple_of};
+
+use crate::strings::compare_names;
+use std::cmp::Ordering;
+
+/// An entry that is a candidate, with the place of its name in the string table.
+#[derive(Clone, Copy)]
+pub(crate) struct Candidate {
+    pub(crate) value: u64,
+    pub(crate) n_strx: u32,
+    pub(crate) sect: u8,
+    pub(crate) external: bool,
+}
+
+impl Candidate {
+    /// Compares the names of two candidates. A name that both have is not read.
+    fn compare_names(&self, other: &Candidate, strings: &[u8]) -> Ordering
+        ensures { result ≡ slice_cmp nat_cmp (name_of strings.now self.now.n_strx)
+            (name_of strings.now other.now.n_strx) }
+    {
+        if self.n_strx == other.n_strx {
+            return Ordering::Equal;
+        }
+        compare_names(strings, self.n_strx, other.n_strx)
+    }
+
+    /// Compares the values and the kinds.
+    fn compare_heads(&self, other: &Candidate) -> Ordering
+        ensures { result ≡ ordering_then (nat_cmp other.now.value self.now.value)
+            (bool_cmp other.now.external self.now.external) }
+    {
+        other
+            .value
+            .cmp(&self.value)
+            .then(other.external.cmp(&self.external))
+    }
+
+    /// Whether it comes before another one. Names are read only where all that counts more ties.
+    #[tactic(auto, unfolding(crate::specs::InnerCandidates::tuple_of))]
+    fn is_before(&self, other: &Candidate, strings: &[u8]) -> bool
+        ensures { result ≡ is_before strings.now self.now other.now }
+    {
+        let heads = self.compare_heads(other);
+        if heads.is_ne() {
+            return heads.is_lt();
+        }
+        self.compare_names(other, strings)
+            .then(self.sect.cmp(&other.sect))
+            .then(self.n_strx.cmp(&other.n_strx))
+            .is_lt()
+    }
+
+    /// The first of two, either of which there may not be.
+    pub(crate) fn first_of(
+        best: Option<Candidate>,
+        next: Option<Candidate>,
+        strings: &[u8],
+    ) -> Option<Candidate>
+        ensures { result ≡ first_of strings.now best next }
+    {
+        let Some(candidate) = next else {
+            return best;
+        };
+        match best {
+            Some(kept) if !candidate.is_before(&kept, strings) => best,
+            _ => Some(candidate),
+        }
+    }
+}

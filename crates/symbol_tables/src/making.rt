@@ -1,0 +1,116 @@
+//! The table of an image, made and written.
+
+ghost use Rattle.std.specs.Prelude.{◌≡◌, ◌<◌, ◌*◌, ◌^◌, IfOk, length, take, drop};
+ghost use Rattle.sha2.specs.Sha256.{sha256};
+ghost use Rattle.byte_device.specs.Writes.{Puts};
+ghost use Rattle.checked_pages.specs.Pages.{page_digests, page_of, stored};
+ghost use Rattle.macho_symbols.specs.Fault.{HasSymbols};
+ghost use Rattle.symbol_tables.specs.Table.{IsTableText};
+
+use crate::scan::Scan;
+use crate::sweep::steps;
+use crate::text::{push_head, push_rows, push_sections};
+use byte_device::{Sink, WriteFault, put};
+use checked_pages::{PAGE_LEN, pages_in};
+use macho_image::Image;
+use memory::{Heap, NoMemory};
+use sha2::{Digest, Sha256};
+use std::marker::Model;
+
+/// The bytes of the table of an image: its head, sections and rows, and its strings, which are borrowed from the image.
+/// A contract sees all of them, one after another.
+#[derive(Drop)]
+pub struct TableText<'a> {
+    front: Vec<u8, Heap>,
+    strings: &'a [u8],
+}
+
+impl<'a> Model for TableText<'a> {
+    ghost use Rattle.std.specs.Prelude.{ℕ, List, ◌++◌};
+
+    ghost Value = { List ℕ };
+
+    ghost view = { λ t. t.front.items ++ t.strings.now };
+}
+
+/// So many bytes from an offset on, or as many of them as there are.
+fn part(bytes: &[u8], from: usize, len: usize) -> &[u8]
+    ensures { result.now ≡ take len (drop from bytes.now) }
+{
+    let rest = bytes.split_at(bytes.len().min(from)).1;
+    rest.split_at(rest.len().min(len)).0
+}
+
+impl<'a> TableText<'a> {
+    /// The table of an image whose symbols can be read. It takes 24 bytes for each entry that is a candidate and 45 for
+    /// each row, and no copy of the strings; `NoMemory` where a growth was refused.
+    pub fn new(heap: Heap, image: &Image<'a>) -> Result<TableText<'a>, NoMemory>
+        requires { HasSymbols image.now }
+        ensures { IfOk result (λ text. IsTableText image.now text) }
+    {
+        let scan = Scan::new(heap.clone()?, image)?;
+        let rows = steps(heap.clone()?, &scan)?;
+        let (sections, strings) = (scan.sections(), scan.strings());
+        let mut front = Vec::new(heap);
+        push_head(
+            &mut front,
+            image.text_base(),
+            sections.len(),
+            rows.len(),
+            strings.len(),
+        )?;
+        push_sections(&mut front, sections)?;
+        push_rows(&mut front, &rows)?;
+        Ok(TableText { front, strings })
+    }
+
+    /// How many bytes it has.
+    pub fn size(&self) -> u64
+        ensures { result ≡ length self.now }
+    {
+        self.front.len() as u64 + self.strings.len() as u64
+    }
+
+    /// The SHA-256 of a page. What it has of the strings is not copied.
+    fn page_digest(&self, index: u64) -> [u8; 32]
+        requires there { 16384 * index < length self.now }
+        requires fits { 16384 * index < 2 ^ 64 }
+        ensures { result ≡ sha256 (page_of self.now index) }
+    {
+        let from = PAGE_LEN as usize * index as usize;
+        let first = part(&self.front, from, PAGE_LEN as usize);
+        let after = from.saturating_sub(self.front.len());
+        let second = part(self.strings, after, PAGE_LEN as usize - first.len());
+        let mut hasher = Sha256::new();
+        hasher.update(first);
+        hasher.update(second);
+        hasher.finalize()
+    }
+
+    /// The SHA-256 of each page, one after another: what stands before the table where it is stored.
+    pub fn page_digests(&self, heap: Heap) -> Result<Vec<u8, Heap>, NoMemory>
+        ensures { IfOk result (λ digests. digests.items ≡ page_digests self.now) }
+    {
+        let mut digests = Vec::new(heap);
+        'pages: for index in 0..pages_in(self.size()) {
+            digests.extend_from_slice(&self.page_digest(index))?;
+        }
+        Ok(digests)
+    }
+
+    /// Writes the table as it is stored, after the first `done` bytes of a text, and says how many there are then. The
+    /// digests are those of its pages.
+    ///
+    /// # Errors
+    ///
+    /// The writer failed; it has so many first bytes of the text as `written` says.
+    pub fn write<W: Sink>(&self, digests: &[u8], w: &mut W, done: u128) -> Result<u128, WriteFault>
+        requires digests { digests.now ≡ page_digests self.now }
+        requires fits { done < 2 ^ 127 }
+        ensures { Puts W.held W.failures (λ n. n) w.old w.new done (stored self.now) result }
+    {
+        let between = put(w, done, digests)?;
+        let before = put(w, between, &self.front)?;
+        put(w, before, self.strings)
+    }
+}

@@ -1,0 +1,159 @@
+//! The rows of an image, from its first turn to its last.
+
+ghost use Rattle.std.specs.Prelude.{◌≡◌, ◌≤◌, ◌<◌, ◌+◌, ◌-◌, ℕ, List, IfOk, IfSome, Option, Some, None, MatchOption};
+ghost use Rattle.std.specs.Prelude.{Contains, length, slice_get, slice_index_or, slice_set};
+ghost use Rattle.macho_image.specs.declared.section.Section.{Section};
+ghost use Rattle.macho_symbols.specs.Symbols.{strings_of};
+ghost use Rattle.macho_symbols.specs.Fault.{HasSymbols};
+ghost use Rattle.symbol_tables.specs.Steps.{AreSteps};
+ghost use Rattle.symbol_tables.specs.InnerCandidates.{AreAbove, AreByValue, AreCandidates, AreFirstsOf, AreNumbered};
+ghost use Rattle.symbol_tables.specs.InnerCandidates.{AreSectionsOf, AreTurns, AreUpTo, IsLeastOrNone, StandsAt};
+ghost use Rattle.symbol_tables.specs.InnerCandidates.{first_of, row_saying};
+ghost use Rattle.symbol_tables.specs.declared.candidate.Candidate.{Candidate};
+
+use crate::candidate::Candidate;
+use crate::row::Row;
+use crate::scan::{Scan, is_inside};
+use crate::turns::collect_turns;
+use macho_image::Section;
+use memory::{Heap, NoMemory};
+
+impl Row {
+    /// The row of a turn, by the nearest candidate there.
+    fn saying(start: u64, nearest: Option<Candidate>) -> Row
+        ensures { result ≡ row_saying start nearest }
+    {
+        match nearest {
+            Some(candidate) => Row {
+                start,
+                value: candidate.value,
+                n_strx: candidate.n_strx,
+                sect: candidate.sect,
+            },
+            None => Row {
+                start,
+                value: 0,
+                n_strx: 0,
+                sect: 0,
+            },
+        }
+    }
+}
+
+/// Puts a candidate among the first ones of their sections.
+fn note(firsts: &mut [Option<Candidate>], candidate: Candidate, strings: &[u8])
+    requires some { 0 < candidate.sect }
+    requires within { candidate.sect ≤ length firsts.old }
+    ensures { firsts.new ≡ slice_set firsts.old (candidate.sect - 1)
+        (first_of strings.now (slice_index_or firsts.old (candidate.sect - 1) None) (Some candidate)) }
+{
+    let index = candidate.sect as usize - 1;
+    firsts[index] = Candidate::first_of(firsts[index], Some(candidate), strings);
+}
+
+/// The candidate of an index, if there is one and it is not above an address.
+fn not_above(candidates: &[Candidate], index: usize, address: u64) -> Option<Candidate>
+    ensures { MatchOption result ((c : Candidate) → slice_get candidates.now index ≡ Some c → address < c.value)
+        (λ c. (slice_get candidates.now index ≡ Some c) × (c.value ≤ address)) }
+{
+    let candidate = *candidates.get(index)?;
+    if candidate.value > address {
+        return None;
+    }
+    Some(candidate)
+}
+
+/// Notes the candidates from an index on that are not above an address. It says how many were noted, and one at the
+/// address, the first one, if there is any.
+fn note_up_to(
+    firsts: &mut [Option<Candidate>],
+    candidates: &[Candidate],
+    strings: &[u8],
+    from: usize,
+    address: u64,
+) -> (usize, Option<Candidate>)
+    requires from { from ≤ length candidates.now }
+    requires numbered { AreNumbered candidates.now (length firsts.old) }
+    requires sorted { AreByValue candidates.now }
+    requires firsts { AreFirstsOf strings.now candidates.now from firsts.old }
+    ensures within { result.0 ≤ length candidates.now }
+    ensures firsts { AreFirstsOf strings.now candidates.now result.0 firsts.new }
+    ensures below { AreUpTo candidates.now from address → AreUpTo candidates.now result.0 address }
+    ensures above { AreAbove candidates.now result.0 address }
+    ensures best { IfSome result.1 (λ best. Contains candidates.now best × (best.value ≡ address)) }
+{
+    let mut index = from;
+    let mut best = None;
+    'noting: while let Some(candidate) = not_above(candidates, index, address) {
+        note(firsts, candidate, strings);
+        if candidate.value == address {
+            best = Candidate::first_of(best, Some(candidate), strings);
+        }
+        index += 1;
+    }
+    (index, best)
+}
+
+/// The first of one candidate, if there is one, and those of the sections that an address lies in.
+fn first_at(
+    sections: &[Section<'_>],
+    firsts: &[Option<Candidate>],
+    strings: &[u8],
+    address: u64,
+    best: Option<Candidate>,
+) -> Option<Candidate>
+    requires { length firsts.now ≡ length sections.now }
+    ensures { (image : List ℕ) (candidates : List Candidate) (count : ℕ) → AreSectionsOf image sections.now
+        → strings.now ≡ strings_of image → AreCandidates image candidates
+        → AreFirstsOf strings.now candidates count firsts.now → AreUpTo candidates count address
+        → AreAbove candidates count address → IfSome best (λ c. Contains candidates c × (c.value ≡ address))
+        → IsLeastOrNone strings.now (StandsAt image candidates address) result }
+{
+    let mut best = best;
+    'sections: for index in 0..sections.len() {
+        if is_inside(&sections[index], address) {
+            best = Candidate::first_of(best, firsts[index], strings);
+        }
+    }
+    best
+}
+
+/// The rows of turns.
+fn rows_of(
+    heap: Heap,
+    scan: &Scan<'_>,
+    candidates: &[Candidate],
+    turns: &[u64],
+    firsts: &mut [Option<Candidate>],
+) -> Result<Vec<Row, Heap>, NoMemory>
+    requires candidates { AreCandidates scan.now candidates.now }
+    requires sorted { AreByValue candidates.now }
+    requires turns { AreTurns scan.now turns.now }
+    requires long { (sections : List Section) → AreSectionsOf scan.now sections → length firsts.old ≡ length sections }
+    requires firsts { AreFirstsOf (strings_of scan.now) candidates.now 0 firsts.old }
+    ensures { IfOk result (λ rows. AreSteps scan.now rows.items) }
+{
+    let sections = scan.sections();
+    let strings = scan.strings();
+    let mut rows = Vec::with_capacity(heap, turns.len())?;
+    let mut noted = 0;
+    'turns: for start in turns {
+        let (count, best) = note_up_to(firsts, candidates, strings, noted, *start);
+        noted = count;
+        let nearest = first_at(sections, firsts, strings, *start, best);
+        rows.push(Row::saying(*start, nearest))?;
+    }
+    Ok(rows)
+}
+
+/// The rows of an image: one at each turn, which says the nearest candidate there.
+pub(crate) fn steps(heap: Heap, scan: &Scan<'_>) -> Result<Vec<Row, Heap>, NoMemory>
+    requires { HasSymbols scan.now }
+    ensures { IfOk result (λ rows. AreSteps scan.now rows.items) }
+{
+    let mut candidates = scan.candidates(heap.clone()?)?;
+    candidates.sort_unstable_by_key(|candidate| candidate.value);
+    let turns = collect_turns(heap.clone()?, &candidates, scan.sections())?;
+    let mut firsts = vec![in heap.clone()?; None; scan.sections().len()]?;
+    rows_of(heap, scan, &candidates, &turns, &mut firsts)
+}
