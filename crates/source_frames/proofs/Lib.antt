@@ -1,4 +1,9 @@
 mod SectionLemmas
 mod NameLemmas
 mod ChainLemmas
+mod ScopeWalk
+mod SettledLemmas
+mod NestedLemmas
 pub mod UnitAddressLemmas
+mod FoundLemmas
+mod LawLemmas
