@@ -139,6 +139,16 @@ fn compare_parts(item: &[u8], front: &[u8], rest: &[u8]) -> Ordering
     }
 }
 
+/// Compares a record with that of an operation.
+fn compare_record(item: &[u8], last: &Record<'_>) -> Ordering
+    ensures { result ≡ slice_cmp nat_cmp item.now (lent_bytes last.now) }
+{
+    match last {
+        Record::Admit(slice) => compare_parts(item, &admission_head(slice), slice.bytes()),
+        Record::Retire(key, digest) => compare_parts(item, &retirement_bytes(key, digest), &[]),
+    }
+}
+
 /// Whether a record may stand behind the last one, if there is one.
 #[tactic(auto, unfolding(archive_records::specs::Kind::may_follow, archive_records::specs::Kind::allows))]
 fn may_follow(last: &Option<Record<'_>>, next: &Record<'_>) -> bool
@@ -298,12 +308,7 @@ impl<'a> Side for LentSide<'a> {
 
     fn compare(&self, item: &[u8]) -> Ordering {
         match &self.last {
-            Some(Record::Admit(slice)) => {
-                compare_parts(item, &admission_head(slice), slice.bytes())
-            }
-            Some(Record::Retire(key, digest)) => {
-                compare_parts(item, &retirement_bytes(key, digest), &[])
-            }
+            Some(last) => compare_record(item, last),
             None => compare_parts(item, &[], &[]),
         }
     }

@@ -1,4 +1,4 @@
-use Rattle.record_merge.specs.Lent.{left_of, seen_of}
+use Rattle.record_merge.specs.Lent.{seen_of}
 use Rattle.record_merge.proofs.Lents.{stands_on}
 use Rattle.record_merge.proofs.lent.LentSideReadFromLentText.read_on.Goals as goal
 
