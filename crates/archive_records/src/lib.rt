@@ -56,4 +56,6 @@ pub use next::NextRecord;
 pub use reader::{MOST, RecordReader};
 pub use records::{FromRecords, read_text, tell_text};
 pub use summary::{Summary, read_summary};
-pub use writing::{Sizes, put_end, put_missing_record, write_archive, write_delta, write_summary};
+pub use writing::{
+    Sizes, put_end, put_missing_record, put_record, write_archive, write_delta, write_summary,
+};

@@ -214,20 +214,21 @@ impl RecordReader {
         self.offset.saturating_sub(self.buffer.bytes.len() as u128)
     }
 
-    /// Whether one of the retirements that were read, or of those that the reader shares with another, covers the last
-    /// record of another reader. The slice of that is hashed where a retirement of its key is among them, and no reader
-    /// has hashed it.
-    pub fn retires_beside(&self, shared: &Retirements, other: &mut RecordReader) -> bool
-        ensures retires { IsRecord other.old.last
-            → result ≡ is_covered (set_of (shared.now ++ self.now.retired)) other.old.last }
-        ensures same { other.new ≡ other.old }
+    /// The retirements of an archive's text that were read, but for those that it forgot.
+    pub fn retired(&self) -> &Retirements
+        ensures { result.now ≡ self.now.retired }
     {
-        retires_beside(
-            Some(shared),
-            &self.retired,
-            &other.buffer.bytes,
-            &mut other.found,
-        )
+        &self.retired
+    }
+
+    /// Whether one of these retirements, which readers share or one of them has, covers the last record. Its slice is
+    /// hashed where a retirement of its key is among them, and it was not hashed before.
+    pub fn covered_by(&mut self, shared: &Retirements, retired: &Retirements) -> bool
+        ensures covered { IsRecord self.old.last
+            → result ≡ is_covered (set_of (shared.now ++ retired.now)) self.old.last }
+        ensures same { self.new ≡ self.old }
+    {
+        retires_beside(Some(shared), retired, &self.buffer.bytes, &mut self.found)
     }
 
     /// The last record, where it is a retirement.

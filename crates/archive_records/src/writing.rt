@@ -69,8 +69,12 @@ fn put_both<W: Sink>(w: &mut W, done: u128, head: &[u8], body: &[u8]) -> Result<
     put(w, done, body)
 }
 
-/// Writes the record behind the first `done` bytes of a text, and says how many there are then.
-fn put_record<W: Sink>(w: &mut W, done: u128, item: &Record<'_>) -> Result<u128, WriteFault>
+/// Writes the record behind the first `done` bytes of a text, and says how many there are then. Its slice is not copied.
+///
+/// # Errors
+///
+/// The writer failed; it has gained the first bytes of the record, and `written` counts the `done` bytes before it too.
+pub fn put_record<W: Sink>(w: &mut W, done: u128, item: &Record<'_>) -> Result<u128, WriteFault>
     requires { done + 2 ^ 33 < 2 ^ 128 }
     ensures puts { Puts W.held W.failures (λ n. n) w.old w.new done (lent_bytes item.now) result }
     ensures short { IfOk result (λ n. n ≤ done + 2 ^ 33) }

@@ -18,7 +18,7 @@ use archive_records::Sizes;
 use byte_device::{CannotOpen, Sink, Source};
 use command_ends::{CommandFault, Place, opened};
 use memory::Heap;
-use record_merge::{LentText, Told, merge_telling};
+use record_merge::{LentSide, LentText, Told, merge_telling};
 
 /// Merges IN's archive with operations that stand in memory into the draft, and tells what each is to IN.
 pub fn tell_operations<R: Source, W: Sink>(
@@ -36,7 +36,7 @@ pub fn tell_operations<R: Source, W: Sink>(
 {
     let mut text = LentText::new(operations);
     let left = opened(input, Place::Archive(0))?;
-    match merge_telling(heap, left, &mut text, draft) {
+    match merge_telling::<R, LentText<'_>, LentSide<'_>, W>(heap, left, &mut text, draft) {
         Ok(told) => Ok(told),
         Err(fault) => Err(command_fault_of(fault)),
     }

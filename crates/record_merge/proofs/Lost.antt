@@ -3,13 +3,16 @@ use Rattle.std.proofs.Common.{arith, ◌≡◌, ℕ, ◌+◌, ◌||◌, Bool, no
 use Rattle.std.proofs.lemmas.List.Folds.{fold-map}
 use Rattle.std.specs.FinSet as set
 use Rattle.join_core.specs.Listing.{listing}
-use Rattle.byte_device.specs.Devices.{Stream}
+use Rattle.byte_device.specs.Devices.{FailedIn, Stream}
 use Rattle.archive_core.specs.Content.{Operations, changes, is_covered}
 use Rattle.archive_records.specs.declared.kind.TextKind.TheVariants.{Archive as Archive_text}
 use Rattle.archive_records.specs.declared.writing.Sizes.{Sizes}
 use Rattle.archive_records.specs.Reading.{IsReadWhole}
 use Rattle.record_merge.specs.declared.turns.Turn.{Turn}
-use Rattle.record_merge.specs.Losses.{Loses}
+use Rattle.archive_records.specs.declared.fault.MergeCause.{MergeCause}
+use Rattle.archive_records.specs.declared.fault.MergeCause.TheVariants.{Left, Right, Write}
+use Rattle.record_merge.specs.Losses.{IsNotCompared, Loses}
+use Rattle.record_merge.specs.Merging.{StopsBy}
 use Rattle.record_merge.specs.Telling.{IsMergedTelling}
 use Rattle.record_merge.specs.Turns.{is_new, turn_by, turn_of}
 
@@ -35,3 +38,9 @@ loses new old out sizes turns withdraws n t count = record {
   old_has = t.right_is;
   lost_is = count ∙ ap (count_by is_new) t.turns_are ∙ count_new t.merged.o (listing t.operations);
 }
+
+-- why two archives are not compared: a merge of both stopped so, and its writer never fails
+pub not_compared : {R S W : Type 0} (new : Stream R) (old : Stream S) (out : Stream W) (cause : MergeCause) (n : ℕ) → (FailedIn (out.failures out.old) (out.failures out.new) → ⊥) → StopsBy new old out cause n → IsNotCompared new old cause
+not_compared new old out (Left fault) n sound s = record { refused = s.refused; old_unfailed = s.right_unfailed; stops = s.stops }
+not_compared new old out (Right fault) n sound s = record { refused = s.refused; new_unfailed = s.left_unfailed; stops = s.stops }
+not_compared new old out Write n sound s = absurd (sound s.failed)

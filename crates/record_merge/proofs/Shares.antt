@@ -118,32 +118,38 @@ module _ (a1 b1 a2 b2 w0 w1 : Option (List ℕ)) (m : Sides) (p : Merging a1 b1 
 
 -- ---- a retirement that both sides hold is shared, and both forget it
 
-module _ (m : Merge) (r : List ℕ) (more : List (List ℕ)) (left right : Position) (first : first_of m.left m.right ≡ Equal) (is : retirement_in m.left.reader.last ≡ Some r) (kept : set_of more ≡ set.insert (set_of m.shared) r)
-    (left_same : left ≡ record m.left.reader { retired = left.retired }) (left_others : set.insert (set_of left.retired) r ≡ set.insert (set_of m.left.reader.retired) r)
-    (right_same : right ≡ record m.right.reader { retired = right.retired }) (right_others : set.insert (set_of right.retired) r ≡ set.insert (set_of m.right.reader.retired) r) where
-  abbrev after : Merge
-  after = record { left = record { reader = left; ahead = m.left.ahead }; right = record { reader = right; ahead = m.right.ahead }; shared = more; written = m.written }
+module _ {B : Type 0} (seen : B → MergeInput) (m : Merge B) (r : List ℕ) (more : List (List ℕ)) (left : Position) (right : B) (first : first_of m.left (seen m.right) ≡ Equal) (is : retirement_in m.left.reader.last ≡ Some r) (kept : set_of more ≡ set.insert (set_of m.shared) r)
+    (left_same : left ≡ record m.left.reader { retired = left.retired }) (left_others : set.insert (set_of left.retired) r ≡ set.insert (set_of m.left.reader.retired) r) (right_ahead : (seen right).ahead ≡ (seen m.right).ahead)
+    (right_same : (seen right).reader ≡ record (seen m.right).reader { retired = (seen right).reader.retired }) (right_others : set.insert (set_of (seen right).reader.retired) r ≡ set.insert (set_of (seen m.right).reader.retired) r) where
+  abbrev after : Merge B
+  after = record { left = record { reader = left; ahead = m.left.ahead }; right = right; shared = more; written = m.written }
 
-  abbrev seen : Sides
-  seen = record { left = with_retired (more ++ left.retired) (side_with m.shared m.left); right = with_retired (more ++ right.retired) (side_with m.shared m.right); written = m.written }
+  abbrev lefts : List (List ℕ)
+  lefts = more ++ left.retired
 
-  sides_are : seen ≡ sides_of after
+  abbrev rights : List (List ℕ)
+  rights = more ++ (seen right).reader.retired
+
+  abbrev shares : Sides
+  shares = record { left = with_retired lefts (side_with m.shared m.left); right = with_retired rights (side_with m.shared (seen m.right)); written = m.written }
+
+  sides_are : shares ≡ sides_of seen after
   sides_are = λ i. record {
     left = record { reader = beside (Some more) (sym left_same i); ahead = m.left.ahead };
-    right = record { reader = beside (Some more) (sym right_same i); ahead = m.right.ahead };
+    right = record { reader = beside (Some more) (sym right_same i); ahead = sym right_ahead i };
     written = m.written;
   }
 
   module _ (a1 b1 a2 b2 w0 w1 : Option (List ℕ)) where
-    abbrev merging_seen : Merging a1 b1 a2 b2 w0 w1 (sides_of m) → Merging a1 b1 a2 b2 w0 w1 seen
+    abbrev merging_seen : Merging a1 b1 a2 b2 w0 w1 (sides_of seen m) → Merging a1 b1 a2 b2 w0 w1 shares
     merging_seen p =
-        let have = both_have a1 b1 a2 b2 w0 w1 (sides_of m) p r first is in
-        merging_as a1 b1 a2 b2 w0 w1 (sides_of m) p (more ++ left.retired) (more ++ right.retired) (moved m.shared more m.left.reader.retired left.retired r kept left_others have.0) (moved m.shared more m.right.reader.retired right.retired r kept right_others have.1)
+        let have = both_have a1 b1 a2 b2 w0 w1 (sides_of seen m) p r first is in
+        merging_as a1 b1 a2 b2 w0 w1 (sides_of seen m) p lefts rights (moved m.shared more m.left.reader.retired left.retired r kept left_others have.0) (moved m.shared more (seen m.right).reader.retired (seen right).reader.retired r kept right_others have.1)
 
-    pub merging_shared : Merging a1 b1 a2 b2 w0 w1 (sides_of m) → Merging a1 b1 a2 b2 w0 w1 (sides_of after)
+    pub merging_shared : Merging a1 b1 a2 b2 w0 w1 (sides_of seen m) → Merging a1 b1 a2 b2 w0 w1 (sides_of seen after)
     merging_shared p = subst (Merging a1 b1 a2 b2 w0 w1) sides_are (merging_seen p)
 
-    pub telling_shared : (told : List Turn) (withdraws : Bool) → Telling a1 b1 a2 b2 w0 w1 (sides_of m) told withdraws → Telling a1 b1 a2 b2 w0 w1 (sides_of after) told withdraws
+    pub telling_shared : (told : List Turn) (withdraws : Bool) → Telling a1 b1 a2 b2 w0 w1 (sides_of seen m) told withdraws → Telling a1 b1 a2 b2 w0 w1 (sides_of seen after) told withdraws
     telling_shared told withdraws t =
-        let now : Telling a1 b1 a2 b2 w0 w1 seen told withdraws = record { merging = merging_seen t.merging; turns_are = t.turns_are; withdraws_is = t.withdraws_is } in
+        let now : Telling a1 b1 a2 b2 w0 w1 shares told withdraws = record { merging = merging_seen t.merging; turns_are = t.turns_are; withdraws_is = t.withdraws_is } in
         subst (λ (s : Sides). Telling a1 b1 a2 b2 w0 w1 s told withdraws) sides_are now

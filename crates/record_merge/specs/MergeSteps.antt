@@ -1,4 +1,5 @@
--- A merge of two streams, turn by turn: the words of the inner functions. No contract of a public one has them.
+-- A merge, turn by turn: the words of the inner functions, and of the traits of its right side. No contract of another
+-- public one has them.
 use Rattle.std.specs.Prelude.{◌≡◌, ◌≢◌, ℕ, ◌+◌, ◌-◌, ◌*◌, ◌^◌, ◌<◌, ◌≤◌, true, List, [], ◌∷◌}
 use Rattle.std.specs.Prelude.{◌++◌, ◌||◌, length, take, Bool, false, Option, Result, Ok, Err, MatchResult, ◌⊎◌}
 use Rattle.std.specs.declared.cmp.Ordering.{Ordering}

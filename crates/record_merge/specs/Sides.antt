@@ -15,6 +15,7 @@ pub record Sides : Type 0 where
 abbrev pub side_with : List (List ℕ) → MergeInput → MergeInput
 side_with shared side = record side { reader = beside (Some shared) side.reader }
 
--- both sides so
-abbrev pub sides_of : Merge → Sides
-sides_of m = record { left = side_with m.shared m.left; right = side_with m.shared m.right; written = m.written }
+-- both sides so, of which the right one is seen as a text that is read
+abbrev pub sides_of : {B : Type 0} → (B → MergeInput) → Merge B → Sides
+sides_of seen m =
+    record { left = side_with m.shared m.left; right = side_with m.shared (seen m.right); written = m.written }

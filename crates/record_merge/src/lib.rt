@@ -5,7 +5,8 @@
 //! - `telling`, `turns`: [`merge_telling`], which tells, too, what the records of the right side are to the left one;
 //! - `losses`: [`lost_operations`], by which one archive is above another, over `nowhere`, a writer that keeps nothing;
 //!   `laws`: that none lost means above;
-//! - `front`, `lent`: [`LentText`], the text of operations that is merged without being written down.
+//! - `lent`: [`LentText`], the text of operations that stand in memory, and [`LentSide`], which takes its records without
+//!   a copy. The right side of a merge is a [`Side`]: one of these, or a text that is read.
 //!
 //! # What is proved
 //!
@@ -45,7 +46,6 @@
 //!   that tells.
 #![tactic(auto)]
 
-mod front;
 pub mod laws;
 mod lent;
 mod losses;
@@ -56,8 +56,9 @@ mod streams;
 mod telling;
 mod turns;
 
-pub use lent::LentText;
+pub use lent::{LentSide, LentText};
 pub use losses::lost_operations;
+pub use side::{MergeInput, ReadFrom, Side};
 pub use streams::merge_streams;
 pub use telling::merge_telling;
 pub use turns::{Told, Turn};

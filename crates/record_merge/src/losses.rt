@@ -6,6 +6,7 @@ ghost use Rattle.record_merge.specs.Losses.{IsNotCompared, Loses};
 ghost use Rattle.record_merge.specs.Turns.{is_new};
 
 use crate::nowhere::Nowhere;
+use crate::side::MergeInput;
 use crate::telling::merge_telling;
 use crate::turns::Turn;
 use archive_records::MergeFault;
@@ -39,6 +40,6 @@ pub fn lost_operations<R: Source, S: Source>(
     ensures refused { IfErr result (λ e. IsNotCompared (stream R.left R.failures new.old new.new)
         (stream S.left S.failures old.old old.new) e.cause) }
 {
-    let (_, told) = merge_telling(heap, new, old, &mut Nowhere)?;
+    let (_, told) = merge_telling::<R, S, MergeInput, Nowhere>(heap, new, old, &mut Nowhere)?;
     Ok(number_of_new(&told.turns))
 }

@@ -11,7 +11,7 @@ ghost use Rattle.record_merge.specs.declared.turns.Turn.{Turn};
 ghost use Rattle.record_merge.specs.TellingSteps.{Telling, ToldAll};
 
 use crate::merging::{Merge, merge_records};
-use crate::side::MergeInput;
+use crate::side::{MergeInput, ReadFrom, Side};
 use archive_core::Retirements;
 use archive_records::{Format, MergeCause, MergeFault, RecordFault, Sizes, put_end};
 use byte_device::{Sink, Source, put};
@@ -25,29 +25,29 @@ pub fn before_the_magic(cause: MergeCause) -> MergeFault
 }
 
 /// Reads both magics, left first, and writes one.
-pub fn begin_both<R: Source, S: Source, W: Sink>(
+pub fn begin_both<R: Source, F, B: ReadFrom<F>, W: Sink>(
     heap: &Heap,
     r1: &mut R,
-    r2: &mut S,
+    r2: &mut F,
     w: &mut W,
-) -> Result<Merge, MergeFault>
+) -> Result<Merge<B>, MergeFault>
     ensures telling { MatchResult result
-        (λ m. Telling (R.left r1.old) (R.left r1.new) (S.left r2.old) (S.left r2.new)
-        (W.held w.old) (W.held w.new) (sides_of m) [] false)
-        (λ e. StopsMerge (R.left r1.old) (R.left r1.new) (S.left r2.old) (S.left r2.new)
+        (λ m. Telling (R.left r1.old) (R.left r1.new) (B.left r2.old) (B.left r2.new)
+        (W.held w.old) (W.held w.new) (sides_of B.seen m) [] false)
+        (λ e. StopsMerge (R.left r1.old) (R.left r1.new) (B.left r2.old) (B.left r2.new)
         (W.held w.old) (W.held w.new) e) }
-    ensures fits { IfOk result (λ m. Fits (sides_of m)) }
-    ensures devices { BlamesDevices (stream R.left R.failures r1.old r1.new) (stream S.left S.failures r2.old r2.new)
+    ensures fits { IfOk result (λ m. Fits (sides_of B.seen m)) }
+    ensures devices { BlamesDevices (stream R.left R.failures r1.old r1.new) (stream B.left B.failures r2.old r2.new)
         (W.failures w.old) (W.failures w.new) result }
 {
     let Ok(shared) = Retirements::none(heap) else {
         return Err(before_the_magic(MergeCause::Left(RecordFault::out_of_memory(0))));
     };
-    let left = match MergeInput::begin(heap, r1) {
+    let left = match MergeInput::begin_text(heap, r1) {
         Ok(side) => side,
         Err(fault) => return Err(before_the_magic(MergeCause::Left(fault))),
     };
-    let right = match MergeInput::begin(heap, r2) {
+    let right = match B::begin(heap, r2) {
         Ok(side) => side,
         Err(fault) => return Err(before_the_magic(MergeCause::Right(fault))),
     };
@@ -66,12 +66,12 @@ pub fn begin_both<R: Source, S: Source, W: Sink>(
 }
 
 /// Writes the end record.
-pub fn finish<W: Sink>(w: &mut W, m: &Merge) -> Result<Sizes, MergeFault>
-    requires { HasEnded (sides_of m.now) }
-    ensures leaves { (a1 b1 a2 b2 w0 : Option (List ℕ)) → Merging a1 b1 a2 b2 w0 (W.held w.old) (sides_of m.now)
+pub fn finish<W: Sink, B: Side>(w: &mut W, m: &Merge<B>) -> Result<Sizes, MergeFault>
+    requires { HasEnded (sides_of B.seen m.now) }
+    ensures leaves { (a1 b1 a2 b2 w0 : Option (List ℕ)) → Merging a1 b1 a2 b2 w0 (W.held w.old) (sides_of B.seen m.now)
         → Leaves a1 b1 a2 b2 w0 (W.held w.new) result }
     ensures told { (a1 b1 a2 b2 w0 : Option (List ℕ)) (told : List Turn) (withdraws : Bool)
-        → Telling a1 b1 a2 b2 w0 (W.held w.old) (sides_of m.now) told withdraws
+        → Telling a1 b1 a2 b2 w0 (W.held w.old) (sides_of B.seen m.now) told withdraws
         → IfOk result (λ sizes. ToldAll a1 b1 a2 b2 w0 (W.held w.new) sizes told withdraws) }
     ensures unfailed { OnOk result (W.failures w.new ≡ W.failures w.old) }
     ensures cause { IfErr result (λ e. (e.cause ≡ Write) × FailedIn (W.failures w.old) (W.failures w.new)) }
@@ -86,18 +86,18 @@ pub fn finish<W: Sink>(w: &mut W, m: &Merge) -> Result<Sizes, MergeFault>
 }
 
 /// Merges two inputs. What is said is of the bytes that were taken.
-fn merge_taken<R: Source, S: Source, W: Sink>(
+fn merge_taken<R: Source, F, B: ReadFrom<F>, W: Sink>(
     heap: &Heap,
     r1: &mut R,
-    r2: &mut S,
+    r2: &mut F,
     w: &mut W,
 ) -> Result<Sizes, MergeFault>
-    ensures leaves { Leaves (R.left r1.old) (R.left r1.new) (S.left r2.old) (S.left r2.new)
+    ensures leaves { Leaves (R.left r1.old) (R.left r1.new) (B.left r2.old) (B.left r2.new)
         (W.held w.old) (W.held w.new) result }
-    ensures devices { BlamesDevices (stream R.left R.failures r1.old r1.new) (stream S.left S.failures r2.old r2.new)
+    ensures devices { BlamesDevices (stream R.left R.failures r1.old r1.new) (stream B.left B.failures r2.old r2.new)
         (W.failures w.old) (W.failures w.new) result }
 {
-    let mut m = begin_both(heap, r1, r2, w)?;
+    let mut m = begin_both::<R, F, B, W>(heap, r1, r2, w)?;
     merge_records(r1, r2, w, &mut m)?;
     finish(w, &m)
 }
@@ -131,5 +131,5 @@ pub fn merge_streams<R: Source, S: Source, W: Sink>(
     // Whatever stops it, and whatever is known of the inputs.
     ensures written { IfErr result (λ e. GainsCount (stream W.held W.failures w.old w.new) e.written) }
 {
-    merge_taken(heap, left, right, w)
+    merge_taken::<R, S, MergeInput, W>(heap, left, right, w)
 }

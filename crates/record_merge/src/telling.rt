@@ -20,7 +20,7 @@ ghost use Rattle.record_merge.specs.TellingSteps.{TellsNext, TellsOn, ToldAll, h
 ghost use Rattle.record_merge.specs.Turns.{turn_of};
 
 use crate::merging::{Merge, first, read_left, read_right, share, take_turn};
-use crate::side::Lookahead;
+use crate::side::{Lookahead, ReadFrom, Side};
 use crate::streams::{before_the_magic, begin_both, finish};
 use crate::turns::{Told, Turn, turn_by};
 use archive_records::{MergeCause, MergeFault, RecordFault, Sizes};
@@ -30,26 +30,26 @@ use std::cmp::Ordering;
 
 /// What the record that is next is to the left side: none where it is that side's alone. All of the left side that are
 /// not above it were read, and so were its retirements where it is an admission.
-fn next_turn(m: &mut Merge, next: Ordering) -> Option<Turn>
-    requires { next ≡ first_of m.old.left m.old.right }
-    ensures tells { TellsNext (sides_of m.old) result }
-    ensures right { IsSome result → first_of m.old.left m.old.right ≢ Less }
+fn next_turn<B: Side>(m: &mut Merge<B>, next: Ordering) -> Option<Turn>
+    requires { next ≡ first_of m.old.left (B.seen m.old.right) }
+    ensures tells { TellsNext (sides_of B.seen m.old) result }
+    ensures right { IsSome result → first_of m.old.left (B.seen m.old.right) ≢ Less }
     ensures same { m.new ≡ m.old }
 {
     match next {
         Ordering::Less => None,
         Ordering::Equal => Some(turn_by(m.left.reader.dropped(), true)),
         Ordering::Greater => Some(turn_by(
-            m.left.reader.retires_beside(&m.shared, &mut m.right.reader),
+            m.right.covered_by(&m.shared, m.left.reader.retired()),
             false,
         )),
     }
 }
 
 /// Whether the left side has the record that is next, and does not retire it.
-fn has_next(m: &Merge, next: Ordering) -> bool
-    requires { next ≡ first_of m.now.left m.now.right }
-    ensures { result ≡ has_next (sides_of m.now) }
+fn has_next<B: Side>(m: &Merge<B>, next: Ordering) -> bool
+    requires { next ≡ first_of m.now.left (B.seen m.now.right) }
+    ensures { result ≡ has_next (sides_of B.seen m.now) }
 {
     match next {
         Ordering::Less | Ordering::Equal => !m.left.reader.dropped(),
@@ -59,16 +59,16 @@ fn has_next(m: &Merge, next: Ordering) -> bool
 
 /// Tells of the record of the right side that had its turn, if there is one. Memory that is wanted for that is wanted
 /// before the next one is read.
-fn tell(m: &Merge, told: &mut Told, turn: Option<Turn>) -> Result<(), MergeFault>
-    requires fits { Fits (sides_of m.now) }
+fn tell<B: Side>(m: &Merge<B>, told: &mut Told, turn: Option<Turn>) -> Result<(), MergeFault>
+    requires fits { Fits (sides_of B.seen m.now) }
     requires read { m.now.left.ahead ≢ Lookahead.Unread }
-    requires unread { IsSome turn → m.now.right.ahead ≡ Lookahead.Unread }
+    requires unread { IsSome turn → (B.seen m.now.right).ahead ≡ Lookahead.Unread }
     ensures turns { OnOk result (told.new.turns.items ≡ told_with told.old.turns.items turn) }
     ensures withdraws { told.new.withdraws ≡ told.old.withdraws }
     ensures stops { IfErr result (λ e. (a1 b1 a2 b2 w0 w1 : Option (List ℕ))
-        → Merging a1 b1 a2 b2 w0 w1 (sides_of m.now)
+        → Merging a1 b1 a2 b2 w0 w1 (sides_of B.seen m.now)
         → HasStoppedMerge a1 b1 a2 b2 w0 w1 e) }
-    ensures cause { IfErr result (λ e. e.cause ≡ Right (memory_behind m.now.right.reader.offset)) }
+    ensures cause { IfErr result (λ e. e.cause ≡ Right (memory_behind (B.seen m.now.right).reader.offset)) }
 {
     let Some(turn) = turn else {
         return Ok(());
@@ -76,27 +76,27 @@ fn tell(m: &Merge, told: &mut Told, turn: Option<Turn>) -> Result<(), MergeFault
     match told.turns.push(turn) {
         Ok(()) => Ok(()),
         Err(_) => {
-            let fault = RecordFault::out_of_memory(m.right.reader.offset());
+            let fault = RecordFault::out_of_memory(m.right.offset());
             Err(m.stopped_by(MergeCause::Right(fault)))
         }
     }
 }
 
 /// Reads on behind what had its turn, left first, and tells of the right side's record before that side is read on.
-fn tell_and_read_on<R: Source, S: Source>(
+fn tell_and_read_on<R: Source, F, B: ReadFrom<F>>(
     r1: &mut R,
-    r2: &mut S,
-    m: &mut Merge,
+    r2: &mut F,
+    m: &mut Merge<B>,
     told: &mut Told,
     turn: Option<Turn>,
 ) -> Result<(), MergeFault>
-    requires fits { Fits (sides_of m.old) }
-    requires unread { IsSome turn → m.old.right.ahead ≡ Lookahead.Unread }
-    ensures telling { (w : Option (List ℕ)) → TellsOn (R.left r1.old) (R.left r1.new) (S.left r2.old) (S.left r2.new)
-        w w (sides_of m.old) (sides_of m.new) (told_with told.old.turns.items turn) told.new.turns.items
+    requires fits { Fits (sides_of B.seen m.old) }
+    requires unread { IsSome turn → (B.seen m.old.right).ahead ≡ Lookahead.Unread }
+    ensures telling { (w : Option (List ℕ)) → TellsOn (R.left r1.old) (R.left r1.new) (B.left r2.old) (B.left r2.new)
+        w w (sides_of B.seen m.old) (sides_of B.seen m.new) (told_with told.old.turns.items turn) told.new.turns.items
         told.old.withdraws told.new.withdraws result }
-    ensures read { OnOk result (IsReadOn (sides_of m.old) (sides_of m.new)) }
-    ensures devices { BlamesDevices (stream R.left R.failures r1.old r1.new) (stream S.left S.failures r2.old r2.new)
+    ensures read { OnOk result (IsReadOn (sides_of B.seen m.old) (sides_of B.seen m.new)) }
+    ensures devices { BlamesDevices (stream R.left R.failures r1.old r1.new) (stream B.left B.failures r2.old r2.new)
         0 0 result }
 {
     read_left(r1, m)?;
@@ -105,20 +105,20 @@ fn tell_and_read_on<R: Source, S: Source>(
 }
 
 /// Gives the record that is next its turn, tells of it where it is one of the right side, and reads on.
-fn give_turn<R: Source, S: Source, W: Sink>(
+fn give_turn<R: Source, F, B: ReadFrom<F>, W: Sink>(
     r1: &mut R,
-    r2: &mut S,
+    r2: &mut F,
     w: &mut W,
-    m: &mut Merge,
+    m: &mut Merge<B>,
     told: &mut Told,
 ) -> Result<(), MergeFault>
-    requires { IsBeforeTurn (sides_of m.old) }
-    ensures telling { TellsOn (R.left r1.old) (R.left r1.new) (S.left r2.old) (S.left r2.new)
-        (W.held w.old) (W.held w.new) (sides_of m.old) (sides_of m.new) told.old.turns.items told.new.turns.items
+    requires { IsBeforeTurn (sides_of B.seen m.old) }
+    ensures telling { TellsOn (R.left r1.old) (R.left r1.new) (B.left r2.old) (B.left r2.new)
+        (W.held w.old) (W.held w.new) (sides_of B.seen m.old) (sides_of B.seen m.new) told.old.turns.items told.new.turns.items
         told.old.withdraws told.new.withdraws result }
-    ensures read { OnOk result (IsReadOn (sides_of m.old) (sides_of m.new)) }
-    ensures less { OnOk result (cost_of (sides_of m.new) < cost_of (sides_of m.old)) }
-    ensures devices { BlamesDevices (stream R.left R.failures r1.old r1.new) (stream S.left S.failures r2.old r2.new)
+    ensures read { OnOk result (IsReadOn (sides_of B.seen m.old) (sides_of B.seen m.new)) }
+    ensures less { OnOk result (cost_of (sides_of B.seen m.new) < cost_of (sides_of B.seen m.old)) }
+    ensures devices { BlamesDevices (stream R.left R.failures r1.old r1.new) (stream B.left B.failures r2.old r2.new)
         (W.failures w.old) (W.failures w.new) result }
 {
     let next = first(&m.left, &m.right);
@@ -131,19 +131,19 @@ fn give_turn<R: Source, S: Source, W: Sink>(
 }
 
 /// Writes all records behind the magic, but for those that are covered, and tells of those of the right side.
-fn tell_records<R: Source, S: Source, W: Sink>(
+fn tell_records<R: Source, F, B: ReadFrom<F>, W: Sink>(
     r1: &mut R,
-    r2: &mut S,
+    r2: &mut F,
     w: &mut W,
-    m: &mut Merge,
+    m: &mut Merge<B>,
     told: &mut Told,
 ) -> Result<(), MergeFault>
-    requires fits { Fits (sides_of m.old) }
-    ensures telling { TellsOn (R.left r1.old) (R.left r1.new) (S.left r2.old) (S.left r2.new)
-        (W.held w.old) (W.held w.new) (sides_of m.old) (sides_of m.new) told.old.turns.items told.new.turns.items
+    requires fits { Fits (sides_of B.seen m.old) }
+    ensures telling { TellsOn (R.left r1.old) (R.left r1.new) (B.left r2.old) (B.left r2.new)
+        (W.held w.old) (W.held w.new) (sides_of B.seen m.old) (sides_of B.seen m.new) told.old.turns.items told.new.turns.items
         told.old.withdraws told.new.withdraws result }
-    ensures ended { OnOk result (HasEnded (sides_of m.new)) }
-    ensures devices { BlamesDevices (stream R.left R.failures r1.old r1.new) (stream S.left S.failures r2.old r2.new)
+    ensures ended { OnOk result (HasEnded (sides_of B.seen m.new)) }
+    ensures devices { BlamesDevices (stream R.left R.failures r1.old r1.new) (stream B.left B.failures r2.old r2.new)
         (W.failures w.old) (W.failures w.new) result }
 {
     tell_and_read_on(r1, r2, m, told, None)?;
@@ -154,23 +154,23 @@ fn tell_records<R: Source, S: Source, W: Sink>(
 }
 
 /// Merges two inputs, and tells of the right one's records. What is said is of the bytes that were taken.
-fn tell_taken<R: Source, S: Source, W: Sink>(
+fn tell_taken<R: Source, F, B: ReadFrom<F>, W: Sink>(
     heap: &Heap,
     r1: &mut R,
-    r2: &mut S,
+    r2: &mut F,
     w: &mut W,
     told: &mut Told,
 ) -> Result<Sizes, MergeFault>
     requires turns { told.old.turns.items ≡ [] }
     requires withdraws { told.old.withdraws ≡ false }
-    ensures leaves { Leaves (R.left r1.old) (R.left r1.new) (S.left r2.old) (S.left r2.new)
+    ensures leaves { Leaves (R.left r1.old) (R.left r1.new) (B.left r2.old) (B.left r2.new)
         (W.held w.old) (W.held w.new) result }
-    ensures told { IfOk result (λ sizes. ToldAll (R.left r1.old) (R.left r1.new) (S.left r2.old) (S.left r2.new)
+    ensures told { IfOk result (λ sizes. ToldAll (R.left r1.old) (R.left r1.new) (B.left r2.old) (B.left r2.new)
         (W.held w.old) (W.held w.new) sizes told.new.turns.items told.new.withdraws) }
-    ensures devices { BlamesDevices (stream R.left R.failures r1.old r1.new) (stream S.left S.failures r2.old r2.new)
+    ensures devices { BlamesDevices (stream R.left R.failures r1.old r1.new) (stream B.left B.failures r2.old r2.new)
         (W.failures w.old) (W.failures w.new) result }
 {
-    let mut m = begin_both(heap, r1, r2, w)?;
+    let mut m = begin_both::<R, F, B, W>(heap, r1, r2, w)?;
     tell_records(r1, r2, w, &mut m, told)?;
     finish(w, &m)
 }
@@ -183,24 +183,24 @@ fn tell_taken<R: Source, S: Source, W: Sink>(
 ///
 /// Those of `merge_streams`. Memory that is wanted for what is told of a record is wanted by the right side, before the
 /// next one is read; where there is none at all, by the left one, before anything is read.
-pub fn merge_telling<R: Source, S: Source, W: Sink>(
+pub fn merge_telling<R: Source, F, B: ReadFrom<F>, W: Sink>(
     heap: &Heap,
     left: &mut R,
-    right: &mut S,
+    right: &mut F,
     w: &mut W,
 ) -> Result<(Sizes, Told), MergeFault>
-    ensures merges { Merges (stream R.left R.failures left.old left.new) (stream S.left S.failures right.old right.new)
+    ensures merges { Merges (stream R.left R.failures left.old left.new) (stream B.left B.failures right.old right.new)
         (stream W.held W.failures w.old w.new)
         (result_map_both (λ both. both.0) (λ e. e) result) }
     ensures tells { IfOk result (λ both. IsMergedTelling (stream R.left R.failures left.old left.new)
-        (stream S.left S.failures right.old right.new) (stream W.held W.failures w.old w.new) both.0
+        (stream B.left B.failures right.old right.new) (stream W.held W.failures w.old w.new) both.0
         both.1.turns.items both.1.withdraws) }
 
     // Where the texts are known, of their contents.
-    ensures turns { IfOk result (λ both. IfSome (R.left left.old) (λ t. IfSome (S.left right.old) (λ u.
+    ensures turns { IfOk result (λ both. IfSome (R.left left.old) (λ t. IfSome (B.left right.old) (λ u.
         (o p : Operations) → IsContent o → IsArchiveOf o t → HasOperations p u
         → both.1.turns.items ≡ map (turn_of o) (listing p)))) }
-    ensures withdraws { IfOk result (λ both. IfSome (R.left left.old) (λ t. IfSome (S.left right.old) (λ u.
+    ensures withdraws { IfOk result (λ both. IfSome (R.left left.old) (λ t. IfSome (B.left right.old) (λ u.
         (o p : Operations) → IsContent o → IsArchiveOf o t → HasOperations p u
         → both.1.withdraws ≡ list_any (is_covered p) (listing o)))) }
 
@@ -211,6 +211,6 @@ pub fn merge_telling<R: Source, S: Source, W: Sink>(
         return Err(before_the_magic(MergeCause::Left(RecordFault::out_of_memory(0))));
     };
     let mut told = Told::nothing(memory);
-    let sizes = tell_taken(heap, left, right, w, &mut told)?;
+    let sizes = tell_taken::<R, F, B, W>(heap, left, right, w, &mut told)?;
     Ok((sizes, told))
 }

@@ -14,8 +14,8 @@ returns-in-Ok g c =
     rw (lent_from c.args.input.now _ c.in_ok-left.ensures.source)
     (told_opened _ _ c.new-text.result c.merge_telling.new.right _ (record {
       are = are_records operations c.requires.are;
-      bytes = c.new-text.ensures.left ∙ ap Some (text_in_order operations c.requires.ascending);
-      unfailed_before = c.new-text.ensures.failures;
+      bytes = ap Some (c.new-text.ensures ∙ text_in_order operations c.requires.ascending);
+      unfailed_before = refl;
       unfailed = refl;
     })
     _ _ _ c.merge_telling.new.left _ _ _ c.merge_telling.new.w _ _ _ c.in-Ok.ensures.tells)
@@ -25,8 +25,8 @@ returns-in-Err g c =
     let operations = c.args.operations.now in
     let at = makes_at_hand _ _ (record {
       are = are_records operations c.requires.are;
-      bytes = c.new-text.ensures.left ∙ ap Some (text_in_order operations c.requires.ascending);
-      unfailed_before = c.new-text.ensures.failures;
+      bytes = ap Some (c.new-text.ensures ∙ text_in_order operations c.requires.ascending);
+      unfailed_before = refl;
       unfailed = refl;
     }) in
     rw (lent_from c.args.input.now _ c.in_ok-left.ensures.source) (

@@ -1,6 +1,7 @@
-use Rattle.std.proofs.Common.{◌∙◌, ap, count_by}
+use Rattle.std.proofs.Common.{◌∙◌, ap, arith, count_by}
 use Rattle.byte_device.specs.Devices.{stream}
-use Rattle.record_merge.proofs.Lost.{loses}
+use Rattle.std.proofs.lemmas.Result.{err_from_is_err_and}
+use Rattle.record_merge.proofs.Lost.{loses, not_compared}
 use Rattle.record_merge.specs.Turns.{is_new}
 use Rattle.record_merge.proofs.losses.lost_operations.Goals as goal
 
@@ -10,3 +11,8 @@ returns-clause-lost g c =
     (stream g.S.Source.left g.S.Source.failures c.args.old.now c.merge_telling.new.right) _ c.in_ok-told.field-0-0
     c.in_ok-told.told.turns.items c.in_ok-told.told.withdraws c.number_of_new.result c.in_ok-told.ensures.tells
     (c.number_of_new.ensures ∙ ap (count_by is_new) c.deref.ensures.value)
+
+pub returns-in_err-told-clause-refused : goal.returns-in_err-told-clause-refused
+returns-in_err-told-clause-refused g c =
+    let p = err_from_is_err_and c.from_residual.result c.from_residual.ensures.1 in
+    rw (p.1, p.2) (not_compared (stream g.R.Source.left g.R.Source.failures c.args.new.now c.merge_telling.new.left) (stream g.S.Source.left g.S.Source.failures c.args.old.now c.merge_telling.new.right) _ _ _ (λ failed. omega (arith, failed)) c.in_err-told.ensures.merges.0)

@@ -12,4 +12,4 @@ returns-clause-telling g c = λ a1 a2 w0 t.
     let told = taken a1 _ a2 _ w0 _ _ turn (c.share.ensures.telling a1 _ a2 _ w0 _ _ _ t) c.next_turn-turn.ensures.tells in
     let turns = ap (λ v. told_with v.items turn) c.pass.ensures.turns in
     let withdraws = c.pass.ensures.withdraws ∙ ap (λ (b : Bool). (c.in_ok-passed.passed && b) || c.args.told.now.withdraws) had in
-    c.tell_and_read_on.ensures.telling _ a1 a2 w0 (tells_as a1 _ a2 _ w0 _ (sides_of c.take_turn.new.m) _ _ _ _ turns withdraws told)
+    c.tell_and_read_on.ensures.telling _ a1 a2 w0 (tells_as a1 _ a2 _ w0 _ (sides_of g.B.Side.seen c.take_turn.new.m) _ _ _ _ turns withdraws told)

@@ -6,13 +6,13 @@ use Rattle.record_merge.proofs.telling.tell_records.Given as goal
 
 abbrev pub invariant-turns : goal.invariant-turns
 invariant-turns g l = record {
-  telling : (a1 a2 w0 : Option (List ℕ)) → Telling a1 (g.R.Source.left l.initial.r1) a2 (g.S.Source.left l.initial.r2) w0 (g.W.Sink.held l.initial.w) (sides_of l.initial.m) l.initial.told.turns.items l.initial.told.withdraws → Telling a1 (g.R.Source.left l.r1) a2 (g.S.Source.left l.r2) w0 (g.W.Sink.held l.w) (sides_of l.m) l.told.turns.items l.told.withdraws;
-  fits : Fits (sides_of l.m);
-  read : IsRead (sides_of l.m);
+  telling : (a1 a2 w0 : Option (List ℕ)) → Telling a1 (g.R.Source.left l.initial.r1) a2 (g.B.ReadFrom.left l.initial.r2) w0 (g.W.Sink.held l.initial.w) (sides_of g.B.Side.seen l.initial.m) l.initial.told.turns.items l.initial.told.withdraws → Telling a1 (g.R.Source.left l.r1) a2 (g.B.ReadFrom.left l.r2) w0 (g.W.Sink.held l.w) (sides_of g.B.Side.seen l.m) l.told.turns.items l.told.withdraws;
+  fits : Fits (sides_of g.B.Side.seen l.m);
+  read : IsRead (sides_of g.B.Side.seen l.m);
   unfailed1 : g.R.Source.failures l.r1 ≡ g.R.Source.failures l.initial.r1;
-  unfailed2 : g.S.Source.failures l.r2 ≡ g.S.Source.failures l.initial.r2;
+  unfailed2 : g.B.ReadFrom.failures l.r2 ≡ g.B.ReadFrom.failures l.initial.r2;
   unfailed : g.W.Sink.failures l.w ≡ g.W.Sink.failures l.initial.w;
 }
 
 abbrev pub decreases-turns : goal.decreases-turns
-decreases-turns g l = cost_of (sides_of l.m)
+decreases-turns g l = cost_of (sides_of g.B.Side.seen l.m)
