@@ -8,4 +8,4 @@ returns-in-Retired-clause-writes g c = rw c.in-Retired.is (simp append_assoc c.w
 
 pub returns-in-Underscored-clause-writes : goal.returns-in-Underscored-clause-writes
 unfolding note_text
-returns-in-Underscored-clause-writes g c = rw c.in-Underscored.is (simp append_assoc c.write-in-Underscored.ensures.writes)
+returns-in-Underscored-clause-writes g c = rw c.in-Underscored.is (rw c.deref.ensures.value at (simp append_assoc c.write-in-Underscored.ensures.writes))
