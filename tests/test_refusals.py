@@ -171,7 +171,8 @@ class Lines(PlacesCase):
 
     def test_numbers_of_sites_and_messages(self) -> None:
         large = dict.fromkeys(("65", "4294967296", "18446744073709551617"), "too large, expected at most 64")
-        for sites, flaw in {**large, "01": ZEROS, "018446744073709551617": ZEROS, "-1": "expected a decimal number, at most 64"}.items():
+        zeros = dict.fromkeys(("01", "018446744073709551617"), ZEROS)
+        for sites, flaw in {**large, **zeros, "-1": "expected a decimal number, at most 64"}.items():
             self.bad_sites(sites, f"has an invalid N: {flaw}")
         self.bad_sites("0", "is not `sites N`, N from 1 to 64")
         for number in ("4294967296", "18446744073709551616", "9" * 5000):
