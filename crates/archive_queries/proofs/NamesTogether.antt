@@ -5,7 +5,7 @@ use Rattle.std.specs.List.{AllByRecursion, AllZip}
 use Rattle.std.specs.List.Sorted.{IsStrictlySortedBy}
 use Rattle.std.specs.Cmp.Lexicographic.{nat_list_cmp_total}
 use Rattle.std.specs.FinSet.{contains, union, contains-union}
-use Rattle.std.proofs.lemmas.Bool.{or_cases, or_left, or_right}
+use Rattle.std.proofs.lemmas.Bool.{eqb-true, false_from_ne_true, or_cases, or_left, or_right}
 use Rattle.std.proofs.lemmas.List.Elements.{All-contains, All-from_recursion, Contains-append_left, Contains-get_or, Contains-push, Contains-push_cases, recursion_from_All}
 use Rattle.archive_core.specs.Content.{Operations, IsContent, content_of, is_admission, is_covered, joined}
 use Rattle.archive_core.specs.Names.{IsNameRow, IsNames, NameRecord, name_cmp, owned_name_view}
@@ -283,12 +283,15 @@ module _ {R : Type 0} (archive : Reader R) (others : List (Reader R)) (name othe
 
 -- ---- a name with a `_` before it
 
+not_empty : (row : OwnedNameRow) (rows : List OwnedNameRow) → nat_eq (length (row ∷ rows)) 0 ≡ false
+not_empty row rows = false_from_ne_true (nat_eq (length (row ∷ rows)) 0) (λ t. omega (arith, eqb-true (length (row ∷ rows)) 0 t))
+
 -- whether it alone is there, by the rows of both names
 pub underscored_by : (o : Operations) (name : List ℕ) (rows also : List OwnedNameRow) → IsNames o name (map owned_name_view rows) → IsNames o (underscored name) (map owned_name_view also)
     → SaysUnderscored o name (nat_eq (length rows) 0 && not (nat_eq (length also) 0))
 underscored_by o name [] [] names others = λ is. none_in ((others.exactly is.somewhere.0).1 is.somewhere.1)
-underscored_by o name [] (row ∷ also) names others = record {
+underscored_by o name [] (row ∷ also) names others = rw (not_empty row also) (record {
   nowhere = λ one told. none_in ((names.exactly one).1 told);
   somewhere = (owned_name_view row, (others.exactly (owned_name_view row)).0 (in_front (owned_name_view row) (map owned_name_view also)));
-}
-underscored_by o name (row ∷ rows) also names others = λ is. is.nowhere (owned_name_view row) ((names.exactly (owned_name_view row)).0 (in_front (owned_name_view row) (map owned_name_view rows)))
+})
+underscored_by o name (row ∷ rows) also names others = rw (not_empty row rows) (λ is. is.nowhere (owned_name_view row) ((names.exactly (owned_name_view row)).0 (in_front (owned_name_view row) (map owned_name_view rows))))
