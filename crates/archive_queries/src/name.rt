@@ -9,9 +9,7 @@ ghost use Rattle.archive_queries.specs.InnerNames.{HaveAdded};
 ghost use Rattle.archive_queries.specs.Name.{Answers, name_status, underscored};
 
 use archive_core::OwnedNameRow;
-use archive_reading::{
-    NamesFound, NamesTold, SoughtNames, gather_names, live_names, read_names,
-};
+use archive_reading::{NamesFound, NamesTold, SoughtNames, gather_names, live_names, read_names};
 use byte_device::{CannotOpen, Source};
 use command_ends::{CommandFault, Place, Status, opened, refusal};
 use memory::{Heap, NoMemory};

@@ -17,11 +17,14 @@ returns-in_err-clone-2 g c = wanting_first _ _ _ _ _ _ c.from_residual-in_err-cl
 
 pub returns : goal.returns
 returns g c = record {
-  is = together_tells _ _ _ _ (λ o both. (record {
-    rows = map owned_name_view c.in_ok-told.told.rows.items;
-    names = both.0;
-    status_is = c.status_of_names.ensures ∙ ap (λ rows. name_status (map owned_name_view rows)) c.deref-3.ensures.value;
-    text_is = c.in_ok-text.ensures ∙ ap (λ rows. name_lines (map owned_name_view rows)) c.deref-2.ensures.value;
-  }, rw c.is_underscored.ensures (underscored_by o c.args.sought.now c.in_ok-told.told.rows.items c.in_ok-told.told.others.items both.0 (rw (c.deref.ensures.value, c.in_ok-other.ensures) at both.1)))) c.in_ok-told.ensures.is;
+  is = together_tells _ _ _ _ (λ o both. (
+    record {
+      rows = map owned_name_view c.in_ok-told.told.rows.items;
+      names = both.0;
+      status_is = c.status_of_names.ensures ∙ ap (λ rows. name_status (map owned_name_view rows)) c.deref-3.ensures.value;
+      text_is = c.in_ok-text.ensures ∙ ap (λ rows. name_lines (map owned_name_view rows)) c.deref-2.ensures.value;
+    },
+    rw c.is_underscored.ensures (underscored_by o c.args.sought.now c.in_ok-told.told.rows.items c.in_ok-told.told.others.items both.0 (rw (c.deref.ensures.value, c.in_ok-other.ensures) at both.1)),
+  )) c.in_ok-told.ensures.is;
   unfailed = c.in_ok-told.ensures.unfailed;
 }
