@@ -272,6 +272,16 @@ class Names(CrashCase):
 
     def test_the_beginning_of_a_name(self) -> None:
         self.expect("name both.sym _copy", status=1)
+        self.expect("name both.sym copy", status=1)
+
+    def test_a_name_without_its_underscore(self) -> None:
+        note = "note: there is no symbol copy_body, but there is _copy_body"
+        for words in ("both.sym copy_body", "empty.sym copy_body --with linked.sym", "retired.sym copy_body"):
+            self.expect(f"name {words}", status=1, tells=note)
+        retired = archive([], retired=[*crash.SHIPPED, *crash.LINKED])
+        self.file("gone.sym", retired)
+        for words in ("both.sym --with gone.sym copy_body", "gone.sym copy_body --with both.sym", "gone.sym copy_body"):
+            self.expect(f"name {words}", status=1)
 
 
 class Frames(CrashCase):

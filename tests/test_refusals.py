@@ -20,7 +20,8 @@ FORM_UUID = "32 hex digits, with or without hyphens"
 FORM_ARCH = "x86_64, x86_64h, arm64, arm64e or cpu:CCCCCCCC/00SSSSSS"
 FORM_DIGEST = "64 hex digits"
 FORM_ADDRESS = "1 to 16 hex digits, with or without 0x"
-FORM_DECIMAL = "a decimal number without leading zeros, at most 4294967295"
+TOO_LARGE = "too large, expected at most 4294967295"
+ZEROS = "expected no leading zeros"
 
 
 class Inputs(PlacesCase):
@@ -143,6 +144,10 @@ class Lines(PlacesCase):
         self.file("lines", f"sites 1\n{line}\n")
         self.refuses("rehearse {}", "script", "lines", "BadEvent at line 2", f", whose line 2 {hint}")
 
+    def bad_sites(self, number: str, hint: str) -> None:
+        self.file("lines", f"sites {number}\n")
+        self.refuses("rehearse {}", "script", "lines", "NoSites at line 1", f", whose line 1 {hint}")
+
     def test_frames(self) -> None:
         self.bad_frame(f"{UUID}\tx86_64 - 0", "a tab")
         self.bad_frame(f"{KEY} - 0\r", "a carriage return")
@@ -157,20 +162,23 @@ class Lines(PlacesCase):
         self.bad_event("save\t0", "has a tab")
         self.bad_event("store 0", "begins with no word of an event")
         self.bad_event("save 0 0", "has fewer or more fields than its event")
-        self.bad_event("save 00", f"has an invalid SITE: expected {FORM_DECIMAL}")
+        self.bad_event("save 00", f"has an invalid SITE: {ZEROS}")
         self.bad_event("take 0 0", "has an invalid BYTES: expected pairs of hex digits")
-        self.bad_event("reply 0 x", f"has an invalid MESSAGE: expected {FORM_DECIMAL}")
+        self.bad_event("reply 0 x", "has an invalid MESSAGE: expected a decimal number, at most 4294967295")
         self.bad_event(f"retire 0 x x86_64 {DIGEST}", f"has an invalid UUID: expected {FORM_UUID}")
         self.bad_event(f"retire 0 {UUID} x86 {DIGEST}", f"has an invalid ARCH: expected {FORM_ARCH}")
         self.bad_event(f"retire 0 {KEY} {DIGEST}0", f"has an invalid DIGEST: expected {FORM_DIGEST}")
 
     def test_numbers_of_sites_and_messages(self) -> None:
-        for sites in ("0", "65", "4294967296", "18446744073709551617"):
-            self.file("lines", f"sites {sites}\n")
-            hint = ", whose line 1 is not `sites N`, N from 1 to 64"
-            self.refuses("rehearse {}", "script", "lines", "NoSites at line 1", hint)
-        self.bad_event("save 4294967296", f"has an invalid SITE: expected {FORM_DECIMAL}")
-        self.bad_event("deliver 0 4294967296", f"has an invalid MESSAGE: expected {FORM_DECIMAL}")
+        large = dict.fromkeys(("65", "4294967296", "18446744073709551617"), "too large, expected at most 64")
+        zeros = dict.fromkeys(("01", "018446744073709551617"), ZEROS)
+        for sites, flaw in {**large, **zeros, "-1": "expected a decimal number, at most 64"}.items():
+            self.bad_sites(sites, f"has an invalid N: {flaw}")
+        self.bad_sites("0", "is not `sites N`, N from 1 to 64")
+        for number in ("4294967296", "18446744073709551616", "9" * 5000):
+            self.bad_event(f"save {number}", f"has an invalid SITE: {TOO_LARGE}")
+            self.bad_event(f"deliver 0 {number}", f"has an invalid MESSAGE: {TOO_LARGE}")
+            self.bad_event(f"reply 0 0{number}", f"has an invalid MESSAGE: {ZEROS}")
         self.bad_event("take 0 ", "has two spaces together, or one at an end")
 
     def test_too_many_events(self) -> None:

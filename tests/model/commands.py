@@ -7,7 +7,7 @@ from .contents import OLD_ARCHIVE, Content, Fault, MergeFault, Placed, Source, S
 from .contents import index_text, magic_fault, merge_streams, merged_by_definition, parts_at, read_archive, read_index
 from .contents import read_ops, read_summary, retirement, summary_text, test_length
 from .images import parts_of_file, sha
-from .lines import answer_lines, find_lines, find_rows, index_rows, key_text, name_lines
+from .lines import answer_lines, escaped, find_lines, find_rows, index_rows, key_text, name_lines
 from .parts import Store
 from .plans import ANY_NUMBER, Plan, takes
 from .worlds import World, read_frames, read_script
@@ -336,7 +336,11 @@ class Run:
     @takes("archive name", is_asking=True)
     def run_name(self, plan: Plan) -> int:
         content = self.join([plan.one["archive"], *plan.more])
-        return self.told(name_lines(content, plan.one["name"].encode()))
+        name = plan.one["name"].encode()
+        lines = name_lines(content, name)
+        if not lines and name_lines(content, b"_" + name):
+            self.notes = [f"there is no symbol {escaped(name)}, but there is _{escaped(name)}"]
+        return self.told(lines)
 
     @takes("archive uuid arch address*", is_asking=True, indexes=ANY_NUMBER, is_telling_lines=True)
     def run_symbolicate(self, plan: Plan) -> int:

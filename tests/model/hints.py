@@ -3,7 +3,7 @@ like."""
 from typing import Callable, Dict, List, Optional, Protocol, Sequence, Tuple
 
 from .contents import ARCHIVES, IDX, OPS, SUM
-from .lines import address_word, arch_word, decimal, digest_word, is_hex, uuid_word
+from .lines import address_word, arch_word, digest_word, is_hex, uuid_word
 from .plans import Plan
 
 NO_FILE = ": No such file or directory (os error 2)"
@@ -39,7 +39,19 @@ def look_of(there: bytes) -> Optional[str]:
 
 # ---- faulty lines
 
-DECIMAL = "a decimal number without leading zeros, at most 4294967295"
+# Of each number of a script the greatest that it may be.
+MOST = {"N": 64, "SITE": 4294967295, "MESSAGE": 4294967295}
+
+
+def number_flaw(field: str, most: int) -> Optional[str]:
+    """What is wrong with a number, if something is."""
+    if not field.isascii() or not field.isdigit():
+        return f"expected a decimal number, at most {most}"
+    if field != "0" and field[0] == "0":
+        return "expected no leading zeros"
+    if len(field) > 10 or int(field) > most:
+        return f"too large, expected at most {most}"
+    return None
 
 
 def is_bytes(field: str) -> bool:
@@ -54,8 +66,6 @@ FORMS: Dict[str, Tuple[str, Callable[[str], bool]]] = {
     "ARCH": ("x86_64, x86_64h, arm64, arm64e or cpu:CCCCCCCC/00SSSSSS", lambda it: arch_word(it) is not None),
     "ADDRESS": ("1 to 16 hex digits, with or without 0x", lambda it: address_word(it) is not None),
     "LOAD": ("- or 1 to 16 hex digits, with or without 0x", lambda it: it == "-" or address_word(it) is not None),
-    "SITE": (DECIMAL, lambda it: decimal(it) is not None),
-    "MESSAGE": (DECIMAL, lambda it: decimal(it) is not None),
 }
 FRAME = "UUID ARCH LOAD ADDRESS"
 EVENTS = {
@@ -67,9 +77,13 @@ EVENTS = {
 def invalid_field(names: str, fields: Sequence[str]) -> Optional[str]:
     """The first of these fields that has not its form."""
     for name, field in zip(names.split(" "), fields):
-        form, has_it = FORMS[name]
-        if not has_it(field):
-            return f"has an invalid {name}: expected {form}"
+        if name in MOST:
+            flaw = number_flaw(field, MOST[name])
+        else:
+            form, has_it = FORMS[name]
+            flaw = None if has_it(field) else f"expected {form}"
+        if flaw:
+            return f"has an invalid {name}: {flaw}"
     return None
 
 
@@ -77,7 +91,8 @@ def flaw_of_fields(fault: str, fields: Sequence[str]) -> Optional[str]:
     if fault == "BadFrame":
         return invalid_field(FRAME, fields) if len(fields) == 4 else f"has not the four fields {FRAME}"
     if fault == "NoSites":
-        return "is not `sites N`, N from 1 to 64"
+        flaw = invalid_field("N", fields[1:]) if fields[0] == "sites" and len(fields) == 2 else None
+        return flaw or "is not `sites N`, N from 1 to 64"
     if fields[0] not in EVENTS:
         return "begins with no word of an event"
     names = EVENTS[fields[0]]

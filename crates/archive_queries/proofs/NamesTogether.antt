@@ -1,14 +1,15 @@
--- What is told of a name in the join of several contents.
-use Rattle.std.proofs.Common.{◌≡◌, ◌↔◌, ◌⊎◌, ℕ, true, false, not, List, [], ◌∷◌, ◌++◌, map, Contains, fold, get_or, length, refl, sym, ap, ◌∙◌, subst, inl, inr, arith}
+-- What is told of two names in the join of several contents.
+use Rattle.std.proofs.Common.{◌≡◌, ◌↔◌, ◌⊎◌, ℕ, true, false, not, ◌&&◌, nat_eq, List, [], ◌∷◌, ◌++◌, map, Contains, fold, get_or, length, refl, sym, ap, ◌∙◌, subst, inl, inr, arith}
 use Rattle.std.specs.Prelude.{slice_index}
 use Rattle.std.specs.List.{AllByRecursion, AllZip}
 use Rattle.std.specs.List.Sorted.{IsStrictlySortedBy}
 use Rattle.std.specs.Cmp.Lexicographic.{nat_list_cmp_total}
 use Rattle.std.specs.FinSet.{contains, union, contains-union}
-use Rattle.std.proofs.lemmas.Bool.{or_cases, or_left, or_right}
+use Rattle.std.proofs.lemmas.Bool.{eqb-true, false_from_ne_true, or_cases, or_left, or_right}
 use Rattle.std.proofs.lemmas.List.Elements.{All-contains, All-from_recursion, Contains-append_left, Contains-get_or, Contains-push, Contains-push_cases, recursion_from_All}
 use Rattle.archive_core.specs.Content.{Operations, IsContent, content_of, is_admission, is_covered, joined}
 use Rattle.archive_core.specs.Names.{IsNameRow, IsNames, NameRecord, name_cmp, owned_name_view}
+use Rattle.archive_core.specs.declared.names.OwnedNameRow.{OwnedNameRow}
 use Rattle.archive_core.specs.Record.{admission_record, retirement_record}
 use Rattle.archive_core.proofs.Made.{contains_made, from_made, joined_made}
 use Rattle.archive_core.proofs.Members.{in_cons, in_front, in_rest}
@@ -24,6 +25,7 @@ use Rattle.command_ends.specs.Inputs.{HoldsArchive, HoldsContent, IsArchive, Rea
 use Rattle.command_ends.proofs.Archives.{each_archive, hold_more}
 use Rattle.command_ends.proofs.Readers.{all_more}
 use Rattle.archive_queries.specs.InnerNames.{HasNameRow, HasRetirement, HaveAdded}
+use Rattle.archive_queries.specs.Name.{SaysUnderscored, underscored}
 
 -- ---- the archives, one more at a time
 
@@ -43,26 +45,27 @@ more adds before early last split = (
   ],
 )
 
-module _ {R : Type 0} (name : List ℕ) where
-  pub added_none : (old : NamesFound) → HaveAdded {R = R} [] name old old
+module _ {R : Type 0} (name other : List ℕ) where
+  pub added_none : (old : NamesFound) → HaveAdded {R = R} [] name other old old
   added_none old = record {
     contents = [];
     are_contents = tt;
     archives_are = tt;
     rows = λ row. (λ there. inl there, λ told. elim told [ inl there ↦ there | inr one ↦ absurd (none_in one.1) ]);
+    others = λ row. (λ there. inl there, λ told. elim told [ inl there ↦ there | inr one ↦ absurd (none_in one.1) ]);
     retired = λ r. (λ there. inl there, λ told. elim told [ inl there ↦ there | inr one ↦ absurd (none_in one.1) ]);
   }
 
-  module _ (archives seen : List (Reader R)) (archive : Reader R) (old mid new : NamesFound) (o : Operations) (seen_is : seen ≡ archives ++ archive ∷ []) (before : HaveAdded archives name old mid)
-      (content : IsContent o) (holds : HoldsArchive archive o) (adds : AddsNames o name mid new) where
+  module _ (archives seen : List (Reader R)) (archive : Reader R) (old mid new : NamesFound) (o : Operations) (seen_is : seen ≡ archives ++ archive ∷ []) (before : HaveAdded archives name other old mid)
+      (content : IsContent o) (holds : HoldsArchive archive o) (adds : AddsNames o name other mid new) where
     abbrev all : List Operations
     all = before.contents ++ o ∷ []
 
-    row_to : (row : NameRecord) → HasNameRow before.contents name row → HasNameRow all name row
-    row_to row one = (one.0, Contains-append_left before.contents (o ∷ []) one.0 one.1, one.2)
+    row_to : (sought : List ℕ) (row : NameRecord) → HasNameRow before.contents sought row → HasNameRow all sought row
+    row_to sought row one = (one.0, Contains-append_left before.contents (o ∷ []) one.0 one.1, one.2)
 
-    row_from : (row : NameRecord) → HasNameRow all name row → HasNameRow before.contents name row ⊎ IsNameRow o name row
-    row_from row one = elim (Contains-push_cases before.contents o one.0 one.1) [
+    row_from : (sought : List ℕ) (row : NameRecord) → HasNameRow all sought row → HasNameRow before.contents sought row ⊎ IsNameRow o sought row
+    row_from sought row one = elim (Contains-push_cases before.contents o one.0 one.1) [
       | inl early ↦ inl (one.0, early, one.2)
       | inr same ↦ inr (rw same one.2)
     ]
@@ -76,17 +79,18 @@ module _ {R : Type 0} (name : List ℕ) where
       | inr same ↦ inr (rw same one.2, one.3)
     ]
 
-    pub added_more : HaveAdded seen name old new
+    pub added_more : HaveAdded seen name other old new
     added_more = record {
       contents = all;
       are_contents = all_more IsContent before.contents o before.are_contents content;
       archives_are = subst (λ (rs : List (Reader R)). AllZip HoldsArchive rs all) (sym seen_is) (hold_more archives before.contents archive o before.archives_are holds);
-      rows = λ row. more (adds.rows row) (before.rows row) (row_to row) (λ told. (o, Contains-push before.contents o, told)) (row_from row);
+      rows = λ row. more (adds.rows row) (before.rows row) (row_to name row) (λ told. (o, Contains-push before.contents o, told)) (row_from name row);
+      others = λ row. more (adds.others row) (before.others row) (row_to other row) (λ told. (o, Contains-push before.contents o, told)) (row_from other row);
       retired = λ r. more (adds.retired r) (before.retired r) (retired_to r) (λ told. (o, Contains-push before.contents o, told.0, told.1)) (retired_from r);
     }
 
   -- what was added is of archives
-  pub added_archives : (archives : List (Reader R)) (old new : NamesFound) → HaveAdded archives name old new → AllByRecursion IsArchive archives
+  pub added_archives : (archives : List (Reader R)) (old new : NamesFound) → HaveAdded archives name other old new → AllByRecursion IsArchive archives
   added_archives archives old new added = each_archive archives added.contents added.archives_are added.are_contents
 
 -- ---- the operations of several contents
@@ -139,15 +143,11 @@ in_all o (q ∷ contents) r there =
 
 -- ---- rows of the join
 
-module _ (o : Operations) (contents : List Operations) (content : IsContent o) (are : AllByRecursion IsContent contents) (name : List ℕ) (none first found : NamesFound)
-    (no_rows : none.rows.items ≡ []) (no_retired : none.retired.items ≡ []) (adds : AddsNames o name none first)
-    (rows_are : (row : NameRecord) → Contains (map owned_name_view found.rows.items) row ↔ (Contains (map owned_name_view first.rows.items) row ⊎ HasNameRow contents name row))
-    (retired_are : (r : List ℕ) → Contains (map entry_bytes found.retired.items) r ↔ (Contains (map entry_bytes first.retired.items) r ⊎ HasRetirement contents r)) where
+module _ (o : Operations) (contents : List Operations) (content : IsContent o) (are : AllByRecursion IsContent contents) (early_retired retired : List (List ℕ))
+    (retires : (r : List ℕ) → Contains early_retired r ↔ (Contains [] r ⊎ ((contains o r ≡ true) × (is_admission r ≡ false))))
+    (retired_are : (r : List ℕ) → Contains retired r ↔ (Contains early_retired r ⊎ HasRetirement contents r)) where
   abbrev whole : Operations
   whole = all_of o contents
-
-  abbrev retired : List (List ℕ)
-  retired = map entry_bytes found.retired.items
 
   is_content : (p : Operations) → IsAmong o contents p → IsContent p
   is_content p (inl same) = subst IsContent same content
@@ -157,23 +157,10 @@ module _ (o : Operations) (contents : List Operations) (content : IsContent o) (
   within p r (inl same) there = grows o contents r (ap (λ (s : Operations). contains s r) same ∙ there)
   within p r (inr later) there = member o contents p r later there
 
-  row_of : (row : NameRecord) → Contains (map owned_name_view found.rows.items) row → (p : Operations) × IsAmong o contents p × IsNameRow p name row
-  row_of row there = elim ((rows_are row).0 there) [
-    | inl early ↦ elim ((adds.rows row).0 early) [
-      | inl nothing ↦ absurd (none_in (rw no_rows at nothing))
-      | inr told ↦ (o, inl refl, told)
-    ]
-    | inr one ↦ (one.0, inr one.1, one.2)
-  ]
-
-  row_back : (row : NameRecord) (p : Operations) → IsAmong o contents p → IsNameRow p name row → Contains (map owned_name_view found.rows.items) row
-  row_back row p (inl same) told = (rows_are row).1 (inl ((adds.rows row).1 (inr (subst (λ (q : Operations). IsNameRow q name row) (sym same) told))))
-  row_back row p (inr later) told = (rows_are row).1 (inr (p, later, told))
-
   retirement_of : (r : List ℕ) → Contains retired r → (p : Operations) × IsAmong o contents p × (contains p r ≡ true) × (is_admission r ≡ false)
   retirement_of r there = elim ((retired_are r).0 there) [
-    | inl early ↦ elim ((adds.retired r).0 early) [
-      | inl nothing ↦ absurd (none_in (rw no_retired at nothing))
+    | inl early ↦ elim ((retires r).0 early) [
+      | inl nothing ↦ absurd (none_in nothing)
       | inr told ↦ (o, inl refl, told.0, told.1)
     ]
     | inr one ↦ (one.0, inr one.1, one.2, one.3)
@@ -183,7 +170,7 @@ module _ (o : Operations) (contents : List Operations) (content : IsContent o) (
   retirement_back r plain there =
       let one = in_all o contents r there in
       elim one.1 [
-        | inl same ↦ (retired_are r).1 (inl ((adds.retired r).1 (inr (ap (λ (s : Operations). contains s r) same ∙ one.2, plain))))
+        | inl same ↦ (retired_are r).1 (inl ((retires r).1 (inr (ap (λ (s : Operations). contains s r) same ∙ one.2, plain))))
         | inr later ↦ (retired_are r).1 (inr (one.0, later, one.2, plain))
       ]
 
@@ -202,7 +189,23 @@ module _ (o : Operations) (contents : List Operations) (content : IsContent o) (
   retired_stays : (r : List ℕ) → is_admission r ≡ false → contains (content_of whole) r ≡ contains whole r
   retired_stays r plain = grind (arith, contains_made whole r, plain)
 
-  module _ (rows : List NameRecord) (live : (row : NameRecord) → Contains rows row ↔ (Contains (map owned_name_view found.rows.items) row × (contains (set_of retired) (retirement_record row.key row.digest) ≡ false))) where
+  module _ (name : List ℕ) (early found rows : List NameRecord)
+      (adds : (row : NameRecord) → Contains early row ↔ (Contains [] row ⊎ IsNameRow o name row))
+      (rows_are : (row : NameRecord) → Contains found row ↔ (Contains early row ⊎ HasNameRow contents name row))
+      (live : (row : NameRecord) → Contains rows row ↔ (Contains found row × (contains (set_of retired) (retirement_record row.key row.digest) ≡ false))) where
+    row_of : (row : NameRecord) → Contains found row → (p : Operations) × IsAmong o contents p × IsNameRow p name row
+    row_of row there = elim ((rows_are row).0 there) [
+      | inl first ↦ elim ((adds row).0 first) [
+        | inl nothing ↦ absurd (none_in nothing)
+        | inr told ↦ (o, inl refl, told)
+      ]
+      | inr one ↦ (one.0, inr one.1, one.2)
+    ]
+
+    row_back : (row : NameRecord) (p : Operations) → IsAmong o contents p → IsNameRow p name row → Contains found row
+    row_back row p (inl same) told = (rows_are row).1 (inl ((adds row).1 (inr (subst (λ (q : Operations). IsNameRow q name row) (sym same) told))))
+    row_back row p (inr later) told = (rows_are row).1 (inr (p, later, told))
+
     to : (row : NameRecord) → Contains rows row → IsNameRow (content_of whole) name row
     to row there =
         let held = (live row).0 there in
@@ -248,21 +251,47 @@ module _ (o : Operations) (contents : List Operations) (content : IsContent o) (
     names_of_join ascending = subst (λ (p : Operations). IsNames p name rows) (sym (merged_all o contents content are)) (record { ascending = ascending; exactly = λ row. (to row, back row) })
 
 -- all were read
-pub names_together : {R : Type 0} (archive : Reader R) (others : List (Reader R)) (name : List ℕ) (none first found : NamesFound) (rows : List NameRecord) → none.rows.items ≡ [] → none.retired.items ≡ []
-    → HoldsContent archive (λ o. AddsNames o name none first) → HaveAdded others name first found → IsStrictlySortedBy name_cmp rows
-    → ((row : NameRecord) → Contains rows row ↔ (Contains (map owned_name_view found.rows.items) row × (contains (set_of (map entry_bytes found.retired.items)) (retirement_record row.key row.digest) ≡ false)))
-    → HoldTogether archive others (λ o. IsNames o name rows)
-names_together archive others name none first found rows no_rows no_retired held added ascending live = record {
-  content = held.content;
-  contents = added.contents;
-  is_content = held.is_content;
-  are_contents = added.are_contents;
-  archive_is = held.text;
-  others_are = added.archives_are;
-  is_true = names_of_join held.content added.contents held.is_content added.are_contents name none first found no_rows no_retired held.is_true added.rows added.retired rows live ascending;
-}
+module _ {R : Type 0} (archive : Reader R) (others : List (Reader R)) (name other : List ℕ) (none first found : NamesFound) (no_rows : none.told.rows.items ≡ []) (no_others : none.told.others.items ≡ [])
+    (no_retired : none.retired.items ≡ []) (held : HoldsContent archive (λ o. AddsNames o name other none first)) (added : HaveAdded others name other first found) where
+  abbrev entries : List (List ℕ)
+  entries = map entry_bytes found.retired.items
 
-pub entries_together : {R : Type 0} (archive : Reader R) (others : List (Reader R)) (name : List ℕ) (none first found : NamesFound) → none.rows.items ≡ [] → none.retired.items ≡ []
-    → HoldsContent archive (λ o. AddsNames o name none first) → HaveAdded others name first found → AllByRecursion IsEntry (map entry_bytes found.retired.items)
-entries_together archive others name none first found no_rows no_retired held added =
-    are_entries held.content added.contents held.is_content added.are_contents name none first found no_rows no_retired held.is_true added.rows added.retired
+  retires : (r : List ℕ) → Contains (map entry_bytes first.retired.items) r ↔ (Contains [] r ⊎ ((contains held.content r ≡ true) × (is_admission r ≡ false)))
+  retires r = rw no_retired at (held.is_true.retired r)
+
+  pub entries_together : AllByRecursion IsEntry entries
+  entries_together = are_entries held.content added.contents held.is_content added.are_contents (map entry_bytes first.retired.items) entries retires added.retired
+
+  abbrev IsLiveAmong : List NameRecord → List NameRecord → Type 0
+  IsLiveAmong all rows = (row : NameRecord) → Contains rows row ↔ (Contains all row × (contains (set_of entries) (retirement_record row.key row.digest) ≡ false))
+
+  pub names_together : (rows also : List NameRecord) → IsStrictlySortedBy name_cmp rows → IsStrictlySortedBy name_cmp also
+      → IsLiveAmong (map owned_name_view found.told.rows.items) rows → IsLiveAmong (map owned_name_view found.told.others.items) also
+      → HoldTogether archive others (λ o. IsNames o name rows × IsNames o other also)
+  names_together rows also ascending others_ascending live others_live = record {
+    content = held.content;
+    contents = added.contents;
+    is_content = held.is_content;
+    are_contents = added.are_contents;
+    archive_is = held.text;
+    others_are = added.archives_are;
+    is_true = (
+      names_of_join held.content added.contents held.is_content added.are_contents (map entry_bytes first.retired.items) entries retires added.retired name _ _ rows (λ row. rw no_rows at (held.is_true.rows row)) added.rows live ascending,
+      names_of_join held.content added.contents held.is_content added.are_contents (map entry_bytes first.retired.items) entries retires added.retired other _ _ also (λ row. rw no_others at (held.is_true.others row)) added.others others_live others_ascending,
+    );
+  }
+
+-- ---- a name with a `_` before it
+
+not_empty : (row : OwnedNameRow) (rows : List OwnedNameRow) → nat_eq (length (row ∷ rows)) 0 ≡ false
+not_empty row rows = false_from_ne_true (nat_eq (length (row ∷ rows)) 0) (λ t. omega (arith, eqb-true (length (row ∷ rows)) 0 t))
+
+-- whether it alone is there, by the rows of both names
+pub underscored_by : (o : Operations) (name : List ℕ) (rows also : List OwnedNameRow) → IsNames o name (map owned_name_view rows) → IsNames o (underscored name) (map owned_name_view also)
+    → SaysUnderscored o name (nat_eq (length rows) 0 && not (nat_eq (length also) 0))
+underscored_by o name [] [] names others = λ is. none_in ((others.exactly is.somewhere.0).1 is.somewhere.1)
+underscored_by o name [] (row ∷ also) names others = rw (not_empty row also) (record {
+  nowhere = λ one told. none_in ((names.exactly one).1 told);
+  somewhere = (owned_name_view row, (others.exactly (owned_name_view row)).0 (in_front (owned_name_view row) (map owned_name_view also)));
+})
+underscored_by o name (row ∷ rows) also names others = rw (not_empty row rows) (λ is. is.nowhere (owned_name_view row) ((names.exactly (owned_name_view row)).0 (in_front (owned_name_view row) (map owned_name_view rows))))

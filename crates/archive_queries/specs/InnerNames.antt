@@ -1,4 +1,4 @@
--- What is told of a name in several archives: the words of inner functions. No contract of a public one has them.
+-- What is told of two names in several archives: the words of inner functions. No contract of a public one has them.
 use Rattle.std.specs.Prelude.{◌≡◌, ◌↔◌, ◌⊎◌, ℕ, List, true, false, map, Contains}
 use Rattle.std.specs.List.{AllByRecursion, AllZip}
 use Rattle.std.specs.FinSet as set
@@ -17,12 +17,15 @@ abbrev pub HasRetirement : List Operations → List ℕ → Type 0
 HasRetirement contents r =
     (o : Operations) × Contains contents o × (set.contains o r ≡ true) × (is_admission r ≡ false)
 
--- These archives are the texts of contents, whose rows of the name and whose retirements were added.
-pub record HaveAdded {R : Type 0} (archives : List (Reader R)) (name : List ℕ) (old new : NamesFound) : Type 0 where
+-- These archives are the texts of contents, whose rows of both names and whose retirements were added.
+pub record HaveAdded {R : Type 0} (archives : List (Reader R)) (name other : List ℕ) (old new : NamesFound)
+    : Type 0 where
   pub contents : List Operations
   pub are_contents : AllByRecursion IsContent contents
   pub archives_are : AllZip HoldsArchive archives contents
-  pub rows : (row : NameRecord) → Contains (map owned_name_view new.rows.items) row
-      ↔ (Contains (map owned_name_view old.rows.items) row ⊎ HasNameRow contents name row)
+  pub rows : (row : NameRecord) → Contains (map owned_name_view new.told.rows.items) row
+      ↔ (Contains (map owned_name_view old.told.rows.items) row ⊎ HasNameRow contents name row)
+  pub others : (row : NameRecord) → Contains (map owned_name_view new.told.others.items) row
+      ↔ (Contains (map owned_name_view old.told.others.items) row ⊎ HasNameRow contents other row)
   pub retired : (r : List ℕ) → Contains (map entry_bytes new.retired.items) r
       ↔ (Contains (map entry_bytes old.retired.items) r ⊎ HasRetirement contents r)

@@ -21,6 +21,6 @@ mod together;
 pub use find::{run_find, status_of};
 pub use frames::run_frames;
 pub use list::run_list;
-pub use name::run_name;
+pub use name::{NameAnswer, answer_name};
 pub use symbolicate::{answer_each, asked_of, run_symbolicate, status_behind};
 pub use together::join_part;

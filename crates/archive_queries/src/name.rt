@@ -1,50 +1,62 @@
 //! `name ARCHIVE NAME`, over one archive or several.
-ghost use Rattle.std.specs.Prelude.{◌≡◌, map};
+ghost use Rattle.std.specs.Prelude.{◌≡◌, ◌&&◌, [], IfOk, length, map, nat_eq, not, string_bytes};
 ghost use Rattle.archive_core.specs.Names.{IsNames};
 ghost use Rattle.archive_core.specs.Names.{owned_name_view};
 ghost use Rattle.archive_reading.specs.Names.{AddsNames};
 ghost use Rattle.command_ends.specs.Archives.{ReadsOthers, ReadsTogether};
-ghost use Rattle.command_ends.specs.Ends.{EndsReport};
 ghost use Rattle.command_ends.specs.Inputs.{HoldsContent, IsRefusedArchive, Reads, reader, readers};
 ghost use Rattle.archive_queries.specs.InnerNames.{HaveAdded};
-ghost use Rattle.archive_queries.specs.Name.{name, name_status};
-ghost use Rattle.command_ends.specs.Outputs.{writer};
+ghost use Rattle.archive_queries.specs.Name.{Answers, name_status, underscored};
 
 use archive_core::OwnedNameRow;
-use archive_reading::{NamesFound, gather_names, live_names, read_names};
-use byte_device::{CannotOpen, Sink, Source};
-use command_ends::{CommandFault, Place, Status, opened, publish_report, refusal};
-use memory::Heap;
+use archive_reading::{NamesFound, NamesTold, SoughtNames, gather_names, live_names, read_names};
+use byte_device::{CannotOpen, Source};
+use command_ends::{CommandFault, Place, Status, opened, refusal};
+use memory::{Heap, NoMemory};
 use report_text::name_lines;
 
-/// Reads the one archive that is searched, and gives the rows of the name.
+/// The rows of no archive.
+fn no_rows(heap: &Heap) -> Result<NamesTold, NoMemory>
+    ensures { IfOk result (λ told. (told.rows.items ≡ []) × (told.others.items ≡ [])) }
+{
+    Ok(NamesTold {
+        rows: Vec::new(heap.clone()?),
+        others: Vec::new(heap.clone()?),
+    })
+}
+
+/// Reads the one archive that is searched, and gives the rows of the names.
 fn read_name_rows<R: Source>(
     heap: Heap,
-    sought: &[u8],
+    sought: SoughtNames<'_>,
     input: &mut Result<R, CannotOpen>,
-) -> Result<Vec<OwnedNameRow, Heap>, CommandFault>
+) -> Result<NamesTold, CommandFault>
     ensures { Reads (reader R.left R.failures input.old input.new) result
-        (λ input rows. HoldsContent input (λ o. IsNames o sought.now (map owned_name_view rows.items)))
+        (λ input told. HoldsContent input
+        (λ o. IsNames o sought.entry.name.now (map owned_name_view told.rows.items)
+        × IsNames o sought.entry.other.now (map owned_name_view told.others.items)))
         (IsRefusedArchive 0) }
 {
     let at = Place::Archive(0);
+    let none = no_rows(&heap)?;
     let source = opened(input, at)?;
-    match read_names(heap, sought, source) {
-        Ok(rows) => Ok(rows),
+    match read_names(heap, none, sought, source) {
+        Ok(told) => Ok(told),
         Err(fault) => Err(refusal(at, fault)),
     }
 }
 
-/// Reads the archive with this number among the words, and adds what it tells of the name.
+/// Reads the archive with this number among the words, and adds what it tells of the names.
 fn gather_input<R: Source>(
     heap: Heap,
     found: NamesFound,
     number: u64,
-    sought: &[u8],
+    sought: SoughtNames<'_>,
     input: &mut Result<R, CannotOpen>,
 ) -> Result<NamesFound, CommandFault>
     ensures { Reads (reader R.left R.failures input.old input.new) result
-        (λ input now. HoldsContent input (λ o. AddsNames o sought.now found now)) (IsRefusedArchive number) }
+        (λ input now. HoldsContent input (λ o. AddsNames o sought.entry.name.now sought.entry.other.now found now))
+        (IsRefusedArchive number) }
 {
     let at = Place::Archive(number);
     let source = opened(input, at)?;
@@ -54,16 +66,16 @@ fn gather_input<R: Source>(
     }
 }
 
-/// Reads these archives, in their order, and adds what they tell of the name. The first of them is archive 1 among the
+/// Reads these archives, in their order, and adds what they tell of the names. The first of them is archive 1 among the
 /// words.
 fn gather_others<R: Source>(
     heap: &Heap,
     found: NamesFound,
-    sought: &[u8],
+    sought: SoughtNames<'_>,
     others: &mut [Result<R, CannotOpen>],
 ) -> Result<NamesFound, CommandFault>
     ensures { ReadsOthers (readers R.left R.failures others.old others.new) result
-        (λ others now. HaveAdded others sought.now found now) }
+        (λ others now. HaveAdded others sought.entry.name.now sought.entry.other.now found now) }
 {
     let mut now = found;
     'others: for (index, other) in others.iter_mut().enumerate() {
@@ -72,20 +84,21 @@ fn gather_others<R: Source>(
     Ok(now)
 }
 
-/// Reads the archives in the order of the words, each to its end, and gives the rows of the name in their join. Rows of
+/// Reads the archives in the order of the words, each to its end, and gives the rows of the names in their join. Rows of
 /// slices that one of them retires are dropped at the end.
 fn gather_rows<R: Source>(
     heap: &Heap,
-    sought: &[u8],
+    sought: SoughtNames<'_>,
     archive: &mut Result<R, CannotOpen>,
     others: &mut [Result<R, CannotOpen>],
-) -> Result<Vec<OwnedNameRow, Heap>, CommandFault>
+) -> Result<NamesTold, CommandFault>
     ensures { ReadsTogether (reader R.left R.failures archive.old archive.new)
         (readers R.left R.failures others.old others.new) result
-        (λ rows o. IsNames o sought.now (map owned_name_view rows.items)) }
+        (λ told o. IsNames o sought.entry.name.now (map owned_name_view told.rows.items)
+        × IsNames o sought.entry.other.now (map owned_name_view told.others.items)) }
 {
     let none = NamesFound {
-        rows: Vec::new(heap.clone()?),
+        told: no_rows(heap)?,
         retired: Vec::new(heap.clone()?),
     };
     let first = gather_input(heap.clone()?, none, 0, sought, archive)?;
@@ -93,16 +106,17 @@ fn gather_rows<R: Source>(
     Ok(live_names(found))
 }
 
-/// Reads the archives that are searched, and gives the rows of the name in their join.
+/// Reads the archives that are searched, and gives the rows of the names in their join.
 fn read_rows<R: Source>(
     heap: Heap,
-    sought: &[u8],
+    sought: SoughtNames<'_>,
     archive: &mut Result<R, CannotOpen>,
     others: &mut [Result<R, CannotOpen>],
-) -> Result<Vec<OwnedNameRow, Heap>, CommandFault>
+) -> Result<NamesTold, CommandFault>
     ensures { ReadsTogether (reader R.left R.failures archive.old archive.new)
         (readers R.left R.failures others.old others.new) result
-        (λ rows o. IsNames o sought.now (map owned_name_view rows.items)) }
+        (λ told o. IsNames o sought.entry.name.now (map owned_name_view told.rows.items)
+        × IsNames o sought.entry.other.now (map owned_name_view told.others.items)) }
 {
     if others.is_empty() {
         read_name_rows(heap, sought, archive)
@@ -122,28 +136,62 @@ fn status_of_names(rows: &[OwnedNameRow]) -> Status
     }
 }
 
-/// Writes a row for each place where a symbol of this exact name stands in a live slice of the join of the archives to
-/// the report: the key and the SHA-256 of the slice, the address, and the section. The name is sought by its bytes in
-/// the string table of an image. The archives are read one after another, each to its end, and no slice is kept.
-///
-/// The status is `Done` where there is a row, and else `Partial`.
+/// Whether there is no row of the name, and one of the other.
+fn is_underscored(told: &NamesTold) -> bool
+    ensures { result ≡ (nat_eq (length told.now.rows.items) 0 && not (nat_eq (length told.now.others.items) 0)) }
+{
+    told.rows.is_empty() && !told.others.is_empty()
+}
+
+/// A name with a `_` before it, as Mach-O has the names of C.
+fn underscored(heap: Heap, name: &[u8]) -> Result<Vec<u8, Heap>, NoMemory>
+    ensures { IfOk result (λ longer. longer.items ≡ underscored name.now) }
+{
+    let mut longer = Vec::new(heap);
+    longer.push(b'_')?;
+    longer.extend_from_slice(name)?;
+    Ok(longer)
+}
+
+/// What archives answer for a name.
+#[derive(Drop)]
+pub struct NameAnswer {
+    /// `Done` where a symbol has the name, and else `Partial`.
+    pub status: Status,
+    /// A line for each of its symbols.
+    pub text: String<Heap>,
+    /// No symbol has the name, and one has it with a `_` before it.
+    pub is_underscored: bool,
+}
+
+/// Gives a row for each place where a symbol of this exact name stands in a live slice of the join of the archives: the
+/// key and the SHA-256 of the slice, the address, and the section. The name is sought by its bytes in the string table
+/// of an image, and so is the name with a `_` before it. The archives are read one after another, each once and to its
+/// end, and no slice is kept.
 ///
 /// # Errors
 ///
-/// `Input` for the first archive that is refused; `Report` where the report failed; `OutOfMemory`.
-pub fn run_name<R: Source, P: Sink>(
+/// `Input` for the first archive that is refused; `OutOfMemory`.
+pub fn answer_name<R: Source>(
     heap: Heap,
     archive: &mut Result<R, CannotOpen>,
     others: &mut [Result<R, CannotOpen>],
     sought: &[u8],
-    report: &mut P,
-) -> Result<Status, CommandFault>
-    ensures { EndsReport
-        (name (reader R.left R.failures archive.old archive.new)
-        (readers R.left R.failures others.old others.new) sought.now)
-        (writer P.held P.failures report.old report.new) result }
+) -> Result<NameAnswer, CommandFault>
+    ensures { ReadsTogether (reader R.left R.failures archive.old archive.new)
+        (readers R.left R.failures others.old others.new) result
+        (λ answer o. Answers o sought.now answer.status (string_bytes answer.text) answer.is_underscored) }
 {
-    let rows = read_rows(heap.clone()?, sought, archive, others)?;
-    let text = name_lines(heap, &rows)?;
-    publish_report(status_of_names(&rows), &text, report)
+    let other = underscored(heap.clone()?, sought)?;
+    let names = SoughtNames {
+        name: sought,
+        other: &other,
+    };
+    let told = read_rows(heap.clone()?, names, archive, others)?;
+    let text = name_lines(heap, &told.rows)?;
+    Ok(NameAnswer {
+        status: status_of_names(&told.rows),
+        text,
+        is_underscored: is_underscored(&told),
+    })
 }

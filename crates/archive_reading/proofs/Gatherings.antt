@@ -74,9 +74,7 @@ beside P all old more is told a = (to, back)
     back (inl before) = rw is (Contains-append_left old more a before)
     back (inr one) = rw is (Contains-append_right old more a ((told a).1 one))
 
-module _ (o : Operations) (name : List ℕ) (records : List (List ℕ)) (content : IsContent o) (is : o ≡ set.from_list records) (old new : NamesFound)
-    (rows_are : map owned_name_view new.rows.items ≡ map owned_name_view old.rows.items ++ names_among name records)
-    (retired_are : map entry_bytes new.retired.items ≡ map entry_bytes old.retired.items ++ retirements_among records) where
+module _ (o : Operations) (records : List (List ℕ)) (content : IsContent o) (is : o ≡ set.from_list records) where
   among_to : (r : List ℕ) → Contains (retirements_among records) r → (set.contains o r ≡ true) × (is_admission r ≡ false)
   unfolding retirements_among
   among_to r there =
@@ -88,8 +86,16 @@ module _ (o : Operations) (name : List ℕ) (records : List (List ℕ)) (content
   among_back r there =
       to_filter (λ (x : List ℕ). not (is_admission x)) records r (from_set records r (ap (λ (s : Operations). set.contains s r) (sym is) ∙ there.0)) (ap not there.1)
 
-  pub names_added : AddsNames o name old new
-  names_added = record { rows = beside _ _ _ _ rows_are (names_told o name records content is); retired = beside _ _ _ _ retired_are (λ r. (among_to r, among_back r)) }
+  module _ (name other : List ℕ) (old new : NamesFound)
+      (rows_are : map owned_name_view new.told.rows.items ≡ map owned_name_view old.told.rows.items ++ names_among name records)
+      (others_are : map owned_name_view new.told.others.items ≡ map owned_name_view old.told.others.items ++ names_among other records)
+      (retired_are : map entry_bytes new.retired.items ≡ map entry_bytes old.retired.items ++ retirements_among records) where
+    pub names_added : AddsNames o name other old new
+    names_added = record {
+      rows = beside _ _ _ _ rows_are (names_told o name records content is);
+      others = beside _ _ _ _ others_are (names_told o other records content is);
+      retired = beside _ _ _ _ retired_are (λ r. (among_to r, among_back r));
+    }
 
 -- ---- the rows that are live
 

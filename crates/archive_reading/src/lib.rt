@@ -2,7 +2,7 @@
 //!
 //! - `reading`, `part`: [`read_archive`], [`read_front`] and [`read_part`], of which a part is kept;
 //! - `keyed`: [`answer_by_key`], questions under keys, in the memory of the slices under one of them;
-//! - `names`: [`read_names`], where symbols of a name stand, and [`gather_names`], the same of several archives, of
+//! - `names`: [`read_names`], where symbols of two names stand, and [`gather_names`], the same of several archives, of
 //!   which no slice is kept;
 //! - `operations`: [`read_ops`];
 //! - `rows`, `summarizing`: [`list_rows`] and [`summarize`], what an archive tells record by record, of which no slice
@@ -26,7 +26,7 @@ mod summarizing;
 mod testing;
 
 pub use keyed::{Questions, answer_by_key};
-pub use names::{NamesFound, gather_names, live_names, read_names};
+pub use names::{NamesFound, NamesTold, SoughtNames, gather_names, live_names, read_names};
 pub use operations::read_ops;
 pub use part::{Selects, Under, read_part};
 pub use reading::{read_archive, read_front};

@@ -1,6 +1,6 @@
-//! Where symbols of a name stand, told record by record.
+//! Where symbols of two names stand, told record by record in one pass.
 
-ghost use Rattle.std.specs.Prelude.{◌≡◌, ◌↔◌, ◌++◌, map, Contains, OnOk, false};
+ghost use Rattle.std.specs.Prelude.{◌≡◌, ◌↔◌, ◌++◌, [], map, Contains, OnOk, false};
 ghost use Rattle.std.specs.FinSet as set;
 ghost use Rattle.std.specs.List.{AllByRecursion};
 ghost use Rattle.archive_core.specs.Record.{IsOperation, lent_bytes, operation_lent, retirement_record};
@@ -71,79 +71,107 @@ fn put_names_in_order(rows: &mut Vec<OwnedNameRow, Heap>)
     rows.dedup_by(|a, b| a.lend().compare(&b.lend()).is_eq());
 }
 
-/// The rows of a name, as the records come that tell them.
+/// Two names that are sought in one pass.
+#[derive(Clone, Copy)]
+pub struct SoughtNames<'n> {
+    pub name: &'n [u8],
+    pub other: &'n [u8],
+}
+
+/// The rows of both.
+#[derive(Drop)]
+pub struct NamesTold {
+    pub rows: Vec<OwnedNameRow, Heap>,
+    pub others: Vec<OwnedNameRow, Heap>,
+}
+
+/// The rows of two names, as the records come that tell them.
 #[derive(Drop)]
 struct NameRows<'n> {
-    rows: Vec<OwnedNameRow, Heap>,
-    name: &'n [u8],
+    told: NamesTold,
+    names: SoughtNames<'n>,
 }
 
 impl<'n> FromRecords for NameRows<'n> {
-    ghost use Rattle.std.specs.Prelude.{◌≡◌, map};
+    ghost use Rattle.std.specs.Prelude.{◌≡◌, [], map};
     ghost use Rattle.archive_core.specs.Names.{IsNames, owned_name_view};
     ghost use Rattle.archive_reading.specs.InnerNames.{names_among};
     ghost use Rattle.archive_records.specs.declared.kind.TextKind.TheVariants.{Archive};
 
-    type Question = &'n [u8];
+    type Question = NameRows<'n>;
 
-    type Told = Vec<OwnedNameRow, Heap>;
+    type Told = NamesTold;
 
     ghost file = { Archive };
 
-    ghost makes = { λ name records now. (now.name.now ≡ name.now)
-        × (map owned_name_view now.rows.items ≡ names_among name.now records) };
+    ghost may_ask = { λ start. (start.told.rows.items ≡ []) × (start.told.others.items ≡ []) };
 
-    ghost tells = { λ name rows o. IsNames o name.now (map owned_name_view rows.items) };
+    ghost makes = { λ start records now. (now.names.name.now ≡ start.names.name.now)
+        × (now.names.other.now ≡ start.names.other.now)
+        × (map owned_name_view now.told.rows.items ≡ names_among start.names.name.now records)
+        × (map owned_name_view now.told.others.items ≡ names_among start.names.other.now records) };
 
-    fn begin(heap: Heap, name: &'n [u8]) -> NameRows<'n> {
-        let rows = Vec::new(heap);
-        NameRows { rows, name }
+    ghost tells = { λ start told o. IsNames o start.names.name.now (map owned_name_view told.rows.items)
+        × IsNames o start.names.other.now (map owned_name_view told.others.items) };
+
+    fn begin(_heap: Heap, start: NameRows<'n>) -> NameRows<'n> {
+        start
     }
 
     fn take(&mut self, heap: &Heap, reader: &RecordReader) -> Result<(), NoMemory> {
-        push_names(&mut self.rows, heap, &reader.record(), self.name)
+        let record = reader.record();
+        push_names(&mut self.told.rows, heap, &record, self.names.name)?;
+        push_names(&mut self.told.others, heap, &record, self.names.other)
     }
 
-    fn finish(self, _heap: &Heap) -> Result<Vec<OwnedNameRow, Heap>, NoMemory> {
-        let mut rows = self.rows;
-        put_names_in_order(&mut rows);
-        Ok(rows)
+    fn finish(self, _heap: &Heap) -> Result<NamesTold, NoMemory> {
+        let mut told = self.told;
+        put_names_in_order(&mut told.rows);
+        put_names_in_order(&mut told.others);
+        Ok(told)
     }
 }
 
-/// Reads an archive, and gives a row for each place where a symbol of the name stands in a live slice, as
+/// Reads an archive, and gives a row for each place where a symbol of one of the names stands in a live slice, as
 /// [`archive_core::Archive::find_name`] gives them of one that is held, in the same order. The whole input is read and
 /// tested as by [`crate::read_archive`], in the memory of the rows, of one record and of 57 bytes for each retirement.
-/// A slice is hashed only where it has the name. The name has no NUL at its end.
+/// A slice is hashed only where it has a name. No name has a NUL at its end.
 ///
 /// # Errors
 ///
 /// Those of [`crate::read_archive`], in the same order and with the same offsets.
 pub fn read_names<R: Source>(
     heap: Heap,
-    sought: &[u8],
+    none: NamesTold,
+    sought: SoughtNames<'_>,
     r: &mut R,
-) -> Result<Vec<OwnedNameRow, Heap>, RecordFault>
-    ensures { ReadsInPart Archive (λ rows o. IsNames o sought.now (map owned_name_view rows.items))
+) -> Result<NamesTold, RecordFault>
+    requires { (none.rows.items ≡ []) × (none.others.items ≡ []) }
+    ensures { ReadsInPart Archive (λ told o. IsNames o sought.entry.name.now (map owned_name_view told.rows.items)
+        × IsNames o sought.entry.other.now (map owned_name_view told.others.items))
         R.left R.failures r.old r.new result }
 {
-    tell_text::<NameRows<'_>, R>(&heap, TextKind::Archive, sought, r)
+    let start = NameRows {
+        told: none,
+        names: sought,
+    };
+    tell_text::<NameRows<'_>, R>(&heap, TextKind::Archive, start, r)
 }
 
-/// What is told of a name in archives so far, of which none is kept.
+/// What is told of two names in archives so far, of which none is kept.
 #[derive(Drop)]
 pub struct NamesFound {
-    /// Rows of the name, in any order and with any repeats.
-    pub rows: Vec<OwnedNameRow, Heap>,
+    /// Rows of the names, in any order and with any repeats.
+    pub told: NamesTold,
     /// The entries of what the archives retire.
     pub retired: Vec<Entry, Heap>,
 }
 
-/// What is told of a name, as the records come that tell it.
+/// What is told of two names, as the records come that tell it.
 #[derive(Drop)]
 struct Gathering<'n> {
     found: NamesFound,
-    name: &'n [u8],
+    names: SoughtNames<'n>,
 }
 
 impl<'n> FromRecords for Gathering<'n> {
@@ -160,13 +188,16 @@ impl<'n> FromRecords for Gathering<'n> {
 
     ghost file = { Archive };
 
-    ghost makes = { λ start records now. (now.name.now ≡ start.name.now)
-        × (map owned_name_view now.found.rows.items
-        ≡ map owned_name_view start.found.rows.items ++ names_among start.name.now records)
+    ghost makes = { λ start records now. (now.names.name.now ≡ start.names.name.now)
+        × (now.names.other.now ≡ start.names.other.now)
+        × (map owned_name_view now.found.told.rows.items
+        ≡ map owned_name_view start.found.told.rows.items ++ names_among start.names.name.now records)
+        × (map owned_name_view now.found.told.others.items
+        ≡ map owned_name_view start.found.told.others.items ++ names_among start.names.other.now records)
         × (map entry_bytes now.found.retired.items
         ≡ map entry_bytes start.found.retired.items ++ retirements_among records) };
 
-    ghost tells = { λ start now o. AddsNames o start.name.now start.found now };
+    ghost tells = { λ start now o. AddsNames o start.names.name.now start.names.other.now start.found now };
 
     fn begin(_heap: Heap, question: Gathering<'n>) -> Gathering<'n> {
         question
@@ -178,7 +209,8 @@ impl<'n> FromRecords for Gathering<'n> {
             self.found.retired.push(Entry::Retirement(key, digest))?;
             return Ok(());
         }
-        push_names(&mut self.found.rows, heap, &record, self.name)
+        push_names(&mut self.found.told.rows, heap, &record, self.names.name)?;
+        push_names(&mut self.found.told.others, heap, &record, self.names.other)
     }
 
     fn finish(self, _heap: &Heap) -> Result<NamesFound, NoMemory> {
@@ -186,10 +218,9 @@ impl<'n> FromRecords for Gathering<'n> {
     }
 }
 
-/// Reads an archive, and adds what its join with others needs of it to tell a name: its rows of the name, and what it
+/// Reads an archive, and adds what its join with others needs of it to tell the names: its rows of them, and what it
 /// retires. The whole input is read and tested as by [`crate::read_archive`], in the memory of the rows, of one record
-/// and twice of 57 bytes for each retirement. A slice is hashed only where it has the name. The name has no NUL at its
-/// end.
+/// and twice of 57 bytes for each retirement. A slice is hashed only where it has a name. No name has a NUL at its end.
 ///
 /// # Errors
 ///
@@ -197,30 +228,47 @@ impl<'n> FromRecords for Gathering<'n> {
 pub fn gather_names<R: Source>(
     heap: Heap,
     found: NamesFound,
-    sought: &[u8],
+    sought: SoughtNames<'_>,
     r: &mut R,
 ) -> Result<NamesFound, RecordFault>
-    ensures { ReadsInPart Archive (λ now o. AddsNames o sought.now found now) R.left R.failures r.old r.new result }
+    ensures { ReadsInPart Archive (λ now o. AddsNames o sought.entry.name.now sought.entry.other.now found now)
+        R.left R.failures r.old r.new result }
 {
     let start = Gathering {
         found,
-        name: sought,
+        names: sought,
     };
     tell_text::<Gathering<'_>, R>(&heap, TextKind::Archive, start, r)
 }
 
+/// Leaves the rows whose slices are not retired, in the order of [`read_names`], each once.
+fn keep_live(rows: &mut Vec<OwnedNameRow, Heap>, retired: &Summary)
+    ensures ascending { IsStrictlySortedBy name_cmp (map owned_name_view rows.new.items) }
+    ensures live { (row : NameRecord) → Contains (map owned_name_view rows.new.items) row
+        ↔ (Contains (map owned_name_view rows.old.items) row
+        × (set.contains retired.now (retirement_record row.key row.digest) ≡ false)) }
+{
+    rows.retain(|row| !retired.has(&Entry::Retirement(row.key, row.digest)));
+    put_names_in_order(rows);
+}
+
 /// The rows whose slices are not retired, in the order of [`read_names`], each once.
-pub fn live_names(found: NamesFound) -> Vec<OwnedNameRow, Heap>
+pub fn live_names(found: NamesFound) -> NamesTold
     requires { AllByRecursion IsEntry (map entry_bytes found.retired.items) }
-    ensures ascending { IsStrictlySortedBy name_cmp (map owned_name_view result.items) }
-    ensures live { (row : NameRecord) → Contains (map owned_name_view result.items) row
-        ↔ (Contains (map owned_name_view found.rows.items) row
+    ensures ascending { IsStrictlySortedBy name_cmp (map owned_name_view result.rows.items)
+        × IsStrictlySortedBy name_cmp (map owned_name_view result.others.items) }
+    ensures live { (row : NameRecord) → Contains (map owned_name_view result.rows.items) row
+        ↔ (Contains (map owned_name_view found.told.rows.items) row
+        × (set.contains (set_of (map entry_bytes found.retired.items)) (retirement_record row.key row.digest)
+        ≡ false)) }
+    ensures others_live { (row : NameRecord) → Contains (map owned_name_view result.others.items) row
+        ↔ (Contains (map owned_name_view found.told.others.items) row
         × (set.contains (set_of (map entry_bytes found.retired.items)) (retirement_record row.key row.digest)
         ≡ false)) }
 {
     let retired = Summary::of_entries(found.retired);
-    let mut rows = found.rows;
-    rows.retain(|row| !retired.has(&Entry::Retirement(row.key, row.digest)));
-    put_names_in_order(&mut rows);
-    rows
+    let mut told = found.told;
+    keep_live(&mut told.rows, &retired);
+    keep_live(&mut told.others, &retired);
+    told
 }

@@ -12,17 +12,20 @@ use Rattle.archive_core.specs.declared.keys.SliceKey.{SliceKey}
 use Rattle.archive_words.specs.Words.{digest_text}
 use Rattle.admission.specs.File.{IsAcceptedFile}
 use Rattle.admission.specs.Take.{admitted}
+use Rattle.report_text.specs.Answers.{escaped}
 use Rattle.report_text.specs.Rows.{key_text}
 use Rattle.command_ends.specs.Inputs.{Holds, HoldsArchive, Reader}
 use Rattle.archive_updates.specs.Admit.{images_of}
 use Rattle.archive_updates.specs.declared.notes.Note.{Note}
-use Rattle.archive_updates.specs.declared.notes.Note.TheVariants.{Retired, Missing}
+use Rattle.archive_updates.specs.declared.notes.Note.TheVariants.{Retired, Missing, Underscored}
 
 -- the text of a note
 unfoldable pub note_text : Note → List ℕ
 note_text (Retired key digest) = codes "note: " ++ key_text key ++ codes " " ++ digest_text digest
     ++ codes " is retired in IN, and does not come in"
 note_text (Missing key digest) = codes "note: IN has no slice " ++ key_text key ++ codes " " ++ digest_text digest
+note_text (Underscored name) = codes "note: there is no symbol " ++ escaped name.items ++ codes ", but there is _"
+    ++ escaped name.items
 
 -- the note of a slice that does not come in, by the record of its admission, in which it stands behind 33 bytes
 abbrev pub retired_note : List ℕ → Note

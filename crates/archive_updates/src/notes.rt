@@ -9,16 +9,18 @@ use archive_core::{Digest, Operation, SliceKey};
 use archive_words::Spelled;
 use memory::{Heap, NoMemory};
 use record_merge::Turn;
-use report_text::Text;
+use report_text::{Escaped, Text};
 use std::fmt;
 
 /// What a command notes beside its report: it changes neither that nor the exit status.
-#[derive(Clone, Copy, Debug, PartialEq, Eq)]
+#[derive(Debug, Drop)]
 pub enum Note {
     /// IN retires this slice of a file, so that it does not come in.
     Retired(SliceKey, Digest),
     /// IN has no slice under this key with this digest, which are retired all the same.
     Missing(SliceKey, Digest),
+    /// No symbol has this name, and one has it with a `_` before it.
+    Underscored(Vec<u8, Heap>),
 }
 
 #[tactic(auto, unfolding(crate::specs::Notes::note_text))]
@@ -42,6 +44,10 @@ impl fmt::Display for Note {
                 let key = Text(*key);
                 let digest = Spelled(*digest);
                 write!(f, "note: IN has no slice {key} {digest}")
+            }
+            Note::Underscored(name) => {
+                let name = Escaped(name);
+                write!(f, "note: there is no symbol {name}, but there is _{name}")
             }
         }
     }

@@ -1,16 +1,20 @@
--- Queries of archives, the first of which are read by their indexes, and the others whole.
-use Rattle.std.specs.Prelude.{◌≡◌, ℕ, List, [], ◌∷◌, Bool, true, false, nat_lt, length, take, drop, Option}
+-- Queries of archives, the first of which are read by their indexes, and the others whole, and what `name` notes.
+use Rattle.std.specs.Prelude.{◌≡◌, ℕ, List, [], ◌∷◌, ◌++◌, Bool, true, false, nat_lt, length, take, drop, Option, Some, None}
 use Rattle.archive_core.specs.declared.keys.SliceKey.{SliceKey}
 use Rattle.command_ends.specs.declared.faults.CommandFault.{CommandFault}
 use Rattle.command_ends.specs.declared.faults.CommandFault.TheVariants.{Input}
 use Rattle.command_ends.specs.declared.faults.Place.TheVariants.{Index}
 use Rattle.command_ends.specs.declared.faults.Why.TheVariants.{NoArchive}
+use Rattle.command_ends.specs.Archives.{HoldTogether}
 use Rattle.command_ends.specs.Ends.{Query}
 use Rattle.command_ends.specs.Inputs.{Reader}
 use Rattle.archive_queries.specs.Find.{find}
 use Rattle.archive_queries.specs.Frames.{frames}
 use Rattle.archive_queries.specs.List.{list}
+use Rattle.archive_queries.specs.Name.{SaysUnderscored}
 use Rattle.archive_queries.specs.Symbolicate.{symbolicate}
+use Rattle.archive_updates.specs.declared.notes.Note.{Note}
+use Rattle.archive_updates.specs.declared.notes.Note.TheVariants.{Retired, Missing, Underscored}
 use Rattle.indexed_queries.specs.Find.{find_at, find_together}
 use Rattle.indexed_queries.specs.Frames.{frames_at}
 use Rattle.indexed_queries.specs.List.{list_at}
@@ -61,3 +65,22 @@ frames_of crash (archive ∷ others) places [] = frames crash archive others
 frames_of crash archives places indexes =
     unless_more (nat_lt (length archives) (length indexes)) (length archives)
     (frames_at crash indexes (take (length indexes) places) (drop (length indexes) archives))
+
+-- the name that a symbol has with a `_` before it alone, as it is noted
+abbrev pub underscored_in : Note → Option (List ℕ)
+underscored_in (Retired key digest) = None
+underscored_in (Missing key digest) = None
+underscored_in (Underscored name) = Some name.items
+
+-- of such a name there is a note more, and else none
+abbrev pub AddsUnderscored : Bool → List ℕ → List Note → List Note → Type 0
+AddsUnderscored true name old new =
+    (note : Note) × (underscored_in note ≡ Some name) × (new ≡ old ++ note ∷ [])
+AddsUnderscored false name old new = new ≡ old
+
+-- `name` notes: whether the join of the archives has a symbol of the name with a `_` before it alone, and where that is
+-- so there is a note more.
+abbrev pub NotesUnderscored : {R S : Type 0} → Reader R → List (Reader S) → List ℕ → List Note → List Note → Type 0
+NotesUnderscored archive others name old new =
+    (is_underscored : Bool) × HoldTogether archive others (λ o. SaysUnderscored o name is_underscored)
+    × AddsUnderscored is_underscored name old new

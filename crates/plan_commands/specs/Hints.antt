@@ -1,5 +1,6 @@
 -- Which file a failure is of, and which of its lines.
-use Rattle.std.specs.Prelude.{ℕ, List, [], codes, Option, Some, None, option_map, slice_get, Result, Ok, Err, ⊤}
+use Rattle.std.specs.Prelude.{ℕ, List, [], ◌++◌, codes, Option, Some, None, option_map, slice_get, Result, Ok, Err, ⊤}
+use Rattle.std.specs.Fmt.{decimal}
 use Rattle.clap.specs.Words.{Text}
 use Rattle.command_ends.specs.declared.failures.Failure.{Failure}
 use Rattle.command_ends.specs.declared.failures.Failure.TheVariants.{Command, CannotCreate, CannotReplace}
@@ -21,6 +22,8 @@ use Rattle.plan_commands.specs.declared.hints.Note.{Note as Noted}
 use Rattle.plan_commands.specs.declared.hints.Note.TheVariants as noted
 use Rattle.plan_commands.specs.declared.hints.Subject.{Subject}
 use Rattle.plan_commands.specs.declared.hints.Subject.TheVariants as subject
+use Rattle.rehearsal.specs.declared.numbers.NumberFlaw.{NumberFlaw}
+use Rattle.rehearsal.specs.declared.numbers.NumberFlaw.TheVariants.{NotDecimal, LeadingZeros, TooLarge}
 
 -- the path of the input that is reported by this place: the one of that number among those of its kind
 abbrev pub path_at : Line → Place → Option Text
@@ -107,3 +110,9 @@ IsOfOut (Err (Input place why)) = ⊥
 IsOfOut (Err (Output n)) = ⊤
 IsOfOut (Err (Report n)) = ⊥
 IsOfOut (Err OutOfMemory) = ⊥
+
+-- what is said of a number in a script that has this flaw, where this is the greatest that may stand there
+unfoldable pub number_flaw_text : NumberFlaw → ℕ → List ℕ
+number_flaw_text NotDecimal most = codes "expected a decimal number, at most " ++ decimal most
+number_flaw_text LeadingZeros most = codes "expected no leading zeros"
+number_flaw_text TooLarge most = codes "too large, expected at most " ++ decimal most

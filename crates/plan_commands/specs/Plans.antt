@@ -26,7 +26,7 @@ use Rattle.archive_updates.specs.Apply.{apply_as_it_comes}
 use Rattle.archive_updates.specs.Delta.{delta_as_it_comes}
 use Rattle.command_ends.specs.Ends.{Command, Ends, EndsReport, EndsStreamed, Query, Streamed}
 use Rattle.indexed_queries.specs.Summary.{summary_at}
-use Rattle.plan_commands.specs.Asking.{find_of, frames_of, list_of, symbolicate_of}
+use Rattle.plan_commands.specs.Asking.{NotesUnderscored, find_of, frames_of, list_of, symbolicate_of}
 use Rattle.command_ends.specs.Inputs.{Reader}
 use Rattle.archive_updates.specs.MergeStreams.{merge_as_it_comes}
 use Rattle.archive_updates.specs.Migrate.{migrate_as_it_comes}
@@ -174,8 +174,9 @@ abbrev pub Executes : {S D T : Type 0} → Plan → List (Reader S) → List (Re
     → Result Status CommandFault → Type 0
 Executes asked inputs places out report result = EndsDeed (deed_of asked inputs places out) out report result
 
--- What the command of a plan that ended well notes over these inputs: `admit` and `retire` alone note something.
+-- What the command of a plan that ended well notes over these inputs: `admit`, `retire` and `name` alone note something.
 abbrev pub Notes : {S : Type 0} → Plan → List (Reader S) → List Note → List Note → Type 0
 Notes plan.Admit (input ∷ files) old new = NotesRetired input files old new
 Notes (plan.Retire key digest) (input ∷ _) old new = NotesMissing input key digest old new
+Notes (plan.Name sought) (archive ∷ others) old new = NotesUnderscored archive others sought.now old new
 Notes _ _ old new = new ≡ old

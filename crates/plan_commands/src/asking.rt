@@ -5,16 +5,19 @@ ghost use Rattle.std.specs.Borrow.{Array, LendsBoth, sem};
 ghost use Rattle.command_ends.specs.Ends.{EndsReport};
 ghost use Rattle.command_ends.specs.Inputs.{reader, readers};
 ghost use Rattle.command_ends.specs.Outputs.{writer};
+ghost use Rattle.archive_queries.specs.Name.{name as name_of};
+ghost use Rattle.plan_commands.specs.Asking.{AddsUnderscored, NotesUnderscored};
 ghost use Rattle.plan_commands.specs.Asking.{find_of, frames_of, list_of, no_archive, symbolicate_of};
 
 use archive_core::{Archive, SliceKey};
-use archive_queries::{run_find, run_frames, run_list, run_symbolicate};
+use archive_queries::{answer_name, run_find, run_frames, run_list, run_symbolicate};
+use archive_updates::Note;
 use byte_device::{CannotOpen, Sink, Source};
-use command_ends::{CommandFault, Place, Status, Why};
+use command_ends::{CommandFault, Place, Status, Why, publish_report};
 use indexed_queries::{
     run_find_at, run_find_together, run_frames_at, run_list_at, run_symbolicate_at,
 };
-use memory::Heap;
+use memory::{Heap, NoMemory};
 use placed_bytes::Placed;
 use uuid::Uuid;
 
@@ -89,6 +92,45 @@ pub fn list<S: Source + Placed, P: Sink>(
         [] => run_list(heap, archive, report),
         [index, ..] => run_list_at(heap, index, archive, report),
     }
+}
+
+/// Adds a note that a symbol has this name with a `_` before it, if that is so.
+fn note_underscored(
+    heap: Heap,
+    notes: &mut Vec<Note, Heap>,
+    is_underscored: bool,
+    name: &[u8],
+) -> Result<(), NoMemory>
+    ensures { OnOk result (AddsUnderscored is_underscored name.now notes.old.items notes.new.items) }
+{
+    if is_underscored {
+        let name = Vec::from_slice(heap, name)?;
+        notes.push(Note::Underscored(name))?;
+    }
+    Ok(())
+}
+
+/// `name` over archives: a row for each symbol of this exact name. Where there is none, and a symbol has the name with a
+/// `_` before it, a note is added.
+pub fn name<S: Source, P: Sink>(
+    heap: Heap,
+    archive: &mut Input<S>,
+    others: &mut [Input<S>],
+    sought: &[u8],
+    notes: &mut Vec<Note, Heap>,
+    report: &mut P,
+) -> Result<Status, CommandFault>
+    ensures ends { EndsReport (name_of
+        (reader S.left S.failures archive.old archive.new)
+        (readers S.left S.failures others.old others.new) sought.now)
+        (writer P.held P.failures report.old report.new) result }
+    ensures noted { OnOk result (NotesUnderscored
+        (reader S.left S.failures archive.old archive.new)
+        (readers S.left S.failures others.old others.new) sought.now notes.old.items notes.new.items) }
+{
+    let answer = answer_name(heap.clone()?, archive, others, sought)?;
+    note_underscored(heap, notes, answer.is_underscored, sought)?;
+    publish_report(answer.status, &answer.text, report)
 }
 
 /// `symbolicate` over archives, the first of which are read by these indexes.

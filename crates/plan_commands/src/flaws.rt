@@ -7,7 +7,7 @@ use archive_words::LineFlaw;
 use command_ends::Why;
 use command_line::{Form, form_text};
 use crash_frames::FrameFlaw;
-use rehearsal::ScriptFlaw;
+use rehearsal::{NumberFlaw, ScriptFlaw};
 use std::fmt;
 
 /// What is wrong with a line.
@@ -73,17 +73,50 @@ fn write_script_flaw<W: fmt::Write>(flaw: ScriptFlaw, f: &mut fmt::Formatter<W>)
         ScriptFlaw::Sites => f.write_str("is not `sites N`, N from 1 to 64"),
         ScriptFlaw::Word => f.write_str("begins with no word of an event"),
         ScriptFlaw::FieldCount => f.write_str("has fewer or more fields than its event"),
-        ScriptFlaw::Site => write_invalid("SITE", DECIMAL, f),
+        ScriptFlaw::SiteCount(flaw) => write_invalid_number("N", flaw, 64, f),
+        ScriptFlaw::Site(flaw) => write_invalid_number("SITE", flaw, u32::MAX, f),
         ScriptFlaw::Bytes => write_invalid("BYTES", "pairs of hex digits", f),
-        ScriptFlaw::Message => write_invalid("MESSAGE", DECIMAL, f),
+        ScriptFlaw::Message(flaw) => write_invalid_number("MESSAGE", flaw, u32::MAX, f),
         ScriptFlaw::Uuid => write_invalid("UUID", form_text(Form::Uuid), f),
         ScriptFlaw::Arch => write_invalid("ARCH", form_text(Form::Arch), f),
         ScriptFlaw::Digest => write_invalid("DIGEST", form_text(Form::Digest), f),
     }
 }
 
-/// The form of a number in a script.
-const DECIMAL: &str = "a decimal number without leading zeros, at most 4294967295";
+/// What is wrong with a number of a script, and the greatest that may stand there.
+#[derive(Clone, Copy)]
+struct InvalidNumber {
+    flaw: NumberFlaw,
+    most: u32,
+}
+
+#[tactic(auto, unfolding(crate::specs::Hints::number_flaw_text))]
+impl fmt::Display for InvalidNumber {
+    ghost use Rattle.std.specs.Prelude.{Some};
+    ghost use Rattle.plan_commands.specs.Hints.{number_flaw_text};
+
+    ghost output = { λ number. Some (number_flaw_text number.flaw number.most) };
+
+    fn fmt<W: fmt::Write>(&self, f: &mut fmt::Formatter<W>) -> fmt::Result {
+        let most = self.most;
+        match self.flaw {
+            NumberFlaw::NotDecimal => write!(f, "expected a decimal number, at most {most}"),
+            NumberFlaw::LeadingZeros => f.write_str("expected no leading zeros"),
+            NumberFlaw::TooLarge => write!(f, "too large, expected at most {most}"),
+        }
+    }
+}
+
+/// A field that is no such number.
+fn write_invalid_number<W: fmt::Write>(
+    field: &str,
+    flaw: NumberFlaw,
+    most: u32,
+    f: &mut fmt::Formatter<W>,
+) -> fmt::Result {
+    let number = InvalidNumber { flaw, most };
+    write!(f, "has an invalid {field}: {number}")
+}
 
 /// A field that has not this form.
 fn write_invalid<W: fmt::Write>(field: &str, form: &str, f: &mut fmt::Formatter<W>) -> fmt::Result {

@@ -14,7 +14,6 @@ ghost use Rattle.plan_commands.specs.Plans.{Executes, IsPlanOf, Notes, key_of, l
 use crate::asking::{self, Input, first_and_rest};
 use archive_core::{ArchKey, Archive, Digest, SliceKey};
 use archive_files::Replaces;
-use archive_queries::run_name;
 use archive_updates::{
     Note, run_admit, run_apply, run_delta, run_merge, run_migrate, run_new, run_retire, run_summary,
 };
@@ -277,7 +276,7 @@ pub fn execute<A: Archive + Drop, L: Archive + Drop, S: Source + Placed, T: Targ
         }
         Plan::Name { name } => {
             let (archive, others) = first_and_rest(inputs);
-            run_name(heap, archive, others, name.as_bytes(), report)
+            asking::name(heap, archive, others, name.as_bytes(), notes, report)
         }
         Plan::Symbolicate {
             key,

@@ -3,3 +3,4 @@ pub mod Sequels
 pub mod Places
 pub mod Meant
 pub mod EventLemmas
+pub mod FlawLemmas

@@ -1,5 +1,5 @@
 -- What is wrong with the first faulty line of a script.
-use Rattle.std.specs.Prelude.{ℕ, ◌==◌, Bool, ◌||◌, if◌then◌else◌, List, [], ◌∷◌, codes, length}
+use Rattle.std.specs.Prelude.{ℕ, ◌==◌, Bool, ◌||◌, nat_lt, if◌then◌else◌, List, [], ◌∷◌, codes, length}
 use Rattle.std.specs.Prelude.{Option, Some, None}
 use Rattle.std.specs.Str.{bytes_eq}
 use Rattle.uuid.specs.Text.{parsed}
@@ -8,9 +8,11 @@ use Rattle.archive_words.specs.Flaws.{line_flaw}
 use Rattle.archive_words.specs.Lines.{Field, Line, fields}
 use Rattle.archive_words.specs.Words.{arch_of}
 use Rattle.archive_words.specs.declared.flaws.LineFlaw.{LineFlaw}
-use Rattle.rehearsal.specs.Numbers.{number_of}
+use Rattle.rehearsal.specs.Numbers.{number_flaw, number_of}
 use Rattle.rehearsal.specs.declared.flaws.ScriptFlaw.{ScriptFlaw}
 use Rattle.rehearsal.specs.declared.flaws.ScriptFlaw.TheVariants as flaw
+use Rattle.rehearsal.specs.declared.numbers.NumberFlaw.{NumberFlaw}
+use Rattle.rehearsal.specs.declared.numbers.NumberFlaw.TheVariants.{TooLarge}
 use Rattle.rehearsal.specs.declared.script.ScriptFault.{ScriptFault}
 use Rattle.rehearsal.specs.declared.script.ScriptFault.TheVariants.{NoSites, BadEvent, TooManyEvents}
 
@@ -37,23 +39,23 @@ key_flaw (Some _) None = flaw.Arch
 key_flaw (Some _) (Some _) = flaw.Digest
 
 -- what is wrong with the one field behind a word and a site
-abbrev pub one_flaw : Field → ScriptFlaw
-one_flaw word = if bytes_eq word (codes "take") then flaw.Bytes else flaw.Message
+abbrev pub one_flaw : Field → Field → ScriptFlaw
+one_flaw word field = if bytes_eq word (codes "take") then flaw.Bytes else flaw.Message (number_flaw field)
 
 -- what is wrong with the fields behind a word and a site, of which there is one, or there are those of a slice
 abbrev pub flaw_behind_site : Field → List Field → ScriptFlaw
 flaw_behind_site word [] = flaw.FieldCount
-flaw_behind_site word (_ ∷ []) = one_flaw word
+flaw_behind_site word (field ∷ []) = one_flaw word field
 flaw_behind_site word (uuid ∷ arch ∷ _) = key_flaw (parsed uuid) (arch_of arch)
 
 -- what is wrong with a field for a site, or else with those behind it
-abbrev pub site_or : Option ℕ → ScriptFlaw → ScriptFlaw
-site_or None _ = flaw.Site
-site_or (Some _) behind = behind
+abbrev pub site_or : Option ℕ → NumberFlaw → ScriptFlaw → ScriptFlaw
+site_or None of_site _ = flaw.Site of_site
+site_or (Some _) _ behind = behind
 
 abbrev pub site_flaw : Field → List Field → ScriptFlaw
 site_flaw word [] = flaw.FieldCount
-site_flaw word (site ∷ behind) = site_or (number_of site) (flaw_behind_site word behind)
+site_flaw word (site ∷ behind) = site_or (number_of site) (number_flaw site) (flaw_behind_site word behind)
 
 -- what is wrong with the fields behind a word that so many should stand behind
 abbrev pub counted_flaw : Field → Option ℕ → List Field → ScriptFlaw
@@ -65,6 +67,17 @@ abbrev pub event_flaw : List Field → ScriptFlaw
 event_flaw [] = flaw.Word
 event_flaw (word ∷ behind) = counted_flaw word (count_behind word) behind
 
+-- what is wrong with N of `sites N`: it is no number, or above 64, or else 0
+abbrev pub count_flaw : Option ℕ → NumberFlaw → ScriptFlaw
+count_flaw None of_number = flaw.SiteCount of_number
+count_flaw (Some n) _ = if nat_lt 64 n then flaw.SiteCount TooLarge else flaw.Sites
+
+-- what is wrong with fields that are no `sites N`
+abbrev pub sites_flaw : List Field → ScriptFlaw
+sites_flaw (word ∷ number ∷ []) =
+    if bytes_eq word (codes "sites") then count_flaw (number_of number) (number_flaw number) else flaw.Sites
+sites_flaw _ = flaw.Sites
+
 -- what is wrong with a line as such, or else with its fields
 abbrev pub flaw_or : Option LineFlaw → ScriptFlaw → ScriptFlaw
 flaw_or (Some of_line) _ = flaw.Line of_line
@@ -73,7 +86,8 @@ flaw_or None of_fields = of_fields
 -- what is wrong with a line that has this fault: a line too many is an event, and an empty line does not count
 abbrev pub script_flaw : ScriptFault → Line → Option ScriptFlaw
 script_flaw fault [] = None
-script_flaw NoSites (first ∷ rest) = Some (flaw_or (line_flaw (first ∷ rest)) flaw.Sites)
+script_flaw NoSites (first ∷ rest) =
+    Some (flaw_or (line_flaw (first ∷ rest)) (sites_flaw (fields (first ∷ rest))))
 script_flaw BadEvent (first ∷ rest) =
     Some (flaw_or (line_flaw (first ∷ rest)) (event_flaw (fields (first ∷ rest))))
 script_flaw TooManyEvents (first ∷ rest) = None

@@ -20,7 +20,7 @@ use std::str;
 use uuid::Uuid;
 
 /// The most sites of a rehearsal.
-const MOST_SITES: u32 = 64;
+pub(crate) const MOST_SITES: u32 = 64;
 
 /// How many sites a line asks for, if it does.
 pub fn read_sites(line: &[u8]) -> Option<u32>

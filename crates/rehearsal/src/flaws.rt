@@ -1,13 +1,15 @@
 //! What is wrong with the first faulty line of a script.
 
-ghost use Rattle.std.specs.Prelude.{◌≡◌, Some, length};
+ghost use Rattle.std.specs.Prelude.{◌≡◌, ◌∷◌, Some, codes, length};
 ghost use Rattle.uuid.specs.Text.{parsed};
 ghost use Rattle.archive_words.specs.Lines.{fields, parts};
 ghost use Rattle.archive_words.specs.Words.{arch_of};
-ghost use Rattle.rehearsal.specs.Flaws.{count_behind, counted_flaw, event_flaw, flaw_behind_site, flaw_or};
-ghost use Rattle.rehearsal.specs.Flaws.{key_flaw, one_flaw, script_flaw, site_flaw};
+ghost use Rattle.rehearsal.specs.Flaws.{count_behind, count_flaw, counted_flaw, event_flaw, flaw_behind_site};
+ghost use Rattle.rehearsal.specs.Flaws.{flaw_or, key_flaw, one_flaw, script_flaw, site_flaw, sites_flaw};
+ghost use Rattle.rehearsal.specs.Numbers.{number_flaw, number_of};
 
-use crate::numbers::read_number;
+use crate::events::MOST_SITES;
+use crate::numbers::{NumberFlaw, number_flaw, read_number};
 use crate::script::ScriptFault;
 use archive_core::ArchKey;
 use archive_words::{LineFlaw, Word, cut_field, line_flaw};
@@ -19,16 +21,18 @@ use uuid::Uuid;
 pub enum ScriptFlaw {
     /// The line, whatever its fields are.
     Line(LineFlaw),
-    /// It is no `sites N` with N from 1 to 64.
+    /// It is no `sites N`, or N is 0.
     Sites,
+    /// It is `sites N`, and N is no number, or above 64.
+    SiteCount(NumberFlaw),
     /// It begins with no word of an event.
     Word,
     /// It has fewer or more fields than its word wants.
     FieldCount,
     /// The field of this name has not its form. Those before it have theirs.
-    Site,
+    Site(NumberFlaw),
     Bytes,
-    Message,
+    Message(NumberFlaw),
     Uuid,
     Arch,
     Digest,
@@ -42,7 +46,7 @@ pub fn script_flaw(fault: ScriptFault, line: &[u8]) -> Option<ScriptFlaw>
         return None;
     }
     match fault {
-        ScriptFault::NoSites => Some(flaw_or(line_flaw(line), ScriptFlaw::Sites)),
+        ScriptFault::NoSites => Some(flaw_or(line_flaw(line), sites_flaw(line))),
         ScriptFault::BadEvent => Some(flaw_or(line_flaw(line), event_flaw(line))),
         ScriptFault::TooManyEvents => None,
     }
@@ -55,6 +59,48 @@ fn flaw_or(of_line: Option<LineFlaw>, of_fields: ScriptFlaw) -> ScriptFlaw
     match of_line {
         Some(flaw) => ScriptFlaw::Line(flaw),
         None => of_fields,
+    }
+}
+
+// What is wrong with the fields of a line that is no `sites N`.
+fn sites_flaw(line: &[u8]) -> ScriptFlaw
+    ensures { result ≡ sites_flaw (fields line.now) }
+{
+    match str::from_utf8(line) {
+        Ok(text) => sites_flaw_in(text),
+        Err(_) => ScriptFlaw::Sites,
+    }
+}
+
+fn sites_flaw_in(text: &str) -> ScriptFlaw
+    ensures { result ≡ sites_flaw (parts text.now) }
+{
+    let (word, behind) = cut_field(text);
+    match behind {
+        Some(behind) if word == "sites" => number_behind_flaw(behind),
+        _ => ScriptFlaw::Sites,
+    }
+}
+
+// What is wrong with what stands behind `sites`, where one field has to.
+fn number_behind_flaw(text: &str) -> ScriptFlaw
+    ensures { result ≡ sites_flaw (codes "sites" ∷ parts text.now) }
+{
+    let (number, more) = cut_field(text);
+    if more.is_some() {
+        return ScriptFlaw::Sites;
+    }
+    count_flaw(number)
+}
+
+// What is wrong with N of `sites N`.
+fn count_flaw(number: &str) -> ScriptFlaw
+    ensures { result ≡ count_flaw (number_of number.now) (number_flaw number.now) }
+{
+    match read_number(number) {
+        None => ScriptFlaw::SiteCount(number_flaw(number)),
+        Some(sites) if sites > MOST_SITES => ScriptFlaw::SiteCount(NumberFlaw::TooLarge),
+        Some(_) => ScriptFlaw::Sites,
     }
 }
 
@@ -117,20 +163,20 @@ fn site_flaw(word: &str, text: &str) -> ScriptFlaw
 {
     let (site, behind) = cut_field(text);
     match (read_number(site), behind) {
-        (None, _) => ScriptFlaw::Site,
+        (None, _) => ScriptFlaw::Site(number_flaw(site)),
         (Some(_), Some(behind)) => flaw_behind_site(word, behind),
         (Some(_), None) => ScriptFlaw::FieldCount,
     }
 }
 
 // What is wrong with the one field behind a word and a site.
-fn one_flaw(word: &str) -> ScriptFlaw
-    ensures { result ≡ one_flaw word.now }
+fn one_flaw(word: &str, field: &str) -> ScriptFlaw
+    ensures { result ≡ one_flaw word.now field.now }
 {
     if word == "take" {
         ScriptFlaw::Bytes
     } else {
-        ScriptFlaw::Message
+        ScriptFlaw::Message(number_flaw(field))
     }
 }
 
@@ -144,7 +190,7 @@ fn flaw_behind_site(word: &str, text: &str) -> ScriptFlaw
             let (arch, _) = cut_field(behind);
             key_flaw(first, arch)
         }
-        None => one_flaw(word),
+        None => one_flaw(word, first),
     }
 }
 

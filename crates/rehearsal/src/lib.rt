@@ -2,7 +2,7 @@
 //!
 //! - `event`: what happens at a site;
 //! - `script`: what a script says, and why bytes are none;
-//! - `numbers`: decimal numbers;
+//! - `numbers`: decimal numbers, and why a field is none;
 //! - `events`: what a line asks for;
 //! - `flaws`: what is wrong with a faulty line;
 //! - `reading`: a script, read;
@@ -23,5 +23,6 @@ mod script;
 
 pub use event::Event;
 pub use flaws::{ScriptFlaw, script_flaw};
+pub use numbers::NumberFlaw;
 pub use reading::read_script;
 pub use script::{Script, ScriptError, ScriptFault};

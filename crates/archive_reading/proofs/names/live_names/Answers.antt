@@ -1,11 +1,7 @@
-use Rattle.std.proofs.Common.{not, rules}
-use Rattle.std.specs.FinSet.{contains}
-use Rattle.std.proofs.lemmas.Fn.{filter_same}
-use Rattle.archive_core.specs.Record.{retirement_record}
-use Rattle.archive_reading.proofs.Gatherings.{live_kept}
 use Rattle.archive_reading.proofs.names.live_names.Goals as goal
 
 pub returns-clause-live : goal.returns-clause-live
-returns-clause-live c = λ row.
-    let kept = filter_same _ (λ one. not (contains c.of_entries-retired.result (retirement_record one.key one.digest.0))) _ (λ x b f' k. search rules) _ _ c.retain.ensures.filtered in
-    rw (← c.of_entries-retired.ensures) (live_kept c.of_entries-retired.result c.args.found.rows.items _ _ kept c.put_names_in_order.ensures.same row)
+returns-clause-live c = λ row. rw (← c.of_entries-retired.ensures) (c.keep_live.ensures.live row)
+
+pub returns-clause-others_live : goal.returns-clause-others_live
+returns-clause-others_live c = λ row. rw (← c.of_entries-retired.ensures) (c.keep_live-2.ensures.live row)

@@ -3,4 +3,4 @@ use Rattle.archive_reading.proofs.Gatherings.{start_retired, start_rows}
 use Rattle.archive_reading.proofs.names.GatheringFromRecords.begin.Goals as goal
 
 pub returns : goal.returns
-returns c = (refl, start_rows _ _, start_retired _)
+returns c = (refl, refl, start_rows _ _, start_rows _ _, start_retired _)

@@ -4,4 +4,5 @@ use Rattle.archive_reading.proofs.Gatherings.{names_added}
 use Rattle.archive_reading.proofs.names.GatheringFromRecords.finish.Goals as goal
 
 pub returns : goal.returns
-returns c = λ start o content is. names_added o start.name.now (listing o) content (content_is o) start.found c.args.self.found is.1 is.2
+returns c = λ start o content is.
+    names_added o (listing o) content (content_is o) start.names.name.now start.names.other.now start.found c.args.self.found is.2 is.3 is.4

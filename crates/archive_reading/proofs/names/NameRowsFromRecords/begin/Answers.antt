@@ -4,4 +4,9 @@ use Rattle.archive_reading.proofs.Sought.{names_start}
 use Rattle.archive_reading.proofs.names.NameRowsFromRecords.begin.Goals as goal
 
 pub returns : goal.returns
-returns c = (refl, ap (map owned_name_view) c.new-rows.ensures.items ∙ names_start c.args.name.now)
+returns c = (
+  refl,
+  refl,
+  ap (map owned_name_view) c.requires.0 ∙ names_start c.args.start.names.name.now,
+  ap (map owned_name_view) c.requires.1 ∙ names_start c.args.start.names.other.now,
+)
