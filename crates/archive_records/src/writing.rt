@@ -69,7 +69,7 @@ fn put_both<W: Sink>(w: &mut W, done: u128, head: &[u8], body: &[u8]) -> Result<
     put(w, done, body)
 }
 
-/// Writes the record behind the first `done` bytes of a text, and says how many there are then. Its slice is not copied.
+/// Writes the record behind the first `done` bytes of a text, and says how many there are then. No slice is copied.
 ///
 /// # Errors
 ///

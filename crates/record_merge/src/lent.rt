@@ -1,6 +1,7 @@
 //! Operations that stand in memory, read as the text that they would be.
 
-ghost use Rattle.std.specs.Prelude.{◌≡◌, ◌+◌, ◌<◌, ◌^◌, ◌++◌, Option, Some, None, [], true, false, IfOk, IfSome, length, map, ℕ, List};
+ghost use Rattle.std.specs.Prelude.{◌≡◌, ◌+◌, ◌<◌, ◌^◌, ◌++◌, ℕ, List, [], length, map, true, false};
+ghost use Rattle.std.specs.Prelude.{Option, Some, None, IfOk, IfSome};
 ghost use Rattle.std.specs.Ordering.{nat_cmp};
 ghost use Rattle.std.specs.Cmp.Lexicographic.{slice_cmp};
 ghost use Rattle.archive_core.specs.Content.{is_covered};
@@ -160,8 +161,8 @@ fn may_follow(last: &Option<Record<'_>>, next: &Record<'_>) -> bool
     }
 }
 
-/// Whether one of these retirements covers the slice of these bytes, by what was found out of it. A digest that is asked
-/// for is found out for whoever asks next.
+/// Whether one of these retirements covers the slice of these bytes, by what was found out of it. A digest that is
+/// asked for is found out for whoever asks next.
 fn covers_slice(retirements: &Retirements, bytes: &[u8], found: &mut SliceFacts) -> bool
     requires { IsCheckedOf bytes.now found.old }
     ensures covered { result ≡ is_covered (set_of retirements.now) (admission_record bytes.now) }

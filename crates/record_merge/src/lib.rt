@@ -5,8 +5,8 @@
 //! - `telling`, `turns`: [`merge_telling`], which tells, too, what the records of the right side are to the left one;
 //! - `losses`: [`lost_operations`], by which one archive is above another, over `nowhere`, a writer that keeps nothing;
 //!   `laws`: that none lost means above;
-//! - `lent`: [`LentText`], the text of operations that stand in memory, and [`LentSide`], which takes its records without
-//!   a copy. The right side of a merge is a [`Side`]: one of these, or a text that is read.
+//! - `lent`: [`LentText`], the text of operations that stand in memory, and [`LentSide`], which takes its records as they
+//!   stand. The right side of a merge is a [`Side`]: one of these, or [`MergeInput`], a text that is read.
 //!
 //! # What is proved
 //!

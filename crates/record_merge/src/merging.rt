@@ -20,8 +20,8 @@ use archive_records::{MOST, MergeCause, MergeFault, RecordFault, RecordFaultKind
 use byte_device::{Sink, Source, WriteFault, put};
 use std::cmp::Ordering;
 
-/// A text and a right side that are merged, and how much of their join was written. A retirement that both sides have is
-/// kept once, in what they share, and counts as each one's own.
+/// A text and a right side that are merged, and how much of their join was written. A retirement that both sides have
+/// is kept once, in what they share, and counts as each one's own.
 #[derive(Drop)]
 pub struct Merge<B> {
     pub left: MergeInput,
@@ -209,9 +209,11 @@ pub fn take_turn<W: Sink, B: Side>(
     requires before { IsBeforeTurn (sides_of B.seen m.old) }
     requires next { next ≡ first_of m.old.left (B.seen m.old.right) }
     ensures merging { (left right : Option (List ℕ))
-        → MergesOn left left right right (W.held w.old) (W.held w.new) (sides_of B.seen m.old) (sides_of B.seen m.new) result }
+        → MergesOn left left right right (W.held w.old) (W.held w.new) (sides_of B.seen m.old) (sides_of B.seen m.new)
+        result }
     ensures telling { (a1 b1 a2 b2 w0 : Option (List ℕ)) (told : List Turn) (withdraws : Bool) (turn : Option Turn)
-        → Telling a1 b1 a2 b2 w0 (W.held w.old) (sides_of B.seen m.old) told withdraws → TellsNext (sides_of B.seen m.old) turn
+        → Telling a1 b1 a2 b2 w0 (W.held w.old) (sides_of B.seen m.old) told withdraws
+        → TellsNext (sides_of B.seen m.old) turn
         → IfOk result (λ passed. Telling a1 b1 a2 b2 w0 (W.held w.new) (sides_of B.seen m.new) (told_with told turn)
         ((passed && has_next (sides_of B.seen m.old)) || withdraws)) }
     ensures had { OnOk result (HadTurn (sides_of B.seen m.old) (sides_of B.seen m.new)) }
@@ -263,7 +265,8 @@ pub fn share<B: Side>(m: &mut Merge<B>, next: Ordering)
 pub fn read_left<R: Source, B: Side>(r1: &mut R, m: &mut Merge<B>) -> Result<(), MergeFault>
     requires { Fits (sides_of B.seen m.old) }
     ensures merging { (right w : Option (List ℕ))
-        → MergesOn (R.left r1.old) (R.left r1.new) right right w w (sides_of B.seen m.old) (sides_of B.seen m.new) result }
+        → MergesOn (R.left r1.old) (R.left r1.new) right right w w (sides_of B.seen m.old) (sides_of B.seen m.new)
+        result }
     ensures telling { (a1 a2 b2 w0 w1 : Option (List ℕ)) (told : List Turn) (withdraws : Bool)
         → Telling a1 (R.left r1.old) a2 b2 w0 w1 (sides_of B.seen m.old) told withdraws
         → OnOk result (Telling a1 (R.left r1.new) a2 b2 w0 w1 (sides_of B.seen m.new) told withdraws) }
@@ -285,7 +288,8 @@ pub fn read_right<F, B: ReadFrom<F>>(r2: &mut F, m: &mut Merge<B>) -> Result<(),
     requires fits { Fits (sides_of B.seen m.old) }
     requires read { m.old.left.ahead ≢ Lookahead.Unread }
     ensures merging { (left w : Option (List ℕ))
-        → MergesOn left left (B.left r2.old) (B.left r2.new) w w (sides_of B.seen m.old) (sides_of B.seen m.new) result }
+        → MergesOn left left (B.left r2.old) (B.left r2.new) w w (sides_of B.seen m.old) (sides_of B.seen m.new)
+        result }
     ensures telling { (a1 b1 a2 w0 w1 : Option (List ℕ)) (told : List Turn) (withdraws : Bool)
         → Telling a1 b1 a2 (B.left r2.old) w0 w1 (sides_of B.seen m.old) told withdraws
         → OnOk result (Telling a1 b1 a2 (B.left r2.new) w0 w1 (sides_of B.seen m.new) told withdraws) }

@@ -114,8 +114,8 @@ fn give_turn<R: Source, F, B: ReadFrom<F>, W: Sink>(
 ) -> Result<(), MergeFault>
     requires { IsBeforeTurn (sides_of B.seen m.old) }
     ensures telling { TellsOn (R.left r1.old) (R.left r1.new) (B.left r2.old) (B.left r2.new)
-        (W.held w.old) (W.held w.new) (sides_of B.seen m.old) (sides_of B.seen m.new) told.old.turns.items told.new.turns.items
-        told.old.withdraws told.new.withdraws result }
+        (W.held w.old) (W.held w.new) (sides_of B.seen m.old) (sides_of B.seen m.new)
+        told.old.turns.items told.new.turns.items told.old.withdraws told.new.withdraws result }
     ensures read { OnOk result (IsReadOn (sides_of B.seen m.old) (sides_of B.seen m.new)) }
     ensures less { OnOk result (cost_of (sides_of B.seen m.new) < cost_of (sides_of B.seen m.old)) }
     ensures devices { BlamesDevices (stream R.left R.failures r1.old r1.new) (stream B.left B.failures r2.old r2.new)
@@ -140,8 +140,8 @@ fn tell_records<R: Source, F, B: ReadFrom<F>, W: Sink>(
 ) -> Result<(), MergeFault>
     requires fits { Fits (sides_of B.seen m.old) }
     ensures telling { TellsOn (R.left r1.old) (R.left r1.new) (B.left r2.old) (B.left r2.new)
-        (W.held w.old) (W.held w.new) (sides_of B.seen m.old) (sides_of B.seen m.new) told.old.turns.items told.new.turns.items
-        told.old.withdraws told.new.withdraws result }
+        (W.held w.old) (W.held w.new) (sides_of B.seen m.old) (sides_of B.seen m.new)
+        told.old.turns.items told.new.turns.items told.old.withdraws told.new.withdraws result }
     ensures ended { OnOk result (HasEnded (sides_of B.seen m.new)) }
     ensures devices { BlamesDevices (stream R.left R.failures r1.old r1.new) (stream B.left B.failures r2.old r2.new)
         (W.failures w.old) (W.failures w.new) result }
