@@ -6,3 +6,5 @@ pub mod Names
 pub mod UnitLines
 pub mod Frames
 pub mod FrameViews
+pub mod Scopes
+pub mod ChainSteps

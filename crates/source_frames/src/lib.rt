@@ -8,6 +8,7 @@
 #![tactic(auto)]
 
 mod chain;
+mod containing;
 mod debug_info;
 mod debug_sections;
 mod debug_unit;

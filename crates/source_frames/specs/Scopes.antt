@@ -1,0 +1,54 @@
+-- The function entries that contain an address (DWARF 5, sections 2.17, 3.3.1 and 3.3.8).
+use Rattle.std.specs.Prelude.{ℕ, zero, suc, Bool, true, false, List, [], ◌∷◌, ◌≡◌, ◌<◌, ◌≤◌, ◌&&◌, nat_le, nat_lt}
+use Rattle.std.specs.Prelude.{slice_get, Option, Some, None}
+use Rattle.std.specs.List.{list_any}
+use Rattle.std.specs.Option.{option_map_or}
+use Rattle.code_ranges.specs.declared.range.CodeRange.{CodeRange}
+use Rattle.debug_entries.specs.Entries.{EntryRecord}
+
+-- an entry: in how many others it stands, and the ranges of its code; one that is no function has none
+pub record ScopeRecord : Type 0 where
+  pub depth : ℕ
+  pub entry : EntryRecord
+  pub ranges : List CodeRange
+
+-- whether one of some ranges has an address
+abbrev pub in_ranges : ℕ → List CodeRange → Bool
+in_ranges address ranges = list_any (λ r. nat_le r.low address && nat_lt address r.high) ranges
+
+-- the depth of the entry of an index
+abbrev pub depth_at : List ScopeRecord → ℕ → ℕ
+depth_at scopes index = option_map_or (λ s. s.depth) (slice_get scopes index) 0
+
+-- whether there is an entry of an index, and it contains the address
+abbrev pub contains_at : ℕ → List ScopeRecord → ℕ → Bool
+contains_at address scopes index = option_map_or (λ s. in_ranges address s.ranges) (slice_get scopes index) false
+
+-- an entry stands in another one: it comes later, and each entry from there to it is deeper than that one
+pub record IsIn (scopes : List ScopeRecord) (outer index : ℕ) : Type 0 where
+  pub later : outer < index
+  pub deeper : (between : ℕ) → outer < between → between ≤ index → depth_at scopes outer < depth_at scopes between
+
+-- it stands in the one that is given, or anywhere
+abbrev pub IsWithin : List ScopeRecord → Option ℕ → ℕ → Type 0
+IsWithin scopes None index = Unit {0}
+IsWithin scopes (Some outer) index = IsIn scopes outer index
+
+-- the first entry in another one that contains the address
+pub record IsFirst (address : ℕ) (scopes : List ScopeRecord) (outer : Option ℕ) (index : ℕ) : Type 0 where
+  pub within : IsWithin scopes outer index
+  pub contains : contains_at address scopes index ≡ true
+  pub first : (before : ℕ) → before < index → IsWithin scopes outer before → contains_at address scopes before ≡ true → ⊥
+
+-- the first entry in another one that contains the address, the first in that one, and so on, up to so many
+abbrev pub IsChainWithin : ℕ → ℕ → List ScopeRecord → Option ℕ → List EntryRecord → Type 0
+IsChainWithin zero address scopes outer chain = chain ≡ []
+IsChainWithin (suc room) address scopes outer [] =
+    (index : ℕ) → IsWithin scopes outer index → contains_at address scopes index ≡ true → ⊥
+IsChainWithin (suc room) address scopes outer (entry ∷ chain) =
+    (index : ℕ) × (scope : ScopeRecord) × (slice_get scopes index ≡ Some scope) × (entry ≡ scope.entry)
+    × IsFirst address scopes outer index × IsChainWithin room address scopes (Some index) chain
+
+-- the entries that contain the address, the outermost first, of which 256 count at most
+abbrev pub IsChain : ℕ → List ScopeRecord → List EntryRecord → Type 0
+IsChain address scopes chain = IsChainWithin 256 address scopes None chain
