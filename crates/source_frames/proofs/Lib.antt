@@ -1,3 +1,4 @@
 mod SectionLemmas
 mod NameLemmas
 mod ChainLemmas
+mod ScopeWalk
