@@ -1,6 +1,6 @@
 -- Steps over the tuples of __debug_aranges.
-use Rattle.std.proofs.Common.{◌≡◌, ℕ, ◌<◌, List, [], ◌∷◌, ◌++◌, length, drop, take, map, Option, Some, None, refl, ap, ◌∙◌, sym, inl, inr, arith, length-drop, nat_lt, ◌==◌, ◌&&◌}
-use Rattle.std.specs.List.{flat_map}
+use Rattle.std.proofs.Common.{◌≡◌, ℕ, ◌<◌, List, [], ◌∷◌, ◌++◌, length, drop, take, map, Option, Some, None, refl, ap, ◌∙◌, sym, inl, inr, arith, length-drop, nat_lt, ◌==◌, ◌&&◌, ◌||◌, Bool, true, false}
+use Rattle.std.specs.List.{flat_map, list_any}
 use Rattle.std.specs.Option.{option_map_or}
 use Rattle.std.proofs.lemmas.Bool.{cases_Bool, ltb-false}
 use Rattle.std.proofs.lemmas.Option.{none-some}
@@ -8,7 +8,7 @@ use Rattle.dwarf_numbers.specs.Forms.{split_at}
 use Rattle.dwarf_numbers.specs.LittleEndian.{u32_le_at, u64_le_at}
 use Rattle.dwarf_numbers.specs.Sequences.{Shortens}
 use Rattle.dwarf_numbers.proofs.SequenceLemmas.{sequence_missing, sequence_some}
-use Rattle.code_ranges.specs.Aranges.{aranges_of, header_of, set_at, tuple_at, tuples_from, tuples_of}
+use Rattle.code_ranges.specs.Aranges.{aranges_of, header_of, is_named, names_unit, set_at, tuple_at, tuples_from, tuples_of}
 use Rattle.code_ranges.specs.declared.arange.Arange.{Arange}
 
 tuple_shorter : (bytes : List ℕ) (x : (ℕ × ℕ) × List ℕ) → tuple_at bytes ≡ Some x → length x.1 < length bytes
@@ -101,3 +101,25 @@ one_set unit bytes sets set rest tuples all none read are before =
 
 pub all_sets : (sets : List ℕ) → tuples_from 0 [] ++ aranges_of sets ≡ aranges_of sets
 all_sets sets = ap (λ t. t ++ aranges_of sets) (no_tuples 0)
+
+-- no set is left to name a unit
+pub named_end : (bytes : List ℕ) (offset : ℕ) → ◌≡◌ {A = Option (List ℕ × List ℕ)} None (set_at bytes) → is_named bytes offset ≡ false
+unfolding is_named
+named_end bytes offset e = ap (list_any (names_unit offset)) (sequence_missing set_at bytes (sym e))
+
+named_more : (bytes set rest : List ℕ) (offset : ℕ) → set_at bytes ≡ Some (set, rest) → is_named bytes offset ≡ (names_unit offset set || is_named rest offset)
+unfolding is_named
+named_more bytes set rest offset e = ap (list_any (names_unit offset)) (sequence_some set_at sets_shorten bytes (set, rest) e)
+
+in_order : (set rest named whole : Bool) → ((set || rest) || named) ≡ whole → (rest || (set || named)) ≡ whole
+in_order true true named whole e = e
+in_order true false named whole e = e
+in_order false true named whole e = e
+in_order false false named whole e = e
+
+-- the unit of a set is added to those that are named
+pub named_step : (bytes set rest : List ℕ) (offset : ℕ) (named more whole : Bool) → ◌≡◌ {A = Option (List ℕ × List ℕ)} (Some (set, rest)) (set_at bytes)
+    → more ≡ (names_unit offset set || named) → (is_named bytes offset || named) ≡ whole → (is_named rest offset || more) ≡ whole
+named_step bytes set rest offset named more whole read added before =
+    ap (λ m. is_named rest offset || m) added
+    ∙ in_order (names_unit offset set) (is_named rest offset) named whole (ap (λ n. n || named) (sym (named_more bytes set rest offset (sym read))) ∙ before)

@@ -1,4 +1,3 @@
-mod ShorterLemmas
 pub mod ListLemmas
 pub mod ArangeLemmas
 pub mod TupleLemmas

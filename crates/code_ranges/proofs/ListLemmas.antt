@@ -1,87 +1,83 @@
 -- Steps over the entries of a list of ranges.
-use Rattle.std.proofs.Common.{◌≡◌, ℕ, zero, suc, ◌<◌, ◌≤◌, ◌⊎◌, true, false, List, [], ◌∷◌, ◌++◌, length, cond, Option, Some, None, refl, ap, ◌∙◌, sym, inl, inr, arith}
+use Rattle.std.proofs.Common.{◌≡◌, ℕ, zero, suc, ◌-◌, ◌<◌, true, false, List, [], ◌++◌, cond, Option, Some, None, refl, ap, ◌∙◌, sym, arith}
 use Rattle.std.specs.Option.{option_to_list}
-use Rattle.code_ranges.specs.Lists.{base_after, is_end, range_of, ranges_from, ranges_within}
+use Rattle.code_ranges.specs.Lists.{base_after, is_end, left_after, range_of, ranges_within}
 use Rattle.code_ranges.specs.Views.{entry_at}
 use Rattle.code_ranges.specs.declared.list_format.ListFormat.{ListFormat}
 use Rattle.code_ranges.specs.declared.range.CodeRange.{CodeRange}
 use Rattle.code_ranges.specs.declared.range_entry.RangeEntry.{RangeEntry}
-use Rattle.code_ranges.proofs.ShorterLemmas.{entry_shorter}
 
-none_or_some : {A : Type 0} (o : Option A) → (o ≡ None) ⊎ ((x : A) × (o ≡ Some x))
-none_or_some None = inl refl
-none_or_some (Some x) = inr (x, refl)
-
--- no entry begins no bytes
-nothing_read : (format : ListFormat) → entry_at format [] ≡ None
-nothing_read format = elim (none_or_some (entry_at format [])) [
-  | inl e ↦ e
-  | inr x ↦ absurd (omega (arith, entry_shorter format [] x.0 x.1))
-]
-
-within_none : (count : ℕ) (format : ListFormat) (base : ℕ) (bytes : List ℕ) → entry_at format bytes ≡ None → ranges_within (entry_at format) count base bytes ≡ []
+-- where no entry is read there are no ranges
+pub none_within : (format : ListFormat) (base : ℕ) (bytes : List ℕ) → ranges_within (entry_at format) 0 base bytes ≡ []
 unfolding ranges_within
-within_none zero format base bytes e = refl
-within_none (suc count) format base bytes e = rw e refl
+none_within format base bytes = refl
+
+-- nor where none can be read
+pub ranges_missing : (left : ℕ) (format : ListFormat) (base : ℕ) (bytes : List ℕ) → entry_at format bytes ≡ None → ranges_within (entry_at format) left base bytes ≡ []
+unfolding ranges_within
+ranges_missing zero format base bytes e = refl
+ranges_missing (suc left) format base bytes e = rw e refl
 
 -- the ranges from an entry on, where those after it are known
 abbrev after_entry : ℕ → RangeEntry → List CodeRange → List CodeRange
 after_entry base entry rest = cond (is_end entry) [] (range_of base entry ++ rest)
 
-within_some : (count : ℕ) (format : ListFormat) (base : ℕ) (bytes : List ℕ) (x : RangeEntry × List ℕ) → entry_at format bytes ≡ Some x
-    → ranges_within (entry_at format) (suc count) base bytes ≡ after_entry base x.0 (ranges_within (entry_at format) count (base_after base x.0) x.1)
+ranges_some : (left less : ℕ) (format : ListFormat) (base : ℕ) (bytes : List ℕ) (x : RangeEntry × List ℕ) → left ≡ suc less → entry_at format bytes ≡ Some x
+    → ranges_within (entry_at format) left base bytes ≡ after_entry base x.0 (ranges_within (entry_at format) less (base_after base x.0) x.1)
 unfolding ranges_within
-within_some count format base bytes x e = rw e refl
-
--- as many entries as there are bytes are enough
-same_within : (m n : ℕ) (format : ListFormat) (base : ℕ) (bytes : List ℕ) → length bytes ≤ m → length bytes ≤ n → ranges_within (entry_at format) m base bytes ≡ ranges_within (entry_at format) n base bytes
-same_within zero n format base [] h k = within_none 0 format base [] (nothing_read format) ∙ sym (within_none n format base [] (nothing_read format))
-same_within zero n format base (b ∷ bytes) h k = absurd (omega arith)
-same_within (suc m) zero format base [] h k = within_none (suc m) format base [] (nothing_read format) ∙ sym (within_none 0 format base [] (nothing_read format))
-same_within (suc m) zero format base (b ∷ bytes) h k = absurd (omega arith)
-same_within (suc m) (suc n) format base bytes h k = elim (none_or_some (entry_at format bytes)) [
-  | inl e ↦ within_none (suc m) format base bytes e ∙ sym (within_none (suc n) format base bytes e)
-  | inr x ↦
-      let less : length x.0.1 < length bytes = entry_shorter format bytes x.0 x.1 in
-      within_some m format base bytes x.0 x.1
-      ∙ ap (after_entry base x.0.0) (same_within m n format (base_after base x.0.0) x.0.1 (omega arith) (omega arith))
-      ∙ sym (within_some n format base bytes x.0 x.1)
-]
-
--- where no entry can be read there are no ranges
-pub ranges_none : (format : ListFormat) (base : ℕ) (bytes : List ℕ) → entry_at format bytes ≡ None → ranges_from (entry_at format) base bytes ≡ []
-unfolding ranges_from
-ranges_none format base bytes e = within_none (length bytes) format base bytes e
-
-pub ranges_empty : (format : ListFormat) (base : ℕ) → ranges_from (entry_at format) base [] ≡ []
-ranges_empty format base = ranges_none format base [] (nothing_read format)
-
-ranges_some : (format : ListFormat) (base : ℕ) (bytes : List ℕ) (x : RangeEntry × List ℕ) → entry_at format bytes ≡ Some x
-    → ranges_from (entry_at format) base bytes ≡ after_entry base x.0 (ranges_from (entry_at format) (base_after base x.0) x.1)
-unfolding ranges_from
-ranges_some format base [] x e = absurd (omega (arith, entry_shorter format [] x e))
-ranges_some format base (b ∷ bytes) x e =
-    let less : length x.1 < suc (length bytes) = entry_shorter format (b ∷ bytes) x e in
-    within_some (length bytes) format base (b ∷ bytes) x e
-    ∙ ap (after_entry base x.0) (same_within (length bytes) (length x.1) format (base_after base x.0) x.1 (omega arith) (omega arith))
+ranges_some left less format base bytes x more e = rw (more, e) refl
 
 -- the list ends
-pub ranges_end : (format : ListFormat) (base : ℕ) (bytes : List ℕ) (entry : RangeEntry) (rest : List ℕ) → entry_at format bytes ≡ Some (entry, rest) → is_end entry ≡ true → ranges_from (entry_at format) base bytes ≡ []
-ranges_end format base bytes entry rest e end = ranges_some format base bytes (entry, rest) e ∙ ap (λ b. cond b [] (range_of base entry ++ ranges_from (entry_at format) (base_after base entry) rest)) end
+pub ranges_end : (left : ℕ) (format : ListFormat) (base : ℕ) (bytes : List ℕ) (entry : RangeEntry) (rest : List ℕ) → 0 < left
+    → ◌≡◌ {A = Option (RangeEntry × List ℕ)} (Some (entry, rest)) (entry_at format bytes) → is_end entry ≡ true → ranges_within (entry_at format) left base bytes ≡ []
+ranges_end left format base bytes entry rest some read end =
+    ranges_some left (left - 1) format base bytes (entry, rest) (omega arith) (sym read)
+    ∙ ap (λ b. cond b [] (range_of base entry ++ ranges_within (entry_at format) (left - 1) (base_after base entry) rest)) end
 
 -- what one entry says, and those after it
-pub step : (format : ListFormat) (base : ℕ) (bytes : List ℕ) (entry : RangeEntry) (rest : List ℕ) (next : ℕ) (range : Option CodeRange) (start : List CodeRange)
-    → ◌≡◌ {A = Option (RangeEntry × List ℕ)} (Some (entry, rest)) (entry_at format bytes) → is_end entry ≡ false → next ≡ base_after base entry → option_to_list range ≡ range_of base entry
-    → ranges_from (entry_at format) base bytes ≡ start → option_to_list range ++ ranges_from (entry_at format) next rest ≡ start
-step format base bytes entry rest next range start read goes moved says before =
-    let whole : ranges_from (entry_at format) base bytes ≡ range_of base entry ++ ranges_from (entry_at format) (base_after base entry) rest =
-    ranges_some format base bytes (entry, rest) (sym read) ∙ ap (λ b. cond b [] (range_of base entry ++ ranges_from (entry_at format) (base_after base entry) rest)) goes in
-    (λ i. says i ++ ranges_from (entry_at format) (moved i) rest) ∙ sym whole ∙ before
-
-pub less : (format : ListFormat) (bytes : List ℕ) (entry : RangeEntry) (rest : List ℕ)
-    → ◌≡◌ {A = Option (RangeEntry × List ℕ)} (Some (entry, rest)) (entry_at format bytes) → length rest < length bytes
-less format bytes entry rest read = entry_shorter format bytes (entry, rest) (sym read)
+pub step : (left : ℕ) (format : ListFormat) (base : ℕ) (bytes : List ℕ) (entry : RangeEntry) (rest : List ℕ) (next : ℕ) (range : Option CodeRange) (start : List CodeRange)
+    → 0 < left → ◌≡◌ {A = Option (RangeEntry × List ℕ)} (Some (entry, rest)) (entry_at format bytes) → is_end entry ≡ false → next ≡ base_after base entry → option_to_list range ≡ range_of base entry
+    → ranges_within (entry_at format) left base bytes ≡ start → option_to_list range ++ ranges_within (entry_at format) (left - 1) next rest ≡ start
+step left format base bytes entry rest next range start some read goes moved says before =
+    let whole : ranges_within (entry_at format) left base bytes ≡ range_of base entry ++ ranges_within (entry_at format) (left - 1) (base_after base entry) rest =
+    ranges_some left (left - 1) format base bytes (entry, rest) (omega arith) (sym read)
+    ∙ ap (λ b. cond b [] (range_of base entry ++ ranges_within (entry_at format) (left - 1) (base_after base entry) rest)) goes in
+    (λ i. says i ++ ranges_within (entry_at format) (left - 1) (moved i) rest) ∙ sym whole ∙ before
 
 -- where there is no first range, the list is all
 pub no_first : (first : Option CodeRange) (ranges : List CodeRange) → first ≡ None → option_to_list first ++ ranges ≡ ranges
 no_first first ranges none = ap (λ f. option_to_list f ++ ranges) none
+
+-- no entry may be read
+pub none_left : (format : ListFormat) (bytes : List ℕ) → left_after (entry_at format) 0 bytes ≡ 0
+unfolding left_after
+none_left format bytes = refl
+
+-- no entry can be read
+pub left_missing : (left : ℕ) (format : ListFormat) (bytes : List ℕ) → entry_at format bytes ≡ None → left_after (entry_at format) left bytes ≡ left
+unfolding left_after
+left_missing zero format bytes e = refl
+left_missing (suc left) format bytes e = rw e refl
+
+left_some : (left less : ℕ) (format : ListFormat) (bytes : List ℕ) (x : RangeEntry × List ℕ) → left ≡ suc less → entry_at format bytes ≡ Some x
+    → left_after (entry_at format) left bytes ≡ cond (is_end x.0) left (left_after (entry_at format) less x.1)
+unfolding left_after
+left_some left less format bytes x more e = rw (more, e) refl
+
+-- the list ends
+pub left_end : (left : ℕ) (format : ListFormat) (bytes : List ℕ) (entry : RangeEntry) (rest : List ℕ) → 0 < left
+    → ◌≡◌ {A = Option (RangeEntry × List ℕ)} (Some (entry, rest)) (entry_at format bytes) → is_end entry ≡ true → left_after (entry_at format) left bytes ≡ left
+left_end left format bytes entry rest some read end =
+    left_some left (left - 1) format bytes (entry, rest) (omega arith) (sym read)
+    ∙ ap (λ b. cond b left (left_after (entry_at format) (left - 1) rest)) end
+
+-- an entry is read
+pub left_step : (left : ℕ) (format : ListFormat) (bytes : List ℕ) (entry : RangeEntry) (rest : List ℕ) (start : ℕ) → 0 < left
+    → ◌≡◌ {A = Option (RangeEntry × List ℕ)} (Some (entry, rest)) (entry_at format bytes) → is_end entry ≡ false → left_after (entry_at format) left bytes ≡ start
+    → left_after (entry_at format) (left - 1) rest ≡ start
+left_step left format bytes entry rest start some read goes before =
+    sym (
+    left_some left (left - 1) format bytes (entry, rest) (omega arith) (sym read)
+    ∙ ap (λ b. cond b left (left_after (entry_at format) (left - 1) rest)) goes
+    )
+    ∙ before

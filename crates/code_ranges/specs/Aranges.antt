@@ -1,7 +1,7 @@
 -- Which unit an address is of, by __debug_aranges (DWARF 5, section 6.1.2).
 use Rattle.std.specs.Prelude.{ℕ, List, [], length, drop, map, slice_index, ◌==◌, ◌&&◌, ◌+◌, ◌≡◌, ◌<◌, ◌≤◌, nat_lt, nat_le, if◌then◌else◌}
-use Rattle.std.specs.Prelude.{Bool, Option, Some, None, MatchOption, slice_get, slice_index_or}
-use Rattle.std.specs.List.{flat_map}
+use Rattle.std.specs.Prelude.{Bool, false, Option, Some, None, MatchOption, slice_get, slice_index_or}
+use Rattle.std.specs.List.{flat_map, list_any}
 use Rattle.std.specs.Option.{option_map_or}
 use Rattle.dwarf_numbers.specs.Forms.{split_at}
 use Rattle.dwarf_numbers.specs.LittleEndian.{u16_le_at, u32_le_at, u64_le_at}
@@ -40,6 +40,14 @@ tuples_of set = option_map_or (λ h. tuples_from h.0 h.1) (header_of set) []
 -- the tuples of all sets, in their order
 unfoldable pub aranges_of : List ℕ → List Arange
 aranges_of section = flat_map tuples_of (sequence set_at section)
+
+-- whether a set is of the unit at an offset
+abbrev pub names_unit : ℕ → List ℕ → Bool
+names_unit offset set = option_map_or (λ h. h.0 == offset) (header_of set) false
+
+-- whether one of the sets is
+unfoldable pub is_named : List ℕ → ℕ → Bool
+is_named section offset = list_any (names_unit offset) (sequence set_at section)
 
 -- a tuple has an address, in whole numbers
 abbrev pub HasAddress : ℕ → Arange → Type 0

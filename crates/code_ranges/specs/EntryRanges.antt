@@ -1,13 +1,14 @@
 -- The ranges of an entry (DWARF 5, section 2.17).
 use Rattle.std.specs.Prelude.{ℕ, List, [], ◌∷◌, drop, length, ◌+◌, ◌*◌, ◌%◌, ◌^◌, nat_lt, nat_le, if◌then◌else◌}
 use Rattle.std.specs.Prelude.{Option, Some, None}
-use Rattle.std.specs.Option.{option_and_then, option_map}
+use Rattle.std.specs.Option.{option_and_then, option_map, option_map_or}
 use Rattle.dwarf_numbers.specs.LittleEndian.{u32_le_at}
 use Rattle.dwarf_numbers.specs.Values.{ValueRecord, Address, AddressIndex, Constant, SectionOffset, RangeListIndex}
 use Rattle.code_ranges.specs.Addresses.{AddressesRecord, address_at}
 use Rattle.code_ranges.specs.ListEntries.{debug_ranges_entry_at, rnglists_entry_at}
-use Rattle.code_ranges.specs.Lists.{ranges_from}
+use Rattle.code_ranges.specs.Lists.{left_after, ranges_within}
 use Rattle.code_ranges.specs.declared.range.CodeRange.{CodeRange}
+use Rattle.code_ranges.specs.declared.range_entry.RangeEntry.{RangeEntry}
 
 -- where the ranges of the entries of a unit stand: its version, the sections, DW_AT_rnglists_base, and the base address,
 -- which is the low_pc of the unit's first entry
@@ -52,11 +53,11 @@ list_offset unit (Constant n) = if nat_lt unit.version 4 then Some n else None
 list_offset unit (RangeListIndex n) = listed_offset unit.debug_rnglists unit.rnglists_base n
 list_offset unit _ = None
 
--- the list of ranges at an offset
-abbrev pub ranges_at : UnitRangesRecord → ℕ → List CodeRange
-ranges_at unit offset =
-    if nat_lt unit.version 5 then ranges_from (λ b. debug_ranges_entry_at b) unit.base (drop offset unit.debug_ranges)
-    else ranges_from (λ b. rnglists_entry_at unit.addresses b) unit.base (drop offset unit.debug_rnglists)
+-- the list of ranges at an offset: how its entries are read, and the bytes from there on
+abbrev pub list_at : UnitRangesRecord → ℕ → (List ℕ → Option (RangeEntry × List ℕ)) × List ℕ
+list_at unit offset =
+    if nat_lt unit.version 5 then (λ b. debug_ranges_entry_at b, drop offset unit.debug_ranges)
+    else (λ b. rnglists_entry_at unit.addresses b, drop offset unit.debug_rnglists)
 
 -- the range from DW_AT_low_pc to DW_AT_high_pc
 abbrev pub low_to_high : UnitRangesRecord → RangeAttributesRecord → Option CodeRange
@@ -65,17 +66,36 @@ low_to_high unit entry =
     (λ low. option_map (λ high. record { low = low; high = high }) (option_and_then (end_of unit.addresses low) entry.high_pc))
     (option_and_then (address_of unit.addresses) entry.low_pc)
 
--- those of the list that DW_AT_ranges names, or none
-abbrev pub listed_ranges : UnitRangesRecord → Option ℕ → List CodeRange
-listed_ranges unit None = []
-listed_ranges unit (Some offset) = ranges_at unit offset
+-- those that so many entries say at most of the list that DW_AT_ranges names, or none
+abbrev pub listed_ranges : UnitRangesRecord → ℕ → Option ℕ → List CodeRange
+listed_ranges unit left None = []
+listed_ranges unit left (Some offset) =
+    ranges_within (list_at unit offset).0 left unit.base (list_at unit offset).1
 
--- a range alone, or else others
-abbrev pub one_or : Option CodeRange → List CodeRange → List CodeRange
-one_or None others = others
-one_or (Some range) others = range ∷ []
+-- how many entries of lists are left of so many after that list
+abbrev pub left_after_list : UnitRangesRecord → ℕ → Option ℕ → ℕ
+left_after_list unit left None = left
+left_after_list unit left (Some offset) = left_after (list_at unit offset).0 left (list_at unit offset).1
 
--- the ranges of an entry: from low_pc to high_pc where it has both, and else those that DW_AT_ranges names
-abbrev pub entry_ranges : UnitRangesRecord → RangeAttributesRecord → List CodeRange
-entry_ranges unit entry =
-    one_or (low_to_high unit entry) (listed_ranges unit (option_and_then (list_offset unit) entry.ranges))
+-- the ranges of an entry: from low_pc to high_pc where it has both, and else those that DW_AT_ranges names, of whose
+-- list so many entries count at most
+abbrev pub entry_ranges : UnitRangesRecord → ℕ → RangeAttributesRecord → List CodeRange
+entry_ranges unit left entry =
+    option_map_or
+    (λ range. range ∷ [])
+    (low_to_high unit entry)
+    (listed_ranges unit left (option_and_then (list_offset unit) entry.ranges))
+
+-- how many entries of lists are left of so many after that entry
+abbrev pub left_after_entry : UnitRangesRecord → ℕ → RangeAttributesRecord → ℕ
+left_after_entry unit left entry =
+    option_map_or
+    (λ range. left)
+    (low_to_high unit entry)
+    (left_after_list unit left (option_and_then (list_offset unit) entry.ranges))
+
+-- the ranges of each of some entries, of whose lists together so many entries count at most, the first ones
+abbrev pub counted_ranges : UnitRangesRecord → ℕ → List RangeAttributesRecord → List (List CodeRange)
+counted_ranges unit left [] = []
+counted_ranges unit left (e ∷ es) =
+    entry_ranges unit left e ∷ counted_ranges unit (left_after_entry unit left e) es

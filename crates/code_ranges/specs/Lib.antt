@@ -5,4 +5,5 @@ pub mod Lists
 pub mod EntryRanges
 pub mod UnitViews
 pub mod Aranges
+pub mod Assigned
 pub mod Inner

@@ -1,5 +1,7 @@
 -- Lists of ranges (DWARF 5, section 2.17.3).
-use Rattle.std.specs.Prelude.{ℕ, zero, suc, Bool, true, false, if◌then◌else◌, List, [], ◌∷◌, ◌++◌, length, ◌+◌, ◌%◌, ◌^◌, Option}
+use Rattle.std.specs.Prelude.{ℕ, zero, suc, Bool, true, false, if◌then◌else◌, List, [], ◌∷◌, ◌++◌, ◌+◌, ◌%◌, ◌^◌}
+use Rattle.std.specs.Prelude.{◌&&◌, nat_le, nat_lt, Option}
+use Rattle.std.specs.List.{list_any}
 use Rattle.std.specs.Option.{option_map_or}
 use Rattle.code_ranges.specs.declared.range_entry.RangeEntry.{RangeEntry}
 use Rattle.code_ranges.specs.declared.range_entry.RangeEntry.TheVariants.{EndOfList, BaseAddress, OffsetPair, StartEnd}
@@ -35,14 +37,20 @@ is_end (StartEnd start end) = false
 is_end NoRange = false
 
 -- the ranges that at most so many entries say, up to the end of the list or the first entry that cannot be read;
--- `entry` reads the entry that begins some bytes
+-- `entry` reads the entry that begins some bytes, and `base` is the base address of their unit
 unfoldable pub ranges_within : (List ℕ → Option (RangeEntry × List ℕ)) → ℕ → ℕ → List ℕ → List CodeRange
 ranges_within entry zero base bytes = []
-ranges_within entry (suc count) base bytes =
+ranges_within entry (suc left) base bytes =
     option_map_or
-    (λ x. if is_end x.0 then [] else range_of base x.0 ++ ranges_within entry count (base_after base x.0) x.1)
+    (λ x. if is_end x.0 then [] else range_of base x.0 ++ ranges_within entry left (base_after base x.0) x.1)
     (entry bytes) []
 
--- the ranges of the list that begins the bytes, by the base address of its unit; each entry has a byte
-unfoldable pub ranges_from : (List ℕ → Option (RangeEntry × List ℕ)) → ℕ → List ℕ → List CodeRange
-ranges_from entry base bytes = ranges_within entry (length bytes) base bytes
+-- how many entries are left of so many after those of a list
+unfoldable pub left_after : (List ℕ → Option (RangeEntry × List ℕ)) → ℕ → List ℕ → ℕ
+left_after entry zero bytes = 0
+left_after entry (suc left) bytes =
+    option_map_or (λ x. if is_end x.0 then suc left else left_after entry left x.1) (entry bytes) (suc left)
+
+-- whether one of some ranges has an address
+abbrev pub in_ranges : ℕ → List CodeRange → Bool
+in_ranges address ranges = list_any (λ r. nat_le r.low address && nat_lt address r.high) ranges

@@ -29,7 +29,7 @@ impl<'a> Model for Aranges<'a> {
 
 /// The set that begins the bytes, without its unit_length, and the bytes after it.
 #[tactic(auto, unfolding(crate::specs::Aranges::set_at))]
-fn set_at(bytes: &[u8]) -> Option<(&[u8], &[u8])>
+pub(crate) fn set_at(bytes: &[u8]) -> Option<(&[u8], &[u8])>
     ensures { option_map (λ x. (x.0.now, x.1.now)) result ≡ set_at bytes.now }
 {
     if bytes.len() < 4 {
@@ -54,7 +54,7 @@ fn is_read(set: &[u8]) -> bool
 
 /// The offset of the unit of a set, and its tuples; `None` if the set cannot be read.
 #[tactic(auto, unfolding(crate::specs::Aranges::header_of))]
-fn header_of(set: &[u8]) -> Option<(u64, &[u8])>
+pub(crate) fn header_of(set: &[u8]) -> Option<(u64, &[u8])>
     ensures { option_map (λ x. (x.0, x.1.now)) result ≡ header_of set.now }
 {
     if !is_read(set) {

@@ -1,11 +1,12 @@
 //! The ranges of an entry.
 
-ghost use Rattle.std.specs.Prelude.{◌≡◌, drop};
+ghost use Rattle.std.specs.Prelude.{◌≡◌, drop, Some};
 ghost use Rattle.std.specs.Option.{option_and_then, option_map};
 ghost use Rattle.dwarf_numbers.specs.Views.{value_view};
-ghost use Rattle.code_ranges.specs.EntryRanges.{address_of, end_of, entry_ranges, list_offset, listed_offset, low_to_high, ranges_at};
+ghost use Rattle.code_ranges.specs.EntryRanges.{address_of, end_of, entry_ranges, left_after_entry, left_after_list};
+ghost use Rattle.code_ranges.specs.EntryRanges.{list_at, list_offset, listed_offset, listed_ranges, low_to_high};
 ghost use Rattle.code_ranges.specs.UnitViews.{attributes_view, unit_view};
-ghost use Rattle.code_ranges.specs.Views.{addresses_view};
+ghost use Rattle.code_ranges.specs.Views.{addresses_view, entry_at};
 
 use crate::addresses::AddressTable;
 use crate::list_format::ListFormat;
@@ -78,16 +79,27 @@ impl<'a> UnitRanges<'a> {
         }
     }
 
-    /// The list of ranges at an offset.
-    fn ranges_at(&self, offset: u64) -> Ranges<'a>
-        ensures { result ≡ ranges_at (unit_view self.now) offset }
+    /// The list of ranges at an offset: how its entries are written, and the bytes from there on.
+    fn list_at(&self, offset: u64) -> (ListFormat<'a>, &'a [u8])
+        ensures { (entry_at result.0, result.1.now) ≡ list_at (unit_view self.now) offset }
     {
         if self.version < 5 {
             let bytes = from_offset(self.debug_ranges, offset);
-            return Ranges::of(ListFormat::DebugRanges, self.base, bytes);
+            return (ListFormat::DebugRanges, bytes);
         }
         let bytes = from_offset(self.debug_rnglists, offset);
-        Ranges::of(ListFormat::Rnglists(self.addresses), self.base, bytes)
+        (ListFormat::Rnglists(self.addresses), bytes)
+    }
+
+    /// The ranges that `left` entries say at most of the list at an offset; `left` is then how many more may be read.
+    fn listed_ranges(&self, offset: u64, left: &mut u128) -> Ranges<'a>
+        ensures ranges { result ≡ listed_ranges (unit_view self.now) left.old (Some offset) }
+        ensures left { left.new ≡ left_after_list (unit_view self.now) left.old (Some offset) }
+    {
+        let (format, bytes) = self.list_at(offset);
+        let ranges = Ranges::of(format, self.base, bytes, *left);
+        *left = format.left_after(*left, bytes);
+        ranges
     }
 
     /// The range from DW_AT_low_pc to DW_AT_high_pc, where the entry has both.
@@ -100,9 +112,11 @@ impl<'a> UnitRanges<'a> {
     }
 
     /// The ranges of an entry: from DW_AT_low_pc to DW_AT_high_pc where it has both, and else those of the list that
-    /// DW_AT_ranges names.
-    pub fn ranges_of(&self, entry: &RangeAttributes<'a>) -> Ranges<'a>
-        ensures { result ≡ entry_ranges (unit_view self.now) (attributes_view entry.now) }
+    /// DW_AT_ranges names. Of that list, `left` entries count at most, and `left` is then how many more may count. So
+    /// the lists of the entries of a unit are read at most twice that often, whatever lists they name.
+    pub fn ranges_of(&self, entry: &RangeAttributes<'a>, left: &mut u128) -> Ranges<'a>
+        ensures ranges { result ≡ entry_ranges (unit_view self.now) left.old (attributes_view entry.now) }
+        ensures left { left.new ≡ left_after_entry (unit_view self.now) left.old (attributes_view entry.now) }
     {
         if let Some(range) = self.low_to_high(entry) {
             return Ranges::one(range);
@@ -111,7 +125,7 @@ impl<'a> UnitRanges<'a> {
             return Ranges::none();
         };
         match self.list_offset(&value) {
-            Some(offset) => self.ranges_at(offset),
+            Some(offset) => self.listed_ranges(offset, left),
             None => Ranges::none(),
         }
     }

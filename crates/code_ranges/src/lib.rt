@@ -9,18 +9,21 @@
 //! - `list_entries`: how the entries of `__debug_ranges` and `__debug_rnglists` are written; `dw_rle`: their kinds;
 //! - `range_lists`: [`Ranges`], the ranges of a list, one after another;
 //! - `unit_ranges`: [`UnitRanges`], where the ranges of a unit's entries stand; `entry_ranges`: those of an entry;
+//!   `assigned`: [`assign_ranges`], a value for pending addresses in ranges;
 //! - `arange`: [`Arange`], a tuple of `__debug_aranges`; `aranges`: [`Aranges`], all of them, one after another;
-//!   `one_pass`: [`first_tuples`], the first that has each of many addresses;
-//! - `laws`: what the definitions say of each other.
+//!   `one_pass`: [`first_tuples`], the first that has each of many addresses; `named_sets`:
+//!   [`named_units`], the units of all sets.
 #![tactic(auto)]
 
 mod addresses;
 mod arange;
 mod aranges;
+mod assigned;
 pub mod dw_rle;
 mod entry_ranges;
 mod list_entries;
 mod list_format;
+mod named_sets;
 mod one_pass;
 mod range;
 mod range_entry;
@@ -30,7 +33,9 @@ mod unit_ranges;
 pub use addresses::AddressTable;
 pub use arange::Arange;
 pub use aranges::Aranges;
+pub use assigned::assign_ranges;
 pub use list_format::ListFormat;
+pub use named_sets::named_units;
 pub use one_pass::first_tuples;
 pub use range::CodeRange;
 pub use range_entry::RangeEntry;

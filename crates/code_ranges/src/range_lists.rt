@@ -2,7 +2,7 @@
 
 ghost use Rattle.std.specs.Prelude.{◌≡◌, ◌++◌, [], ◌∷◌};
 ghost use Rattle.std.specs.Option.{option_map, option_to_list};
-ghost use Rattle.code_ranges.specs.Lists.{base_after, is_end, range_of, ranges_from};
+ghost use Rattle.code_ranges.specs.Lists.{base_after, is_end, left_after, range_of, ranges_within};
 ghost use Rattle.code_ranges.specs.Views.{entry_at};
 
 use crate::list_entries::{debug_ranges_entry, rnglists_entry};
@@ -19,18 +19,20 @@ pub struct Ranges<'a> {
     format: ListFormat<'a>,
     base: u64,
     rest: &'a [u8],
+    /// How many entries of the list are still read.
+    left: u128,
 }
 
 impl<'a> Model for Ranges<'a> {
     ghost use Rattle.std.specs.Prelude.{List, ◌++◌};
     ghost use Rattle.std.specs.Option.{option_to_list};
     ghost use Rattle.code_ranges.specs.declared.range.CodeRange.{CodeRange};
-    ghost use Rattle.code_ranges.specs.Lists.{ranges_from};
+    ghost use Rattle.code_ranges.specs.Lists.{ranges_within};
     ghost use Rattle.code_ranges.specs.Views.{entry_at};
 
     ghost Value = { List CodeRange };
 
-    ghost view = { λ r. option_to_list r.first ++ ranges_from (entry_at r.format) r.base r.rest.now };
+    ghost view = { λ r. option_to_list r.first ++ ranges_within (entry_at r.format) r.left r.base r.rest.now };
 }
 
 impl<'a> ListFormat<'a> {
@@ -42,6 +44,24 @@ impl<'a> ListFormat<'a> {
             ListFormat::DebugRanges => debug_ranges_entry(bytes),
             ListFormat::Rnglists(addresses) => rnglists_entry(addresses, bytes),
         }
+    }
+
+    /// How many entries are left of so many after those of the list that begins the bytes.
+    pub fn left_after(&self, mut left: u128, bytes: &'a [u8]) -> u128
+        ensures { result ≡ left_after (entry_at self.now) left bytes.now }
+    {
+        let mut rest = bytes;
+        'entries: while left > 0 {
+            let Some((entry, after)) = self.entry(rest) else {
+                return left;
+            };
+            if is_end(entry) {
+                return left;
+            }
+            rest = after;
+            left -= 1;
+        }
+        left
     }
 }
 
@@ -78,6 +98,7 @@ fn base_after(base: u64, entry: RangeEntry) -> u64
 
 impl<'a> Ranges<'a> {
     /// No range.
+    #[tactic(auto, unfolding(crate::specs::Lists::ranges_within))]
     pub fn none() -> Ranges<'a>
         ensures { result ≡ [] }
     {
@@ -86,10 +107,12 @@ impl<'a> Ranges<'a> {
             format: ListFormat::DebugRanges,
             base: 0,
             rest: &[],
+            left: 0,
         }
     }
 
     /// One range.
+    #[tactic(auto, unfolding(crate::specs::Lists::ranges_within))]
     pub fn one(range: CodeRange) -> Ranges<'a>
         ensures { result ≡ range ∷ [] }
     {
@@ -98,18 +121,21 @@ impl<'a> Ranges<'a> {
             format: ListFormat::DebugRanges,
             base: 0,
             rest: &[],
+            left: 0,
         }
     }
 
-    /// The ranges of the list that begins the bytes, by the base address of its unit.
-    pub fn of(format: ListFormat<'a>, base: u64, bytes: &'a [u8]) -> Ranges<'a>
-        ensures { result ≡ ranges_from (entry_at format.entry) base bytes.now }
+    /// The ranges of the list that begins the bytes, by the base address of its unit, of which so many entries are read
+    /// at most.
+    pub fn of(format: ListFormat<'a>, base: u64, bytes: &'a [u8], left: u128) -> Ranges<'a>
+        ensures { result ≡ ranges_within (entry_at format.entry) left base bytes.now }
     {
         Ranges {
             first: None,
             format,
             base,
             rest: bytes,
+            left,
         }
     }
 }
@@ -128,18 +154,20 @@ impl<'a> Iterator for Ranges<'a> {
             self.first = None;
             return Some(range);
         }
-        'entries: loop {
+        'entries: while self.left > 0 {
             let (entry, rest) = self.format.entry(self.rest)?;
             if is_end(entry) {
-                self.rest = &[];
+                self.left = 0;
                 return None;
             }
             let range = range_of(self.base, entry);
             self.base = base_after(self.base, entry);
             self.rest = rest;
+            self.left -= 1;
             if let Some(range) = range {
                 return Some(range);
             }
         }
+        None
     }
 }

@@ -1,4 +1,4 @@
-use Rattle.std.proofs.Common.{◌≡◌, ◌∙◌, ap, sym, inl, inr, List, arith}
+use Rattle.std.proofs.Common.{◌∙◌, ap, sym, inl, inr, List, arith}
 use Rattle.std.specs.Ordering.{nat_cmp}
 use Rattle.std.specs.BTreeSet as tree_set
 use Rattle.std.proofs.lemmas.Bool.{cases_Bool}

@@ -1,5 +1,5 @@
 use Rattle.std.proofs.Common.{◌≡◌, ◌∙◌, sym, subst, Option, None, get_or, slice_index}
-use Rattle.code_ranges.specs.Aranges.{AreFirstTuples, IsFirstTuple}
+use Rattle.code_ranges.specs.Aranges.{IsFirstTuple}
 use Rattle.code_ranges.specs.Inner.{first_tuple}
 use Rattle.code_ranges.specs.declared.arange.Arange.{Arange}
 use Rattle.code_ranges.proofs.TupleLemmas.{both_said, first_tuple-is}
