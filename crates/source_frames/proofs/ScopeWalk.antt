@@ -7,7 +7,8 @@ use Rattle.std.proofs.lemmas.Option.{slice_get_within, slice_get_past, slice_get
 use Rattle.std.proofs.lemmas.List.{append-nil, drop_more, drop_all}
 use Rattle.debug_entries.specs.Attributes.{no_attributes}
 use Rattle.debug_entries.specs.Entries.{EntryRecord}
-use Rattle.source_frames.specs.Scopes.{ScopeRecord, in_ranges, depth_at, contains_at, IsWithin, IsChainWithin, IsChain}
+use Rattle.code_ranges.specs.Lists.{in_ranges}
+use Rattle.source_frames.specs.Scopes.{ScopeRecord, depth_at, contains_at, IsWithin, IsChainWithin, IsChain}
 use Rattle.source_frames.specs.ChainSteps.{is_out, chain_after}
 
 -- no entry from the one that is open to a place is as shallow as it
@@ -144,9 +145,7 @@ after_out a (suc room) outer scope scopes out = rw out refl
 pub after_hit : (a room : ℕ) (outer : Option ℕ) (scope : ScopeRecord) (scopes : List ScopeRecord) → is_out outer scope.depth ≡ false → in_ranges a scope.ranges ≡ true
     → chain_after a (suc room) outer (scope ∷ scopes) ≡ scope.entry ∷ chain_after a room (Some scope.depth) scopes
 unfolding chain_after
-after_hit a room outer scope scopes out hit =
-    let less : suc room - 1 ≡ room = omega arith in
-    rw (out, hit) (ap (λ n. scope.entry ∷ chain_after a n (Some scope.depth) scopes) less)
+after_hit a room outer scope scopes out hit = rw (out, hit) refl
 
 -- an entry without the address
 pub after_miss : (a room : ℕ) (outer : Option ℕ) (scope : ScopeRecord) (scopes : List ScopeRecord) → is_out outer scope.depth ≡ false → in_ranges a scope.ranges ≡ false

@@ -1,15 +1,16 @@
 -- The function entries of many addresses in one pass: the words of inner functions. No contract of a public one has
 -- them.
-use Rattle.std.specs.Prelude.{ℕ, Bool, true, false, List, [], ◌∷◌, ◌++◌, ◌≡◌, ◌<◌, ◌≤◌, ◌+◌, ◌-◌, ◌==◌, ◌&&◌, ◌||◌, not}
+use Rattle.std.specs.Prelude.{ℕ, zero, suc, Bool, true, false, List, [], ◌∷◌, ◌++◌, ◌≡◌, ◌+◌, ◌==◌, ◌&&◌, ◌||◌, not}
 use Rattle.std.specs.Prelude.{nat_le, nat_lt, length, map, slice_index, Option, Some, None, if◌then◌else◌}
 use Rattle.std.specs.Option.{option_map_or}
 use Rattle.std.specs.Ordering.{nat_cmp}
 use Rattle.std.specs.BTreeSet as tree_set
 use Rattle.std.specs.BTreeMap as tree_map
+use Rattle.code_ranges.specs.Lists.{in_ranges}
 use Rattle.code_ranges.specs.declared.range.CodeRange.{CodeRange}
 use Rattle.debug_entries.specs.Entries.{EntryRecord}
 use Rattle.debug_entries.specs.EntryViews.{entry_view}
-use Rattle.source_frames.specs.Scopes.{ScopeRecord, in_ranges}
+use Rattle.source_frames.specs.Scopes.{ScopeRecord}
 use Rattle.source_frames.specs.declared.containing.Chain.{Chain}
 use Rattle.source_frames.specs.declared.containing.Last.{Last}
 
@@ -22,11 +23,11 @@ is_out (Some outer) depth = nat_le depth outer
 -- first in that one, and so on, if one of a depth is open before them
 unfoldable pub chain_after : ℕ → ℕ → Option ℕ → List ScopeRecord → List EntryRecord
 chain_after a room outer [] = []
-chain_after a room outer (scope ∷ scopes) =
-    if room == 0 then []
-    else if is_out outer scope.depth then []
-    else if in_ranges a scope.ranges then scope.entry ∷ chain_after a (room - 1) (Some scope.depth) scopes
-    else chain_after a room outer scopes
+chain_after a zero outer (scope ∷ scopes) = []
+chain_after a (suc room) outer (scope ∷ scopes) =
+    if is_out outer scope.depth then []
+    else if in_ranges a scope.ranges then scope.entry ∷ chain_after a room (Some scope.depth) scopes
+    else chain_after a (suc room) outer scopes
 
 -- the addresses of some ranges are taken out of those that are pending
 pub record TakesHits (ranges : List CodeRange) (pending left hits : tree_set.BTreeSet ℕ) : Type 0 where

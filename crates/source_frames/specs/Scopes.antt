@@ -1,8 +1,8 @@
 -- The function entries that contain an address (DWARF 5, sections 2.17, 3.3.1 and 3.3.8).
-use Rattle.std.specs.Prelude.{ℕ, zero, suc, Bool, true, false, List, [], ◌∷◌, ◌≡◌, ◌<◌, ◌≤◌, ◌&&◌, nat_le, nat_lt}
-use Rattle.std.specs.Prelude.{slice_get, Option, Some, None}
-use Rattle.std.specs.List.{list_any}
+use Rattle.std.specs.Prelude.{ℕ, zero, suc, Bool, true, false, List, [], ◌∷◌, ◌≡◌, ◌<◌, ◌≤◌, slice_get}
+use Rattle.std.specs.Prelude.{Option, Some, None}
 use Rattle.std.specs.Option.{option_map_or}
+use Rattle.code_ranges.specs.Lists.{in_ranges}
 use Rattle.code_ranges.specs.declared.range.CodeRange.{CodeRange}
 use Rattle.debug_entries.specs.Entries.{EntryRecord}
 
@@ -11,10 +11,6 @@ pub record ScopeRecord : Type 0 where
   pub depth : ℕ
   pub entry : EntryRecord
   pub ranges : List CodeRange
-
--- whether one of some ranges has an address
-abbrev pub in_ranges : ℕ → List CodeRange → Bool
-in_ranges address ranges = list_any (λ r. nat_le r.low address && nat_lt address r.high) ranges
 
 -- the depth of the entry of an index
 abbrev pub depth_at : List ScopeRecord → ℕ → ℕ

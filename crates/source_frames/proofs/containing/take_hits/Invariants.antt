@@ -1,7 +1,7 @@
 use Rattle.std.proofs.Common.{◌≡◌, ◌&&◌, ◌||◌, ℕ, true, false, not}
 use Rattle.std.specs.Ordering.{nat_cmp}
 use Rattle.std.specs.BTreeSet as tree_set
-use Rattle.source_frames.specs.Scopes.{in_ranges}
+use Rattle.code_ranges.specs.Lists.{in_ranges}
 use Rattle.source_frames.proofs.containing.take_hits.Given as goal
 
 abbrev pub invariant-loop-range : goal.invariant-loop-range

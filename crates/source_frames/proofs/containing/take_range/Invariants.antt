@@ -1,7 +1,7 @@
 use Rattle.std.proofs.Common.{◌≡◌, ◌∷◌, [], ℕ, true, false}
 use Rattle.std.specs.Ordering.{nat_cmp}
 use Rattle.std.specs.BTreeSet as tree_set
-use Rattle.source_frames.specs.Scopes.{in_ranges}
+use Rattle.code_ranges.specs.Lists.{in_ranges}
 use Rattle.source_frames.proofs.containing.take_range.Given as goal
 
 abbrev pub invariant-addresses : goal.invariant-addresses
