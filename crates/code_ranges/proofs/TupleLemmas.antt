@@ -59,7 +59,7 @@ first_tuple-is a (t ∷ ts) = elim (cases_Bool (has a t)) [
   | inr e ↦ subst (IsFirstTuple (t ∷ ts) a) (sym (step_miss a t ts (has_not a t e))) (one_more a t ts (first_tuple a ts) (has_not a t e) (first_tuple-is a ts))
 ]
 
--- two things that are said of what a call gives
-pub both_said : {T E : Type 0} (r : Result T E) (P Q R : T → Type 0) → ((x : T) → P x → Q x → R x) → IfOk r P → IfOk r Q → IfOk r R
-both_said (Ok x) P Q R f p q = f x p q
-both_said (Err e) P Q R f p q = tt
+-- what is said of what a call gives, by what else is said of it
+pub of_each : {T E : Type 0} (r : Result T E) (P Q : T → Type 0) → ((x : T) → P x → Q x) → IfOk r P → IfOk r Q
+of_each (Ok x) P Q f p = f x p
+of_each (Err e) P Q f p = tt

@@ -10,7 +10,7 @@ ghost use Rattle.code_ranges.specs.Inner.{first_tuple};
 use crate::arange::Arange;
 use crate::aranges::Aranges;
 use memory::{Heap, NoMemory};
-use pending_addresses::{answers_for, assign_within, pending_addresses};
+use pending_addresses::{assign_within, pending_addresses};
 use std::collections::{BTreeMap, BTreeSet};
 
 /// The first tuple that has each pending address.
@@ -30,16 +30,15 @@ fn assign_all(
     Ok(found)
 }
 
-/// For each of the addresses, the first tuple that has it, or `None`. It takes the time of the tuples, and of finding
-/// each address among those that have none yet, and the memory of the addresses.
+/// The first tuple that has each of the addresses, under the address, or none. It takes the time of the tuples, and of
+/// finding each address among those that have none yet, and the memory of the addresses.
 pub fn first_tuples(
     heap: Heap,
     tuples: Aranges<'_>,
     addresses: &[u64],
-) -> Result<Vec<Option<Arange>, Heap>, NoMemory>
-    ensures { IfOk result (λ found. AreFirstTuples tuples.entry addresses.now found.items) }
+) -> Result<BTreeMap<u64, Arange, Heap>, NoMemory>
+    ensures { IfOk result (λ found. AreFirstTuples tuples.entry addresses.now found) }
 {
     let pending = pending_addresses(heap.clone()?, addresses)?;
-    let found = assign_all(heap.clone()?, tuples, pending)?;
-    answers_for(heap, &found, addresses)
+    assign_all(heap, tuples, pending)
 }

@@ -2,6 +2,7 @@ pub mod DebugSections
 pub mod SectionsViews
 pub mod DebugUnits
 pub mod UnitViews
+pub mod UnitCode
 pub mod Names
 pub mod UnitLines
 pub mod Frames

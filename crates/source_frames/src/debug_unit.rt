@@ -32,7 +32,7 @@ pub struct UnitEntry<'a> {
 }
 
 /// The offset that an attribute names, or another one.
-fn offset_or(value: Option<Value<'_>>, default: u64) -> u64
+pub(crate) fn offset_or(value: Option<Value<'_>>, default: u64) -> u64
     ensures { result ≡ offset_or (option_map value_view value.entry) default }
 {
     match value {

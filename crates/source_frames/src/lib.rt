@@ -2,6 +2,7 @@
 //! refused for its DWARF: what cannot be read has no frames.
 //!
 //! The modules in reading order: `debug_sections`, the DWARF sections of an image; `debug_unit`, its units;
+//! `unit_code`, where the ranges of their entries stand;
 //! `debug_info`, the entries at their places; `names`, the names of functions;
 //! `unit_lines`, the texts, names and program of a unit; `frame`, the frame of an entry at a place, and
 //! `chain`, those of the entries of an address.
@@ -14,10 +15,12 @@ mod debug_sections;
 mod debug_unit;
 mod frame;
 mod names;
+mod unit_code;
 mod unit_lines;
 
 pub use debug_info::DebugInfo;
 pub use debug_sections::DebugSections;
 pub use debug_unit::{DebugUnit, UnitEntry};
 pub use frame::{Frame, Place};
+pub use unit_code::range_attributes;
 pub use unit_lines::UnitLines;
