@@ -2,3 +2,4 @@ mod SectionLemmas
 mod NameLemmas
 mod ChainLemmas
 mod ScopeWalk
+mod SettledLemmas
