@@ -3,3 +3,4 @@ mod NameLemmas
 mod ChainLemmas
 mod ScopeWalk
 mod SettledLemmas
+mod NestedLemmas

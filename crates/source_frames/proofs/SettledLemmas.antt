@@ -120,7 +120,7 @@ known_next a path index scope known =
     let taken = record known { waits = known.waits && not (in_ranges a scope.ranges) } in
     cond (known.waits && in_ranges a scope.ranges) (known_after path (record { index = index; depth = scope.depth }) scope.entry taken) taken
 
-module _ (a : ℕ) (all path : List ℕ) (chain : List EntryRecord) (index : ℕ) (scope : ScopeRecord) (scopes : List ScopeRecord) (h : scope.depth ≤ length path) where
+module _ (a : ℕ) (path : List ℕ) (chain : List EntryRecord) (index : ℕ) (scope : ScopeRecord) (scopes : List ScopeRecord) (h : scope.depth ≤ length path) where
   -- an entry more
   taken : (waits : Bool) (entries : List EntryRecord) (room : ℕ) → waits ≡ nat_lt (length entries + 1) 256 → length entries + suc room ≡ 256
       → entries ++ (scope.entry ∷ chain_after a room (Some scope.depth) scopes) ≡ chain
@@ -176,7 +176,7 @@ module _ (a : ℕ) (all path : List ℕ) (chain : List EntryRecord) (index : ℕ
 -- the next of what is known is right
 pub right_next : (a : ℕ) (chain : List EntryRecord) (path : List ℕ) (index : ℕ) (scope : ScopeRecord) (scopes : List ScopeRecord) (known : Known) → scope.depth ≤ length path → IsRight a chain path index (scope ∷ scopes) known
     → IsRight a chain (path_with path scope.depth index) (index + 1) scopes (known_next a (path_with path scope.depth index) index scope known)
-right_next a chain path index scope scopes known h r = right_by a path path chain index scope scopes h known.waits known.last known.entries r.room r.full r.waiting r.has_room r.done r.earlier
+right_next a chain path index scope scopes known h r = right_by a path chain index scope scopes h known.waits known.last known.entries r.room r.full r.waiting r.has_room r.done r.earlier
 
 -- after the last entry the chain is whole
 pub right_end : (a : ℕ) (chain : List EntryRecord) (path : List ℕ) (index : ℕ) (known : Known) → IsRight a chain path index [] known → known.entries ≡ chain

@@ -1,16 +1,46 @@
 -- The function entries that contain an address (DWARF 5, sections 2.17, 3.3.1 and 3.3.8).
 use Rattle.std.specs.Prelude.{ℕ, zero, suc, Bool, true, false, List, [], ◌∷◌, ◌≡◌, ◌<◌, ◌≤◌, slice_get}
-use Rattle.std.specs.Prelude.{Option, Some, None}
+use Rattle.std.specs.Prelude.{◌==◌, ◌||◌, if◌then◌else◌, Option, Some, None}
 use Rattle.std.specs.Option.{option_map_or}
+use Rattle.code_ranges.specs.EntryRanges.{UnitRangesRecord, entry_ranges, left_after_entry}
 use Rattle.code_ranges.specs.Lists.{in_ranges}
 use Rattle.code_ranges.specs.declared.range.CodeRange.{CodeRange}
-use Rattle.debug_entries.specs.Entries.{EntryRecord}
+use Rattle.debug_entries.specs.Entries.{EntryRecord, PlacedRecord, entries_of}
+use Rattle.source_frames.specs.DebugSections.{DebugSectionsRecord}
+use Rattle.source_frames.specs.DebugUnits.{UnitRecord}
+use Rattle.source_frames.specs.UnitCode.{entries_of_lists, range_attributes, unit_ranges_of}
 
 -- an entry: in how many others it stands, and the ranges of its code; one that is no function has none
 pub record ScopeRecord : Type 0 where
   pub depth : ℕ
   pub entry : EntryRecord
   pub ranges : List CodeRange
+
+-- whether an entry is of a function: DW_TAG_subprogram or DW_TAG_inlined_subroutine
+abbrev pub is_function : EntryRecord → Bool
+is_function entry = (entry.tag == 0x2e) || (entry.tag == 0x1d)
+
+-- the ranges of an entry of a unit, of whose list so many entries count at most
+unfoldable pub scope_ranges : UnitRangesRecord → ℕ → EntryRecord → List CodeRange
+scope_ranges unit left entry = if is_function entry then entry_ranges unit left (range_attributes entry) else []
+
+-- how many entries of lists are left of so many after that entry
+unfoldable pub left_after_scope : UnitRangesRecord → ℕ → EntryRecord → ℕ
+left_after_scope unit left entry =
+    if is_function entry then left_after_entry unit left (range_attributes entry) else left
+
+-- entries with their ranges, of whose lists together so many entries count at most, the first ones
+unfoldable pub scopes_from : UnitRangesRecord → ℕ → List PlacedRecord → List ScopeRecord
+scopes_from unit left [] = []
+scopes_from unit left (p ∷ ps) =
+    record { depth = p.depth; entry = p.entry; ranges = scope_ranges unit left p.entry }
+    ∷ scopes_from unit (left_after_scope unit left p.entry) ps
+
+-- the entries of a unit with their ranges
+abbrev pub scopes_of : DebugSectionsRecord → UnitRecord → List ScopeRecord
+scopes_of sections unit =
+    scopes_from (unit_ranges_of sections unit) (entries_of_lists unit)
+    (entries_of sections.debug_abbrev unit.header unit.bytes)
 
 -- the depth of the entry of an index
 abbrev pub depth_at : List ScopeRecord → ℕ → ℕ

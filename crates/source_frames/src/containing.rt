@@ -1,14 +1,21 @@
 //! The function entries that contain each of many addresses, in one pass over the entries of a unit.
 
-ghost use Rattle.std.specs.Prelude.{◌≡◌, ◌≢◌, ℕ, true, false, IfOk, OnOk};
+ghost use Rattle.std.specs.Prelude.{◌≡◌, ◌≢◌, ◌≤◌, ℕ, true, false, IfOk, OnOk, None, length};
 ghost use Rattle.std.specs.Ordering.{nat_cmp};
 ghost use Rattle.std.specs.BTreeSet as tree_set;
 ghost use Rattle.std.specs.BTreeMap as tree_map;
 ghost use Rattle.debug_entries.specs.EntryViews.{entry_view};
-ghost use Rattle.source_frames.specs.ChainSteps.{Settles, TakesHits, TakesRange, extended, is_open, known_of, last_of};
+ghost use Rattle.source_frames.specs.ChainSteps.{Settles, TakesHits, TakesRange, chain_after, entries_of_chain, extended};
+ghost use Rattle.source_frames.specs.ChainSteps.{is_open, known_of, last_of};
+ghost use Rattle.source_frames.specs.Scopes.{scopes_of};
+ghost use Rattle.source_frames.specs.SectionsViews.{sections_view};
+ghost use Rattle.source_frames.specs.UnitViews.{unit_view};
 
+use crate::debug_info::DebugInfo;
+use crate::debug_unit::DebugUnit;
+use crate::scopes::scope_ranges;
 use code_ranges::{CodeRange, Ranges};
-use debug_entries::Entry;
+use debug_entries::{Entries, Entry};
 use memory::{Heap, NoMemory};
 use pending_addresses::take_within;
 use std::collections::{BTreeMap, BTreeSet};
@@ -129,4 +136,44 @@ fn settle<'a>(
         }
     }
     Ok(())
+}
+
+impl<'a> DebugInfo<'a> {
+    /// The chain of each pending address, of the entries of a unit.
+    pub(crate) fn chains(
+        &self,
+        heap: Heap,
+        unit: &DebugUnit<'a>,
+        mut pending: BTreeSet<u64, Heap>,
+    ) -> Result<Chains<'a>, NoMemory>
+        requires { unit.now.header.entries_offset ≤ length unit.now.bytes.now }
+        ensures { IfOk result (λ chains. (a : ℕ) → tree_set.contains nat_cmp pending a ≡ true →
+            entries_of_chain (tree_map.get nat_cmp chains a)
+            ≡ chain_after a 256 None (scopes_of (sections_view self.now.sections) (unit_view unit.now))) }
+    {
+        let ranges = unit.unit_ranges(&self.sections);
+        let mut left = unit.entries_of_lists();
+        let mut chains = BTreeMap::new(heap.clone()?);
+        let mut path: Vec<usize, Heap> = Vec::new(heap.clone()?);
+        let mut index = 0;
+        for placed in Entries::of(&self.abbreviations, unit.header, unit.bytes) {
+            let depth = placed.depth;
+            path.truncate(depth);
+            path.push(index)?;
+            let own = scope_ranges(&ranges, &placed.entry, &mut left);
+            let hits = take_hits(heap.clone()?, &mut pending, own)?;
+            let last = Last { index, depth };
+            settle(
+                heap.clone()?,
+                hits,
+                &mut pending,
+                &mut chains,
+                &path,
+                last,
+                &placed.entry,
+            )?;
+            index += 1;
+        }
+        Ok(chains)
+    }
 }

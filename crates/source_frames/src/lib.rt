@@ -15,6 +15,7 @@ mod debug_sections;
 mod debug_unit;
 mod frame;
 mod names;
+mod scopes;
 mod unit_code;
 mod unit_lines;
 

@@ -1,6 +1,6 @@
 //! Where the ranges of the entries of a unit stand.
 
-ghost use Rattle.std.specs.Prelude.{◌≡◌};
+ghost use Rattle.std.specs.Prelude.{◌≡◌, ◌<◌, ◌^◌};
 ghost use Rattle.code_ranges.specs.UnitViews.{attributes_view, unit_view as ranges_view};
 ghost use Rattle.code_ranges.specs.Views.{addresses_view};
 ghost use Rattle.debug_entries.specs.EntryViews.{entry_view};
@@ -63,7 +63,8 @@ impl<'a> DebugUnit<'a> {
 
     /// How many entries of lists of ranges count for the entries of the unit.
     pub fn entries_of_lists(&self) -> u128
-        ensures { result ≡ entries_of_lists (unit_view self.now) }
+        ensures is { result ≡ entries_of_lists (unit_view self.now) }
+        ensures fits { result < 2 ^ 66 }
     {
         4 * self.bytes.len() as u128
     }
