@@ -4,3 +4,4 @@ mod ChainLemmas
 mod ScopeWalk
 mod SettledLemmas
 mod NestedLemmas
+pub mod UnitAddressLemmas

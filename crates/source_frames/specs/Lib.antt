@@ -9,3 +9,6 @@ pub mod Frames
 pub mod FrameViews
 pub mod Scopes
 pub mod ChainSteps
+pub mod UnitAddresses
+-- the words of inner functions: no contract of a public one has them
+pub mod Inner

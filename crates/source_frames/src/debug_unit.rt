@@ -1,6 +1,6 @@
 //! The units that are read, and the entries at their places.
 
-ghost use Rattle.std.specs.Prelude.{◌≡◌};
+ghost use Rattle.std.specs.Prelude.{◌≡◌, ◌≤◌, length};
 ghost use Rattle.std.specs.Option.{option_map};
 ghost use Rattle.dwarf_numbers.specs.TextViews.{text_sections_view};
 ghost use Rattle.dwarf_numbers.specs.Views.{value_view};
@@ -22,6 +22,7 @@ pub struct DebugUnit<'a> {
     pub header: UnitHeader,
     /// Its first entry, which has the attributes of the whole unit.
     pub first: Entry<'a>,
+    ghost within: { header.entries_offset ≤ length bytes.now },
 }
 
 /// An entry and its unit.

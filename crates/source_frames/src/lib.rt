@@ -1,11 +1,10 @@
 //! Source lines and inlined frames: for addresses of an image, the frames that its DWARF has (DWARF 5). Nothing is
 //! refused for its DWARF: what cannot be read has no frames.
 //!
-//! The modules in reading order: `debug_sections`, the DWARF sections of an image; `debug_unit`, its units;
-//! `unit_code`, where the ranges of their entries stand;
-//! `debug_info`, the entries at their places; `names`, the names of functions;
-//! `unit_lines`, the texts, names and program of a unit; `frame`, the frame of an entry at a place, and
-//! `chain`, those of the entries of an address.
+//! The modules in reading order: `debug_sections`, the DWARF sections of an image; `debug_unit`, its units, and
+//! `unit_code`, where the ranges of their entries stand; `debug_info`, the entries at their places; `unit_addresses`,
+//! the units of many addresses; `names`, the names of functions; `unit_lines`, the texts, names and program of a unit;
+//! `frame`, the frame of an entry at a place, and `chain`, those of the entries of an address.
 #![tactic(auto)]
 
 mod chain;
@@ -16,6 +15,7 @@ mod debug_unit;
 mod frame;
 mod names;
 mod scopes;
+mod unit_addresses;
 mod unit_code;
 mod unit_lines;
 

@@ -1,10 +1,12 @@
 //! What the frames of a unit need of its line number program.
 
-ghost use Rattle.std.specs.Prelude.{◌≡◌, IfOk};
+ghost use Rattle.std.specs.Prelude.{◌≡◌, ◌<◌, IfOk, IfSome};
 ghost use Rattle.std.specs.Option.{option_map, option_and_then};
 ghost use Rattle.dwarf_numbers.specs.Views.{value_view};
 ghost use Rattle.line_programs.specs.NameViews.{names_view};
+ghost use Rattle.line_programs.specs.Header.{program_of};
 ghost use Rattle.line_programs.specs.Names.{names_of};
+ghost use Rattle.line_programs.specs.Views.{program_view};
 ghost use Rattle.source_frames.specs.FrameViews.{lines_view};
 ghost use Rattle.source_frames.specs.SectionsViews.{sections_view};
 ghost use Rattle.source_frames.specs.UnitLines.{comp_dir_of, line_unit, lines_of, program_offset};
@@ -24,6 +26,7 @@ pub struct UnitLines<'a> {
     pub comp_dir: &'a [u8],
     pub names: Option<Names<'a>>,
     pub program: Option<Program<'a>>,
+    ghost range: { IfSome program (λ p. 0 < p.header.line_range) },
 }
 
 /// The offset in `__debug_line` that DW_AT_stmt_list names.
@@ -73,6 +76,18 @@ fn names_in<'a>(heap: Heap, unit: Option<&'a [u8]>) -> Result<Option<Names<'a>>,
     }
 }
 
+/// The program of a unit of `__debug_line`, if there is one.
+fn program_in(unit: Option<&[u8]>) -> Option<Program<'_>>
+    ensures value { option_map (λ p. program_view p) result
+        ≡ option_and_then program_of (option_map (λ u. u.now) unit.entry) }
+    ensures range { IfSome result (λ p. 0 < p.header.line_range) }
+{
+    match unit {
+        Some(unit) => Program::of(unit),
+        None => None,
+    }
+}
+
 impl<'a> UnitLines<'a> {
     /// What the frames of a unit need, of which `lines` are the units of `__debug_line`. It takes the time and the
     /// memory of the names of its program.
@@ -87,10 +102,7 @@ impl<'a> UnitLines<'a> {
     {
         let line_unit = line_unit(sections, lines, unit);
         let names = names_in(heap, line_unit)?;
-        let program = match line_unit {
-            Some(line_unit) => Program::of(line_unit),
-            None => None,
-        };
+        let program = program_in(line_unit);
         Ok(UnitLines {
             texts: unit.texts(sections),
             comp_dir: comp_dir_of(sections, unit),
