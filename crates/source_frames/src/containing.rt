@@ -1,6 +1,6 @@
 //! The function entries that contain each of many addresses, in one pass over the entries of a unit.
 
-ghost use Rattle.std.specs.Prelude.{◌≡◌, ◌≢◌, ℕ, true, false, IfOk, OnOk, None};
+ghost use Rattle.std.specs.Prelude.{◌≡◌, ◌≢◌, ◌≤◌, ℕ, true, false, IfOk, OnOk, None, length};
 ghost use Rattle.std.specs.Ordering.{nat_cmp};
 ghost use Rattle.std.specs.BTreeSet as tree_set;
 ghost use Rattle.std.specs.BTreeMap as tree_map;
@@ -146,6 +146,7 @@ impl<'a> DebugInfo<'a> {
         unit: &DebugUnit<'a>,
         mut pending: BTreeSet<u64, Heap>,
     ) -> Result<Chains<'a>, NoMemory>
+        requires { unit.now.header.entries_offset ≤ length unit.now.bytes.now }
         ensures { IfOk result (λ chains. (a : ℕ) → tree_set.contains nat_cmp pending a ≡ true →
             entries_of_chain (tree_map.get nat_cmp chains a)
             ≡ chain_after a 256 None (scopes_of (sections_view self.now.sections) (unit_view unit.now))) }

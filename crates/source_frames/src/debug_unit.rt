@@ -1,6 +1,6 @@
 //! The units that are read, and the entries at their places.
 
-ghost use Rattle.std.specs.Prelude.{◌≡◌, ◌≤◌, length};
+ghost use Rattle.std.specs.Prelude.{◌≡◌, ◌≤◌, IfSome, length};
 ghost use Rattle.std.specs.Option.{option_map};
 ghost use Rattle.dwarf_numbers.specs.TextViews.{text_sections_view};
 ghost use Rattle.dwarf_numbers.specs.Views.{value_view};
@@ -22,7 +22,6 @@ pub struct DebugUnit<'a> {
     pub header: UnitHeader,
     /// Its first entry, which has the attributes of the whole unit.
     pub first: Entry<'a>,
-    ghost within: { header.entries_offset ≤ length bytes.now },
 }
 
 /// An entry and its unit.
@@ -50,7 +49,8 @@ impl<'a> DebugUnit<'a> {
         offset: u64,
         bytes: &'a [u8],
     ) -> Option<DebugUnit<'a>>
-        ensures { option_map unit_view result ≡ unit_of_bytes abbreviations.now offset bytes.now }
+        ensures value { option_map unit_view result ≡ unit_of_bytes abbreviations.now offset bytes.now }
+        ensures within { IfSome result (λ u. u.header.entries_offset ≤ length u.bytes.now) }
     {
         let header = UnitHeader::of(bytes)?;
         let first = entry_of(abbreviations, &header, bytes, header.entries_offset as u64)?;

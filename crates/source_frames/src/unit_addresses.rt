@@ -1,6 +1,6 @@
 //! The units of many addresses.
 
-ghost use Rattle.std.specs.Prelude.{◌≡◌, ◌==◌, ◌&&◌, ◌||◌, ℕ, IfOk, OnOk, None, true, false, if◌then◌else◌};
+ghost use Rattle.std.specs.Prelude.{◌≡◌, ◌≤◌, ◌==◌, ◌&&◌, ◌||◌, ℕ, IfOk, IfSome, length, OnOk, None, true, false, if◌then◌else◌};
 ghost use Rattle.std.specs.Option.{is_none, option_map, option_or};
 ghost use Rattle.std.specs.Ordering.{nat_cmp};
 ghost use Rattle.std.specs.BTreeMap as tree_map;
@@ -46,7 +46,8 @@ impl<'a> DebugInfo<'a> {
     /// The unit at an offset; `None` if none begins there, or it cannot be read.
     #[tactic(auto, unfolding(crate::specs::UnitAddresses::read_unit))]
     pub fn unit_at(&self, offset: u64) -> Option<DebugUnit<'a>>
-        ensures { option_map unit_view result ≡ read_unit (sections_view self.now.sections) offset }
+        ensures value { option_map unit_view result ≡ read_unit (sections_view self.now.sections) offset }
+        ensures within { IfSome result (λ u. u.header.entries_offset ≤ length u.bytes.now) }
     {
         DebugUnit::read(&self.abbreviations, offset, self.units.at(offset)?)
     }

@@ -26,7 +26,6 @@ pub struct UnitLines<'a> {
     pub comp_dir: &'a [u8],
     pub names: Option<Names<'a>>,
     pub program: Option<Program<'a>>,
-    ghost range: { IfSome program (λ p. 0 < p.header.line_range) },
 }
 
 /// The offset in `__debug_line` that DW_AT_stmt_list names.
@@ -98,7 +97,9 @@ impl<'a> UnitLines<'a> {
         unit: &DebugUnit<'a>,
     ) -> Result<UnitLines<'a>, NoMemory>
         requires { lines.now ≡ sections.now.debug_line.now }
-        ensures { IfOk result (λ read. lines_view read ≡ lines_of (sections_view sections.now) (unit_view unit.now)) }
+        ensures value { IfOk result (λ read.
+            lines_view read ≡ lines_of (sections_view sections.now) (unit_view unit.now)) }
+        ensures range { IfOk result (λ read. IfSome read.program (λ p. 0 < p.header.line_range)) }
     {
         let line_unit = line_unit(sections, lines, unit);
         let names = names_in(heap, line_unit)?;
