@@ -5,3 +5,4 @@ mod ScopeWalk
 mod SettledLemmas
 mod NestedLemmas
 pub mod UnitAddressLemmas
+mod FoundLemmas

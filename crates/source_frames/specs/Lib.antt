@@ -12,3 +12,5 @@ pub mod ChainSteps
 pub mod UnitAddresses
 -- the words of inner functions: no contract of a public one has them
 pub mod Inner
+pub mod AddressFrames
+pub mod FoundFrames

@@ -7,6 +7,7 @@
 //! `frame`, the frame of an entry at a place, and `chain`, those of the entries of an address.
 #![tactic(auto)]
 
+mod address_frames;
 mod chain;
 mod containing;
 mod debug_info;
@@ -17,8 +18,10 @@ mod names;
 mod scopes;
 mod unit_addresses;
 mod unit_code;
+mod unit_frames;
 mod unit_lines;
 
+pub use address_frames::{AddressFrames, frames_of};
 pub use debug_info::DebugInfo;
 pub use debug_sections::DebugSections;
 pub use debug_unit::{DebugUnit, UnitEntry};

@@ -1,0 +1,16 @@
+use Rattle.std.proofs.Common.{ℕ}
+use Rattle.std.specs.BTreeMap as tree_map
+use Rattle.source_frames.specs.FoundFrames.{AreOfUnit, AreRight, addresses_under}
+use Rattle.source_frames.specs.SectionsViews.{sections_view}
+use Rattle.source_frames.proofs.FoundLemmas.{AreDone}
+use Rattle.source_frames.proofs.debug_info.DebugInfo.find_all.Given as goal
+
+abbrev pub invariant-units : goal.invariant-units
+invariant-units l = record {
+  right : AreRight (sections_view l.self.sections) l.found;
+  units : (place : ℕ) → AreOfUnit (sections_view l.self.sections) place (addresses_under l.by_unit place);
+  done : (place : ℕ) → AreDone (sections_view l.self.sections) l.found (addresses_under l.by_unit place) (addresses_under l.fn.by_unit place);
+}
+
+abbrev pub decreases-units : goal.decreases-units
+decreases-units l = tree_map.btree_map_len l.by_unit

@@ -1,0 +1,40 @@
+use Rattle.std.proofs.Common.{◌≡◌, ◌<◌, ◌+◌, ℕ, arith, length, get_or, below_more}
+use Rattle.source_frames.specs.AddressFrames.{AreFramesBy}
+use Rattle.source_frames.specs.FoundFrames.{IsFound, frames_of_list}
+use Rattle.source_frames.specs.FrameViews.{lines_view}
+use Rattle.source_frames.specs.SectionsViews.{sections_view}
+use Rattle.source_frames.specs.UnitViews.{unit_view}
+use Rattle.source_frames.proofs.FoundLemmas.{frames_by, right_put, found_put, kept_put}
+use Rattle.source_frames.proofs.debug_info.DebugInfo.find_in.Goals as goal
+
+pub loop-i-init : goal.loop-i-init
+loop-i-init c = record { right = c.requires.right; each = λ k h. absurd (omega (arith, h)); kept = λ a before. before }
+
+pub loop-i-preserved : goal.loop-i-preserved
+loop-i-preserved c =
+    let i = c.loop-i.i in
+    let a = get_or c.args.addresses.now i 0 in
+    let s = sections_view c.args.self.now.sections in
+    let old = c.loop-i.found in
+    let new = c.put_frames.new.found in
+    let list = c.in_ok-list.list in
+    let less : i < length c.args.addresses.now = omega arith in
+    let is : AreFramesBy s a (frames_of_list list) =
+    frames_by s (unit_view c.args.unit.now) (lines_view c.args.lines.now) a _ _ _ (c.requires.unit_is i less) c.requires.lines_are
+    (c.in_ok-chains.ensures a (c.in_ok-pending.ensures i less)) (c.in_ok-rows.ensures.each i less) c.in_ok-list.ensures in
+    let here = c.in_ok-put_frames.ensures.here in
+    let others = c.in_ok-put_frames.ensures.others in
+    record {
+      right = right_put s old new a list here others is c.loop-i.invariant.right;
+      each = below_more _ _ (λ k h. kept_put s old new a list here others is (get_or c.args.addresses.now k 0) (c.loop-i.invariant.each k h)) (found_put s old new a list here others is);
+      kept = λ b before. kept_put s old new a list here others is b (c.loop-i.invariant.kept b before);
+    }
+
+pub returns-clause-right : goal.returns-clause-right
+returns-clause-right c = c.loop-i.invariant.right
+
+pub returns-clause-each : goal.returns-clause-each
+returns-clause-each c = λ k h. c.loop-i.invariant.each k (omega (arith, h))
+
+pub returns-clause-kept : goal.returns-clause-kept
+returns-clause-kept c = c.loop-i.invariant.kept
