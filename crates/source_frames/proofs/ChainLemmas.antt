@@ -1,6 +1,6 @@
 -- The frames of a chain of entries.
-use Rattle.std.proofs.Common.{◌≡◌, ℕ, ◌+◌, ◌<◌, ◌≤◌, List, [], ◌∷◌, ◌++◌, length, drop, get_or, map, refl, sym, ap, subst, ◌∙◌, append_assoc}
-use Rattle.std.proofs.lemmas.List.{drop_more, drop_all, append-nil}
+use Rattle.std.proofs.Common.{◌≡◌, ℕ, ◌+◌, ◌<◌, ◌≤◌, List, [], ◌∷◌, ◌++◌, length, drop, get_or, map, reverse, refl, sym, ap, subst, ◌∙◌, append_assoc}
+use Rattle.std.proofs.lemmas.List.{drop_more, drop_all, append-nil, map-append, reverse-append}
 use Rattle.debug_entries.specs.Entries.{EntryRecord}
 use Rattle.debug_entries.specs.EntryViews.{entry_view}
 use Rattle.debug_entries.specs.declared.entry.Entry.{Entry}
@@ -41,3 +41,12 @@ entries_left chain index d less = ap (map (λ e. entry_view e)) (drop_more chain
 
 pub entries_none : (chain : List Entry) (index : ℕ) → length chain ≤ index → map (λ e. entry_view e) (drop index chain) ≡ []
 entries_none chain index all = ap (map (λ e. entry_view e)) (drop_all index chain all)
+
+-- entries in the other order
+pub views_reversed : (entries : List Entry) → map (λ e. entry_view e) (reverse entries) ≡ reverse (map (λ e. entry_view e) entries)
+views_reversed [] = refl
+views_reversed (e ∷ es) =
+    ap (map (λ e. entry_view e)) (reverse-append (e ∷ []) es)
+    ∙ map-append (λ e. entry_view e) (reverse es) (e ∷ [])
+    ∙ ap (λ (xs : List EntryRecord). xs ++ entry_view e ∷ []) (views_reversed es)
+    ∙ sym (reverse-append (entry_view e ∷ []) (map (λ e. entry_view e) es))

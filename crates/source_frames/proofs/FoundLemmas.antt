@@ -122,7 +122,7 @@ contains_last xs a =
     (length xs, omega (arith, length-append xs (a ∷ [])), get_or-append_right xs (a ∷ []) (length xs) (length xs) a refl (omega arith) ∙ ap (λ n. get_or (a ∷ []) n a) none)
 
 -- an address stands under the offset of its unit
-abbrev IsUnder : tree_map.BTreeMap ℕ UnitAddressList → ℕ → Option ℕ → Type 0
+abbrev pub IsUnder : tree_map.BTreeMap ℕ UnitAddressList → ℕ → Option ℕ → Type 0
 IsUnder by_unit a own = IfSome own (λ place. Contains (addresses_under by_unit place) a)
 
 under_kept : (old new : tree_map.BTreeMap ℕ UnitAddressList) (added_place : Option ℕ) (added_address : ℕ) → ((place : ℕ) → addresses_under new place ≡ addresses_under old place ++ added added_place place added_address)
@@ -184,3 +184,21 @@ pub found_under : (s : DebugSectionsRecord) (found : tree_map.BTreeMap ℕ Frame
 found_under s found by_unit a None right is under each = no_place s found a right is
 found_under s found by_unit a (Some place) right is under each =
     subst (λ (b : ℕ). IsFound s found b) (get_or_default (addresses_under by_unit place) under.0 0 a under.1 ∙ under.2) (each place under.0 under.1)
+
+-- nothing was found
+pub right_none : (s : DebugSectionsRecord) (found : tree_map.BTreeMap ℕ FrameList) → ((a : ℕ) → tree_map.get nat_cmp found a ≡ None) → AreRight s found
+right_none s found none = record {
+  each = λ a. subst (λ (o : Option FrameList). IfSome o (λ list. AreFramesBy s a (frames_of_list list))) (sym (none a)) tt;
+}
+
+-- the addresses of the units that are left
+pub of_unit_next : (s : DebugSectionsRecord) (by_unit next : tree_map.BTreeMap ℕ UnitAddressList) (place : ℕ) → ((other : ℕ) → AreOfUnit s other (addresses_under by_unit other)) → addresses_under next place ≡ []
+    → ((other : ℕ) → other ≢ place → addresses_under next other ≡ addresses_under by_unit other) → (other : ℕ) → AreOfUnit s other (addresses_under next other)
+of_unit_next s by_unit next place before gone others other = elim (cases_Bool (other == place)) [
+  | inl t ↦
+      let none : addresses_under next other ≡ [] = ap (addresses_under next) (eqb-true other place t) ∙ gone in
+      subst (λ (xs : List ℕ). AreOfUnit s other xs) (sym none) (record { each = λ i h. absurd (omega (arith, h)) })
+  | inr f ↦
+      let apart : other ≢ place = λ same. cc (eq-eqb other place same, f) in
+      subst (λ (xs : List ℕ). AreOfUnit s other xs) (sym (others other apart)) (before other)
+]

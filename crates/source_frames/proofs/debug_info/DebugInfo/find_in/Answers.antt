@@ -1,5 +1,8 @@
-use Rattle.std.proofs.Common.{◌≡◌, ◌<◌, ◌+◌, ℕ, arith, length, get_or, below_more}
-use Rattle.source_frames.specs.AddressFrames.{AreFramesBy}
+use Rattle.std.proofs.Common.{◌≡◌, ◌<◌, ◌+◌, ℕ, Option, arith, None, length, get_or, subst, sym, below_more}
+use Rattle.std.proofs.lemmas.List.{get_or_read}
+use Rattle.line_programs.specs.Covering.{IsCovering}
+use Rattle.line_programs.specs.declared.registers.Row.{Row}
+use Rattle.source_frames.specs.AddressFrames.{AreFramesBy, rows_of}
 use Rattle.source_frames.specs.FoundFrames.{IsFound, frames_of_list}
 use Rattle.source_frames.specs.FrameViews.{lines_view}
 use Rattle.source_frames.specs.SectionsViews.{sections_view}
@@ -19,9 +22,10 @@ loop-i-preserved c =
     let new = c.put_frames.new.found in
     let list = c.in_ok-list.list in
     let less : i < length c.args.addresses.now = omega arith in
+    let inside : i < length c.in_ok-rows.rows.items = omega (arith, c.in_ok-rows.ensures.len) in
     let is : AreFramesBy s a (frames_of_list list) =
     frames_by s (unit_view c.args.unit.now) (lines_view c.args.lines.now) a _ _ _ (c.requires.unit_is i less) c.requires.lines_are
-    (c.in_ok-chains.ensures a (c.in_ok-pending.ensures i less)) (c.in_ok-rows.ensures.each i less) c.in_ok-list.ensures in
+    (c.in_ok-chains.ensures a (c.in_ok-pending.ensures i less)) (subst (λ (r : Option Row). IsCovering (rows_of (lines_view c.args.lines.now)) a r) (sym (get_or_read c.in_ok-rows.rows.items _ _ inside c.index.ensures None)) (c.in_ok-rows.ensures.each i less)) c.in_ok-list.ensures in
     let here = c.in_ok-put_frames.ensures.here in
     let others = c.in_ok-put_frames.ensures.others in
     record {
