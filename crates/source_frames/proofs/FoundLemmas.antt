@@ -50,12 +50,12 @@ no_place s found a right h = record {
 pub no_unit : (s : DebugSectionsRecord) (found : tree_map.BTreeMap ℕ FrameList) (a place : ℕ) → AreRight s found → IsUnitOf s a (Some place) → None ≡ read_unit s place → IsFound s found a
 no_unit s found a place right h none = record {
   frames = found_or s a (Some place) (tree_map.get nat_cmp found a) (right.each a)
-  (record { place = Some place; is_unit = h; are_frames = subst (λ (u : Option UnitRecord). AreFramesIn s u a []) none refl });
+      (record { place = Some place; is_unit = h; are_frames = subst (λ (u : Option UnitRecord). AreFramesIn s u a []) none refl });
 }
 
 -- frames more
 module _ (s : DebugSectionsRecord) (old new : tree_map.BTreeMap ℕ FrameList) (a : ℕ) (list : FrameList) (here : tree_map.get nat_cmp new a ≡ Some list)
-  (others : (b : ℕ) → b ≢ a → tree_map.get nat_cmp new b ≡ tree_map.get nat_cmp old b) (is : AreFramesBy s a (frames_of_list list)) where
+    (others : (b : ℕ) → b ≢ a → tree_map.get nat_cmp new b ≡ tree_map.get nat_cmp old b) (is : AreFramesBy s a (frames_of_list list)) where
   pub right_put : AreRight s old → AreRight s new
   right_put before = record {
     each = λ b. elim (cases_Bool (b == a)) [

@@ -6,3 +6,4 @@ mod SettledLemmas
 mod NestedLemmas
 pub mod UnitAddressLemmas
 mod FoundLemmas
+mod LawLemmas

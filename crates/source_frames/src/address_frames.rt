@@ -35,12 +35,7 @@ struct UnitAddressList {
 type ByUnit = BTreeMap<u64, UnitAddressList, Heap>;
 
 /// Puts an address under the offset of its unit.
-fn add_under(
-    heap: Heap,
-    by_unit: &mut ByUnit,
-    place: u64,
-    address: u64,
-) -> Result<(), NoMemory>
+fn add_under(heap: Heap, by_unit: &mut ByUnit, place: u64, address: u64) -> Result<(), NoMemory>
     ensures here { OnOk result (addresses_under by_unit.new place
         ≡ addresses_under by_unit.old place ++ address ∷ []) }
     ensures others { OnOk result ((other : ℕ) → other ≢ place →
@@ -122,7 +117,13 @@ impl<'a> DebugInfo<'a> {
     {
         let mut found = BTreeMap::new(heap.clone()?);
         'units: while let Some((place, list)) = take_unit(&mut by_unit) {
-            self.find_unit(heap.clone()?, line_units, place, &list.addresses, &mut found)?;
+            self.find_unit(
+                heap.clone()?,
+                line_units,
+                place,
+                &list.addresses,
+                &mut found,
+            )?;
         }
         Ok(found)
     }
@@ -145,10 +146,10 @@ impl<'a> AddressFrames<'a> {
     pub fn of(&self, address: u64) -> &[Frame<'a>]
         ensures { map (λ f. frame_view f) result.now ≡ found_frames self.now.found address }
     {
-        match self.found.get(&address) {
-            Some(list) => &list.frames,
-            None => &[],
-        }
+        let Some(list) = self.found.get(&address) else {
+            return &[];
+        };
+        &list.frames
     }
 }
 

@@ -14,6 +14,7 @@ mod debug_info;
 mod debug_sections;
 mod debug_unit;
 mod frame;
+pub mod laws;
 mod names;
 mod scopes;
 mod unit_addresses;

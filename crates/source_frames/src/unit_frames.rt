@@ -44,11 +44,7 @@ fn no_rows(heap: Heap, addresses: &[u64]) -> Result<Vec<Option<Row>, Heap>, NoMe
 }
 
 /// Puts the frames of an address under it.
-fn put_frames<'a>(
-    found: &mut Found<'a>,
-    address: u64,
-    list: FrameList<'a>,
-) -> Result<(), NoMemory>
+fn put_frames<'a>(found: &mut Found<'a>, address: u64, list: FrameList<'a>) -> Result<(), NoMemory>
     ensures here { OnOk result (tree_map.get nat_cmp found.new address ≡ Some list.entry) }
     ensures others { OnOk result ((a : ℕ) → a ≢ address →
         tree_map.get nat_cmp found.new a ≡ tree_map.get nat_cmp found.old a) }
