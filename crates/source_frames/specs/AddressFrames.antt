@@ -18,8 +18,8 @@ rows_of lines = option_map_or (λ p. rows_from p.header initial p.bytes) lines.p
 
 -- the frames of an address in a unit, the innermost first: those of the function entries that contain it and of the row
 -- that covers it
-pub record AreFramesInUnit (sections : DebugSectionsRecord) (unit : UnitRecord) (address : ℕ) (frames : List FrameRecord)
-    : Type 0 where
+pub record AreFramesInUnit (sections : DebugSectionsRecord) (unit : UnitRecord) (address : ℕ)
+    (frames : List FrameRecord) : Type 0 where
   pub chain : List EntryRecord
   pub row : Option Row
   pub contain : IsChain address (scopes_of sections unit) chain

@@ -10,6 +10,7 @@ use Rattle.source_frames.specs.DebugUnits.{UnitRecord}
 use Rattle.source_frames.specs.Frames.{FrameRecord}
 use Rattle.source_frames.specs.FrameViews.{frame_view}
 use Rattle.source_frames.specs.UnitAddresses.{IsUnitOf, read_unit}
+use Rattle.source_frames.specs.declared.address_frames.AddressFrames.{AddressFrames}
 use Rattle.source_frames.specs.declared.address_frames.UnitAddressList.{UnitAddressList}
 use Rattle.source_frames.specs.declared.unit_frames.FrameList.{FrameList}
 
@@ -26,9 +27,14 @@ frames_or_none (Some list) = frames_of_list list
 abbrev pub found_frames : tree_map.BTreeMap ℕ FrameList → ℕ → List FrameRecord
 found_frames found address = frames_or_none (tree_map.get nat_cmp found address)
 
+-- the frames under an address
+abbrev pub frames_under : AddressFrames → ℕ → List FrameRecord
+frames_under frames address = found_frames frames.found address
+
 -- what was found is right
 pub record AreRight (sections : DebugSectionsRecord) (found : tree_map.BTreeMap ℕ FrameList) : Type 0 where
-  pub each : (address : ℕ) → IfSome (tree_map.get nat_cmp found address) (λ list. AreFramesBy sections address (frames_of_list list))
+  pub each : (address : ℕ) →
+      IfSome (tree_map.get nat_cmp found address) (λ list. AreFramesBy sections address (frames_of_list list))
 
 -- all that an address has was found
 pub record IsFound (sections : DebugSectionsRecord) (found : tree_map.BTreeMap ℕ FrameList) (address : ℕ) : Type 0 where
@@ -58,8 +64,8 @@ pub record IsInUnit (sections : DebugSectionsRecord) (unit : UnitRecord) (addres
   pub is_unit : IsUnitOf sections address (Some place)
   pub read : Some unit ≡ read_unit sections place
 
--- each of some addresses stands under the offset of its unit, if it has one
-pub record AreByUnit (addresses : List ℕ) (places : List (Option ℕ)) (count : ℕ) (by_unit : tree_map.BTreeMap ℕ UnitAddressList)
-    : Type 0 where
-  pub each : (i : ℕ) → i < count →
-      IfSome (slice_index_or places i None) (λ place. Contains (addresses_under by_unit place) (slice_index addresses i))
+-- each of so many first addresses stands under the offset of its unit, if it has one
+pub record AreByUnit (addresses : List ℕ) (places : List (Option ℕ)) (count : ℕ)
+    (by_unit : tree_map.BTreeMap ℕ UnitAddressList) : Type 0 where
+  pub each : (i : ℕ) → i < count → IfSome (slice_index_or places i None)
+      (λ place. Contains (addresses_under by_unit place) (slice_index addresses i))

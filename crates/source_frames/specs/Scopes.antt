@@ -64,7 +64,8 @@ IsWithin scopes (Some outer) index = IsIn scopes outer index
 pub record IsFirst (address : ℕ) (scopes : List ScopeRecord) (outer : Option ℕ) (index : ℕ) : Type 0 where
   pub within : IsWithin scopes outer index
   pub contains : contains_at address scopes index ≡ true
-  pub first : (before : ℕ) → before < index → IsWithin scopes outer before → contains_at address scopes before ≡ true → ⊥
+  pub first : (before : ℕ) → before < index → IsWithin scopes outer before
+      → contains_at address scopes before ≡ true → ⊥
 
 -- the first entry in another one that contains the address, the first in that one, and so on, up to so many
 abbrev pub IsChainWithin : ℕ → ℕ → List ScopeRecord → Option ℕ → List EntryRecord → Type 0

@@ -2,11 +2,12 @@
 
 ghost use Rattle.std.specs.Prelude.{◌≡◌, ◌≢◌, ◌+◌, ◌++◌, ◌∷◌, [], ℕ, IfNone, IfOk, IfSome, OnOk, EachIndex, length};
 ghost use Rattle.std.specs.Prelude.{map, slice_index};
+ghost use Rattle.std.specs.Option.{option_map_or};
 ghost use Rattle.std.specs.Ordering.{nat_cmp};
 ghost use Rattle.std.specs.BTreeMap as tree_map;
 ghost use Rattle.source_frames.specs.AddressFrames.{AreFramesOf};
 ghost use Rattle.source_frames.specs.FoundFrames.{AreByUnit, AreOfUnit, AreRight, IsFound, added, addresses_under};
-ghost use Rattle.source_frames.specs.FoundFrames.{found_frames};
+ghost use Rattle.source_frames.specs.FoundFrames.{frames_under};
 ghost use Rattle.source_frames.specs.FrameViews.{frame_view};
 ghost use Rattle.source_frames.specs.SectionsViews.{sections_view};
 ghost use Rattle.source_frames.specs.UnitAddresses.{AreUnitsOf};
@@ -110,7 +111,8 @@ impl<'a> DebugInfo<'a> {
         mut by_unit: ByUnit,
     ) -> Result<Found<'a>, NoMemory>
         requires lines { line_units.now ≡ self.now.sections.debug_line.now }
-        requires units { (place : ℕ) → AreOfUnit (sections_view self.now.sections) place (addresses_under by_unit place) }
+        requires units { (place : ℕ) →
+            AreOfUnit (sections_view self.now.sections) place (addresses_under by_unit place) }
         ensures right { IfOk result (λ found. AreRight (sections_view self.now.sections) found) }
         ensures each { IfOk result (λ found. (place : ℕ) → EachIndex (addresses_under by_unit place)
             (λ i. IsFound (sections_view self.now.sections) found (slice_index (addresses_under by_unit place) i))) }
@@ -142,27 +144,26 @@ impl<'a> DebugInfo<'a> {
 }
 
 impl<'a> AddressFrames<'a> {
-    /// The frames of an address, the innermost first.
-    pub fn of(&self, address: u64) -> &[Frame<'a>]
-        ensures { map (λ f. frame_view f) result.now ≡ found_frames self.now.found address }
+    /// The frames of an address, the innermost first. It has none if this is `None`, or has no element.
+    pub fn get(&self, address: u64) -> Option<&[Frame<'a>]>
+        ensures { option_map_or (λ frames. map (λ f. frame_view f) frames.now) result []
+            ≡ frames_under self.now address }
     {
-        let Some(list) = self.found.get(&address) else {
-            return &[];
-        };
-        &list.frames
+        let list = self.found.get(&address)?;
+        Some(&list.frames)
     }
 }
 
-/// The frames of each of some addresses of an image. It takes the time of `__debug_aranges`, of the declarations, of the
-/// units that have an address, of the programs of these, which are run once, and of the frames; and the memory of the
-/// frames.
+/// The frames of each of some addresses of an image. It takes the time of `__debug_aranges`, of the declarations, of
+/// the units that have an address, which are read once, of their programs, which are run once, and of the frames; and
+/// the memory of the frames.
 pub fn frames_of<'a>(
     heap: Heap,
     image: &Image<'a>,
     addresses: &[u64],
 ) -> Result<AddressFrames<'a>, NoMemory>
-    ensures { IfOk result (λ frames. EachIndex addresses.now (λ i. AreFramesOf image.now (slice_index addresses.now i)
-        (found_frames frames.found (slice_index addresses.now i)))) }
+    ensures { IfOk result (λ frames. EachIndex addresses.now (λ i.
+        AreFramesOf image.now (slice_index addresses.now i) (frames_under frames (slice_index addresses.now i)))) }
 {
     let info = DebugInfo::read(heap.clone()?, image)?;
     let found = info.find(heap, addresses)?;

@@ -3,8 +3,11 @@
 //!
 //! The modules in reading order: `debug_sections`, the DWARF sections of an image; `debug_unit`, its units, and
 //! `unit_code`, where the ranges of their entries stand; `debug_info`, the entries at their places; `unit_addresses`,
-//! the units of many addresses; `names`, the names of functions; `unit_lines`, the texts, names and program of a unit;
-//! `frame`, the frame of an entry at a place, and `chain`, those of the entries of an address.
+//! the units of many addresses; `scopes`, the ranges of functions, and `containing`, the function entries that contain
+//! each of many addresses; `names`, the names of functions; `unit_lines`, the texts, names and program of a unit;
+//! `frame`, the frame of an entry at a place, and `chain`, those of the entries of an address; `unit_frames`, those of
+//! the addresses of a unit, and `address_frames`, [`frames_of`], those of addresses of an image; `laws`, what the
+//! definitions say of each other.
 #![tactic(auto)]
 
 mod address_frames;
