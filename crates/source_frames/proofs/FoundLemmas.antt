@@ -1,10 +1,10 @@
 -- What is found for addresses is right, and all of it is found.
-use Rattle.std.proofs.Common.{◌≡◌, ◌≢◌, ℕ, ◌+◌, ◌-◌, ◌<◌, ◌≤◌, ◌==◌, Bool, true, false, nat_lt, cond, List, [], ◌∷◌, ◌++◌, length, get_or, map, Option, Some, None, refl, sym, ap, subst, ◌∙◌, inl, inr, arith, ◌⊎◌, reverse, length-append, slice_index}
+use Rattle.std.proofs.Common.{◌≡◌, ◌≢◌, ℕ, ◌+◌, ◌-◌, ◌<◌, ◌==◌, true, nat_lt, List, [], ◌∷◌, ◌++◌, length, get_or, Option, Some, None, refl, sym, ap, subst, ◌∙◌, inl, inr, arith, ◌⊎◌, reverse, length-append}
 use Rattle.std.specs.List.{Contains}
 use Rattle.std.specs.Option.{IfSome}
 use Rattle.std.specs.Ordering.{nat_cmp}
 use Rattle.std.specs.BTreeMap as tree_map
-use Rattle.std.proofs.lemmas.Bool.{cases_Bool, eqb-true, ne_eqb, eq-eqb, ltb-true, ltb-false}
+use Rattle.std.proofs.lemmas.Bool.{cases_Bool, eqb-true, eq-eqb, ltb-true, ltb-false}
 use Rattle.std.proofs.lemmas.List.{append-nil, get_or_append_left, get_or-append_right, get_or_default}
 use Rattle.debug_entries.specs.Entries.{EntryRecord}
 use Rattle.line_programs.specs.Covering.{IsCovering}
@@ -14,7 +14,7 @@ use Rattle.source_frames.specs.ChainSteps.{chain_after}
 use Rattle.source_frames.specs.DebugSections.{DebugSectionsRecord}
 use Rattle.source_frames.specs.DebugUnits.{UnitRecord}
 use Rattle.source_frames.specs.Frames.{FrameRecord, AreFramesOfChain}
-use Rattle.source_frames.specs.FoundFrames.{frames_of_list, frames_or_none, found_frames, AreRight, IsFound, addresses_under, added, AreOfUnit, IsInUnit, AreByUnit}
+use Rattle.source_frames.specs.FoundFrames.{frames_of_list, frames_or_none, AreRight, IsFound, addresses_under, added, AreOfUnit, IsInUnit, AreByUnit}
 use Rattle.source_frames.specs.Scopes.{scopes_of}
 use Rattle.source_frames.specs.UnitAddresses.{IsUnitOf, read_unit}
 use Rattle.source_frames.specs.UnitLines.{LinesRecord, lines_of}

@@ -1,11 +1,11 @@
 -- An address has one list of frames.
-use Rattle.std.proofs.Common.{◌≡◌, ℕ, zero, suc, ◌<◌, ◌≤◌, nat_lt, List, [], ◌∷◌, Option, Some, None, slice_get, refl, sym, ap, subst, ◌∙◌, inl, inr, arith, ◌⊎◌, reverse}
+use Rattle.std.proofs.Common.{◌≡◌, ℕ, zero, suc, ◌<◌, nat_lt, List, [], ◌∷◌, Option, Some, None, slice_get, refl, sym, ap, subst, ◌∙◌, inl, inr, arith, ◌⊎◌, reverse}
 use Rattle.std.specs.Prelude.{MatchOption}
 use Rattle.std.specs.Option.{option_and_then, option_or}
 use Rattle.std.proofs.lemmas.Bool.{cases_Bool, ltb-true, ltb-false}
 use Rattle.std.proofs.lemmas.Option.{none-some, same_Some}
-use Rattle.dwarf_numbers.specs.Sequences.{placed, placed_from, placed_within}
-use Rattle.dwarf_numbers.specs.Units.{unit_at, unit_of, IsUnitWith}
+use Rattle.dwarf_numbers.specs.Sequences.{placed_from, placed_within}
+use Rattle.dwarf_numbers.specs.Units.{unit_of, IsUnitWith}
 use Rattle.code_ranges.specs.Aranges.{IsFirstTuple, aranges_of}
 use Rattle.code_ranges.specs.declared.arange.Arange.{Arange}
 use Rattle.debug_entries.specs.Entries.{EntryRecord}

@@ -1,11 +1,11 @@
 -- The entries of a unit stand in one another, and each has a byte.
-use Rattle.std.proofs.Common.{◌≡◌, ℕ, zero, suc, ◌+◌, ◌-◌, ◌<◌, ◌≤◌, ◌==◌, Bool, true, false, nat_le, cond, List, [], ◌∷◌, ◌++◌, length, Option, Some, None, refl, inl, inr, arith}
-use Rattle.std.specs.Option.{option_map, option_map_or, option_to_list, IfSome}
-use Rattle.std.proofs.lemmas.Bool.{cases_Bool, leb-false}
+use Rattle.std.proofs.Common.{◌≡◌, ℕ, zero, suc, ◌+◌, ◌-◌, ◌≤◌, ◌==◌, nat_le, List, [], ◌∷◌, ◌++◌, length, Option, Some, None, refl, inl, inr, arith}
+use Rattle.std.specs.Option.{option_map, option_map_or, option_to_list}
+use Rattle.std.proofs.lemmas.Bool.{cases_Bool}
 use Rattle.debug_entries.specs.Entries.{EntryRecord, PlacedRecord, entry_at, depth_after, entries_within, entries_from}
 use Rattle.debug_entries.specs.declared.unit_header.UnitHeader.{UnitHeader}
 use Rattle.code_ranges.specs.EntryRanges.{UnitRangesRecord}
-use Rattle.source_frames.specs.Scopes.{ScopeRecord, scope_ranges, left_after_scope, scopes_from}
+use Rattle.source_frames.specs.Scopes.{scope_ranges, left_after_scope, scopes_from}
 
 -- the first is no deeper than this, and each other one no deeper than a child of the one before it
 abbrev pub AreNested : ℕ → List PlacedRecord → Type 0

@@ -1,8 +1,8 @@
-use Rattle.std.proofs.Common.{◌≡◌, ◌<◌, ℕ, List, [], None, ap, sym, subst, arith, length, get_or}
+use Rattle.std.proofs.Common.{◌≡◌, ◌<◌, ℕ, List, None, ap, sym, subst, arith, length, get_or}
 use Rattle.std.proofs.lemmas.Grind.{common_steps}
 use Rattle.std.specs.Ordering.{nat_cmp}
 use Rattle.std.specs.BTreeMap as tree_map
-use Rattle.source_frames.specs.FoundFrames.{AreByUnit, AreOfUnit, addresses_under, addresses_or_none}
+use Rattle.source_frames.specs.FoundFrames.{AreOfUnit, addresses_or_none}
 use Rattle.source_frames.specs.SectionsViews.{sections_view}
 use Rattle.source_frames.proofs.FoundLemmas.{units_added, all_added}
 use Rattle.source_frames.proofs.debug_info.DebugInfo.by_unit.Goals as goal

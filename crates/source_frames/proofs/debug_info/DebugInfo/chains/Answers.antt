@@ -1,15 +1,14 @@
-use Rattle.std.proofs.Common.{◌≡◌, ◌≤◌, ◌+◌, ◌∙◌, ◌++◌, ◌∷◌, [], ℕ, List, Option, None, ap, sym, subst, arith, length, take, drop, length-drop}
+use Rattle.std.proofs.Common.{◌≡◌, ◌≤◌, ◌∙◌, ◌++◌, ◌∷◌, [], ℕ, List, None, ap, sym, subst, arith, length, drop, length-drop}
 use Rattle.std.proofs.lemmas.Grind.{common_steps}
 use Rattle.std.specs.Ordering.{nat_cmp}
 use Rattle.std.specs.BTreeMap as tree_map
 use Rattle.debug_entries.specs.Entries.{PlacedRecord, entries_of}
-use Rattle.debug_entries.specs.EntryViews.{placed_view, entry_view}
+use Rattle.debug_entries.specs.EntryViews.{placed_view}
 use Rattle.code_ranges.specs.UnitViews.{unit_view as ranges_view}
 use Rattle.source_frames.specs.ChainSteps.{known_of, last_of, entries_of_chain, chain_after}
 use Rattle.source_frames.specs.Scopes.{ScopeRecord, scope_ranges, left_after_scope, scopes_from, scopes_of}
 use Rattle.source_frames.specs.SectionsViews.{sections_view}
 use Rattle.source_frames.specs.UnitViews.{unit_view}
-use Rattle.source_frames.specs.declared.containing.Chain.{Chain}
 use Rattle.source_frames.proofs.NestedLemmas.{AreNested, entries_nested, scopes_none, scopes_more}
 use Rattle.source_frames.proofs.SettledLemmas.{IsRight, path_with, length_with, right_start, right_next, right_end, knows_next}
 use Rattle.source_frames.proofs.debug_info.DebugInfo.chains.Goals as goal

@@ -1,10 +1,8 @@
-use Rattle.std.proofs.Common.{◌≡◌, ◌∙◌, ◌<◌, ℕ, List, None, ap, sym, subst, inl, inr, refl, arith, length, get_or}
+use Rattle.std.proofs.Common.{◌∙◌, ◌<◌, ℕ, List, sym, subst, inl, refl, arith, length, get_or}
 use Rattle.std.proofs.lemmas.Grind.{common_steps}
-use Rattle.std.specs.Ordering.{nat_cmp}
-use Rattle.std.specs.BTreeMap as tree_map
-use Rattle.source_frames.specs.FoundFrames.{AreOfUnit, AreRight, IsFound, addresses_under}
+use Rattle.source_frames.specs.FoundFrames.{AreOfUnit, IsFound, addresses_under}
 use Rattle.source_frames.specs.SectionsViews.{sections_view}
-use Rattle.source_frames.proofs.FoundLemmas.{AreDone, done_next, done_all, right_none, of_unit_next}
+use Rattle.source_frames.proofs.FoundLemmas.{done_next, done_all, right_none, of_unit_next}
 use Rattle.source_frames.proofs.debug_info.DebugInfo.find_all.Goals as goal
 
 pub units-init : goal.units-init

@@ -1,9 +1,9 @@
-use Rattle.std.proofs.Common.{◌≡◌, ◌<◌, ◌+◌, ℕ, Option, arith, None, length, get_or, subst, sym, below_more}
+use Rattle.std.proofs.Common.{◌<◌, Option, arith, None, length, get_or, subst, sym, below_more}
 use Rattle.std.proofs.lemmas.List.{get_or_read}
 use Rattle.line_programs.specs.Covering.{IsCovering}
 use Rattle.line_programs.specs.declared.registers.Row.{Row}
 use Rattle.source_frames.specs.AddressFrames.{AreFramesBy, rows_of}
-use Rattle.source_frames.specs.FoundFrames.{IsFound, frames_of_list}
+use Rattle.source_frames.specs.FoundFrames.{frames_of_list}
 use Rattle.source_frames.specs.FrameViews.{lines_view}
 use Rattle.source_frames.specs.SectionsViews.{sections_view}
 use Rattle.source_frames.specs.UnitViews.{unit_view}
