@@ -1,5 +1,5 @@
 -- The first tuple that has an address.
-use Rattle.std.proofs.Common.{◌≡◌, ℕ, zero, suc, ◌+◌, ◌<◌, Bool, true, false, List, [], ◌∷◌, slice_get, Option, Some, None, refl, sym, inl, inr, arith, nat_lt, nat_le, ◌&&◌, subst}
+use Rattle.std.proofs.Common.{◌≡◌, ℕ, zero, suc, ◌+◌, ◌<◌, Bool, true, false, List, [], ◌∷◌, slice_get, Option, Some, None, refl, sym, ap, ◌∙◌, inl, inr, arith, nat_lt, nat_le, ◌&&◌, subst}
 use Rattle.std.specs.Prelude.{IfOk, Result, Ok, Err}
 use Rattle.std.proofs.lemmas.Bool.{cases_Bool}
 use Rattle.std.proofs.lemmas.Bool.Decides.{nat_tests}
@@ -63,3 +63,23 @@ first_tuple-is a (t ∷ ts) = elim (cases_Bool (has a t)) [
 pub of_each : {T E : Type 0} (r : Result T E) (P Q : T → Type 0) → ((x : T) → P x → Q x) → IfOk r P → IfOk r Q
 of_each (Ok x) P Q f p = f x p
 of_each (Err e) P Q f p = tt
+
+-- no other tuple is the first
+pub first_tuple-only : (a : ℕ) (ts : List Arange) (found : Option Arange) → IsFirstTuple ts a found → found ≡ first_tuple a ts
+first_tuple-only a [] None is = sym (step_end a)
+first_tuple-only a [] (Some u) is = absurd (none-some u is.1)
+first_tuple-only a (t ∷ ts) None is =
+    first_tuple-only a ts None (λ i u e h. is (suc i) u e h) ∙ sym (step_miss a t ts (λ h. is 0 t refl h))
+first_tuple-only a (t ∷ ts) (Some u) is = place (first_tuple-only a ts (Some u)) is.0 is.1 is.2 is.3
+  where
+    place : (IsFirstTuple ts a (Some u) → Some u ≡ first_tuple a ts) → (i : ℕ) → slice_get (t ∷ ts) i ≡ Some u → HasAddress a u → ((j : ℕ) (v : Arange) → j < i → slice_get (t ∷ ts) j ≡ Some v → HasAddress a v → ⊥)
+        → Some u ≡ first_tuple a (t ∷ ts)
+    place after zero e h before =
+        let same : u ≡ t = cc e in
+        ap (λ (v : Arange). Some v) same ∙ sym (step_hit a t ts (subst (HasAddress a) same h))
+    place after (suc i) e h before =
+        after (i, e, h, λ j v l k g. before (suc j) v (omega arith) k g)
+        ∙ sym (step_miss a t ts (λ k. before 0 t (omega arith) refl k))
+
+pub one_first_tuple : (ts : List Arange) (a : ℕ) (one other : Option Arange) → IsFirstTuple ts a one → IsFirstTuple ts a other → one ≡ other
+one_first_tuple ts a one other h k = first_tuple-only a ts one h ∙ sym (first_tuple-only a ts other k)

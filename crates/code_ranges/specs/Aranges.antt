@@ -1,5 +1,6 @@
 -- Which unit an address is of, by __debug_aranges (DWARF 5, section 6.1.2).
-use Rattle.std.specs.Prelude.{ℕ, List, [], length, drop, map, slice_index, ◌==◌, ◌&&◌, ◌+◌, ◌≡◌, ◌<◌, ◌≤◌, nat_lt, nat_le, if◌then◌else◌}
+use Rattle.std.specs.Prelude.{ℕ, List, [], length, drop, map, slice_index, ◌==◌, ◌&&◌, ◌+◌, ◌≡◌, ◌<◌, ◌≤◌, nat_lt}
+use Rattle.std.specs.Prelude.{nat_le, if◌then◌else◌}
 use Rattle.std.specs.Prelude.{Bool, false, Option, Some, None, MatchOption, slice_get}
 use Rattle.std.specs.BTreeMap as tree_map
 use Rattle.std.specs.List.{flat_map, list_any}
@@ -64,6 +65,7 @@ IsFirstTuple tuples address found =
     × ((j : ℕ) (other : Arange) → j < i → slice_get tuples j ≡ Some other → HasAddress address other → ⊥))
 
 -- for each address that tuple, or none
-pub record AreFirstTuples (tuples : List Arange) (addresses : List ℕ) (found : tree_map.BTreeMap ℕ Arange) : Type 0 where
+pub record AreFirstTuples (tuples : List Arange) (addresses : List ℕ) (found : tree_map.BTreeMap ℕ Arange)
+    : Type 0 where
   pub each : (i : ℕ) → i < length addresses →
       IsFirstTuple tuples (slice_index addresses i) (tree_map.get nat_cmp found (slice_index addresses i))

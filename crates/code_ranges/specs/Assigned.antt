@@ -7,8 +7,8 @@ use Rattle.code_ranges.specs.Lists.{in_ranges}
 use Rattle.code_ranges.specs.declared.range.CodeRange.{CodeRange}
 
 -- each pending address in one of some ranges was given this value and is pending no longer; all others are as they were
-pub record AssignsRanges (ranges : List CodeRange) (value : ℕ) (pending : tree_set.BTreeSet ℕ) (found : tree_map.BTreeMap ℕ ℕ)
-    (left : tree_set.BTreeSet ℕ) (now_found : tree_map.BTreeMap ℕ ℕ) : Type 0 where
+pub record AssignsRanges (ranges : List CodeRange) (value : ℕ) (pending : tree_set.BTreeSet ℕ)
+    (found : tree_map.BTreeMap ℕ ℕ) (left : tree_set.BTreeSet ℕ) (now_found : tree_map.BTreeMap ℕ ℕ) : Type 0 where
   pub none_within : (a : ℕ) → in_ranges a ranges ≡ true → tree_set.contains nat_cmp left a ≡ false
   pub was_pending : (a : ℕ) → tree_set.contains nat_cmp left a ≡ true → tree_set.contains nat_cmp pending a ≡ true
   pub given_within : (a : ℕ) → tree_set.contains nat_cmp pending a ≡ true → tree_set.contains nat_cmp left a ≡ false

@@ -10,8 +10,8 @@ use Rattle.code_ranges.specs.Lists.{left_after, ranges_within}
 use Rattle.code_ranges.specs.declared.range.CodeRange.{CodeRange}
 use Rattle.code_ranges.specs.declared.range_entry.RangeEntry.{RangeEntry}
 
--- where the ranges of the entries of a unit stand: its version, the sections, DW_AT_rnglists_base, and the base address,
--- which is the low_pc of the unit's first entry
+-- where the ranges of the entries of a unit stand: its version, the sections, DW_AT_rnglists_base, and the base
+-- address, which is the low_pc of the unit's first entry
 pub record UnitRangesRecord : Type 0 where
   pub version : ℕ
   pub debug_ranges : List ℕ
@@ -63,7 +63,9 @@ list_at unit offset =
 abbrev pub low_to_high : UnitRangesRecord → RangeAttributesRecord → Option CodeRange
 low_to_high unit entry =
     option_and_then
-    (λ low. option_map (λ high. record { low = low; high = high }) (option_and_then (end_of unit.addresses low) entry.high_pc))
+    (λ low. option_map
+    (λ high. record { low = low; high = high })
+    (option_and_then (end_of unit.addresses low) entry.high_pc))
     (option_and_then (address_of unit.addresses) entry.low_pc)
 
 -- those that so many entries say at most of the list that DW_AT_ranges names, or none
@@ -93,9 +95,3 @@ left_after_entry unit left entry =
     (λ range. left)
     (low_to_high unit entry)
     (left_after_list unit left (option_and_then (list_offset unit) entry.ranges))
-
--- the ranges of each of some entries, of whose lists together so many entries count at most, the first ones
-abbrev pub counted_ranges : UnitRangesRecord → ℕ → List RangeAttributesRecord → List (List CodeRange)
-counted_ranges unit left [] = []
-counted_ranges unit left (e ∷ es) =
-    entry_ranges unit left e ∷ counted_ranges unit (left_after_entry unit left e) es

@@ -51,9 +51,13 @@ start_size None size = NoRange
 unfoldable pub operands_at : AddressesRecord → ℕ → List ℕ → Option (RangeEntry × List ℕ)
 operands_at addresses kind bytes =
     if kind == 0x00 then Some (EndOfList, bytes)
-    else (if kind == 0x01 then option_map (λ x. (BaseAddress (unwrap_or (address_at addresses x.0) 0), x.1)) (unsigned_leb128_at bytes)
-    else (if kind == 0x02 then two unsigned_leb128_at unsigned_leb128_at (λ i j. start_end (address_at addresses i) (address_at addresses j)) bytes
-    else (if kind == 0x03 then two unsigned_leb128_at unsigned_leb128_at (λ i n. start_size (address_at addresses i) n) bytes
+    else (if kind == 0x01
+    then option_map (λ x. (BaseAddress (unwrap_or (address_at addresses x.0) 0), x.1)) (unsigned_leb128_at bytes)
+    else (if kind == 0x02
+    then two unsigned_leb128_at unsigned_leb128_at
+    (λ i j. start_end (address_at addresses i) (address_at addresses j)) bytes
+    else (if kind == 0x03
+    then two unsigned_leb128_at unsigned_leb128_at (λ i n. start_size (address_at addresses i) n) bytes
     else (if kind == 0x04 then two unsigned_leb128_at unsigned_leb128_at OffsetPair bytes
     else (if kind == 0x05 then option_map (λ x. (BaseAddress x.0, x.1)) (address_here bytes)
     else (if kind == 0x06 then two address_here address_here StartEnd bytes

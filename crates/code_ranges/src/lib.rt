@@ -12,7 +12,8 @@
 //!   `assigned`: [`assign_ranges`], a value for pending addresses in ranges;
 //! - `arange`: [`Arange`], a tuple of `__debug_aranges`; `aranges`: [`Aranges`], all of them, one after another;
 //!   `one_pass`: [`first_tuples`], the first that has each of many addresses; `named_sets`:
-//!   [`named_units`], the units of all sets.
+//!   [`named_units`], the units of all sets;
+//! - `laws`: what the definitions say of each other.
 #![tactic(auto)]
 
 mod addresses;
@@ -21,6 +22,7 @@ mod aranges;
 mod assigned;
 pub mod dw_rle;
 mod entry_ranges;
+pub mod laws;
 mod list_entries;
 mod list_format;
 mod named_sets;

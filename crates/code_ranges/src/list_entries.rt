@@ -2,7 +2,8 @@
 
 ghost use Rattle.std.specs.Prelude.{◌≡◌};
 ghost use Rattle.std.specs.Option.{option_map};
-ghost use Rattle.code_ranges.specs.ListEntries.{address_here, debug_ranges_entry_at, operands_at, pair_entry, rnglists_entry_at, start_end, start_size};
+ghost use Rattle.code_ranges.specs.ListEntries.{address_here, debug_ranges_entry_at, operands_at, pair_entry};
+ghost use Rattle.code_ranges.specs.ListEntries.{rnglists_entry_at, start_end, start_size};
 ghost use Rattle.code_ranges.specs.Views.{addresses_view};
 
 use crate::addresses::AddressTable;

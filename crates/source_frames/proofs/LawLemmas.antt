@@ -6,8 +6,6 @@ use Rattle.std.proofs.lemmas.Bool.{cases_Bool, ltb-true, ltb-false}
 use Rattle.std.proofs.lemmas.Option.{none-some, same_Some}
 use Rattle.dwarf_numbers.specs.Sequences.{placed_from, placed_within}
 use Rattle.dwarf_numbers.specs.Units.{unit_of, IsUnitWith}
-use Rattle.code_ranges.specs.Aranges.{IsFirstTuple, aranges_of}
-use Rattle.code_ranges.specs.declared.arange.Arange.{Arange}
 use Rattle.debug_entries.specs.Entries.{EntryRecord}
 use Rattle.line_programs.specs.Paths.{PathRecord}
 use Rattle.line_programs.specs.declared.registers.Row.{Row}
@@ -18,9 +16,10 @@ use Rattle.source_frames.specs.DebugUnits.{UnitRecord, UnitEntryRecord, unit_of_
 use Rattle.source_frames.specs.Frames.{FrameRecord, IsFrame, AreFramesFrom, AreFramesOfChain, place_of_row, place_of_call}
 use Rattle.source_frames.specs.Names.{linkage_name, origin_place, text_in, IsOrigin, IsNameWithin}
 use Rattle.source_frames.specs.Scopes.{ScopeRecord, IsFirst, IsChainWithin, scopes_of}
-use Rattle.source_frames.specs.UnitAddresses.{IsUnitOf, read_unit, place_by_tuple, place_by_ranges}
+use Rattle.source_frames.specs.UnitAddresses.{read_unit}
 use Rattle.source_frames.specs.UnitLines.{LinesRecord, lines_of}
 use Rattle.source_frames.specs.declared.frame.Place.{Place}
+use Rattle.source_frames.proofs.UnitAddressLemmas.{one_place}
 
 -- of two places one is first, or they are one
 order : (a b : ℕ) → (a < b) ⊎ ((b < a) ⊎ (a ≡ b))
@@ -83,22 +82,6 @@ one_unit_with section offset (Some x) (Some y) p q = elim (order x.0 y.0) [
         ap with_place same ∙ ap with_unit unit
   ]
 ]
-
-one_tuple : (tuples : List Arange) (a : ℕ) (one other : Option Arange) → IsFirstTuple tuples a one → IsFirstTuple tuples a other → one ≡ other
-one_tuple tuples a None None p q = refl
-one_tuple tuples a None (Some t) p q = absurd (p q.0 t q.1 q.2)
-one_tuple tuples a (Some t) None p q = absurd (q p.0 t p.1 p.2)
-one_tuple tuples a (Some t) (Some u) p q = elim (order p.0 q.0) [
-  | inl less ↦ absurd (q.3 p.0 t less p.1 p.2)
-  | inr more ↦ elim more [
-    | inl less ↦ absurd (p.3 q.0 u less q.1 q.2)
-    | inr same ↦ sym p.1 ∙ ap (slice_get tuples) same ∙ q.1
-  ]
-]
-
-one_place : (s : DebugSectionsRecord) (a : ℕ) (one other : Option ℕ) → IsUnitOf s a one → IsUnitOf s a other → one ≡ other
-one_place s a one other p q =
-    p.2 ∙ ap (λ (t : Option Arange). option_or (place_by_tuple s t) (place_by_ranges s a)) (one_tuple (aranges_of s.debug_aranges) a p.0 q.0 p.1 q.1) ∙ sym q.2
 
 -- one name
 one_entry_at : (s : DebugSectionsRecord) (place : ℕ) (one other : Option UnitEntryRecord) → IsEntryAt s place one → IsEntryAt s place other → one ≡ other

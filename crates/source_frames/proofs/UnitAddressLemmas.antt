@@ -9,7 +9,8 @@ use Rattle.dwarf_numbers.proofs.SequenceLemmas.{placed_missing, placed_some}
 use Rattle.dwarf_numbers.proofs.UnitLemmas.{unit_shortens}
 use Rattle.code_ranges.specs.Lists.{in_ranges}
 use Rattle.source_frames.specs.DebugSections.{DebugSectionsRecord}
-use Rattle.source_frames.specs.UnitAddresses.{own_ranges}
+use Rattle.source_frames.specs.UnitAddresses.{IsUnitOf, own_ranges, place_by_ranges, place_by_tuple}
+use Rattle.code_ranges.proofs.TupleLemmas.{one_first_tuple}
 
 -- of those from some bytes on
 abbrev pub place_from : DebugSectionsRecord → ℕ → ℕ → List ℕ → Option ℕ
@@ -51,3 +52,10 @@ joined (Some p) by_ranges before after false placed waits only found others = ot
 pub both_said : {T E : Type 0} (r : Result T E) (P Q R : T → Type 0) → ((x : T) → P x → Q x → R x) → IfOk r P → IfOk r Q → IfOk r R
 both_said (Ok x) P Q R f p q = f x p q
 both_said (Err e) P Q R f p q = tt
+
+-- an address has at most one place
+pub one_place : (sections : DebugSectionsRecord) (a : ℕ) (one other : Option ℕ) → IsUnitOf sections a one → IsUnitOf sections a other → one ≡ other
+one_place sections a one other h k =
+    h.2
+    ∙ ap (λ t. option_or (place_by_tuple sections t) (place_by_ranges sections a)) (one_first_tuple _ a h.0 k.0 h.1 k.1)
+    ∙ sym k.2

@@ -1,9 +1,16 @@
 //! What the definitions say of each other.
 
-ghost use Rattle.std.specs.Prelude.{[], ◌≡◌, ℕ, List};
+ghost use Rattle.std.specs.Prelude.{[], ◌≡◌, ℕ, List, Option};
 ghost use Rattle.source_frames.specs.AddressFrames.{AreFramesOf};
-ghost use Rattle.source_frames.specs.DebugSections.{debug_sections};
+ghost use Rattle.source_frames.specs.DebugSections.{DebugSectionsRecord, debug_sections};
 ghost use Rattle.source_frames.specs.Frames.{FrameRecord};
+ghost use Rattle.source_frames.specs.UnitAddresses.{IsUnitOf};
+
+/// An address has at most one unit.
+pub fn one_unit()
+    ensures { (sections : DebugSectionsRecord) (address : ℕ) (one other : Option ℕ) →
+        IsUnitOf sections address one → IsUnitOf sections address other → one ≡ other }
+{}
 
 /// An address has one list of frames.
 pub fn one_list_of_frames()

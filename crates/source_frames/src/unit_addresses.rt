@@ -1,6 +1,7 @@
 //! The units of many addresses.
 
-ghost use Rattle.std.specs.Prelude.{◌≡◌, ◌≤◌, ◌==◌, ◌&&◌, ◌||◌, ℕ, IfOk, IfSome, length, OnOk, None, true, false, if◌then◌else◌};
+ghost use Rattle.std.specs.Prelude.{◌≡◌, ◌≤◌, ◌==◌, ◌&&◌, ◌||◌, ℕ, IfOk, IfSome, OnOk, None, length, true, false};
+ghost use Rattle.std.specs.Prelude.{if◌then◌else◌};
 ghost use Rattle.std.specs.Option.{is_none, option_map, option_or};
 ghost use Rattle.std.specs.Ordering.{nat_cmp};
 ghost use Rattle.std.specs.BTreeMap as tree_map;
@@ -27,7 +28,8 @@ fn add_address(
     place: Option<u64>,
 ) -> Result<(), NoMemory>
     ensures places { OnOk result ((a : ℕ) → tree_map.get nat_cmp places.new a
-        ≡ (if a == address then option_or place (tree_map.get nat_cmp places.old a) else tree_map.get nat_cmp places.old a)) }
+        ≡ (if a == address then option_or place (tree_map.get nat_cmp places.old a)
+        else tree_map.get nat_cmp places.old a)) }
     ensures pending { OnOk result ((a : ℕ) → tree_set.contains nat_cmp pending.new a
         ≡ ((a == address && is_none place) || tree_set.contains nat_cmp pending.old a)) }
 {
@@ -68,7 +70,8 @@ impl<'a> DebugInfo<'a> {
         tuples: &BTreeMap<u64, Arange, Heap>,
         addresses: &[u64],
     ) -> Result<(BTreeMap<u64, u64, Heap>, BTreeSet<u64, Heap>), NoMemory>
-        ensures { IfOk result (λ x. ArePlacesByTuples (sections_view self.now.sections) tuples.now addresses.now x.0 x.1) }
+        ensures { IfOk result (λ x.
+            ArePlacesByTuples (sections_view self.now.sections) tuples.now addresses.now x.0 x.1) }
     {
         let mut places = BTreeMap::new(heap.clone()?);
         let mut pending = BTreeSet::new(heap);
@@ -120,7 +123,8 @@ impl<'a> DebugInfo<'a> {
         mut pending: BTreeSet<u64, Heap>,
     ) -> Result<(), NoMemory>
         requires named { AreNamed self.now.sections.debug_aranges.now named.now }
-        requires blank { (a : ℕ) → tree_set.contains nat_cmp pending a ≡ true → tree_map.get nat_cmp places.now a ≡ None }
+        requires blank { (a : ℕ) → tree_set.contains nat_cmp pending a ≡ true →
+            tree_map.get nat_cmp places.now a ≡ None }
         ensures found { OnOk result ((a : ℕ) → tree_set.contains nat_cmp pending a ≡ true →
             tree_map.get nat_cmp places.new a ≡ place_by_ranges (sections_view self.now.sections) a) }
         ensures others { OnOk result ((a : ℕ) → tree_set.contains nat_cmp pending a ≡ false →
@@ -143,7 +147,8 @@ impl<'a> DebugInfo<'a> {
         places: &mut BTreeMap<u64, u64, Heap>,
         pending: BTreeSet<u64, Heap>,
     ) -> Result<(), NoMemory>
-        requires { (a : ℕ) → tree_set.contains nat_cmp pending a ≡ true → tree_map.get nat_cmp places.now a ≡ None }
+        requires { (a : ℕ) → tree_set.contains nat_cmp pending a ≡ true →
+            tree_map.get nat_cmp places.now a ≡ None }
         ensures found { OnOk result ((a : ℕ) → tree_set.contains nat_cmp pending a ≡ true →
             tree_map.get nat_cmp places.new a ≡ place_by_ranges (sections_view self.now.sections) a) }
         ensures others { OnOk result ((a : ℕ) → tree_set.contains nat_cmp pending a ≡ false →

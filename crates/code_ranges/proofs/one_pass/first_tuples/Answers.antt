@@ -1,7 +1,5 @@
-use Rattle.std.proofs.Common.{◌≡◌, sym, subst, Option, slice_index}
-use Rattle.std.specs.Ordering.{nat_cmp}
-use Rattle.std.specs.BTreeMap as tree_map
-use Rattle.code_ranges.specs.Aranges.{AreFirstTuples, IsFirstTuple}
+use Rattle.std.proofs.Common.{sym, subst, Option, slice_index}
+use Rattle.code_ranges.specs.Aranges.{IsFirstTuple}
 use Rattle.code_ranges.specs.declared.arange.Arange.{Arange}
 use Rattle.code_ranges.proofs.TupleLemmas.{first_tuple-is, of_each}
 use Rattle.code_ranges.proofs.one_pass.first_tuples.Goals as goal
