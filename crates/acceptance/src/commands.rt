@@ -93,7 +93,7 @@ impl<'a> Desk<'a> {
         );
         let placed = out.target.placed();
         Ok(Left {
-            end: End::of_command(ended),
+            end: End::of_command(ended.result()),
             is_draft: placed.is_none(),
             out: placed.unwrap_or(out.draft.as_slice()).to_vec(self.alloc)?,
             report: report.as_slice().to_vec(self.alloc)?,

@@ -100,7 +100,8 @@ impl<'a, R: Files + AllocGlobal> Folder<'a, R> {
         let mut report = StrictSink::new(Heap::new(self.rt.alloc())?, most);
         let mut errors = StrictSink::new(Heap::new(self.rt.alloc())?, usize::MAX);
         let mut files = SystemFiles::new(self.rt.alloc(), self.rt, self.process);
-        let status = run(words, &mut files, &mut report, &mut errors);
+        let mut ended = None;
+        let status = run(words, &mut files, &mut report, &mut errors, &mut ended);
         tell_report(report.as_slice(), told)?;
         self.tell_said(errors.as_slice(), told)?;
         Ok(writeln!(told, "  status {status}")?)

@@ -48,6 +48,7 @@ told_as calls line report was noted is told notes same alike = record {
   removed = is.removed;
   untouched = is.untouched;
   told_is = same ∙ is.told_is;
+  made = is.made;
 }
 
 module _ {S D T V : Type 0} (items : V → List Note) (calls : Calls S D T) (line : Line) where

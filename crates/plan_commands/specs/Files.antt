@@ -65,7 +65,7 @@ IsOutcome out (Err OutOfMemory) = IsNotPut out (Err OutOfMemory)
 -- may be opened, the inputs that were found to be other files than OUT's, the one that was found to be OUT's own, the
 -- calls for OUT, and why it was not begun or not put in place, if it was not. What is told of an input stands first,
 -- with the paths that were opened for it; then what is known of OUT's draft and how often it failed, and of what was
--- put in place.
+-- put in place. How the line ended is a value that `execute_on` made, if there is one.
 pub record Calls (S D T : Type 0) : Type 0 where
   pub told : Told S
   pub held : D → Option (List ℕ)
@@ -78,13 +78,14 @@ pub record Calls (S D T : Type 0) : Type 0 where
   pub same : List Text
   pub called : List FileCall
   pub fault : Option OutFault
+  pub ended : Option (Result Status CommandFault)
 
 -- the calls between these two states of the files
 abbrev pub calls_of : {F T E S D P : Type 0} {reads : Reads T} {writes : Writes T} {seeks : Seeks T} {lists : Reads E}
     → Told S → (D → Option (List ℕ)) → (D → ℕ) → (P → Option (List ℕ)) → (P → ℕ)
     → SystemFiles F T E reads writes seeks lists
-    → SystemFiles F T E reads writes seeks lists → Calls S D P
-calls_of told held draft_failures placed place_failures old new = record {
+    → SystemFiles F T E reads writes seeks lists → Option (Result Status CommandFault) → Calls S D P
+calls_of told held draft_failures placed place_failures old new ended = record {
   told = told;
   held = held;
   draft_failures = draft_failures;
@@ -96,6 +97,7 @@ calls_of told held draft_failures placed place_failures old new = record {
   same = new.same.entries;
   called = placing_calls new.out.target.placed ++ new.out.draft.calls.entries;
   fault = fault_of (stage_of new.out.draft.state);
+  ended = ended;
 }
 
 -- OUT in the command, between these two states
@@ -133,6 +135,7 @@ pub record IsCarriedOut {S D T : Type 0} (calls : Calls S D T) (line : Line) (re
       → ∥ IsRemoved path calls.called ∥₁ × (bytes_in calls.called ≡ not_put.bytes)
   pub untouched : IsKept (known_of (outs_in calls begun done)) → calls.called ≡ []
   pub told_is : told ≡ command_fault_of calls.fault ended
+  pub made : calls.ended ≡ Some ended
 
 -- There was no memory to begin the command: nothing was called for OUT, and nothing is told.
 pub record IsUnbegun {S D T : Type 0} (calls : Calls S D T) (line : Line) (report : Writer)

@@ -6,3 +6,4 @@ pub mod Said
 pub mod Ends
 pub mod Numbers
 pub mod Hints
+pub mod Ended

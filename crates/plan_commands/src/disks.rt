@@ -18,6 +18,23 @@ use command_ends::{CommandFault, Output, Status, Target};
 use command_line::Line;
 use memory::Heap;
 
+/// How a line ended that was carried out. [`execute_on`] alone makes one.
+#[derive(Drop)]
+pub struct Ended {
+    result: Result<Status, CommandFault>,
+}
+
+impl Ended {
+    ghost use Rattle.std.specs.Prelude.{◌≡◌};
+
+    /// What is told of it.
+    pub fn result(&self) -> Result<Status, CommandFault>
+        ensures { result ≡ self.now.result }
+    {
+        self.result
+    }
+}
+
 /// Carries out the plan of a line over inputs with its paths, in the order of the words. Each is opened with the first call for its
 /// bytes, so where it cannot be opened its command is refused as where it cannot be read, and that is told as what it
 /// is. What the command notes is added to `notes`.
@@ -29,13 +46,15 @@ pub fn execute_on<A: Archive + Drop, L: Archive + Drop, D: Disk, T: Target, P: S
     notes: &mut Vec<Note, Heap>,
     out: &mut Output<T::Draft, T>,
     report: &mut P,
-) -> Result<Status, CommandFault>
+) -> Ended
     requires inputs { AreWaiting told (inputs_of (line_view line.now)) inputs.old }
     requires plan { IsPlanOf plan.now (line_view line.now) }
     ensures { Carried told (line_view line.now) plan.now inputs.old inputs.new
         (outs T.Draft.held T.Draft.failures T.placed T.failures out.old out.new)
-        (writer P.held P.failures report.old report.new) result notes.old.items notes.new.items }
+        (writer P.held P.failures report.old report.new) result.result notes.old.items notes.new.items }
 {
     let ended = execute::<A, L, _, _, _>(heap, plan, inputs, notes, out, report);
-    blamed(line, inputs, ended)
+    Ended {
+        result: blamed(line, inputs, ended),
+    }
 }

@@ -10,10 +10,11 @@ ghost use Rattle.archive_files.specs.Placing.{IsPath};
 ghost use Rattle.archive_files.specs.Turns.{AreFirstAsked, AreWaiting};
 ghost use Rattle.command_line.specs.Lines.{inputs_of, out_of};
 ghost use Rattle.command_line.specs.LineView.{line_view};
+ghost use Rattle.plan_commands.specs.Ended.{ended_in};
 ghost use Rattle.plan_commands.specs.Files.{IsDone, calls_of, command_fault_of, out_failure};
 ghost use Rattle.plan_commands.specs.Plans.{IsPlanOf};
 
-use crate::execute_on;
+use crate::disks::{Ended, execute_on};
 use crate::hints::Seen;
 use crate::plans::Plan;
 use archive_files::{
@@ -110,23 +111,25 @@ fn told_with(
 
 /// Carries out the plan of a line over files of the system, whose report goes to `report`. Each input is opened at its turn, and
 /// closed at its end; OUT's draft is created with its first bytes, put in place when it is whole, and removed where it
-/// was not. No line without OUT has any. What was seen of the file that it failed at is in `seen`, and what a command
-/// that ended well notes is handed back.
+/// was not. No line without OUT has any. What was seen of the file that it failed at is in `seen`, how it ended in
+/// `ended`, and what a command that ended well notes is handed back.
 pub fn execute<'f, F: Files, P: Sink>(
     files: &mut SystemFiles<'f, F>,
     line: &Line,
     plan: &Plan,
     report: &mut P,
     seen: &mut Seen,
+    ended: &mut Option<Ended>,
 ) -> Result<(Status, Vec<Note, Heap>), Failure>
     requires files { AreFresh files.old }
     requires plan { IsPlanOf plan.now (line_view line.now) }
+    requires none { ended.old ≡ None }
     ensures { let calls = calls_of
         (told_by ⟦<SystemDisk<'f, F> as Disk>⟧ ⟦<OpenedFile<BufReader<F::File>> as Source>⟧
         ⟦<PlacedFile<F::File> as Placed>⟧)
         ⟦<OutFile<'f, F> as Sink>⟧.held
         ⟦<OutFile<'f, F> as Sink>⟧.failures ⟦<OutPath<'f, F> as Target>⟧.placed
-        ⟦<OutPath<'f, F> as Target>⟧.failures files.old files.new in
+        ⟦<OutPath<'f, F> as Target>⟧.failures files.old files.new (ended_in ended.new) in
         let told = writer P.held P.failures report.old report.new in
         MatchResult result
         (λ both. IsDone calls (line_view line.now) told (Ok both.0) both.1.items)
@@ -136,7 +139,7 @@ pub fn execute<'f, F: Files, P: Sink>(
     let mut notes = Vec::new(heap.clone()?);
     begin(files, line, plan.replaces())?;
     let mut inputs = inputs_for(files, line)?;
-    let ended = execute_on::<PlainArchive, IndexedArchive, _, _, _>(
+    let made = execute_on::<PlainArchive, IndexedArchive, _, _, _>(
         heap,
         &mut inputs,
         line,
@@ -146,6 +149,8 @@ pub fn execute<'f, F: Files, P: Sink>(
         report,
     );
     files.out.draft.discard();
-    *seen = Seen::by(&ended, line, &inputs, &files.out.draft);
-    told_with(ended, notes, files.out.draft.fault())
+    let result = made.result();
+    *seen = Seen::by(&result, line, &inputs, &files.out.draft);
+    *ended = Some(made);
+    told_with(result, notes, files.out.draft.fault())
 }

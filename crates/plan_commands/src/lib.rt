@@ -28,7 +28,7 @@ mod plans;
 mod runs;
 mod said;
 
-pub use disks::execute_on;
+pub use disks::{Ended, execute_on};
 pub use plans::Plan;
 pub use runs::run;
 pub use said::say_report;

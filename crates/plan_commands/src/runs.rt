@@ -1,16 +1,18 @@
 //! The program over its words, the files of the system, its report and standard error.
 
-ghost use Rattle.std.specs.Prelude.{◌≡◌, ◌≢◌, Err, MatchResult, Ok, map, string_bytes};
+ghost use Rattle.std.specs.Prelude.{◌≡◌, ◌≢◌, Err, MatchResult, None, Ok, map, string_bytes};
 ghost use Rattle.std.specs.IoError.{error_kind};
 ghost use Rattle.command_ends.specs.Outputs.{writer};
 ghost use Rattle.archive_files.specs.AtTurns.{told_by};
 ghost use Rattle.archive_files.specs.Fresh.{AreFresh};
 ghost use Rattle.command_line.specs.LineView.{line_view};
+ghost use Rattle.plan_commands.specs.Ended.{ended_in};
 ghost use Rattle.plan_commands.specs.Files.{calls_of};
 ghost use Rattle.command_ends.specs.Statuses.{status_of};
 ghost use Rattle.plan_commands.specs.Ends.{EndsLine, EndsWords, IsIdle, IsUnreadable, WantsMemory};
 ghost use Rattle.plan_commands.specs.Said.{SaysFailure, SaysNotes, behind_error, reason_in, without_line_feed};
 
+use crate::disks::Ended;
 use crate::files::execute;
 use crate::hints::{Seen, help_with};
 use crate::plans::Plan;
@@ -37,20 +39,22 @@ const OUT_OF_MEMORY: u8 = 4;
 
 /// Carries out what the words of the command line ask for over these files, and gives the exit status. The report, help
 /// and the version go to `report`; what it notes goes to `errors`, a line each, or why it failed, in one line, and what
-/// helps a person in a second one.
+/// helps a person in a second one. How a line ended that was carried out is in `ended`.
 pub fn run<'f, F: Files, P: Sink, E: Sink>(
     words: io::Result<Vec<String>>,
     files: &mut SystemFiles<'f, F>,
     report: &mut P,
     errors: &mut E,
+    ended: &mut Option<Ended>,
 ) -> u8
-    requires { AreFresh files.old }
+    requires files { AreFresh files.old }
+    requires none { ended.old ≡ None }
     ensures { let calls = calls_of
         (told_by ⟦<SystemDisk<'f, F> as Disk>⟧ ⟦<OpenedFile<BufReader<F::File>> as Source>⟧
         ⟦<PlacedFile<F::File> as Placed>⟧)
         ⟦<OutFile<'f, F> as Sink>⟧.held
         ⟦<OutFile<'f, F> as Sink>⟧.failures ⟦<OutPath<'f, F> as Target>⟧.placed
-        ⟦<OutPath<'f, F> as Target>⟧.failures files.old files.new in
+        ⟦<OutPath<'f, F> as Target>⟧.failures files.old files.new (ended_in ended.new) in
         let told = writer P.held P.failures report.old report.new in
         let said = writer E.held E.failures errors.old errors.new in
         MatchResult words (λ read. EndsWords calls (map string_bytes read.items) told said result)
@@ -59,7 +63,7 @@ pub fn run<'f, F: Files, P: Sink, E: Sink>(
         × (error_kind error ≢ ErrorKind.OutOfMemory → IsUnreadable told said result)) }
 {
     match words {
-        Ok(words) => run_words(&words, files, report, errors),
+        Ok(words) => run_words(&words, files, report, errors, ended),
         Err(error) => refuse_words(files.alloc(), &error, report, errors),
     }
 }
@@ -69,14 +73,16 @@ fn run_words<'f, F: Files, P: Sink, E: Sink>(
     files: &mut SystemFiles<'f, F>,
     report: &mut P,
     errors: &mut E,
+    ended: &mut Option<Ended>,
 ) -> u8
-    requires { AreFresh files.old }
+    requires files { AreFresh files.old }
+    requires none { ended.old ≡ None }
     ensures { let calls = calls_of
         (told_by ⟦<SystemDisk<'f, F> as Disk>⟧ ⟦<OpenedFile<BufReader<F::File>> as Source>⟧
         ⟦<PlacedFile<F::File> as Placed>⟧)
         ⟦<OutFile<'f, F> as Sink>⟧.held
         ⟦<OutFile<'f, F> as Sink>⟧.failures ⟦<OutPath<'f, F> as Target>⟧.placed
-        ⟦<OutPath<'f, F> as Target>⟧.failures files.old files.new in
+        ⟦<OutPath<'f, F> as Target>⟧.failures files.old files.new (ended_in ended.new) in
         EndsWords calls (map string_bytes words.now) (writer P.held P.failures report.old report.new)
         (writer E.held E.failures errors.old errors.new) result }
 {
@@ -84,8 +90,8 @@ fn run_words<'f, F: Files, P: Sink, E: Sink>(
     match read_line(alloc, words) {
         Ok(line) => {
             let mut seen = Seen::NOTHING;
-            let ended = execute(files, &line, &Plan::of(&line), report, &mut seen);
-            end(alloc, &line, ended, seen, errors)
+            let told = execute(files, &line, &Plan::of(&line), report, &mut seen, ended);
+            end(alloc, &line, told, seen, errors)
         }
         Err(fault) => end_without_line(alloc, fault, report, errors),
     }

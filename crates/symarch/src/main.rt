@@ -22,7 +22,8 @@ fn main(rt: HostRuntime) -> ExitCode {
     let mut files = SystemFiles::new(rt.alloc(), &rt, process::id(rt.process()));
     let mut report = Writing::new(io::writer(&rt));
     let mut errors = Writing::new(rt.stderr());
-    let status = run(words(&rt), &mut files, &mut report, &mut errors);
+    let mut ended = None;
+    let status = run(words(&rt), &mut files, &mut report, &mut errors, &mut ended);
     if status == FAILED {
         say_report(rt.alloc(), report.reason(), &mut errors);
     }

@@ -72,7 +72,7 @@ returns g c =
     let uncalled : before.draft.calls.entries ≡ [] = ap (λ out. out.draft.calls.entries) same ∙ c.begin.ensures.calls in
     let unfailed : before.draft.failures ≡ 0 = ap (λ out. out.draft.failures) same ∙ c.begin.ensures.unfailed in
     let unplaced : before.target.placed ≡ None = ap (λ out. out.target.placed) same ∙ c.begin.ensures.placed in
-    let done = c.execute_on-ended.new.out in
+    let done = c.execute_on-made.new.out in
     let last = c.discard.new.self in
     let path = option_map string_bytes before.draft.path in
     let rule = before.draft.replaces in
@@ -97,14 +97,14 @@ returns g c =
     ap (λ calls. calls ++ last.calls.entries) (nothing_there done.target.placed (kept ∙ none_before))
     ∙ last.first (nothing_taken _ _ (c.discard.ensures.bytes ∙ none)
     (c.discard.ensures.failures ∙ as_often ∙ unfailed)) in
-    let noted = c.execute_on-ended.new.notes.items in
-    let carried = rw c.new-notes.ensures.items at c.execute_on-ended.ensures in
-    told_done (λ notes. notes.items) _ _ _ c.fault.result c.execute_on-ended.result noted c.told_with.result c.told_with.ensures (record {
+    let noted = c.execute_on-made.new.notes.items in
+    let carried = rw c.new-notes.ensures.items at c.execute_on-made.ensures in
+    told_done (λ notes. notes.items) _ _ _ c.fault.result c.execute_on-made.result.result noted c.told_with.result c.told_with.ensures (record {
       path = path;
       replaces = rule;
       begun = before;
       done = done;
-      ended = c.execute_on-ended.result;
+      ended = c.execute_on-made.result.result;
       path_is = rw (c.inputs_for.ensures.others.0, c.inputs_for.ensures.others.1, same) c.in_ok-begin.ensures.path;
       replaces_is = λ some.
           ap (λ out. out.draft.replaces) same ∙ c.in_ok-begin.ensures.rule some ∙ c.replaces.ensures;
@@ -114,11 +114,11 @@ returns g c =
       asked = c.in_ok-inputs.ensures.asked
           ∙ ap (λ asked. asked ++ inputs_of (line_view c.args.line.now)) c.begin.ensures.asked;
       before = c.deref_mut.result.now;
-      behind = c.execute_on-ended.new.inputs;
+      behind = c.execute_on-made.new.inputs;
       noted = noted;
       plan = c.args.plan.now;
       carried = carried;
-      notes_are = on_any (command_fault_of c.fault.result c.execute_on-ended.result) refl;
+      notes_are = on_any (command_fault_of c.fault.result c.execute_on-made.result.result) refl;
       outcome = carried_outcome _ _ _ _ _ _ _ _ _ _ carried;
       placed = λ text is.
           let there = placed_there path rule done.target.placed text
@@ -144,5 +144,6 @@ returns g c =
           );
       untouched = λ kept.
           let is = took [] kept.0.0 in none_called is.1 kept.0.1 kept.1.0;
-      told_is = ap (λ fault. command_fault_of fault c.execute_on-ended.result) c.fault.ensures;
+      told_is = ap (λ fault. command_fault_of fault c.execute_on-made.result.result) c.fault.ensures;
+      made = refl;
     })
