@@ -1,4 +1,6 @@
 use Rattle.std.proofs.Common.{append_assoc}
+use Rattle.std.specs.Prelude.{codes}
+use Rattle.report_text.specs.Answers.{escaped}
 use Rattle.archive_updates.specs.Notes.{note_text}
 use Rattle.archive_updates.proofs.notes.NoteDisplay.fmt.Goals as goal
 
@@ -8,4 +10,7 @@ returns-in-Retired-clause-writes g c = rw c.in-Retired.is (simp append_assoc c.w
 
 pub returns-in-Underscored-clause-writes : goal.returns-in-Underscored-clause-writes
 unfolding note_text
-returns-in-Underscored-clause-writes g c = rw c.in-Underscored.is (rw c.deref.ensures.value at (simp append_assoc c.write-in-Underscored.ensures.writes))
+returns-in-Underscored-clause-writes g c =
+    let name = escaped c.deref.result.now in
+    rw (c.in-Underscored.is, ← c.deref.ensures.value, append_assoc name (codes ", but there is _") name)
+    c.write-in-Underscored.ensures.writes
