@@ -269,6 +269,22 @@ class Folder(RoomCase):
         self.east.exchange()
         self.assertFalse(half.exists())
 
+    def test_half_a_question_is_removed_after_a_day(self) -> None:
+        """So are half of the names of builds. The site asks again."""
+        until_same([self.east, self.west], archive([image(1), image(2)]))
+        halves = [path for path in self.east.folder.iterdir() if path.name.startswith("east.asks.")]
+        halves.append(self.east.folder / f"east.builds.20991231T000000Z.{'1' * 64}.txt")
+        for half in halves:
+            half.write_bytes(b"half")
+        for is_there in (True, False):
+            _, errors = self.west.exchange()
+            same("last line", errors[-1], "symarch-keep: 0 added, 0 retired, 0 answered; 2 not whole, 0 refused")
+            same("halves", [half.exists() for half in halves], [is_there] * 2)
+            for half in halves if is_there else []:
+                os.utime(half, (0, 0))
+        self.west.add(image(3))
+        until_same([self.east, self.west], archive([image(1), image(2), image(3)]))
+
     def test_names_and_folders(self) -> None:
         for name in ("East", "a.b", "", "-a", "a" * 33, "a/b"):
             self.room.call("exchange", "--", self.east.archive, self.east.folder, name, status=3)

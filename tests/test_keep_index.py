@@ -266,7 +266,8 @@ class PutByHand(IndexCase):
                 # As by `cp -p` and `mv` of one that is older.
                 os.utime(self.room.file("older.sym", after), (0, 0))
                 os.replace(self.folder / "older.sym", self.room.archive)
-            same("status", self.room.call("status", self.room.archive)[0][0], "images 3")
+            stated, _ = self.room.call("status", self.room.archive, status=2)
+            same("status", (stated[0], sorted(stated[-2:])), ("images 3", lost))
             same("lines", sorted(self.check(2)[0]), lost)
             _, errors = self.room.call(word, self.room.archive, *more, status=2)
             self.is_told(lost, errors)

@@ -8,7 +8,7 @@ import shutil
 import signal
 import subprocess
 import time
-from typing import Callable, Dict, List, Optional, Tuple
+from typing import Callable, Dict, List, Optional, Sequence, Tuple
 
 from .support.cases import Without, digest_of, is_done, pieces_in, powerless_over
 from .support.kills import Left, interrupted
@@ -255,6 +255,71 @@ class Check(LossCase):
         self.assertEqual(self.word("check", before=before)[0], [])
 
 
+class Stated(LossCase):
+    """`status` says what is lost or damaged, as far as no slice has to be read, and changes nothing."""
+
+    def stated(self, lost: List[str], errors: Sequence[str] = (), status: int = 2) -> None:
+        before = state_of(self.folder)
+        out, said = self.word("status", status=status)
+        self.assertEqual([line for line in out if line.startswith("lost")], [f"lost {words}" for words in lost])
+        self.assertEqual(said, [f"symarch-keep: {line}" for line in errors])
+        self.assertEqual(state_of(self.folder), before)
+
+    def test_an_older_archive(self) -> None:
+        self.room.archive.write_bytes(archive(self.made[2:], retired=self.retired[1:]))
+        retired = f"retired {words_of(self.retired[0])}"
+        lost = [*sorted(map(words_of, self.made[:2])), retired]
+        self.stated(lost)
+        # What came by hand is no fault, and what was retired is not lost.
+        self.room.archive.write_bytes(archive([*self.made[1:], image(30)], retired=[*self.retired, self.made[0]]))
+        self.stated([], status=0)
+
+    def test_an_archive_of_today_that_vanished(self) -> None:
+        self.word("add", "new")
+        today_of(self.room.archive).unlink()
+        self.stated([words_of(image(9))])
+        self.word("fold", status=2)
+        self.stated([words_of(image(9))])
+
+    def test_several_slices_of_one_head(self) -> None:
+        """The bytes of these are read."""
+        both = [image(40, more=b"a"), image(40, more=b"b")]
+        for there, lost in (both, both[::-1]):
+            self.room.begin_anew(archive(both))
+            self.word("fold")
+            self.room.archive.write_bytes(archive([there]))
+            self.stated([words_of(lost)])
+
+    def test_what_the_site_asked_with(self) -> None:
+        """As after a restore of an archive with its index."""
+        (self.folder / "shared").mkdir()
+        files = [self.room.archive, today_of(self.room.archive)]
+        files += [self.beside(ending) for ending in ("idx", "idx.sum", "today.idx", "today.idx.sum")]
+        backup = {path: path.read_bytes() for path in files}
+        self.word("add", "new")
+        self.word("exchange", "shared", "east")
+        for path, data in backup.items():
+            path.write_bytes(data)
+        self.stated([words_of(image(9))])
+        self.assertIn(f" accepted lost {words_of(image(9))}\n", self.accepted())
+        self.stated([], status=0)
+        self.word("exchange", "shared", "east")
+
+    def accepted(self) -> str:
+        self.word("status", "--accept")
+        return self.beside("log").read_text()
+
+    def test_an_index_that_is_damaged(self) -> None:
+        index, more = self.beside("idx"), "`symarch-keep check` says more"
+        change(index, 100)
+        self.stated([], [f"{index} is not as symarch-keep wrote it; {more}"])
+        index.unlink()
+        self.stated([], [f"{index} is lost; {more}"])
+        self.begin()
+        change(self.beside("idx.sum"), 30)
+        self.stated([], [f"{self.beside('idx.sum')}: is damaged"])
+
+
 class Lost(LossCase):
     """What a site had and lacks is noted, looked for, and said, until it is back or is taken as lost."""
 
@@ -461,6 +526,13 @@ class Names(LossCase):
         self.west.exchange()
         self.east.exchange()
         until_same([self.east, self.west], archive([image(1), image(2)]))
+
+    def test_a_first_call_that_is_refused_makes_nothing(self) -> None:
+        self.east.exchange()
+        self.other.archive = self.folder / "first.sym"
+        self.refused(self.other)
+        self.room.call("exchange", self.other.archive, "nowhere", "north", status=4)
+        self.assertEqual(list(self.folder.glob("first.sym*")), [])
 
     def test_the_other_one_is_refused_then(self) -> None:
         self.east.exchange()

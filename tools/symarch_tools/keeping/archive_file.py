@@ -126,7 +126,7 @@ class ArchiveFile:
         is_that = note_of(index.text, self.path) in self.notes() and time_of(self.path) <= time_of(self.beside(INDEX))
         return is_that or self.heads() == index.heads()
 
-    def recall(self, screen: Screen) -> bool:
+    def recall(self, screen: Optional[Screen] = None) -> bool:
         """Takes what the last word left, and returns whether the file has that still."""
         self.notes(screen)
         self.index, is_same = self.known()

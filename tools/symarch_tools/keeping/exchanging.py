@@ -282,7 +282,8 @@ class Exchange:
             if question.site != self.folder.site:
                 data = self.folder.question(question)
                 if data is None:
-                    self.not_whole += 1
+                    # Its site puts it into the folder again.
+                    self.pass_over(question.name)
                     self.unsure.add(question.site)
                 elif question.site not in latest or question.time > latest[question.site][0].time:
                     latest[question.site] = (question, data)
@@ -355,13 +356,14 @@ class Exchange:
     # ---- what is done with
 
     def clear(self) -> None:
-        """Removes answers that were joined or are late, this site's files that are no longer right, and what a kill
-        left."""
+        """Removes answers that were joined or are late, what was not whole for a day, this site's files that are no
+        longer right, and what a kill left."""
         self.folder.remove_part()
         mine = [one.name for one in self.folder.questions if one.site == self.folder.site]
         mine += [one.name for one in self.folder.marks] + [*self.telling.own]
         own = (one for one in self.folder.answers if one.site == self.folder.site and one.to not in self.unsure)
-        for name in sorted(self.done.union(mine, (one.name for one in own)) - self.kept - self.telling.kept):
+        done = self.done.union(mine, self.telling.done, (one.name for one in own))
+        for name in sorted(done - self.kept - self.telling.kept):
             self.folder.remove(name)
 
     def say_what_is_lost(self) -> None:
@@ -402,16 +404,24 @@ def refuse_name(folder: SharedFolder, identity: Identity) -> None:
         raise Failed(f"{told}; choose another NAME, or take this one by --take-name if the other is gone")
 
 
+def met(archive: Archive, words: argparse.Namespace) -> Tuple[SharedFolder, Identity]:
+    """The folder, and who this site is there. Fails if it is another one."""
+    folder, identity = SharedFolder(os.fsencode(words.folder), words.name), Identity(archive)
+    if not words.take_name:
+        refuse_name(folder, identity)
+    return folder, identity
+
+
 def carry_out(words: argparse.Namespace) -> int:
     if not re.fullmatch(SITE, words.name):
         raise Failed(f"NAME is {shown(os.fsencode(words.name))}, and has other letters than a-z, 0-9, - and _", 3)
     screen = screen_of(words)
     program = Program()
     archive = Archive(os.fsencode(words.archive), is_made=True)
+    # Where the folder or the name is wrong nothing is made. Another call may have changed both since.
+    met(archive, words)
     archive.take_lock(screen)
-    folder, identity = SharedFolder(os.fsencode(words.folder), words.name), Identity(archive)
-    if not words.take_name:
-        refuse_name(folder, identity)
+    folder, identity = met(archive, words)
     exchange = Exchange(archive, folder, program, screen)
     with archive.room() as room:
         exchange.join(room)

@@ -11,17 +11,20 @@ class Lock:
     """The lock of an archive of a path."""
 
     def __init__(self, archive: bytes, writes: bool) -> None:
-        self.archive, self.how = archive, fcntl.LOCK_EX if writes else fcntl.LOCK_SH
-        self.descriptor = opened(archive + b".lock", writes)
+        self.archive, self.writes, self.how = archive, writes, fcntl.LOCK_EX if writes else fcntl.LOCK_SH
+        # Of the file, which is opened, and made, once the lock is wanted. Nobody removes it, since others may wait.
+        self.descriptor: Optional[int] = None
 
     def take(self, screen: Screen) -> None:
         """Waits until no other call has the lock."""
-        if self.descriptor is not None and not self.is_free():
+        if not self.is_free() and self.descriptor is not None:
             screen.line(f"waiting for another symarch-keep at {shown(self.archive)}")
             fcntl.flock(self.descriptor, self.how)
 
     def is_free(self) -> bool:
         """Whether nobody else has the lock. It is taken then."""
+        if self.descriptor is None:
+            self.descriptor = opened(self.archive + b".lock", self.writes)
         if self.descriptor is None:
             return False
         try:

@@ -12,12 +12,18 @@ one of its index it reads the heads of the slices, and few of their bytes.
   lost ...            UUID, ARCH and DIGEST of a slice that was there and is not, or the same after `retired`
   left PATH           what a kill left, which the next word that writes removes
 
+What is lost is seen by ARCHIVE.lost, by the indexes and by what this site asked with. In an archive that is not the one
+of its index a slice is there if one of its UUID, ARCH and length is. Not looked at are the bytes of slices, a file of
+which nothing is known, and FOLDER, which alone knows what was lost if all files beside ARCHIVE are older too: call
+`symarch-keep check` and `symarch-keep exchange` for these.
+
 What is lost `symarch-keep exchange` brings back, if another site has it. --accept takes as lost what no site has any
 more: it is not looked for then, and no word ends with 2 for it. Its lines are kept in ARCHIVE.log with the date.
 
 Status:
-  0    it is printed, and nothing is lost
-  2    something is lost, names of builds are damaged, or some line could not be printed or kept
+  0    it is printed, and nothing of what is looked at is lost or damaged
+  2    something is lost; an index, its sum, ARCHIVE.lost or names of builds are damaged; or some line could not be
+       printed or kept
   3    the words have another form
   4    ARCHIVE or ARCHIVE.today could not be read, or ARCHIVE.lost not be written
   126  there is no program"""
@@ -26,10 +32,11 @@ import collections
 import os
 from typing import Counter, Dict, List, NamedTuple, Sequence
 
-from .archive import ASKED, TODAY, Archive
-from .archive_file import NEXT_INDEX, ArchiveFile
+from .archive import TODAY, Archive
+from .archive_file import INDEX_SUM, NEXT_INDEX, ArchiveFile
 from .builds import NEXT_BUILDS
-from .contents import DIGEST, KEY, RETIREMENT, Content, Malformed, digest_in, record_size, records_in
+from .contents import DIGEST, KEY, RETIREMENT, Content, Malformed, digest_in, head_of, record_size, records_in
+from .exchanging import Asked
 from .indexes import HEAD, is_companion
 from .json_lines import Line, Members, path_members
 from .log import NEXT_LOG
@@ -53,13 +60,17 @@ def carry_out(words: argparse.Namespace) -> int:
     archive = Archive(os.fsencode(words.archive), writes=words.accept)
     if words.accept:
         archive.take_lock(screen)
-        archive.content(Program(), screen)
-        accept(archive, screen)
+        accept(archive, archive.content(Program(), screen), screen)
     else:
         archive.say_damaged_builds(screen)
-    numbers = numbers_of([record for file in archive.files if file.exists() for record in records_of(file, screen)])
+        if archive.lost.fault:
+            screen.fail(f"{shown(archive.lost.path)}: {archive.lost.fault}, so what is lost is not known")
+    # A word that writes meanwhile has what was asked before, and ARCHIVE has what ARCHIVE.today had before.
+    asked = Asked(archive)
+    seen = [see(file, screen) for file in (archive.today, archive.main)]
+    numbers = numbers_of([record for one in seen for record in one.records])
     numbers.update({"bytes": archive.main.size(), "today": archive.today.size()})
-    lost, sites, left = lost_lines(lost_of(archive, screen)), sites_of(archive), left_of(archive)
+    lost, sites, left = lost_lines(lost_of(archive, asked, seen)), sites_of(asked), left_of(archive)
     if screen.is_json:
         found = [site_members(note) for note in sites], [members_of_lost(line) for line in lost]
         lists = [*found, [path_members(path) for path in left]]
@@ -83,23 +94,13 @@ def members_of_lost(line: str) -> Members:
     return {name: members[name] for name in ("record", "uuid", "arch", "digest")}
 
 
-def accept(archive: Archive, screen: Screen) -> None:
-    """Takes what is lost as lost. Its lines are kept in the log."""
+def accept(archive: Archive, content: Content, screen: Screen) -> None:
+    """Takes as lost what an archive of a content lacks. Its lines are kept in the log."""
+    archive.lost.add(Asked(archive).lacking_in(content))
     lines = archive.lost.accept()
     archive.keep_lost()
     archive.log.note([f"accepted {line}" for line in lines], screen)
     screen.line(f"{shown(archive.path)}: {counted(lines)} are taken as lost")
-
-
-def lost_of(archive: Archive, screen: Screen) -> Content:
-    """What was noted as lost, and is not back."""
-    if archive.lost.fault:
-        screen.fail(f"{shown(archive.lost.path)}: {archive.lost.fault}, so what is lost is not known")
-    if not len(archive.lost.content):
-        return archive.lost.content
-    for file in archive.files:
-        file.recall(screen)
-    return archive.lost.content.beyond(archive.joined())
 
 
 class Record(NamedTuple):
@@ -123,14 +124,56 @@ class Record(NamedTuple):
             return self.key() + digest_in(file, self.at + HEAD, record_size(self.head) - HEAD)
 
 
-def records_of(archive_file: ArchiveFile, screen: Screen) -> List[Record]:
-    """The records of an archive file: those of its index, if that is of it."""
-    archive_file.notes(screen)
-    index, is_same = archive_file.known()
-    if index and is_same:
-        path = archive_file.path
-        return [Record(row.head(), bool(row.is_companion), path, row.at, row.entry[-DIGEST:]) for row in index.rows()]
-    return read(archive_file)
+class Seen(NamedTuple):
+    """An archive file: its records, and whether it has what the last word left."""
+
+    file: ArchiveFile
+    records: List[Record]
+    is_same: bool
+
+    def content(self, had: Content) -> Content:
+        """What it has of what the archive had."""
+        return self.file.content if self.is_same else found_in(self.records, had)
+
+
+def see(file: ArchiveFile, screen: Screen) -> Seen:
+    """The records of an archive file: those of its index, if that is of it. Says what is damaged beside it."""
+    is_same, index = file.recall(), file.index
+    if file.doubt:
+        screen.fail(f"{file.doubt}; `symarch-keep check` says more")
+    if file.has_damaged_sum():
+        screen.fail(f"{shown(file.beside(INDEX_SUM))}: is damaged")
+    if not index or not is_same:
+        return Seen(file, read(file) if file.exists() else [], is_same)
+    rows = ((row.head(), bool(row.is_companion), file.path, row.at, row.entry[-DIGEST:]) for row in index.rows())
+    return Seen(file, [Record(*row) for row in rows], is_same)
+
+
+def found_in(records: Sequence[Record], had: Content) -> Content:
+    """What records have of a content, by their heads. Those that may be several slices are read, and so are those of
+    one whose length nobody kept."""
+    entries: Dict[bytes, List[bytes]] = {}
+    for entry, length in had.held.items():
+        entries.setdefault(head_of(entry[:KEY], length), []).append(entry)
+    found = Content(one.head[1:] for one in records if one.head[:1] == RETIREMENT)
+    for one in records:
+        its, others = entries.get(one.head, []), entries.get(head_of(one.key(), 0), [])
+        if one.head[:1] != RETIREMENT and (its or others):
+            found.held[one.entry() if others or len(its) > 1 else its[0]] = record_size(one.head) - HEAD
+    return found
+
+
+def lost_of(archive: Archive, asked: Asked, seen: Sequence[Seen]) -> Content:
+    """What the archive had and lacks, but for what is taken as lost."""
+    if all(one.is_same for one in seen):
+        content = archive.joined()
+        had = archive.lost.content.joined(asked.lacking_in(content))
+    else:
+        had = archive.lost.content.joined(asked.content()).joined(archive.joined())
+        content = Content()
+        for one in seen:
+            content = content.joined(one.content(had))
+    return had.beyond(content).beyond(archive.lost.accepted)
 
 
 def read(archive_file: ArchiveFile) -> List[Record]:
@@ -169,10 +212,9 @@ def numbers_of(records: Sequence[Record]) -> Dict[str, int]:
     return {**counts, "conflicts": conflicts}
 
 
-def sites_of(archive: Archive) -> List[str]:
+def sites_of(asked: Asked) -> List[str]:
     """What `exchange` noted of each site."""
-    kept = archive.main.kept(ASKED)
-    return [note for note in kept.notes if note.startswith("site ")] if kept else []
+    return [note for note in asked.kept.notes if note.startswith("site ")] if asked.kept else []
 
 
 def left_of(archive: Archive) -> List[bytes]:

@@ -18,9 +18,11 @@ class Telling:
     def __init__(self, archive: Archive, folder: SharedFolder, screen: Screen) -> None:
         self.archive, self.folder, self.screen = archive, folder, screen
         self.own = {one.name for one in folder.builds if one.site == folder.site}
-        # The lines that are printed, the files of this site that stay, and how many of others are not whole.
+        # The lines that are printed, the files of this site that stay, those that are done with, and how many of others
+        # are not whole.
         self.lines: List[str] = []
         self.kept: Set[str] = set(self.own)
+        self.done: Set[str] = set()
         self.not_whole = 0
 
     def join(self) -> None:
@@ -48,6 +50,8 @@ class Telling:
                 self.screen.refuse(self.folder.at(one.name), f"has more than {MOST} bytes")
             else:
                 self.not_whole += 1
+                if self.folder.is_old(one.name):
+                    self.done.add(one.name)
         return {}
 
     def lines_in(self, one: BuildsFile, text: bytes) -> Days:
