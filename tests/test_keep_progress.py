@@ -57,9 +57,9 @@ class Shown(TerminalCase):
     is_side_by_side = True
     seconds = 20
 
-    def is_shown(self, stage: str, *words: Any, status: int = 0) -> None:
+    def is_shown(self, stage: str, *words: Any, status: int = 0, **more: Any) -> None:
         """Fails where no line matches, or something of a line is left."""
-        terminal, _ = self.shown(*words, status=status, columns=300)
+        terminal, _ = self.shown(*words, status=status, columns=300, **more)
         self.assertRegex("\n".join(terminal.stages()), stage)
         for line in terminal.lines():
             self.assertRegex(line, "^symarch-keep: ")
@@ -71,12 +71,16 @@ class Shown(TerminalCase):
         self.is_shown(line, "add", self.room.archive, "many")
         self.room.make_many(1, "more", bytes(100_000), 50)
         self.room.add("more")
-        self.is_shown(rf"(?m)^writing, [\d.]+ [kM]B of 1 MB, {LEFT}$", "fold", self.room.archive)
+        # A program that is looked at before it is done.
+        slow = self.room.program('"$symarch" "$@"\nstatus=$?\n[ "$1" = --version ] || sleep 0.5\nexit $status')
+        line = rf"(?m)^writing, [\d.]+ [kM]B of 1 MB, {LEFT}$"
+        self.is_shown(line, "fold", self.room.archive, environment=slow)
         self.is_shown(rf"(?m)^reading, [\d.]+ [kM]B of 1 MB, {LEFT}$", "check", self.room.archive)
         good = self.room.path / "good.sym"
         good.write_bytes(self.room.archive.read_bytes())
         change(self.room.archive, 500_000)
-        self.is_shown(rf"(?m)^writing: \d+ of 11 slices, .*, {LEFT}$", "repair", self.room.archive, good)
+        line = rf"(?m)^writing: \d+ of 11 slices, .*, {LEFT}$"
+        self.is_shown(line, "repair", self.room.archive, good, environment=slow)
 
     def test_exchange(self) -> None:
         self.room.make_many(10, more=bytes(100_000))
