@@ -5,11 +5,11 @@ ghost use Rattle.join_core.specs.Listing.{listing};
 ghost use Rattle.archive_core.specs.Record.{record_bytes, lent_bytes};
 ghost use Rattle.join_core.specs.Bound.{IsTowards};
 ghost use Rattle.archive_core.specs.Content.{Operations, IsContent, IsBelow, with_record, changes, joined};
-ghost use Rattle.archive_core.specs.Find.{IsFinds};
+ghost use Rattle.archive_core.specs.Find.{AreAnswering, IsFinds};
 ghost use Rattle.archive_core.specs.Lookup.{IsAnswer, IsConflict, answer_view};
 ghost use Rattle.archive_core.specs.Names.{IsNames, name_view};
 
-use crate::{Answer, FindRow, NameRow, Operation, Record, SliceKey, Where};
+use crate::{Answer, FindRow, NameRow, Operation, Record, Slice, SliceKey, Where};
 use join_core::Join;
 use memory::{Heap, NoMemory};
 use std::marker::Model;
@@ -66,6 +66,11 @@ pub trait Archive: Join<Content = Contents> {
     fn lookup(&self, key: &SliceKey, asked: Where) -> Result<Answer<'_>, NoMemory>
         ensures answer { IfOk result (λ answer. IsAnswer (Self.content self.now) key.now asked (answer_view answer)) }
         ensures memory { OnErr result (IsConflict (Self.content self.now) key.now) };
+
+    /// The answering slices of a key, in the order of their records. Refused for want of memory alone.
+    fn answering_slices(&self, key: &SliceKey) -> Result<Vec<&Slice, Heap>, NoMemory>
+        ensures { IfOk result (λ slices.
+            AreAnswering (Self.content self.now) key.now (map (λ slice. slice.now) slices.items)) };
 
     /// Where symbols of a name stand in live slices: a row for each, by key, digest and address, then by the number
     /// and the names of the section; symbols that are alike in all of these have one row. The name has no NUL at its

@@ -165,16 +165,12 @@ module _ (records behind : List (List ℕ)) (key : SliceKey) (held : Operations)
   }
 
   answers_as : AnswersAs key held whole
-  answers_as asked answer told = record {
-    slices = told.slices;
-    answering = record {
-      ascending = told.answering.ascending;
-      exactly = λ slice. (
-        λ h. answering_alike held whole live_in_whole live_in_held slice ((told.answering.exactly slice).0 h),
-        λ h. (told.answering.exactly slice).1 (answering_alike whole held live_in_held live_in_whole slice h),
-      );
-    };
-    answer_is = told.answer_is;
+  answers_as slices answering = record {
+    ascending = answering.ascending;
+    exactly = λ slice. (
+      λ h. answering_alike held whole live_in_whole live_in_held slice ((answering.exactly slice).0 h),
+      λ h. (answering.exactly slice).1 (answering_alike whole held live_in_held live_in_whole slice h),
+    );
   }
 
 -- ---- one question after another

@@ -1,13 +1,12 @@
 -- Questions under keys, which are answered key by key.
-use Rattle.std.specs.Prelude.{List, [], ◌∷◌, Option, Some, None}
+use Rattle.std.specs.Prelude.{ℕ, List, [], ◌∷◌, Option, Some, None}
 use Rattle.std.specs.Ordering.{nat_cmp}
 use Rattle.std.specs.Cmp.Lexicographic.{slice_cmp}
 use Rattle.std.specs.List.Sorted.{IsSortedByKey}
 use Rattle.archive_core.specs.declared.keys.SliceKey.{SliceKey}
-use Rattle.archive_core.specs.declared.lookup.Where.{Where}
 use Rattle.archive_core.specs.Key.{key_bytes}
 use Rattle.archive_core.specs.Content.{Operations}
-use Rattle.archive_core.specs.Lookup.{AnswerRecord, IsAnswer}
+use Rattle.archive_core.specs.Find.{AreAnswering}
 
 -- the keys stand in the order of their bytes, and may come several times
 abbrev pub AreInOrder : List SliceKey → Type 0
@@ -18,6 +17,6 @@ abbrev pub first_key : List SliceKey → Option SliceKey
 first_key [] = None
 first_key (key ∷ keys) = Some key
 
--- what the one content answers under the key the other one answers
+-- the slices that answer under the key in the one content answer in the other one
 abbrev pub AnswersAs : SliceKey → Operations → Operations → Type 0
-AnswersAs key o p = (asked : Where) (answer : AnswerRecord) → IsAnswer o key asked answer → IsAnswer p key asked answer
+AnswersAs key o p = (slices : List (List ℕ)) → AreAnswering o key slices → AreAnswering p key slices

@@ -41,6 +41,13 @@ impl<'a> AskedSlice<'a> {
         AskedSlice { slice }
     }
 
+    // The slice that is asked.
+    pub(crate) fn slice(&self) -> &'a Slice
+        ensures { result.now ≡ self.now }
+    {
+        self.slice
+    }
+
     // What the slice tells of a place.
     pub(crate) fn own(&self, asked: Where) -> Own<'a>
         ensures { IsOwn self.now asked (own_view result) }

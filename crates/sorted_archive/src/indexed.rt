@@ -1,7 +1,7 @@
 //! An archive with tables of addresses beside its slices.
 use crate::PlainArchive;
 use archive_core::{
-    Answer, Archive, Contents, FindRow, NameRow, Operation, Record, SliceKey, Where,
+    Answer, Archive, Contents, FindRow, NameRow, Operation, Record, Slice, SliceKey, Where,
 };
 use join_core::Join;
 use memory::{Heap, NoMemory};
@@ -115,6 +115,10 @@ impl Archive for IndexedArchive {
 
     fn lookup(&self, key: &SliceKey, asked: Where) -> Result<Answer<'_>, NoMemory> {
         self.held.lookup(key, asked)
+    }
+
+    fn answering_slices(&self, key: &SliceKey) -> Result<Vec<&Slice, Heap>, NoMemory> {
+        self.held.answering_slices(key)
     }
 
     fn find_name(&self, name: &[u8]) -> Result<Vec<NameRow<'_>, Heap>, NoMemory> {

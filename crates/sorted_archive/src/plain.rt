@@ -319,6 +319,25 @@ impl PlainArchive {
         answering
     }
 
+    // The live slices of a key, companions or not.
+    fn live_slices<'a>(
+        &self,
+        operations: &'a [Operation],
+        key: &SliceKey,
+        dsym: bool,
+    ) -> Result<Vec<&'a Slice, Heap>, NoMemory>
+        ensures { IfOk result (λ slices.
+            map (λ slice. slice.now) slices.items ≡ held_among key.now dsym operations.now) }
+    {
+        let mut slices = Vec::new(self.operations.allocator().clone()?);
+        'operations: for operation in operations {
+            if let Some(asked) = PlainArchive::held(operation, key, dsym) {
+                slices.push(asked.slice())?;
+            }
+        }
+        Ok(slices)
+    }
+
     // What each of the live slices of a key, companions or not, tells of a place.
     fn own_rows<'a>(
         &self,
@@ -524,6 +543,15 @@ impl Archive for PlainArchive {
             }
             companions => self.answer_of(admissions, key, true, companions, asked),
         }
+    }
+
+    fn answering_slices(&self, key: &SliceKey) -> Result<Vec<&Slice, Heap>, NoMemory> {
+        let admissions = under(&self.operations, RecordKind::Admission, *key);
+        let companions = self.live_slices(admissions, key, true)?;
+        if companions.is_empty() {
+            return self.live_slices(admissions, key, false);
+        }
+        Ok(companions)
     }
 
     fn find_name(&self, name: &[u8]) -> Result<Vec<NameRow<'_>, Heap>, NoMemory> {
