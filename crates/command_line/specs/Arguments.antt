@@ -57,8 +57,8 @@ form_of (roles.Reads kind) = forms.Plain
 form_of roles.Writes = forms.Plain
 form_of (roles.Says form) = form
 
--- what stands at an argument: one, several, which may be none after options, one that may be left out, or none, of which
--- only whether the flag stands there is told
+-- what stands at an argument: one, several, which may be none after options, one that may be left out, or, without a
+-- word, whether its flag stands there
 pub data Amount (X : Type 0) : Type 0 where
   one : X → Amount X
   several : List X → Amount X

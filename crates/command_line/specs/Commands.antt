@@ -6,7 +6,7 @@ use Rattle.command_line.specs.Arguments.{Argument, Count, Flag, Often, Once, Per
 use Rattle.command_line.specs.Table.{Signature, commands}
 
 -- an argument that has one value; the last, that has one value or more, each a word of its own; an option `--name` that
--- has one value, and may be left out; one that may stand there again, each time with a value more; or one without a value
+-- has one value, and may be left out; one that may stand there again, each time with a value more; or a flag
 abbrev pub rule_by : Count → Text → Rule
 rule_by Once id = record (new_rule id) { required = true }
 rule_by Several id = record (new_rule id) { required = true; action = Some Append }

@@ -13,8 +13,8 @@ use Rattle.command_line.specs.declared.commands.Form.TheVariants as forms
 use Rattle.command_line.specs.declared.commands.Kind.{Kind}
 use Rattle.command_line.specs.declared.commands.Role.{Role}
 use Rattle.command_line.specs.Arguments.{Amount, Argument, Count, Flag, Often, Once, Perhaps, Several, Values, archs}
-use Rattle.command_line.specs.Arguments.{digests, flag, form_of, numbers, one, perhaps, reads, reads_kind, several, texts, uuids}
-use Rattle.command_line.specs.Arguments.{writes}
+use Rattle.command_line.specs.Arguments.{digests, flag, form_of, numbers, one, perhaps, reads, reads_kind, several}
+use Rattle.command_line.specs.Arguments.{texts, uuids, writes}
 use Rattle.command_line.specs.Commands.{symarch_command}
 use Rattle.command_line.specs.Table.{Signature, arguments_named, signature_named}
 
