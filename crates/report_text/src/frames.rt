@@ -96,7 +96,11 @@ fn push_frame(heap: &Heap, text: &mut String<Heap>, frame: &Frame<'_>) -> Result
 
 /// Writes a line for each frame, in their order.
 #[tactic(auto, unfolding(crate::specs::Frames::frame_lines))]
-pub(crate) fn push_frames(heap: &Heap, text: &mut String<Heap>, frames: &[Frame<'_>]) -> Result<(), NoMemory>
+pub(crate) fn push_frames(
+    heap: &Heap,
+    text: &mut String<Heap>,
+    frames: &[Frame<'_>],
+) -> Result<(), NoMemory>
     ensures { OnOk result (string_bytes text.new ≡ string_bytes text.old
         ++ frame_lines (list_view frames.now)) }
 {
@@ -107,7 +111,11 @@ pub(crate) fn push_frames(heap: &Heap, text: &mut String<Heap>, frames: &[Frame<
 }
 
 /// Writes the lines of the frames of each list.
-pub(crate) fn push_each(heap: &Heap, text: &mut String<Heap>, frames: &[&[Frame<'_>]]) -> Result<(), NoMemory>
+pub(crate) fn push_each(
+    heap: &Heap,
+    text: &mut String<Heap>,
+    frames: &[&[Frame<'_>]],
+) -> Result<(), NoMemory>
     ensures { OnOk result (string_bytes text.new ≡ string_bytes text.old
         ++ flat_map frame_lines (lists_view frames.now)) }
 {
@@ -118,7 +126,12 @@ pub(crate) fn push_each(heap: &Heap, text: &mut String<Heap>, frames: &[&[Frame<
 }
 
 /// Writes the lines of the frames of the list at an index, where there is one.
-pub(crate) fn push_at(heap: &Heap, text: &mut String<Heap>, frames: &[&[Frame<'_>]], index: usize) -> Result<(), NoMemory>
+pub(crate) fn push_at(
+    heap: &Heap,
+    text: &mut String<Heap>,
+    frames: &[&[Frame<'_>]],
+    index: usize,
+) -> Result<(), NoMemory>
     ensures { OnOk result (string_bytes text.new ≡ string_bytes text.old
         ++ frame_lines (slice_index_or (lists_view frames.now) index [])) }
 {
