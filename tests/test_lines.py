@@ -3,6 +3,7 @@ the model and by the program, and of others that clang, lld and dsymutil build, 
 clang, lld and llvm; and what the program prints of companions with changed bytes beside the model."""
 import pathlib
 import random
+import re
 import struct
 import unittest
 import uuid
@@ -14,14 +15,16 @@ from .model.dwarf_lines import rows_of
 from .model.dwarf_numbers import units_of
 from .model.images import image_of
 from .model.lines import answer_lines, frame_line
-from .support import kept_lines, llvm, made_dsyms
+from .support import crash, kept_lines, llvm, made_dsyms
 from .support.cases import FolderCase, ProgramCase, Without, same
 from .support.made_images import EMPTY, WORDS, archive, index
-from .support.program import call, symarch
+from .support.program import TOP, call, symarch
 
 AT_ONCE = 500
 CHANGED, ASKED = 12, 25
 LOAD = 0x7FFF_1234_5000
+# What COMMANDS shows: the words, and what they print.
+SHOWN = re.compile(r"^\$ symarch (symbolicate .* --lines .*)\n((?:.+\n)+?)```", re.M)
 
 
 def rows_by_model(content: bytes) -> Dict[int, List[llvm.Row]]:
@@ -150,6 +153,20 @@ class Printed(LinesCase):
             self.file(f"{one.name}.idx", index([one.content]))
             addresses, wanted = asked_of(one.said)
             same(one.name, self.answers(words, addresses), wanted)
+
+    def test_what_documents_show(self) -> None:
+        """The lines of README's first example, and of COMMANDS."""
+        self.expect(["admit", "empty.sym", "spool.sym", crash.CRASH / "spool-1.dSYM"], prints=None)
+        words = "symbolicate --lines spool.sym 4c4c4419-5555-3144-a1d2-4341c97782f0 arm64 --load 0x104d38000 0x104d38410"
+        shown = self.call(*words.split()).out.decode()
+        self.assertIn(f"```\n{shown}```\n", (TOP / "README.md").read_text(encoding="utf-8"))
+        found = SHOWN.findall((TOP / "docs" / "COMMANDS.md").read_text(encoding="utf-8"))
+        self.assertEqual(len(found), 1)
+        for one in kept_lines.kept():
+            self.key(one)
+        self.expect(["merge", "empty.sym", "crash.sym", *(f"{it.name}.sym" for it in kept_lines.kept())], prints=None)
+        for line, wanted in found:
+            self.assertEqual(self.call(*line.split()).out.decode(), wanted)
 
     def test_frames(self) -> None:
         """Frames of all companions in turn, over their archives."""

@@ -266,6 +266,21 @@ class EachWord(PlacesCase):
             prints=[spool_one, copy_body, copy_body],
         )
 
+    def test_lines_stand_anywhere(self) -> None:
+        """After the name of a command that takes the option, and once."""
+        for words in (f"--lines one.sym {KEY} 0", f"one.sym --lines {KEY} 0", f"one.sym {KEY} 0 --lines"):
+            self.expect(f"symbolicate {words}", prints="0x0000000000000000 -", status=1)
+        self.expect("frames one.frames --lines one.sym", prints="0x0000000000000000 -", status=1)
+        refused = [
+            f"symbolicate --lines one.sym {KEY} 0 --lines",
+            "frames --lines=1 one.frames one.sym",
+            "list --lines one.sym",
+            "name one.sym _a --lines",
+            f"find one.sym {UUID} --lines",
+        ]
+        for words in refused:
+            refuses_words(self, words)
+
     def test_the_order_of_archives(self) -> None:
         self.expect(["admit", "empty.sym", "spool.sym", crash.CRASH / "spool-1.dSYM"], prints=None)
         self.expect("merge empty.sym out one.sym empty.sym spool.sym empty.sym", prints=None)

@@ -17,7 +17,8 @@ ENDINGS = {"IN": ".sym", "ARCHIVE": ".sym", "SUMMARY": ".sum"}
 
 @dataclass(frozen=True)
 class Argument:
-    """An argument of a command: the word of the manual, how often it stands, after which option, and what it is."""
+    """An argument of a command: the word of the manual, how often it stands, after which option, and what it is. A flag
+    is an option without a word."""
 
     name: str
     count: str
@@ -27,7 +28,9 @@ class Argument:
     def usage(self) -> str:
         """As docs/COMMANDS.md has it."""
         option = f"[--{self.option} {self.name}]"
-        return {"Several": f"{self.name}...", "Perhaps": option, "Often": f"{option}..."}.get(self.count, self.name)
+        flag = f"[--{self.option}]"
+        usages = {"Several": f"{self.name}...", "Perhaps": option, "Often": f"{option}...", "Flag": flag}
+        return usages.get(self.count, self.name)
 
     def usage_in_help(self) -> str:
         """As `clap` has it, which puts options before it."""

@@ -35,7 +35,7 @@ class Command(NamedTuple):
     out: Optional[bytes] = None
 
 
-# Each command once.
+# Each command, and those that take `--lines` also with it.
 COMMANDS = [
     Command("new out", "archive: 0 records, 17 bytes", out=EMPTY),
     Command("admit empty.sym out image", f"file 0 slice 0 added {ROW}\narchive: 1 records, 106 bytes", out=ONE),
@@ -50,7 +50,9 @@ COMMANDS = [
     Command(f"find one.sym {UUID}", f"x86_64 image {DIGEST}"),
     Command("list one.sym", f"{KEY} image {DIGEST}"),
     Command(f"symbolicate one.sym {KEY} 0", "0x0000000000000000 -", 1),
+    Command(f"symbolicate --lines one.sym {KEY} 0", "0x0000000000000000 -", 1),
     Command("frames one.frames one.sym", "0x0000000000000000 -", 1),
+    Command("frames --lines one.frames one.sym", "0x0000000000000000 -", 1),
     Command("name one.sym _a", "", 1),
     Command("name ends.sym _a", f"{KEY} {digest_of(ENDS)} 0xffffffffffffffff (__TEXT,__text)"),
     Command("rehearse one.script", f"0 saved\nsite 0 0 17 {digest_of(EMPTY)}"),

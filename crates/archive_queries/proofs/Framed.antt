@@ -1,7 +1,7 @@
 -- What is told of frames that are asked in the order of their keys.
 use Rattle.std.proofs.Common.{◌≡◌, ℕ, suc, false, ◌+◌, ◌-◌, ◌<◌, ◌≤◌, Bool, ◌&&◌, if◌then◌else◌, List, [], ◌∷◌, ◌++◌, length, map, take, drop, set, get_or, Some, Result, Ok, Err, is_ok, true, refl, sym, ap, ◌∙◌, arith, inl, inr, ◌⊎◌, length-append}
 use Rattle.std.specs.Prelude.{slice_get, slice_range}
-use Rattle.std.specs.List.{AllByRecursion, AllZip, Contains, HoldsAt, flat_map, list_all, list_any}
+use Rattle.std.specs.List.{AllByRecursion, AllZip, Contains, HoldsAt, flat_map, list_all, list_any, prefix_len}
 use Rattle.std.specs.Str.{bytes_eq}
 use Rattle.std.specs.List.Sorted.{IsBinarySearchResult, IsPartitionPoint, IsPermutation, IsSearchInRange, IsSortedBy, IsSortedByKey}
 use Rattle.std.specs.Ordering.{nat_cmp, is_lt, ordering_then}
@@ -11,14 +11,16 @@ use Rattle.std.specs.Cmp.{IsTotalOrder, tied_itself}
 use Rattle.std.specs.Cmp.Lexicographic.{slice_cmp, nat_list_cmp_total}
 use Rattle.std.proofs.lemmas.Cmp.{nat_cmp_total, on_total, then_total}
 use Rattle.std.proofs.lemmas.Bool.{cases_eq, cases_lt, false_from_ne_true}
+use Rattle.std.proofs.lemmas.List.Sums.{prefix_len_passes}
 use Rattle.std.proofs.lemmas.List.Folds.{Any-from_list_any, list_any-from_Any, list_any_at}
 use Rattle.std.proofs.lemmas.Slice.Eq.{bytes_eq-Decides}
 use Rattle.std.proofs.lemmas.List.{get_or-map, get_or-set_same, get_or-set_other, length-map, length-set, nil_from_length, take_all, drop_at, take-append-le, drop-append-le, length-drop}
 use Rattle.std.proofs.lemmas.List.Sorted.{Contains-permutation, IsPermutation-sym, searchable_from_sorted}
 use Rattle.std.proofs.lemmas.Option.{get_or_from_slice_get, same_Some, slice_get-get_or, slice_get_within}
 use Rattle.archive_core.specs.Content.{Operations}
+use Rattle.archive_core.specs.Find.{is_key}
 use Rattle.archive_core.specs.Key.{key_bytes}
-use Rattle.archive_core.specs.Lookup.{IsAnswer, answer_view}
+use Rattle.archive_core.specs.Lookup.{answer_view}
 use Rattle.archive_core.specs.declared.keys.SliceKey.{SliceKey}
 use Rattle.archive_core.specs.declared.lookup.Answer.{Answer}
 use Rattle.archive_core.specs.Part.{is_under}
@@ -27,6 +29,7 @@ use Rattle.archive_core.proofs.Members.{in_cons, in_front, in_map, in_rest}
 use Rattle.archive_reading.specs.Keys.{AreInOrder, first_key}
 use Rattle.crash_frames.specs.declared.frame.Frame.{Frame}
 use Rattle.report_text.specs.Answers.{answer_lines}
+use Rattle.report_text.proofs.Grouped.{key_is_same, same_key}
 use Rattle.archive_queries.specs.declared.asked_frames.AskedFrame.{AskedFrame}
 use Rattle.archive_queries.specs.declared.asked_frames.ToldFrame.{ToldFrame}
 use Rattle.command_ends.specs.declared.faults.CommandFault.{CommandFault}
@@ -39,7 +42,9 @@ use Rattle.archive_queries.proofs.Parts.{refusal_of, together_refused}
 use Rattle.command_ends.specs.Archives.{AreRefused, AreUnfailed}
 use Rattle.command_ends.specs.Inputs.{EachUnfailed, EachUntouched, IsFrames, Reader, IsRefusal, IsRefusedFrames, IsUntouched, Unfailed, failures_of}
 use Rattle.command_ends.specs.Outputs.{Writer, Takes}
+use Rattle.archive_queries.specs.Sources.{IsSourced}
 use Rattle.archive_queries.specs.Symbolicate.{Answered, asked_of, is_symbol, answers_text}
+use Rattle.source_frames.specs.Frames.{FrameRecord}
 
 -- ---- frames with their numbers
 
@@ -133,9 +138,9 @@ pub next_is : (asked : List AskedFrame) (one : AskedFrame) (left : List AskedFra
 next_is asked one left is = ap (λ (l : List AskedFrame). first_key (map key_of_asked l)) is
 
 -- none was told
-pub none_told : (content : Operations) (frames : List Frame) (asked : List AskedFrame) (told : List ToldFrame) (text : List ℕ) → AreLines frames asked → length asked ≡ length frames → length told ≡ length asked
-    → AreTold content asked asked (length told) told text
-none_told content frames asked told text lines long many = record {
+pub none_told : (wanted : Bool) (content : Operations) (frames : List Frame) (asked : List AskedFrame) (told : List ToldFrame) (text : List ℕ) → AreLines frames asked → length asked ≡ length frames → length told ≡ length asked
+    → AreTold wanted content asked asked (length told) told text
+none_told wanted content frames asked told text lines long many = record {
   long = refl;
   within = λ one there. omega (arith, many, long, slice_get_within frames one.line one.frame ((lines one).0 there));
   once = λ one other there also same.
@@ -146,8 +151,8 @@ none_told content frames asked told text lines long many = record {
 }
 
 -- what was told stays where it stands while the text grows
-told_still : (content : Operations) (text more : List ℕ) (frame : Frame) (told : ToldFrame) → IsFrameTold content text frame told → IsFrameTold content (text ++ more) frame told
-told_still content text more frame told is = record {
+told_still : (wanted : Bool) (content : Operations) (text more : List ℕ) (frame : Frame) (told : ToldFrame) → IsFrameTold wanted content text frame told → IsFrameTold wanted content (text ++ more) frame told
+told_still wanted content text more frame told is = record {
   row = is.row;
   answered = is.answered;
   begins = is.begins;
@@ -160,22 +165,23 @@ told_still content text more frame told is = record {
 }
 
 -- what is told of one frame more stands behind it
-pub told_now : (content : Operations) (text grown : List ℕ) (frame : Frame) (answer : Answer) (told : ToldFrame) → IsAnswer content frame.key (asked_of frame.load frame.address) (answer_view answer) → grown ≡ text ++ answer_lines frame.address answer
-    → told.from ≡ length text → told.to ≡ length grown → told.is_symbol ≡ is_symbol answer → IsFrameTold content grown frame told
-told_now content text grown frame answer told is more from to symbol =
-    let lines : List ℕ = answer_lines frame.address answer in
-    let long : length grown ≡ length text + length lines = ap length more ∙ length-append text lines in
+pub told_now : (wanted : Bool) (content : Operations) (text grown : List ℕ) (frame : Frame) (answer : Answer) (frames : List (List FrameRecord)) (told : ToldFrame)
+    → IsSourced content frame.key wanted (asked_of frame.load frame.address) (answer_view answer) frames → grown ≡ text ++ answer_lines frame.address answer frames
+    → told.from ≡ length text → told.to ≡ length grown → told.is_symbol ≡ is_symbol answer → IsFrameTold wanted content grown frame told
+told_now wanted content text grown frame answer frames told is more from to symbol =
+    let printed : List ℕ = answer_lines frame.address answer frames in
+    let long : length grown ≡ length text + length printed = ap length more ∙ length-append text printed in
     record {
-      row = record { address = frame.address; answer = answer };
+      row = record { address = frame.address; answer = answer; frames = frames };
       answered = (refl, is);
       begins = omega (arith, long, from, to);
       ends = omega (arith, to);
-      lines_are = ap (λ (t : List ℕ). slice_range t told.from told.to) more ∙ ap (take (told.to - told.from)) (ap (λ (n : ℕ). drop n (text ++ lines)) from ∙ drop_at text lines (length text) refl) ∙ take_all (told.to - told.from) lines (omega (arith, long, from, to));
+      lines_are = ap (λ (t : List ℕ). slice_range t told.from told.to) more ∙ ap (take (told.to - told.from)) (ap (λ (n : ℕ). drop n (text ++ printed)) from ∙ drop_at text printed (length text) refl) ∙ take_all (told.to - told.from) printed (omega (arith, long, from, to));
       symbol_is = symbol;
     }
 
-module _ (content : Operations) (asked : List AskedFrame) (one : AskedFrame) (left : List AskedFrame) (count : ℕ) (told : List ToldFrame) (text : List ℕ) (are : AreTold content asked (one ∷ left) count told text)
-    (grown more : List ℕ) (grows : grown ≡ text ++ more) (now : ToldFrame) (is : IsFrameTold content grown one.frame now) where
+module _ (wanted : Bool) (content : Operations) (asked : List AskedFrame) (one : AskedFrame) (left : List AskedFrame) (count : ℕ) (told : List ToldFrame) (text : List ℕ) (are : AreTold wanted content asked (one ∷ left) count told text)
+    (grown more : List ℕ) (grows : grown ≡ text ++ more) (now : ToldFrame) (is : IsFrameTold wanted content grown one.frame now) where
   is_there : Contains asked one
   is_there = are.of_asked one (in_front one left)
 
@@ -191,15 +197,15 @@ module _ (content : Operations) (asked : List AskedFrame) (one : AskedFrame) (le
       ∙ ap Some (get_or-set_other told one.line n now it other ∙ get_or_from_slice_get told n it it at)
 
   abbrev IsLeftOrTold : AskedFrame → Type 0
-  IsLeftOrTold it = Contains left it ⊎ ((t : ToldFrame) × (slice_get (set told one.line now) it.line ≡ Some t) × IsFrameTold content grown it.frame t)
+  IsLeftOrTold it = Contains left it ⊎ ((t : ToldFrame) × (slice_get (set told one.line now) it.line ≡ Some t) × IsFrameTold wanted content grown it.frame t)
 
   this_one : (it : AskedFrame) → it ≡ one → IsLeftOrTold it
   this_one it same = rw same (inr (now, at_once, is))
 
-  told_before : (it : AskedFrame) → Contains asked it → (t : ToldFrame) → slice_get told it.line ≡ Some t → IsFrameTold content text it.frame t → IsLeftOrTold it
+  told_before : (it : AskedFrame) → Contains asked it → (t : ToldFrame) → slice_get told it.line ≡ Some t → IsFrameTold wanted content text it.frame t → IsLeftOrTold it
   told_before it there t at was = elim (cases_eq it.line one.line) [
     | inl same ↦ this_one it (are.once it one there is_there same)
-    | inr other ↦ inr (t, elsewhere it.line t other at, rw grows (told_still content text more it.frame t was))
+    | inr other ↦ inr (t, elsewhere it.line t other at, rw grows (told_still wanted content text more it.frame t was))
   ]
 
   each : (it : AskedFrame) → Contains asked it → IsLeftOrTold it
@@ -212,7 +218,7 @@ module _ (content : Operations) (asked : List AskedFrame) (one : AskedFrame) (le
   ]
 
   -- the next frame was answered
-  pub told_more : AreTold content asked left count (set told one.line now) grown
+  pub told_more : AreTold wanted content asked left count (set told one.line now) grown
   told_more = record {
     long = length-set told one.line now ∙ are.long;
     within = are.within;
@@ -221,58 +227,71 @@ module _ (content : Operations) (asked : List AskedFrame) (one : AskedFrame) (le
     each = each;
   }
 
+-- ---- the frames of one key
+
+abbrev pub of_key : SliceKey → AskedFrame → Bool
+of_key key one = is_key one.frame.key key
+
+-- the first of some frames is one of those of its key
+pub first_of_run : (first : AskedFrame) (asked left : List AskedFrame) → asked ≡ first ∷ left → 0 < prefix_len (of_key first.frame.key) asked
+first_of_run first asked left is = rw (is, key_is_same first.frame.key) (omega arith)
+
+-- and each of those has the key
+pub run_key : (key : SliceKey) (asked : List AskedFrame) (i : ℕ) (d : AskedFrame) → i < prefix_len (of_key key) asked → (get_or asked i d).frame.key ≡ key
+run_key key asked i d lt = same_key (get_or asked i d).frame.key key (prefix_len_passes (of_key key) asked i d lt)
+
 -- ---- what was told of all, in the order of their lines
 
 -- what was told of each
-pub told_each : (content : Operations) (frames : List Frame) (asked : List AskedFrame) (count : ℕ) (told : List ToldFrame) (text : List ℕ) → AreLines frames asked → AreTold content asked [] count told text
-    → (i : ℕ) (frame : Frame) → slice_get frames i ≡ Some frame → (it : ToldFrame) × (slice_get told i ≡ Some it) × IsFrameTold content text frame it
-told_each content frames asked count told text lines are i frame at = elim (are.each (numbered i frame) ((lines (numbered i frame)).1 at)) [
+pub told_each : (wanted : Bool) (content : Operations) (frames : List Frame) (asked : List AskedFrame) (count : ℕ) (told : List ToldFrame) (text : List ℕ) → AreLines frames asked → AreTold wanted content asked [] count told text
+    → (i : ℕ) (frame : Frame) → slice_get frames i ≡ Some frame → (it : ToldFrame) × (slice_get told i ≡ Some it) × IsFrameTold wanted content text frame it
+told_each wanted content frames asked count told text lines are i frame at = elim (are.each (numbered i frame) ((lines (numbered i frame)).1 at)) [
   | inl c ↦ absurd (omega (arith, c.1))
   | inr it ↦ it
 ]
 
-along : (content : Operations) (text : List ℕ) (frames : List Frame) (told : List ToldFrame) → length told ≡ length frames
-    → ((i : ℕ) (frame : Frame) → slice_get frames i ≡ Some frame → (it : ToldFrame) × (slice_get told i ≡ Some it) × IsFrameTold content text frame it)
-    → AllZip (IsFrameTold content text) frames told
-along content text [] [] long each = tt
-along content text [] (it ∷ told) long each = absurd (omega (arith, long))
-along content text (frame ∷ frames) [] long each = absurd (omega (arith, long))
-along content text (frame ∷ frames) (it ∷ told) long each =
+along : (wanted : Bool) (content : Operations) (text : List ℕ) (frames : List Frame) (told : List ToldFrame) → length told ≡ length frames
+    → ((i : ℕ) (frame : Frame) → slice_get frames i ≡ Some frame → (it : ToldFrame) × (slice_get told i ≡ Some it) × IsFrameTold wanted content text frame it)
+    → AllZip (IsFrameTold wanted content text) frames told
+along wanted content text [] [] long each = tt
+along wanted content text [] (it ∷ told) long each = absurd (omega (arith, long))
+along wanted content text (frame ∷ frames) [] long each = absurd (omega (arith, long))
+along wanted content text (frame ∷ frames) (it ∷ told) long each =
     let first = each 0 frame refl in
-    (rw (same_Some it first.0 first.1) first.2, along content text frames told (omega (arith, long)) (λ i. each (suc i)))
+    (rw (same_Some it first.0 first.1) first.2, along wanted content text frames told (omega (arith, long)) (λ i. each (suc i)))
 
-pub all_told : (content : Operations) (frames : List Frame) (asked : List AskedFrame) (count : ℕ) (told : List ToldFrame) (text : List ℕ) → AreLines frames asked → count ≡ length frames → AreTold content asked [] count told text
-    → AllZip (IsFrameTold content text) frames told
-all_told content frames asked count told text lines many are = along content text frames told (are.long ∙ many) (told_each content frames asked count told text lines are)
+pub all_told : (wanted : Bool) (content : Operations) (frames : List Frame) (asked : List AskedFrame) (count : ℕ) (told : List ToldFrame) (text : List ℕ) → AreLines frames asked → count ≡ length frames → AreTold wanted content asked [] count told text
+    → AllZip (IsFrameTold wanted content text) frames told
+all_told wanted content frames asked count told text lines many are = along wanted content text frames told (are.long ∙ many) (told_each wanted content frames asked count told text lines are)
 
 -- where no frame is left
-pub told_to_the_end : (content : Operations) (frames : List Frame) (asked left : List AskedFrame) (count : ℕ) (told : List ToldFrame) (text : List ℕ) → AreLines frames asked → count ≡ length frames → map key_of_asked left ≡ []
-    → AreTold content asked left count told text → AllZip (IsFrameTold content text) frames told
-told_to_the_end content frames asked left count told text lines many none are =
+pub told_to_the_end : (wanted : Bool) (content : Operations) (frames : List Frame) (asked left : List AskedFrame) (count : ℕ) (told : List ToldFrame) (text : List ℕ) → AreLines frames asked → count ≡ length frames → map key_of_asked left ≡ []
+    → AreTold wanted content asked left count told text → AllZip (IsFrameTold wanted content text) frames told
+told_to_the_end wanted content frames asked left count told text lines many none are =
     let nothing = nil_from_length left (omega (arith, length-map left key_of_asked, ap length none)) in
-    all_told content frames asked count told text lines many (rw nothing at are)
+    all_told wanted content frames asked count told text lines many (rw nothing at are)
 
 -- so each piece of the text is there
-pub pieces : (content : Operations) (text : List ℕ) (frames : List Frame) (told : List ToldFrame) → AllZip (IsFrameTold content text) frames told → AllByRecursion (λ (it : ToldFrame). (it.from ≤ it.to) × (it.to ≤ length text)) told
-pieces content text [] [] are = tt
-pieces content text [] (it ∷ told) are = absurd are
-pieces content text (frame ∷ frames) [] are = absurd are
-pieces content text (frame ∷ frames) (it ∷ told) are = ((are.0.begins, are.0.ends), pieces content text frames told are.1)
+pub pieces : (wanted : Bool) (content : Operations) (text : List ℕ) (frames : List Frame) (told : List ToldFrame) → AllZip (IsFrameTold wanted content text) frames told → AllByRecursion (λ (it : ToldFrame). (it.from ≤ it.to) × (it.to ≤ length text)) told
+pieces wanted content text [] [] are = tt
+pieces wanted content text [] (it ∷ told) are = absurd are
+pieces wanted content text (frame ∷ frames) [] are = absurd are
+pieces wanted content text (frame ∷ frames) (it ∷ told) are = ((are.0.begins, are.0.ends), pieces wanted content text frames told are.1)
 
 -- what was told, as the definition says it
-record AreRows (content : Operations) (text : List ℕ) (frames : List Frame) (told : List ToldFrame) : Type 0 where
+record AreRows (wanted : Bool) (content : Operations) (text : List ℕ) (frames : List Frame) (told : List ToldFrame) : Type 0 where
   rows : List Answered
-  answered : AllZip (IsFrameAnswered content) frames rows
+  answered : AllZip (IsFrameAnswered wanted content) frames rows
   symbols_are : list_all (λ (it : ToldFrame). it.is_symbol) told ≡ list_all (λ (row : Answered). is_symbol row.answer) rows
   lines_are : flat_map (λ (it : ToldFrame). slice_range text it.from it.to) told ≡ answers_text rows
 
-rows_of : (content : Operations) (text : List ℕ) (frames : List Frame) (told : List ToldFrame) → AllZip (IsFrameTold content text) frames told → AreRows content text frames told
-rows_of content text [] [] are = record { rows = []; answered = tt; symbols_are = refl; lines_are = refl }
-rows_of content text [] (it ∷ told) are = absurd are
-rows_of content text (frame ∷ frames) [] are = absurd are
-rows_of content text (frame ∷ frames) (it ∷ told) are =
+rows_of : (wanted : Bool) (content : Operations) (text : List ℕ) (frames : List Frame) (told : List ToldFrame) → AllZip (IsFrameTold wanted content text) frames told → AreRows wanted content text frames told
+rows_of wanted content text [] [] are = record { rows = []; answered = tt; symbols_are = refl; lines_are = refl }
+rows_of wanted content text [] (it ∷ told) are = absurd are
+rows_of wanted content text (frame ∷ frames) [] are = absurd are
+rows_of wanted content text (frame ∷ frames) (it ∷ told) are =
     let first = are.0 in
-    let behind = rows_of content text frames told are.1 in
+    let behind = rows_of wanted content text frames told are.1 in
     record {
       rows = first.row ∷ behind.rows;
       answered = (first.answered, behind.answered);
@@ -280,11 +299,11 @@ rows_of content text (frame ∷ frames) (it ∷ told) are =
       lines_are = (λ i. first.lines_are i ++ behind.lines_are i);
     }
 
-pub frames_told : (content : Operations) (text : List ℕ) (frames : List Frame) (told : List ToldFrame) (status : Status) (lines : List ℕ) → AllZip (IsFrameTold content text) frames told
+pub frames_told : (wanted : Bool) (content : Operations) (text : List ℕ) (frames : List Frame) (told : List ToldFrame) (status : Status) (lines : List ℕ) → AllZip (IsFrameTold wanted content text) frames told
     → status ≡ (if list_all (λ (it : ToldFrame). it.is_symbol) told then Done else Partial) → lines ≡ flat_map (λ (it : ToldFrame). slice_range text it.from it.to) told
-    → TellsFrames content frames status lines
-frames_told content text frames told status lines are status_is lines_are =
-    let r = rows_of content text frames told are in
+    → TellsFrames wanted content frames status lines
+frames_told wanted content text frames told status lines are status_is lines_are =
+    let r = rows_of wanted content text frames told are in
     record {
       rows = r.rows;
       answered = r.answered;

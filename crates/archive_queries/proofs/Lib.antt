@@ -1,4 +1,5 @@
 pub mod Parts
 pub mod NamesTogether
+pub mod Sourced
 pub mod Answered
 pub mod Framed

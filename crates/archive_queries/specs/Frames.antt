@@ -15,23 +15,25 @@ use Rattle.archive_queries.specs.Symbolicate.{Answered, IsAnswered, answers_stat
 use Rattle.archive_queries.specs.Symbolicate.{MakesAnswered}
 
 -- the row is that of the frame's address, and its answer is what the content tells of it under the frame's key
-abbrev pub IsFrameAnswered : Operations → Frame → Answered → Type 0
-IsFrameAnswered content frame row = (row.address ≡ frame.address) × IsAnswered content frame.key frame.load row
+abbrev pub IsFrameAnswered : Bool → Operations → Frame → Answered → Type 0
+IsFrameAnswered lines content frame row =
+    (row.address ≡ frame.address) × IsAnswered content frame.key frame.load lines row
 
 -- what a content tells of frames, one answer a frame and in their order: the status, and the lines
-pub record TellsFrames (content : Operations) (frames : List Frame) (status : Status) (text : List ℕ) : Type 0 where
+pub record TellsFrames (lines : Bool) (content : Operations) (frames : List Frame) (status : Status)
+    (text : List ℕ) : Type 0 where
   pub rows : List Answered
-  pub answered : AllZip (IsFrameAnswered content) frames rows
+  pub answered : AllZip (IsFrameAnswered lines content) frames rows
   pub status_is : status ≡ answers_status rows
   pub text_is : text ≡ answers_text rows
 
 -- FRAMES says these frames, ARCHIVE and the others are the texts of contents, and the join of these tells this of the
 -- frames.
-pub record MakesFramed {R S T : Type 0} (frames : Reader R) (archive : Reader S) (others : List (Reader T))
-    (status : Status) (text : List ℕ) : Type 0 where
+pub record MakesFramed {R S T : Type 0} (lines : Bool) (frames : Reader R) (archive : Reader S)
+    (others : List (Reader T)) (status : Status) (text : List ℕ) : Type 0 where
   pub said : List Frame
   pub frames_are : Gives frames (λ bytes. frames_of bytes ≡ Ok said)
-  pub tells : HoldTogether archive others (λ o. TellsFrames o said status text)
+  pub tells : HoldTogether archive others (λ o. TellsFrames lines o said status text)
 
 -- FRAMES is refused, and no archive is touched; or FRAMES says frames, its reader does not fail, and an archive is
 -- refused
@@ -41,9 +43,9 @@ RefusesFrames frames archive others at why =
     ⊎ (IsFrames frames × Unfailed frames × AreRefused archive others at why)
 
 -- `frames`, over these inputs
-abbrev pub frames : {R S T : Type 0} → Reader R → Reader S → List (Reader T) → Query
-frames input archive others = record {
-  Makes = MakesFramed input archive others;
+abbrev pub frames : {R S T : Type 0} → Bool → Reader R → Reader S → List (Reader T) → Query
+frames lines input archive others = record {
+  Makes = MakesFramed lines input archive others;
   Refuses = RefusesFrames input archive others;
   Unfailed = Unfailed input × AreUnfailed archive others;
 }
@@ -54,9 +56,9 @@ pub record Told : Type 0 where
   pub text : List ℕ
 
 -- `symbolicate` tells this over the archives, asked for the frame's address alone
-abbrev pub IsToldAlone : {S T : Type 0} → Reader S → List (Reader T) → Frame → Told → Type 0
-IsToldAlone archive others frame told =
-    MakesAnswered archive others frame.key frame.load (frame.address ∷ []) told.status told.text
+abbrev pub IsToldAlone : {S T : Type 0} → Bool → Reader S → List (Reader T) → Frame → Told → Type 0
+IsToldAlone lines archive others frame told =
+    MakesAnswered archive others frame.key frame.load lines (frame.address ∷ []) told.status told.text
 
 -- everything asked for was found
 abbrev pub is_done : Status → Bool
@@ -65,9 +67,9 @@ is_done Partial = false
 
 -- What `symbolicate` tells over the archives of the frames, asked once for each and in their order: done if it is each
 -- time, and one text behind the other.
-pub record SymbolicatesEach {S T : Type 0} (archive : Reader S) (others : List (Reader T)) (frames : List Frame)
-    (status : Status) (text : List ℕ) : Type 0 where
+pub record SymbolicatesEach {S T : Type 0} (lines : Bool) (archive : Reader S) (others : List (Reader T))
+    (frames : List Frame) (status : Status) (text : List ℕ) : Type 0 where
   pub told : List Told
-  pub alone : AllZip (IsToldAlone archive others) frames told
+  pub alone : AllZip (IsToldAlone lines archive others) frames told
   pub status_is : status ≡ if list_all (λ one. is_done one.status) told then Done else Partial
   pub text_is : text ≡ flat_map (λ one. one.text) told

@@ -36,17 +36,18 @@ abbrev pub is_asked : List AskedFrame → List ℕ → Bool
 is_asked asked r = list_any (λ one. bytes_eq (key_bytes one.frame.key) (take 24 (drop 1 r))) asked
 
 -- What was told of a frame is what the content tells of it.
-pub record IsFrameTold (content : Operations) (text : List ℕ) (frame : Frame) (told : ToldFrame) : Type 0 where
+pub record IsFrameTold (lines : Bool) (content : Operations) (text : List ℕ) (frame : Frame) (told : ToldFrame)
+    : Type 0 where
   pub row : Answered
-  pub answered : IsFrameAnswered content frame row
+  pub answered : IsFrameAnswered lines content frame row
   pub begins : told.from ≤ told.to
   pub ends : told.to ≤ length text
-  pub lines_are : slice_range text told.from told.to ≡ answer_lines row.address row.answer
+  pub lines_are : slice_range text told.from told.to ≡ answer_lines row.address row.answer row.frames
   pub symbol_is : told.is_symbol ≡ is_symbol row.answer
 
 -- Each of these frames is left, or it was told what the content tells of it. There are so many, each once.
-pub record AreTold (content : Operations) (asked left : List AskedFrame) (count : ℕ) (told : List ToldFrame)
-    (text : List ℕ) : Type 0 where
+pub record AreTold (lines : Bool) (content : Operations) (asked left : List AskedFrame) (count : ℕ)
+    (told : List ToldFrame) (text : List ℕ) : Type 0 where
   pub long : length told ≡ count
   pub within : (one : AskedFrame) → Contains asked one → one.line < count
   pub once : (one other : AskedFrame) → Contains asked one → Contains asked other → one.line ≡ other.line
@@ -54,4 +55,4 @@ pub record AreTold (content : Operations) (asked left : List AskedFrame) (count 
   pub of_asked : (one : AskedFrame) → Contains left one → Contains asked one
   pub each : (one : AskedFrame) → Contains asked one
       → Contains left one
-      ⊎ ((it : ToldFrame) × (slice_get told one.line ≡ Some it) × IsFrameTold content text one.frame it)
+      ⊎ ((it : ToldFrame) × (slice_get told one.line ≡ Some it) × IsFrameTold lines content text one.frame it)

@@ -1,8 +1,10 @@
 pub mod Find
 pub mod List
 pub mod Name
+pub mod Sources
 pub mod Symbolicate
 pub mod Frames
 pub mod InnerTogether
+pub mod InnerSources
 pub mod InnerFrames
 pub mod InnerNames

@@ -1,18 +1,24 @@
 //! The frames of a crash, as questions in the order of their keys.
-ghost use Rattle.std.specs.Prelude.{◌≡◌, ◌≤◌, All, IfOk, if◌then◌else◌, flat_map, length, map, set, slice_range};
-ghost use Rattle.std.specs.Prelude.{string_bytes};
-ghost use Rattle.std.specs.List.{list_all};
+ghost use Rattle.std.specs.Prelude.{◌≡◌, ◌<◌, ◌≤◌, ◌⊎◌, ◌∷◌, [], ℕ, List, All, Contains, IfOk, OnOk};
+ghost use Rattle.std.specs.Prelude.{if◌then◌else◌, drop, flat_map, length, map, set, slice_range, string_bytes};
+ghost use Rattle.std.specs.List.{list_all, prefix_len};
 ghost use Rattle.std.specs.List.Sorted.{IsSortedByKey};
 ghost use Rattle.std.specs.Ordering.{nat_cmp};
 ghost use Rattle.std.specs.Cmp.Lexicographic.{slice_cmp};
+ghost use Rattle.std.specs.Option.{ForSome};
+ghost use Rattle.archive_core.specs.Content.{Operations};
+ghost use Rattle.archive_core.specs.Find.{is_key};
 ghost use Rattle.archive_core.specs.Key.{key_bytes};
-ghost use Rattle.archive_reading.specs.Keys.{AreInOrder};
+ghost use Rattle.archive_reading.specs.Keys.{AnswersAs, AreInOrder, first_key};
 ghost use Rattle.command_ends.specs.declared.faults.Status.TheVariants.{Done, Partial};
-ghost use Rattle.archive_queries.specs.InnerFrames.{AreLines, AreNumbered, asked_cmp};
-ghost use Rattle.archive_queries.specs.Symbolicate.{is_symbol};
+ghost use Rattle.archive_queries.specs.InnerFrames.{AreLines, AreNumbered, AreTold, asked_cmp};
+ghost use Rattle.archive_queries.specs.InnerSources.{AreSourcesOf};
+ghost use Rattle.archive_queries.specs.Symbolicate.{asked_of, is_symbol};
+ghost use Rattle.archive_queries.specs.declared.asked_frames.AskedFrame.{AskedFrame};
 
+use crate::sources::Sources;
 use crate::symbolicate::asked_of;
-use archive_core::{Answer, Archive, SliceKey, compare_keys};
+use archive_core::{Answer, Archive, SliceKey, Where, compare_keys};
 use archive_reading::{Questions, Selects};
 use archive_records::key_front;
 use command_ends::Status;
@@ -70,7 +76,12 @@ struct ToldFrame {
 /// Frames that are left in the order of their keys, and what was told of the others.
 #[derive(Drop)]
 pub(crate) struct FrameQuestions<'f> {
+    heap: Heap,
+    /// Whether the source frames are wanted.
+    lines: bool,
     left: &'f [AskedFrame],
+    /// How many of those that are left, from the first on, were told already.
+    ahead: usize,
     /// Of each frame, in the order of the lines.
     told: Vec<ToldFrame, Heap>,
     /// The lines of the answers, in the order in which these were given.
@@ -112,6 +123,48 @@ fn is_symbol(answer: &Answer<'_>) -> bool
     matches!(answer, Answer::Symbol(_))
 }
 
+/// How many of the first frames are of a key.
+fn run_len(asked: &[AskedFrame], key: &SliceKey) -> usize
+    ensures len { result ≡ prefix_len (λ one. is_key one.frame.key key.now) asked.now }
+    ensures within { result ≤ length asked.now }
+{
+    asked
+        .iter()
+        .take_while(|one| one.frame.key == *key)
+        .count()
+}
+
+/// The places that frames mean.
+fn places_of(heap: Heap, asked: &[AskedFrame]) -> Result<Vec<Where, Heap>, NoMemory>
+    ensures { IfOk result (λ places.
+        places.items ≡ map (λ one. asked_of one.frame.load one.frame.address) asked.now) }
+{
+    asked
+        .iter()
+        .map(|one| asked_of(one.frame.load, one.frame.address))
+        .collect(heap)
+}
+
+/// The source frames of frames under a key, where lines are wanted.
+fn sources_of<'s, A: Archive>(
+    heap: &Heap,
+    archive: &'s A,
+    key: &SliceKey,
+    lines: bool,
+    asked: &[AskedFrame],
+) -> Result<Sources<'s>, NoMemory>
+    ensures { IfOk result (λ sources. (one : AskedFrame) → Contains asked.now one
+        → AreSourcesOf (A.content archive.now) key.now lines (asked_of one.frame.load one.frame.address)
+        sources.found.items) }
+{
+    if lines {
+        let places = places_of(heap.clone()?, asked)?;
+        Sources::of(heap, archive, key, &places)
+    } else {
+        Ok(Sources::none(heap.clone()?))
+    }
+}
+
 /// Puts what was told of a frame to its place, where there is one.
 fn put_at(all: &mut Vec<ToldFrame, Heap>, line: usize, told: ToldFrame)
     ensures { all.new.items ≡ set all.old.items line told }
@@ -123,8 +176,14 @@ fn put_at(all: &mut Vec<ToldFrame, Heap>, line: usize, told: ToldFrame)
 
 impl<'f> FrameQuestions<'f> {
     /// None was told yet.
-    pub(crate) fn of(heap: Heap, asked: &'f [AskedFrame]) -> Result<FrameQuestions<'f>, NoMemory>
+    pub(crate) fn of(
+        heap: Heap,
+        lines: bool,
+        asked: &'f [AskedFrame],
+    ) -> Result<FrameQuestions<'f>, NoMemory>
+        ensures lines { IfOk result (λ questions. questions.lines ≡ lines) }
         ensures left { IfOk result (λ questions. questions.left.now ≡ asked.now) }
+        ensures ahead { IfOk result (λ questions. questions.ahead ≡ 0) }
         ensures told { IfOk result (λ questions. length questions.told.items ≡ length asked.now) }
     {
         let nothing = ToldFrame {
@@ -133,10 +192,74 @@ impl<'f> FrameQuestions<'f> {
             is_symbol: false,
         };
         Ok(FrameQuestions {
+            lines,
             left: asked,
+            ahead: 0,
             told: vec![in heap.clone()?; nothing; asked.len()]?,
-            text: String::new(heap),
+            text: String::new(heap.clone()?),
+            heap,
         })
+    }
+
+    /// Tells what an archive answers for a frame, of which the source frames were found.
+    fn tell<A: Archive>(
+        &mut self,
+        archive: &A,
+        sources: &Sources<'_>,
+        asked: &AskedFrame,
+    ) -> Result<(), NoMemory>
+        requires { AreSourcesOf (A.content archive.now) asked.now.frame.key self.old.lines
+            (asked_of asked.now.frame.load asked.now.frame.address) sources.now.found.items }
+        ensures lines { OnOk result (self.new.lines ≡ self.old.lines) }
+        ensures left { OnOk result (self.new.left.now ≡ self.old.left.now) }
+        ensures told { OnOk result ((o : Operations) (all left : List AskedFrame) (count : ℕ)
+            → AnswersAs asked.now.frame.key (A.content archive.now) o
+            → AreTold self.old.lines o all (asked.now ∷ left) count self.old.told.items (string_bytes self.old.text)
+            → AreTold self.old.lines o all left count self.new.told.items (string_bytes self.new.text)) }
+    {
+        let frame = asked.frame;
+        let place = asked_of(frame.load, frame.address);
+        let answer = archive.lookup(&frame.key, place)?;
+        let frames = sources.at(self.heap.clone()?, place)?;
+        let from = self.text.len();
+        push_answer(&self.heap, &mut self.text, frame.address, &answer, &frames)?;
+        let told = ToldFrame {
+            from,
+            to: self.text.len(),
+            is_symbol: is_symbol(&answer),
+        };
+        put_at(&mut self.told, asked.line, told);
+        Ok(())
+    }
+
+    /// Tells what an archive answers for the next frame and for all others of its key, where one is left that was not
+    /// told.
+    fn tell_key<A: Archive>(&mut self, archive: &A) -> Result<(), NoMemory>
+        ensures lines { OnOk result (self.new.lines ≡ self.old.lines) }
+        ensures left { OnOk result (self.new.left.now ≡ self.old.left.now) }
+        ensures ahead { OnOk result ((self.new.left.now ≡ []) ⊎ (0 < self.new.ahead)) }
+        ensures told { OnOk result ((o : Operations) (all : List AskedFrame) (count : ℕ)
+            → ForSome (first_key (map (λ one. one.frame.key) self.old.left.now))
+            (λ key. AnswersAs key (A.content archive.now) o)
+            → AreTold self.old.lines o all (drop self.old.ahead self.old.left.now) count self.old.told.items
+            (string_bytes self.old.text)
+            → AreTold self.old.lines o all (drop self.new.ahead self.old.left.now) count self.new.told.items
+            (string_bytes self.new.text)) }
+    {
+        if self.ahead > 0 {
+            return Ok(());
+        }
+        let Some(first) = self.left.first() else {
+            return Ok(());
+        };
+        let key = first.frame.key;
+        let (run, _) = self.left.split_at(run_len(self.left, &key));
+        let sources = sources_of(&self.heap, archive, &key, self.lines, run)?;
+        'run: for asked in run {
+            self.tell(archive, &sources, asked)?;
+        }
+        self.ahead = run.len();
+        Ok(())
     }
 
     /// The lines of all answers in the order of the lines of the frames, with how a command ends that prints them.
@@ -161,33 +284,25 @@ impl<'f> FrameQuestions<'f> {
 }
 
 impl<'f> Questions for FrameQuestions<'f> {
-    ghost use Rattle.std.specs.Prelude.{length, map, string_bytes};
+    ghost use Rattle.std.specs.Prelude.{drop, length, map, string_bytes};
     ghost use Rattle.archive_queries.specs.InnerFrames.{AreTold};
 
     ghost left = { λ questions. map (λ asked. asked.frame.key) questions.left.now };
 
-    ghost answered = { λ start content now. AreTold content start.left.now now.left.now (length start.told.items)
-        now.told.items (string_bytes now.text) };
+    ghost answered = { λ start content now. AreTold start.lines content start.left.now (drop now.ahead now.left.now)
+        (length start.told.items) now.told.items (string_bytes now.text) };
 
     fn next_key(&self) -> Option<SliceKey> {
         Some(self.left.first()?.frame.key)
     }
 
     fn answer<A: Archive>(&mut self, archive: &A) -> Result<(), NoMemory> {
-        let Some((asked, left)) = self.left.split_first() else {
+        self.tell_key(archive)?;
+        let Some((_, left)) = self.left.split_first() else {
             return Ok(());
         };
-        let frame = asked.frame;
-        let answer = archive.lookup(&frame.key, asked_of(frame.load, frame.address))?;
-        let from = self.text.len();
-        push_answer(&mut self.text, frame.address, &answer)?;
-        let told = ToldFrame {
-            from,
-            to: self.text.len(),
-            is_symbol: is_symbol(&answer),
-        };
-        put_at(&mut self.told, asked.line, told);
         self.left = left;
+        self.ahead -= 1;
         Ok(())
     }
 }

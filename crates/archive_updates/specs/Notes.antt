@@ -12,7 +12,7 @@ use Rattle.archive_core.specs.declared.keys.SliceKey.{SliceKey}
 use Rattle.archive_words.specs.Words.{digest_text}
 use Rattle.admission.specs.File.{IsAcceptedFile}
 use Rattle.admission.specs.Take.{admitted}
-use Rattle.report_text.specs.Answers.{escaped}
+use Rattle.report_text.specs.Escapes.{escaped}
 use Rattle.report_text.specs.Rows.{key_text}
 use Rattle.command_ends.specs.Inputs.{Holds, HoldsArchive, Reader}
 use Rattle.archive_updates.specs.Admit.{images_of}

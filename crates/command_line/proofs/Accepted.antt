@@ -13,10 +13,10 @@ use Rattle.clap.specs.Simple.{argument_words, entered, is_simple, label_of, name
 use Rattle.clap.specs.Takes.{built_takes, entered_passes, is_given, is_valid, level_passes}
 use Rattle.clap.proofs.SimpleLemmas.{is_nil}
 use Rattle.clap.proofs.WalkLemmas.{both}
-use Rattle.command_line.specs.Arguments.{Argument, Count, Often, Once, Perhaps, Several, form_of, perhaps}
-use Rattle.command_line.specs.Arguments.{several}
+use Rattle.command_line.specs.Arguments.{Argument, Count, Flag, Often, Once, Perhaps, Several, flag, form_of}
+use Rattle.command_line.specs.Arguments.{perhaps, several}
 use Rattle.command_line.specs.Commands.{symarch_command}
-use Rattle.command_line.specs.Lines.{all_values, are_accepted, asked_of, has_form, have_forms, line_at, line_in}
+use Rattle.command_line.specs.Lines.{all_values, are_accepted, asked_of, has_form, have_forms, is_set, line_at, line_in}
 use Rattle.command_line.specs.Lines.{named_command, values_at, values_spelled, words_by}
 use Rattle.command_line.specs.Table.{Signature, signature_named}
 use Rattle.command_line.specs.declared.commands.Form.{Form}
@@ -65,6 +65,7 @@ required_given id (a ∷ rules) rows asks given =
 abbrev is_free : Count → Bool
 is_free (Perhaps option) = true
 is_free (Often option) = true
+is_free (Flag option) = true
 is_free _ = false
 
 -- the command requires each argument that has to be there
@@ -80,6 +81,9 @@ record Stood (rules : List Rule) (rows : List Row) : Type 0 where
 none_spelled : (form : Form) → (is_some (values_spelled form (perhaps None)) ≡ true)
     × (is_some (values_spelled form (several [])) ≡ true)
 none_spelled form = grind arith
+
+flag_spelled : (form : Form) (is_set : Bool) → is_some (values_spelled form (flag is_set)) ≡ true
+flag_spelled form is_set = grind arith
 
 -- an argument that has its form has its values
 values_some : (a : Argument) (rules : List Rule) (rows : List Row) → Stood rules rows
@@ -117,6 +121,7 @@ values_some a rules rows stood asks has = go a.count asks has
     go Several asks has = left_of _ _ has (stands asks)
     go (Perhaps option) asks has = if_there (form_of a.role) (first_of a.name rows) has
     go (Often option) asks has = each_there (form_of a.role) (find (λ x. bytes_eq x.id a.name) rows) has
+    go (Flag option) asks has = flag_spelled (form_of a.role) (is_set a.name rows)
 
 -- two values are there exactly where what is made of both is
 both_some : {X Y Z : Type 0} (f : X → Y → Z) (o : Option X) (p : Option Y) → (is_some o && is_some p)

@@ -48,9 +48,10 @@ is_filled (v ∷ vs) = true
 abbrev pub are_filled : List Row → Bool
 are_filled rows = list_all (λ r. is_filled r.values) rows
 
--- no use without a value passes
+-- no use without a value passes, or a value stands for it
 abbrev pub wants_value : Rule → Bool
-wants_value a = nat_le 1 (unwrap_or_range a.range).start_inclusive || is_request (action_of a)
+wants_value a =
+    (nat_le 1 (unwrap_or_range a.range).start_inclusive || is_request (action_of a)) || is_filled a.missing
 
 abbrev pub want_values : List Rule → Bool
 want_values rules = list_all wants_value rules
@@ -67,6 +68,9 @@ or_picked : {X : Type 0} (is : X → Bool) (c q : Bool) (x y : X) → (c || q) �
     → (q ≡ true → is y ≡ true) → is (cond c x y) ≡ true
 or_picked is true q x y passes one other = one
 or_picked is false q x y passes one other = other passes
+
+or_none : (b : Bool) → (b || false) ≡ true → b ≡ true
+or_none b is = grind arith
 
 -- what is found among elements that all pass passes
 pub found_passes : {X : Type 0} (p q : X → Bool) (xs : List X) (x : X) → list_all p xs ≡ true → find q xs ≡ Some x
@@ -110,14 +114,22 @@ request_fails : (x : ArgAction) (again : Bool) (a : Rule) (vs : List Text) (rows
     → action_passes x again a vs rows ≡ true → ⊥
 request_fails x again a vs rows is passes = grind arith
 
-none_fails : (again : Bool) (a : Rule) (rows : List Row) → wants_value a ≡ true → use_passes again a [] rows ≡ true → ⊥
+none_fails : (again : Bool) (a : Rule) (rows : List Row)
+    → (nat_le 1 (unwrap_or_range a.range).start_inclusive || is_request (action_of a)) ≡ true
+    → use_passes again a [] rows ≡ true → ⊥
 none_fails again a rows wants passes =
     let fails = request_fails (action_of a) again a (values_or_missing a []) rows in
     grind (arith, nat_tests)
 
 used_filled : (again : Bool) (a : Rule) (values : List Text) (rows : List Row) → wants_value a ≡ true
     → use_passes again a values rows ≡ true → are_filled rows ≡ true → are_filled (used a values rows) ≡ true
-used_filled again a [] rows wants passes filled = absurd (none_fails again a rows wants passes)
+used_filled again a [] rows wants passes filled = go a.missing wants
+  where
+    go : (missing : List Text)
+        → ((nat_le 1 (unwrap_or_range a.range).start_inclusive || is_request (action_of a)) || is_filled missing) ≡ true
+        → are_filled (used_as (action_of a) a.id (reading_by a) missing rows) ≡ true
+    go [] wants = absurd (none_fails again a rows (or_none _ wants) passes)
+    go (v ∷ vs) wants = used_as_filled (action_of a) a.id (reading_by a) v vs rows filled
 used_filled again a (v ∷ vs) rows wants passes filled =
     used_as_filled (action_of a) a.id (reading_by a) v vs rows filled
 

@@ -7,3 +7,4 @@ pub mod LineFaultLemmas
 pub mod Exactly
 pub mod Listed
 pub mod Passed
+pub mod Flags

@@ -6,7 +6,7 @@ use Rattle.std.specs.Prelude.{option_and_then}
 use Rattle.std.specs.Option.{option_map_or, option_or}
 use Rattle.uuid.specs.Text.{parsed}
 use Rattle.archive_words.specs.Words.{address_of, arch_of, digest_of}
-use Rattle.command_line.specs.Arguments.{Amount, Argument, Values, form_of, one, perhaps, several}
+use Rattle.command_line.specs.Arguments.{Amount, Argument, Values, flag, form_of, one, perhaps, several}
 use Rattle.command_line.specs.LineFaults.{out_is_input, unknown_command, without_value}
 use Rattle.command_line.specs.Lines.{Line, all_spelled, all_values, amount_spelled, line_at, line_in, values_at}
 use Rattle.command_line.specs.Lines.{inputs_of, is_path_among, out_of, values_spelled, words_by}
@@ -93,6 +93,7 @@ other_none form (one word) some = grind (arith, first_none form (word ∷ []))
 other_none form (several words) some = grind (arith, first_none form words)
 other_none form (perhaps None) some = refl
 other_none form (perhaps (Some word)) some = grind (arith, first_none form (word ∷ []))
+other_none form (flag is_set) some = refl
 
 mapped : {X Y : Type 0} (f : X → Y) (o : Option X) → is_some (option_map f o) ≡ true → is_some o ≡ true
 mapped f o some = grind arith

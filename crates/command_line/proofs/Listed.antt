@@ -1,5 +1,5 @@
 -- A line that is read is one of the table.
-use Rattle.std.proofs.Common.{Bool, arith, ◌≡◌, ◌∙◌, true, false, refl, ap, subst, sym}
+use Rattle.std.proofs.Common.{arith, ◌≡◌, ◌∙◌, true, false, refl, ap, subst, sym}
 use Rattle.std.proofs.Common.{List, [], ◌∷◌, Option, Some, None, option_map}
 use Rattle.std.specs.Option.{option_map_or}
 use Rattle.std.proofs.lemmas.Bool.{and_from}

@@ -7,13 +7,13 @@ use Rattle.uuid.proofs.OnLiterals.{uuid_on_literals}
 use Rattle.clap.specs.declared.error.kind.ErrorKind.TheVariants as kind
 use Rattle.clap.proofs.OnLiterals.{clap_on_literals}
 use Rattle.command_line.specs.Commands.{symarch_command}
-use Rattle.command_line.specs.Arguments.{archs, digests, numbers, one, perhaps, several, text, texts, uuids}
+use Rattle.command_line.specs.Arguments.{archs, digests, flag, numbers, one, perhaps, several, text, texts, uuids}
 use Rattle.command_line.specs.Lines.{Line, are_accepted, error_kinds, inputs_of, is_in_order, line_of, line_with}
 use Rattle.command_line.specs.Lines.{named_command}
 use Rattle.command_line.specs.Table.{admit_command, find_command, frames_command, merge_command, migrate_command}
 use Rattle.command_line.specs.Table.{new_command, retire_command, symbolicate_command}
 use Rattle.archive_words.specs.Words.{address_of, arch_key, arch_of, digest_of}
-use Rattle.command_line.specs.Samples.{Asks, EachAsks, Sample, digest_bytes}
+use Rattle.command_line.specs.Samples.{EachAsks, Sample, digest_bytes}
 use Rattle.command_line.specs.Samples.{digest_text, samples, uuid_bytes, uuid_text}
 
 -- the program's name, which is the first word of each line
@@ -166,7 +166,7 @@ find_no_uuid = refl
 symbolicate_read : line_of (symarch (codes "symbolicate" ∷ codes "--load" ∷ codes "0x104000000" ∷ codes "a" ∷ uuid_text
     ∷ codes "x86_64" ∷ codes "104001040" ∷ codes "0x10" ∷ []))
     ≡ Some (line_with symbolicate_command (text (codes "a") ∷ uuids (one uuid_bytes)
-    ∷ archs (one (arch_key 0x0100_0007 3)) ∷ numbers (perhaps (Some 0x104000000)) ∷ texts (several [])
+    ∷ archs (one (arch_key 0x0100_0007 3)) ∷ numbers (perhaps (Some 0x104000000)) ∷ texts (flag false) ∷ texts (several [])
     ∷ texts (several [])
     ∷ numbers (several (0x104001040 ∷ 0x10 ∷ [])) ∷ []))
 unfolding named_command symarch_command clap_on_literals uuid_on_literals
@@ -175,14 +175,14 @@ symbolicate_read = refl
 load_between : line_of (symarch (codes "symbolicate" ∷ codes "a" ∷ uuid_text ∷ codes "x86_64h" ∷ codes "10"
     ∷ codes "--load=fF" ∷ codes "20" ∷ []))
     ≡ Some (line_with symbolicate_command (text (codes "a") ∷ uuids (one uuid_bytes)
-    ∷ archs (one (arch_key 0x0100_0007 8)) ∷ numbers (perhaps (Some 255)) ∷ texts (several []) ∷ texts (several [])
+    ∷ archs (one (arch_key 0x0100_0007 8)) ∷ numbers (perhaps (Some 255)) ∷ texts (flag false) ∷ texts (several []) ∷ texts (several [])
     ∷ numbers (several (0x10 ∷ 0x20 ∷ [])) ∷ []))
 unfolding named_command symarch_command clap_on_literals uuid_on_literals
 load_between = refl
 
 no_load : line_of (symarch (codes "symbolicate" ∷ codes "a" ∷ uuid_text ∷ codes "arm64" ∷ codes "10" ∷ []))
     ≡ Some (line_with symbolicate_command (text (codes "a") ∷ uuids (one uuid_bytes)
-    ∷ archs (one (arch_key 0x0100_000c 0)) ∷ numbers (perhaps None) ∷ texts (several []) ∷ texts (several [])
+    ∷ archs (one (arch_key 0x0100_000c 0)) ∷ numbers (perhaps None) ∷ texts (flag false) ∷ texts (several []) ∷ texts (several [])
     ∷ numbers (several (0x10 ∷ [])) ∷ []))
 unfolding named_command symarch_command clap_on_literals uuid_on_literals
 no_load = refl
@@ -192,19 +192,61 @@ load_twice : are_accepted (symarch (codes "symbolicate" ∷ codes "--load" ∷ c
 unfolding are_accepted symarch_command clap_on_literals
 load_twice = refl
 
+-- `--lines` before the others, and behind them
+lines_read : line_of (symarch (codes "symbolicate" ∷ codes "--lines" ∷ codes "a" ∷ uuid_text ∷ codes "arm64"
+    ∷ codes "10" ∷ []))
+    ≡ Some (line_with symbolicate_command (text (codes "a") ∷ uuids (one uuid_bytes)
+    ∷ archs (one (arch_key 0x0100_000c 0)) ∷ numbers (perhaps None) ∷ texts (flag true) ∷ texts (several [])
+    ∷ texts (several []) ∷ numbers (several (0x10 ∷ [])) ∷ []))
+unfolding named_command symarch_command clap_on_literals uuid_on_literals
+lines_read = refl
+
+lines_of_frames : line_of (symarch (codes "frames" ∷ codes "f" ∷ codes "a" ∷ codes "--lines" ∷ []))
+    ≡ Some (line_with frames_command (text (codes "f") ∷ texts (flag true) ∷ texts (several [])
+    ∷ texts (several (codes "a" ∷ [])) ∷ []))
+unfolding named_command symarch_command clap_on_literals
+lines_of_frames = refl
+
+-- behind `--` it is a path
+lines_behind_dashes : line_of (symarch (codes "frames" ∷ codes "f" ∷ codes "--" ∷ codes "--lines" ∷ []))
+    ≡ Some (line_with frames_command (text (codes "f") ∷ texts (flag false) ∷ texts (several [])
+    ∷ texts (several (codes "--lines" ∷ [])) ∷ []))
+unfolding named_command symarch_command clap_on_literals
+lines_behind_dashes = refl
+
+-- twice, with a value, by the beginning of its name, and of a command that has no such flag
+lines_twice_fault : error_kinds (symarch (codes "frames" ∷ codes "--lines" ∷ codes "f" ∷ codes "a" ∷ codes "--lines"
+    ∷ [])) ≡ kind.ArgumentConflict ∷ []
+unfolding error_kinds symarch_command clap_on_literals
+lines_twice_fault = refl
+
+lines_value_fault : error_kinds (symarch (codes "frames" ∷ codes "--lines=true" ∷ codes "f" ∷ codes "a" ∷ []))
+    ≡ kind.TooManyValues ∷ []
+unfolding error_kinds symarch_command clap_on_literals
+lines_value_fault = refl
+
+line_fault : error_kinds (symarch (codes "frames" ∷ codes "--line" ∷ codes "f" ∷ codes "a" ∷ []))
+    ≡ kind.UnknownArgument ∷ []
+unfolding error_kinds symarch_command clap_on_literals
+line_fault = refl
+
+list_lines_fault : error_kinds (symarch (codes "list" ∷ codes "a" ∷ codes "--lines" ∷ [])) ≡ kind.UnknownArgument ∷ []
+unfolding error_kinds symarch_command clap_on_literals
+list_lines_fault = refl
+
 -- FRAMES stands before ARCHIVE
 frames_accepted : are_accepted (symarch (codes "frames" ∷ codes "f" ∷ codes "a" ∷ [])) ≡ true
 unfolding are_accepted symarch_command clap_on_literals
 frames_accepted = refl
 
 frames_read : line_of (symarch (codes "frames" ∷ codes "f" ∷ codes "a" ∷ []))
-    ≡ Some (line_with frames_command (text (codes "f") ∷ texts (several []) ∷ texts (several (codes "a" ∷ [])) ∷ []))
+    ≡ Some (line_with frames_command (text (codes "f") ∷ texts (flag false) ∷ texts (several []) ∷ texts (several (codes "a" ∷ [])) ∷ []))
 unfolding named_command symarch_command clap_on_literals
 frames_read = refl
 
 -- and of several the order is that of the words
 frames_of_two : line_of (symarch (codes "frames" ∷ codes "f" ∷ codes "b" ∷ codes "a" ∷ []))
-    ≡ Some (line_with frames_command (text (codes "f") ∷ texts (several []) ∷ texts (several (codes "b" ∷ codes "a" ∷ [])) ∷ []))
+    ≡ Some (line_with frames_command (text (codes "f") ∷ texts (flag false) ∷ texts (several []) ∷ texts (several (codes "b" ∷ codes "a" ∷ [])) ∷ []))
 unfolding named_command symarch_command clap_on_literals
 frames_of_two = refl
 

@@ -10,13 +10,14 @@ use Rattle.command_line.specs.declared.commands.Kind.TheVariants as kinds
 use Rattle.command_line.specs.declared.commands.Role.{Role}
 use Rattle.command_line.specs.declared.commands.Role.TheVariants as roles
 
--- how often an argument stands in a line: one word; the last words; the word after an option, at most once; or a word
--- after each option of a name, any number of times
+-- how often an argument stands in a line: one word; the last words; the word after an option, at most once; a word after
+-- each option of a name, any number of times; or an option without a word, at most once
 pub data Count : Type 0 where
   Once : Count
   Several : Count
   Perhaps : (option : Text) → Count
   Often : (option : Text) → Count
+  Flag : (option : Text) → Count
 
 pub record Argument : Type 0 where
   pub name : Text
@@ -56,11 +57,13 @@ form_of (roles.Reads kind) = forms.Plain
 form_of roles.Writes = forms.Plain
 form_of (roles.Says form) = form
 
--- what stands at an argument: one, several, which may be none after options, or one that may be left out
+-- what stands at an argument: one, several, which may be none after options, one that may be left out, or, without a
+-- word, whether its flag stands there
 pub data Amount (X : Type 0) : Type 0 where
   one : X → Amount X
   several : List X → Amount X
   perhaps : Option X → Amount X
+  flag : Bool → Amount X
 
 -- its values, by the form of its words
 pub data Values : Type 0 where
@@ -80,6 +83,7 @@ is_counted Once (one x) = true
 is_counted Several (several (x ∷ xs)) = true
 is_counted (Perhaps option) (perhaps x) = true
 is_counted (Often option) (several xs) = true
+is_counted (Flag option) (flag is_set) = true
 is_counted _ _ = false
 
 -- of its form

@@ -1,17 +1,18 @@
 -- A table of commands, as `clap`'s definitions see it.
 use Rattle.std.specs.Prelude.{List, [], ◌∷◌, codes, map, Some, true}
 use Rattle.clap.specs.Words.{App, Rule, Text, new_app, new_rule, with_rule, with_subcommand}
-use Rattle.clap.specs.declared.builder.action.ArgAction.TheVariants.{Append}
-use Rattle.command_line.specs.Arguments.{Argument, Count, Often, Once, Perhaps, Several}
+use Rattle.clap.specs.declared.builder.action.ArgAction.TheVariants.{Append, SetTrue}
+use Rattle.command_line.specs.Arguments.{Argument, Count, Flag, Often, Once, Perhaps, Several}
 use Rattle.command_line.specs.Table.{Signature, commands}
 
 -- an argument that has one value; the last, that has one value or more, each a word of its own; an option `--name` that
--- has one value, and may be left out; or one that may stand there again, each time with a value more
+-- has one value, and may be left out; one that may stand there again, each time with a value more; or a flag
 abbrev pub rule_by : Count → Text → Rule
 rule_by Once id = record (new_rule id) { required = true }
 rule_by Several id = record (new_rule id) { required = true; action = Some Append }
 rule_by (Perhaps option) id = record (new_rule id) { long = Some option }
 rule_by (Often option) id = record (new_rule id) { long = Some option; action = Some Append }
+rule_by (Flag option) id = record (new_rule id) { long = Some option; action = Some SetTrue }
 
 abbrev pub rule_for : Argument → Rule
 rule_for a = rule_by a.count a.name

@@ -1,7 +1,7 @@
 -- The words of an argument, as definitions see them.
 use Rattle.std.specs.Prelude.{[], None, Some, map}
 use Rattle.clap.specs.Words.{Text}
-use Rattle.command_line.specs.Arguments.{Amount, one, perhaps, several}
+use Rattle.command_line.specs.Arguments.{Amount, flag, one, perhaps, several}
 use Rattle.command_line.specs.declared.readings.Words.{Words}
 use Rattle.command_line.specs.declared.readings.Words.TheVariants as words
 
@@ -12,3 +12,4 @@ words_view (words.Perhaps None) = perhaps None
 words_view (words.Perhaps (Some word)) = perhaps (Some word.now)
 words_view (words.Often None) = several []
 words_view (words.Often (Some all)) = several (map (λ w. w.now) all.now)
+words_view (words.Flag is_set) = flag is_set

@@ -5,7 +5,7 @@ use Rattle.std.specs.Option.{option_map_or, option_or}
 use Rattle.clap.specs.Words.{Row, Text}
 use Rattle.uuid.specs.Text.{parsed}
 use Rattle.archive_words.specs.Words.{address_of, arch_of, digest_of}
-use Rattle.command_line.specs.Arguments.{Amount, Argument, form_of, one, perhaps, several}
+use Rattle.command_line.specs.Arguments.{Amount, Argument, flag, form_of, one, perhaps, several}
 use Rattle.command_line.specs.LineView.{line_view}
 use Rattle.command_line.specs.Lines.{Line, line_in, out_of, overwrites_input, words_by}
 use Rattle.command_line.specs.declared.commands.Form.{Form}
@@ -60,6 +60,7 @@ other_in form (one word) = first_other form (word ∷ [])
 other_in form (several words) = first_other form words
 other_in form (perhaps None) = None
 other_in form (perhaps (Some word)) = first_other form (word ∷ [])
+other_in form (flag is_set) = None
 
 -- the first word of an argument that has another form than this
 abbrev pub other_word : Form → Amount Text → Option Text

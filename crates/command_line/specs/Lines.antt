@@ -1,7 +1,7 @@
 -- What a command line asks for.
 use Rattle.std.specs.Prelude.{Bool, true, false, not, ◌&&◌, ◌||◌, List, [], ◌∷◌, ◌++◌, Contains}
 use Rattle.std.specs.Prelude.{Option, Some, None, IfSome, is_some, option_and_then, option_map, slice_get}
-use Rattle.std.specs.Prelude.{if◌then◌else◌, unwrap_or}
+use Rattle.std.specs.Prelude.{if◌then◌else◌, codes, unwrap_or}
 use Rattle.std.specs.List.{list_all, list_any}
 use Rattle.std.specs.Option.{option_map_or}
 use Rattle.std.specs.Str.{bytes_eq}
@@ -12,9 +12,9 @@ use Rattle.command_line.specs.declared.commands.Form.{Form}
 use Rattle.command_line.specs.declared.commands.Form.TheVariants as forms
 use Rattle.command_line.specs.declared.commands.Kind.{Kind}
 use Rattle.command_line.specs.declared.commands.Role.{Role}
-use Rattle.command_line.specs.Arguments.{Amount, Argument, Count, Often, Once, Perhaps, Several, Values, archs, digests}
-use Rattle.command_line.specs.Arguments.{form_of, numbers, one, perhaps, reads, reads_kind, several, texts, uuids}
-use Rattle.command_line.specs.Arguments.{writes}
+use Rattle.command_line.specs.Arguments.{Amount, Argument, Count, Flag, Often, Once, Perhaps, Several, Values, archs}
+use Rattle.command_line.specs.Arguments.{digests, flag, form_of, numbers, one, perhaps, reads, reads_kind, several}
+use Rattle.command_line.specs.Arguments.{texts, uuids, writes}
 use Rattle.command_line.specs.Commands.{symarch_command}
 use Rattle.command_line.specs.Table.{Signature, arguments_named, signature_named}
 
@@ -94,12 +94,17 @@ abbrev pub if_some : List Text → Option (Amount Text)
 if_some [] = None
 if_some (word ∷ words) = Some (several (word ∷ words))
 
+-- a flag stands there: `clap` makes of it the value `true`, and where it does not stand there `false`
+abbrev pub is_set : Text → List Row → Bool
+is_set id rows = option_map_or (λ value. bytes_eq value (codes "true")) (first_of id rows) false
+
 -- the words of an argument, if as many stand at its name as it asks for
 abbrev pub words_by : Count → Text → List Row → Option (Amount Text)
 words_by Once id rows = option_map (λ word. one word) (first_of id rows)
 words_by Several id rows = if_some (any_of id rows)
 words_by (Perhaps option) id rows = Some (perhaps (first_of id rows))
 words_by (Often option) id rows = Some (several (any_of id rows))
+words_by (Flag option) id rows = Some (flag (is_set id rows))
 
 -- what each word spells, where each has the form
 abbrev pub all_spelled : {X : Type 0} → (Text → Option X) → List Text → Option (List X)
@@ -112,6 +117,7 @@ amount_spelled form (one word) = option_map (λ x. one x) (form word)
 amount_spelled form (several words) = option_map (λ xs. several xs) (all_spelled form words)
 amount_spelled form (perhaps None) = Some (perhaps None)
 amount_spelled form (perhaps (Some word)) = option_map (λ x. perhaps (Some x)) (form word)
+amount_spelled form (flag is_set) = Some (flag is_set)
 
 abbrev pub values_spelled : Form → Amount Text → Option Values
 values_spelled forms.Plain words = Some (texts words)

@@ -1,8 +1,8 @@
 -- For each command a line of words, and what they ask for.
-use Rattle.std.specs.Prelude.{◌≡◌, ⊤, ℕ, true, List, [], ◌∷◌, Some, None, codes}
+use Rattle.std.specs.Prelude.{◌≡◌, ⊤, ℕ, true, false, List, [], ◌∷◌, Some, None, codes}
 use Rattle.clap.specs.Words.{Text}
 use Rattle.archive_words.specs.Words.{arch_key}
-use Rattle.command_line.specs.Arguments.{archs, digests, numbers, one, perhaps, several, text, texts, uuids}
+use Rattle.command_line.specs.Arguments.{archs, digests, flag, numbers, one, perhaps, several, text, texts, uuids}
 use Rattle.command_line.specs.Lines.{Line, error_kinds, is_in_order, line_of, line_with}
 use Rattle.command_line.specs.Table.{admit_command, apply_command, delta_command, find_command, frames_command}
 use Rattle.command_line.specs.Table.{index_command, list_command, merge_command, migrate_command, name_command}
@@ -68,13 +68,13 @@ samples =
     ∷ sample (codes "name" ∷ codes "a" ∷ codes "--" ∷ codes "-n" ∷ [])
     (line_with name_command (text (codes "a") ∷ text (codes "-n") ∷ texts (several []) ∷ []))
     ∷ sample (codes "symbolicate" ∷ codes "a" ∷ uuid_text ∷ codes "x86_64h" ∷ codes "10" ∷ codes "--load=0xfF"
-    ∷ codes "--with" ∷ codes "b" ∷ codes "0x20" ∷ [])
+    ∷ codes "--with" ∷ codes "b" ∷ codes "--lines" ∷ codes "0x20" ∷ [])
     (line_with symbolicate_command (text (codes "a") ∷ uuids (one uuid_bytes) ∷ archs (one (arch_key 0x0100_0007 8))
-    ∷ numbers (perhaps (Some 255)) ∷ texts (several (codes "b" ∷ [])) ∷ texts (several [])
+    ∷ numbers (perhaps (Some 255)) ∷ texts (flag true) ∷ texts (several (codes "b" ∷ [])) ∷ texts (several [])
     ∷ numbers (several (0x10 ∷ 0x20 ∷ [])) ∷ []))
     ∷ sample (codes "frames" ∷ codes "f" ∷ codes "a" ∷ codes "b" ∷ codes "--index" ∷ codes "i" ∷ codes "--index"
     ∷ codes "j" ∷ [])
-    (line_with frames_command (text (codes "f") ∷ texts (several (codes "i" ∷ codes "j" ∷ []))
+    (line_with frames_command (text (codes "f") ∷ texts (flag false) ∷ texts (several (codes "i" ∷ codes "j" ∷ []))
     ∷ texts (several (codes "a" ∷ codes "b" ∷ [])) ∷ []))
     ∷ sample (codes "summary" ∷ codes "a" ∷ codes "o" ∷ [])
     (line_with summary_command (text (codes "a") ∷ text (codes "o") ∷ texts (perhaps None) ∷ []))

@@ -6,7 +6,8 @@ use Rattle.clap.specs.Words.{Text}
 use Rattle.command_line.specs.declared.commands.Form.TheVariants as forms
 use Rattle.command_line.specs.declared.commands.Kind.TheVariants as kinds
 use Rattle.command_line.specs.declared.commands.Role.TheVariants as roles
-use Rattle.command_line.specs.Arguments.{Argument, Often, Once, Perhaps, Several, Values, are_values_of, argument}
+use Rattle.command_line.specs.Arguments.{Argument, Flag, Often, Once, Perhaps, Several, Values, are_values_of}
+use Rattle.command_line.specs.Arguments.{argument}
 
 pub record Signature : Type 0 where
   pub name : Text
@@ -31,6 +32,10 @@ index_path = argument (codes "INDEX") (Perhaps (codes "index")) (roles.Reads kin
 
 abbrev pub index_paths : Argument
 index_paths = argument (codes "INDEX") (Often (codes "index")) (roles.Reads kinds.Index)
+
+-- that lines of the sources are asked for too
+abbrev pub lines_flag : Argument
+lines_flag = argument (codes "LINES") (Flag (codes "lines")) (roles.Says forms.Plain)
 
 abbrev pub out_path : Argument
 out_path = argument (codes "OUT") Once roles.Writes
@@ -75,12 +80,12 @@ name_command = signature (codes "name")
 
 abbrev pub symbolicate_command : Signature
 symbolicate_command = signature (codes "symbolicate") (archive_path ∷ uuid_word ∷ arch_word
-    ∷ argument (codes "HEX") (Perhaps (codes "load")) (roles.Says forms.Number) ∷ other_paths ∷ index_paths
-    ∷ argument (codes "ADDRESS") Several (roles.Says forms.Number) ∷ [])
+    ∷ argument (codes "HEX") (Perhaps (codes "load")) (roles.Says forms.Number) ∷ lines_flag ∷ other_paths
+    ∷ index_paths ∷ argument (codes "ADDRESS") Several (roles.Says forms.Number) ∷ [])
 
 abbrev pub frames_command : Signature
 frames_command = signature (codes "frames")
-    (argument (codes "FRAMES") Once (roles.Reads kinds.Frames) ∷ index_paths
+    (argument (codes "FRAMES") Once (roles.Reads kinds.Frames) ∷ lines_flag ∷ index_paths
     ∷ argument (codes "ARCHIVE") Several (roles.Reads kinds.Archive) ∷ [])
 
 abbrev pub summary_command : Signature

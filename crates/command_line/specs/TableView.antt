@@ -1,6 +1,6 @@
 -- The table of the program, as definitions see it.
 use Rattle.std.specs.Prelude.{map}
-use Rattle.command_line.specs.Arguments.{Argument, Count, Often, Once, Perhaps, Several}
+use Rattle.command_line.specs.Arguments.{Argument, Count, Flag, Often, Once, Perhaps, Several}
 use Rattle.command_line.specs.Table.{Signature}
 use Rattle.command_line.specs.declared.commands.Argument.{Argument as ArgumentOfProgram}
 use Rattle.command_line.specs.declared.commands.Count.{Count as CountOfProgram}
@@ -12,6 +12,7 @@ count_in counts.Once = Once
 count_in counts.Several = Several
 count_in (counts.Perhaps option) = Perhaps option.now
 count_in (counts.Often option) = Often option.now
+count_in (counts.Flag option) = Flag option.now
 
 abbrev pub argument_in : ArgumentOfProgram → Argument
 argument_in a = record { name = a.name.now; count = count_in a.count; role = a.role }

@@ -2,7 +2,8 @@
 use Rattle.std.specs.Global.{Global}
 use Rattle.std.specs.Prelude.{None, Some, String, map, string_bytes}
 use Rattle.clap.specs.Words.{Text}
-use Rattle.command_line.specs.Arguments.{Amount, Values, archs, digests, numbers, one, perhaps, several, texts, uuids}
+use Rattle.command_line.specs.Arguments.{Amount, Values, archs, digests, flag, numbers, one, perhaps, several, texts}
+use Rattle.command_line.specs.Arguments.{uuids}
 use Rattle.command_line.specs.declared.values.Amount.{Amount as AmountOfProgram}
 use Rattle.command_line.specs.declared.values.Amount.TheVariants as amounts
 use Rattle.command_line.specs.declared.values.Values.{Values as ValuesOfProgram}
@@ -12,12 +13,14 @@ abbrev pub amount_view : {X : Type 0} → AmountOfProgram X → Amount X
 amount_view (amounts.One x) = one x
 amount_view (amounts.Several xs) = several xs.items
 amount_view (amounts.Perhaps x) = perhaps x
+amount_view (amounts.Flag is_set) = flag is_set
 
 abbrev pub texts_view : AmountOfProgram (String Global) → Amount Text
 texts_view (amounts.One text) = one (string_bytes text)
 texts_view (amounts.Several all) = several (map string_bytes all.items)
 texts_view (amounts.Perhaps None) = perhaps None
 texts_view (amounts.Perhaps (Some text)) = perhaps (Some (string_bytes text))
+texts_view (amounts.Flag is_set) = flag is_set
 
 abbrev pub values_view : ValuesOfProgram → Values
 values_view (forms.Texts xs) = texts (texts_view xs)

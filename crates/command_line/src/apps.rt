@@ -21,6 +21,7 @@ fn arg<'a>(alloc: Global, argument: Argument) -> Arg<'a>
         Count::Several => arg.required(true).action(ArgAction::Append),
         Count::Perhaps(option) => arg.long(option),
         Count::Often(option) => arg.long(option).action(ArgAction::Append),
+        Count::Flag(option) => arg.long(option).action(ArgAction::SetTrue),
     }
 }
 

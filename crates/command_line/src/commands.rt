@@ -55,6 +55,8 @@ pub enum Count {
     Perhaps(&'static str),
     /// A word after each option of this name, of which any number may stand there.
     Often(&'static str),
+    /// No word: whether the option of this name stands there, at most once.
+    Flag(&'static str),
 }
 
 /// An argument of a command.
@@ -216,6 +218,13 @@ const LOAD: Argument = Argument {
     role: Role::Says(Form::Number),
 };
 
+const LINES: Argument = Argument {
+    name: "LINES",
+    help: "Also print the source lines and inlined frames of each address",
+    count: Count::Flag("lines"),
+    role: Role::Says(Form::Plain),
+};
+
 const ADDRESSES: Argument = Argument {
     name: "ADDRESS",
     help: "The addresses to look up, in hexadecimal, with or without 0x",
@@ -228,6 +237,8 @@ const ANSWERS: &str = "Each address gets one line: the nearest symbol, or\n\
     -   if there is none: the address is in no section, or below its section's first symbol\n\
     ?   if the archive has no slice with this UUID and ARCH\n\
     !N  if N slices answer; a line for each follows\n\
+    With --lines each line of a slice is followed by one for each frame, innermost first:\n\
+    four spaces and NAME at PATH:LINE:COLUMN, with ? for what is unknown.\n\
     The exit status is 1 if any answer is not exactly one symbol.\n\
     Numbers are hexadecimal, also without 0x.";
 
@@ -291,13 +302,15 @@ const COMMANDS: &[Signature] = &[
         name: "symbolicate",
         about: "Print the nearest symbols of addresses",
         more: Some(ANSWERS),
-        arguments: &[ARCHIVE, IMAGE_UUID, ARCH, LOAD, OTHER, INDEXES, ADDRESSES],
+        arguments: &[
+            ARCHIVE, IMAGE_UUID, ARCH, LOAD, LINES, OTHER, INDEXES, ADDRESSES,
+        ],
     },
     Signature {
         name: "frames",
         about: "Print the nearest symbols of all frames of a crash",
         more: Some(ANSWERS),
-        arguments: &[FRAMES, INDEXES, TOGETHER],
+        arguments: &[FRAMES, LINES, INDEXES, TOGETHER],
     },
     Signature {
         name: "summary",

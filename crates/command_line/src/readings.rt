@@ -10,7 +10,7 @@ ghost use Rattle.command_line.specs.InnerWords.{words_view};
 ghost use Rattle.command_line.specs.LineFaults.{IsRefusalUnlessMemory, IsRefusedAs, IsRefusedBy, first_other};
 ghost use Rattle.command_line.specs.LineFaults.{form_refusal, other_form, other_in, refusal_among, refusal_at};
 ghost use Rattle.command_line.specs.LineFaults.{without_value};
-ghost use Rattle.command_line.specs.Lines.{all_spelled, all_values, amount_spelled, if_some, values_at};
+ghost use Rattle.command_line.specs.Lines.{all_spelled, all_values, amount_spelled, if_some, is_set, values_at};
 ghost use Rattle.command_line.specs.Lines.{values_spelled, words_by};
 
 use crate::commands::{Argument, Count, Form, form_of, form_text};
@@ -28,6 +28,7 @@ enum Words<'m, 'a> {
     Several(&'m [&'a str]),
     Perhaps(Option<&'a str>),
     Often(Option<&'m [&'a str]>),
+    Flag(bool),
 }
 
 /// The value of a name, if it stands there.
@@ -43,6 +44,13 @@ fn values<'m, 'a>(matches: &'m ArgMatches<'a>, id: &str) -> Option<&'m [&'a str]
         ≡ all_of id.now (rows_of (found_of matches.now)) }
 {
     matches.get_strs(id)
+}
+
+/// Whether a flag stands there, of which `clap` makes the value `true`.
+fn is_set(matches: &ArgMatches, id: &str) -> bool
+    ensures { result ≡ is_set id.now (rows_of (found_of matches.now)) }
+{
+    value(matches, id).is_some_and(|text| text == "true")
 }
 
 /// These words, if there are some.
@@ -65,6 +73,7 @@ fn words_at<'m, 'a>(argument: Argument, matches: &'m ArgMatches<'a>) -> Option<W
         Count::Several => if_some(values(matches, argument.name)?),
         Count::Perhaps(_) => Some(Words::Perhaps(value(matches, argument.name))),
         Count::Often(_) => Some(Words::Often(values(matches, argument.name))),
+        Count::Flag(_) => Some(Words::Flag(is_set(matches, argument.name))),
     }
 }
 
@@ -144,6 +153,7 @@ fn copied(alloc: Global, words: Words) -> Result<Amount<String>, AllocError>
         Words::Perhaps(Some(word)) => Amount::Perhaps(Some(String::from_str(alloc, word)?)),
         Words::Often(None) => Amount::Several(Vec::new(alloc)),
         Words::Often(Some(words)) => Amount::Several(copies(alloc, words)?),
+        Words::Flag(is_set) => Amount::Flag(is_set),
     })
 }
 
@@ -167,6 +177,7 @@ fn amount<T: Word + Drop>(
         Words::Perhaps(Some(word)) => Amount::Perhaps(Some(spelled(alloc, argument, word)?)),
         Words::Often(None) => Amount::Several(Vec::new(alloc)),
         Words::Often(Some(words)) => Amount::Several(each_spelled(alloc, argument, words)?),
+        Words::Flag(is_set) => Amount::Flag(is_set),
     })
 }
 

@@ -12,6 +12,8 @@ pub enum Amount<T> {
     Several(Vec<T>),
     /// One that may be left out.
     Perhaps(Option<T>),
+    /// None: whether the flag stands there.
+    Flag(bool),
 }
 
 /// The values of an argument, by the form of its words. A path is the word itself.

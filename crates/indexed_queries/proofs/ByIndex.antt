@@ -12,7 +12,7 @@ use Rattle.archive_core.specs.Record.{admission_record}
 use Rattle.archive_core.specs.Summary.{Entries}
 use Rattle.archive_core.proofs.Made.{alike_union, bytes_same, joined_content, joined_made_right, made_alike, made_empty, made_is_alike}
 use Rattle.archive_core.proofs.Members.{in_rest}
-use Rattle.archive_core.proofs.Picked.{answer_alike, contains_part, part_alike, part_content}
+use Rattle.archive_core.proofs.Picked.{contains_part, part_alike, part_content}
 use Rattle.archive_records.specs.Text.{written}
 use Rattle.archive_index.specs.Entry.{IsPlacedEntry}
 use Rattle.archive_index.specs.Index.{AreIndexEntries, index}
@@ -25,6 +25,7 @@ use Rattle.archive_queries.specs.Frames.{IsFrameAnswered, TellsFrames}
 use Rattle.archive_queries.specs.Symbolicate.{Answered, asked_of}
 use Rattle.archive_core.specs.Lookup.{answer_view}
 use Rattle.archive_queries.proofs.Parts.{joined_alike, merged_alike}
+use Rattle.archive_queries.proofs.Sourced.{answers_alike, sourced_as}
 use Rattle.byte_device.specs.declared.disks.CannotOpen.{CannotOpen}
 use Rattle.crash_frames.specs.declared.frame.Frame.{Frame}
 use Rattle.command_ends.specs.Archives.{merged}
@@ -211,19 +212,19 @@ held_alike fronts indexes archives others os p short are h front in_fronts =
 
 -- ---- frames
 
-rows_told : (m o : Operations) (frames : List Frame) (rows : List Answered) → ((frame : Frame) → Contains (keys_of frames) (key_bytes frame.key) → AreAlikeUnder (key_bytes frame.key) m o) → AllZip (IsFrameAnswered m) frames rows → AllZip (IsFrameAnswered o) frames rows
-rows_told m o [] [] alike zip = tt
-rows_told m o [] (_ ∷ _) alike zip = absurd zip
-rows_told m o (_ ∷ _) [] alike zip = absurd zip
-rows_told m o (frame ∷ frames) (row ∷ rows) alike zip = (
-  (zip.0.0, answer_alike m o frame.key (asked_of frame.load row.address) (answer_view row.answer) (alike frame (0, omega arith, refl)) zip.0.1),
-  rows_told m o frames rows (λ f h. alike f (in_rest (key_bytes frame.key) (keys_of frames) (key_bytes f.key) h)) zip.1,
+rows_told : (lines : Bool) (m o : Operations) (frames : List Frame) (rows : List Answered) → ((frame : Frame) → Contains (keys_of frames) (key_bytes frame.key) → AreAlikeUnder (key_bytes frame.key) m o) → AllZip (IsFrameAnswered lines m) frames rows → AllZip (IsFrameAnswered lines o) frames rows
+rows_told lines m o [] [] alike zip = tt
+rows_told lines m o [] (_ ∷ _) alike zip = absurd zip
+rows_told lines m o (_ ∷ _) [] alike zip = absurd zip
+rows_told lines m o (frame ∷ frames) (row ∷ rows) alike zip = (
+  (zip.0.0, sourced_as m o frame.key lines (asked_of frame.load row.address) (answer_view row.answer) row.frames (answers_alike m o frame.key (alike frame (0, omega arith, refl))) zip.0.1),
+  rows_told lines m o frames rows (λ f h. alike f (in_rest (key_bytes frame.key) (keys_of frames) (key_bytes f.key) h)) zip.1,
 )
 
-pub frames_told : (m o : Operations) (frames : List Frame) (status : Status) (text : List ℕ) → ((key : List ℕ) → Contains (keys_of frames) key → AreAlikeUnder key m o) → TellsFrames m frames status text → TellsFrames o frames status text
-frames_told m o frames status text alike told = record {
+pub frames_told : (lines : Bool) (m o : Operations) (frames : List Frame) (status : Status) (text : List ℕ) → ((key : List ℕ) → Contains (keys_of frames) key → AreAlikeUnder key m o) → TellsFrames lines m frames status text → TellsFrames lines o frames status text
+frames_told lines m o frames status text alike told = record {
   rows = told.rows;
-  answered = rows_told m o frames told.rows (λ frame h. alike (key_bytes frame.key) h) told.answered;
+  answered = rows_told lines m o frames told.rows (λ frame h. alike (key_bytes frame.key) h) told.answered;
   status_is = told.status_is;
   text_is = told.text_is;
 }

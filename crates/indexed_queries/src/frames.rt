@@ -1,7 +1,6 @@
-//! `frames FRAMES ARCHIVE... --index INDEX`, over one archive or several.
-ghost use Rattle.std.specs.Prelude.{◌≡◌, ◌<◌, ◌+◌, ◌^◌, IfOk, length, map, string_bytes};
+//! `frames FRAMES [--lines] ARCHIVE... --index INDEX`, over one archive or several.
+ghost use Rattle.std.specs.Prelude.{◌≡◌, ◌<◌, ◌+◌, ◌^◌, IfOk, length, map};
 ghost use Rattle.archive_core.specs.Content.{HaveSameMembers};
-ghost use Rattle.archive_queries.specs.Frames.{TellsFrames};
 ghost use Rattle.command_ends.specs.Ends.{EndsReport};
 ghost use Rattle.command_ends.specs.Inputs.{ReadsInputs, reader, readers};
 ghost use Rattle.command_ends.specs.Outputs.{writer};
@@ -12,13 +11,12 @@ ghost use Rattle.indexed_queries.specs.Together.{AreUnfailedTogether};
 use crate::fronts::{Front, compare_fronts};
 use crate::together::read_fronts;
 use archive_core::Archive;
-use archive_queries::{asked_of, status_behind};
+use archive_queries::answer_frames;
 use byte_device::{CannotOpen, Sink, Source};
-use command_ends::{CommandFault, Status, publish_report, read_crash};
+use command_ends::{CommandFault, Status, publish_bytes, read_crash};
 use crash_frames::Frame;
 use memory::{Heap, NoMemory};
 use placed_bytes::Placed;
-use report_text::push_answer;
 
 /// The key of each frame.
 fn each_key(heap: Heap, frames: &[Frame]) -> Result<Vec<Front, Heap>, NoMemory>
@@ -41,50 +39,34 @@ fn fronts_of(heap: Heap, frames: &[Frame]) -> Result<Vec<Front, Heap>, NoMemory>
     Ok(fronts)
 }
 
-/// The lines of the answers to frames, in their order, with how a command ends that prints them.
-fn answer_frames<A: Archive>(
-    heap: Heap,
-    archive: &A,
-    frames: &[Frame],
-) -> Result<(Status, String<Heap>), NoMemory>
-    ensures { IfOk result (λ told. TellsFrames (A.content archive.now) frames.now told.0 (string_bytes told.1)) }
-{
-    let mut status = Status::Done;
-    let mut text = String::new(heap);
-    'frames: for frame in frames {
-        let answer = archive.lookup(&frame.key, asked_of(frame.load, frame.address))?;
-        status = status_behind(status, &answer);
-        push_answer(&mut text, frame.address, &answer)?;
-    }
-    Ok((status, text))
-}
-
 /// Reads what the archives have under the keys of the frames, and gives the lines of the answers to these.
 fn tell_frames<A: Archive + Drop, I: Source, P: Placed, R: Source>(
     heap: &Heap,
+    lines: bool,
     frames: &[Frame],
     indexes: &mut [Result<I, CannotOpen>],
     archives: &mut [Result<P, CannotOpen>],
     others: &mut [Result<R, CannotOpen>],
-) -> Result<(Status, String<Heap>), CommandFault>
+) -> Result<(Status, Vec<u8, Heap>), CommandFault>
     requires same { length indexes.old ≡ length archives.old }
     requires few { length indexes.old + length others.old < 2 ^ 64 }
     ensures { let named = readers I.left I.failures indexes.old indexes.new in
         let known = readers P.whole P.failures archives.old archives.new in
         let whole = readers R.left R.failures others.old others.new in
-        ReadsInputs result (λ told. AreToldAt named known whole frames.now told.0 (string_bytes told.1))
+        ReadsInputs result (λ told. AreToldAt lines named known whole frames.now told.0 told.1.items)
         (AreRefusedAt named known whole frames.now) (AreUnfailedTogether named known whole) }
 {
     let fronts = fronts_of(heap.clone()?, frames)?;
     let kept: A = read_fronts(heap, &fronts, indexes, archives, others)?;
-    let told = answer_frames(heap.clone()?, &kept, frames)?;
+    let told = answer_frames(heap.clone()?, &kept, frames, lines)?;
     Ok(told)
 }
 
 /// Writes for each frame of FRAMES what `run_symbolicate_at` writes for its address to the report, in the order of the
 /// lines. FRAMES is read to its end first. Of the first archives the slices under the keys of the frames are read, each
 /// once, at the places that their indexes name, and the others are read whole; what is under these keys is held. Where
-/// FRAMES has no frame the indexes are read, and compared with the lengths of their archives, all the same.
+/// FRAMES has no frame the indexes are read, and compared with the lengths of their archives, all the same. If `lines`,
+/// what each slice answers is followed by the source frames of the address in it.
 ///
 /// The status is `Done` where each answer is one symbol, and else `Partial`.
 ///
@@ -94,6 +76,7 @@ fn tell_frames<A: Archive + Drop, I: Source, P: Placed, R: Source>(
 /// `OutOfMemory`.
 pub fn run_frames_at<A: Archive + Drop, C: Source, I: Source, P: Placed, R: Source, W: Sink>(
     heap: Heap,
+    lines: bool,
     crash: &mut Result<C, CannotOpen>,
     indexes: &mut [Result<I, CannotOpen>],
     archives: &mut [Result<P, CannotOpen>],
@@ -102,12 +85,12 @@ pub fn run_frames_at<A: Archive + Drop, C: Source, I: Source, P: Placed, R: Sour
 ) -> Result<Status, CommandFault>
     requires same { length indexes.old ≡ length archives.old }
     requires few { length indexes.old + length others.old < 2 ^ 64 }
-    ensures { EndsReport (frames_at (reader C.left C.failures crash.old crash.new)
+    ensures { EndsReport (frames_at lines (reader C.left C.failures crash.old crash.new)
         (readers I.left I.failures indexes.old indexes.new) (readers P.whole P.failures archives.old archives.new)
         (readers R.left R.failures others.old others.new))
         (writer W.held W.failures report.old report.new) result }
 {
     let frames = read_crash(heap.clone()?, crash)?;
-    let (status, text) = tell_frames::<A, I, P, R>(&heap, &frames, indexes, archives, others)?;
-    publish_report(status, &text, report)
+    let (status, text) = tell_frames::<A, I, P, R>(&heap, lines, &frames, indexes, archives, others)?;
+    publish_bytes(status, &text, report)
 }

@@ -1,7 +1,7 @@
 //! What the commands tell by the index of a content. Each law is a function with an empty body, and its contract the
 //! law.
 
-ghost use Rattle.std.specs.Prelude.{◌≡◌, ◌≤◌, ◌<◌, ◌^◌, ◌∷◌, [], ℕ, List, Option, Contains, length};
+ghost use Rattle.std.specs.Prelude.{◌≡◌, ◌≤◌, ◌<◌, ◌^◌, ◌∷◌, [], ℕ, List, Bool, Option, Contains, length};
 ghost use Rattle.std.specs.FinSet as set;
 ghost use Rattle.std.specs.List.{AllByRecursion};
 ghost use Rattle.archive_core.specs.Content.{Operations, IsContent};
@@ -104,18 +104,18 @@ pub fn found_by_indexes<I: Source, P: Placed, R: Source>()
 /// So does `symbolicate`.
 pub fn answered_by_indexes<I: Source, P: Placed, R: Source>()
     ensures { (inputs : List (Reader I)) (archives : List (Reader P)) (others : List (Reader R)) (os : List Operations)
-        (key : SliceKey) (load : Option ℕ) (addresses : List ℕ) (status : Status) (text : List ℕ)
+        (key : SliceKey) (load : Option ℕ) (lines : Bool) (addresses : List ℕ) (status : Status) (text : List ℕ)
         → length (key_bytes key) ≤ 24 → AllThree IsIndexed inputs archives os
         → (makes : MakesTogether (key_bytes key ∷ []) inputs archives others
-        (λ o s t. TellsAddresses o key load addresses s t) status text)
-        → TellsAddresses (merged (merged set.empty os) makes.held.contents) key load addresses status text }
+        (λ o s t. TellsAddresses o key load lines addresses s t) status text)
+        → TellsAddresses (merged (merged set.empty os) makes.held.contents) key load lines addresses status text }
 {}
 
 /// So does `frames`.
 pub fn framed_by_indexes<I: Source, P: Placed, R: Source>()
     ensures { (inputs : List (Reader I)) (archives : List (Reader P)) (others : List (Reader R)) (os : List Operations)
-        (said : List Frame) (status : Status) (text : List ℕ)
+        (lines : Bool) (said : List Frame) (status : Status) (text : List ℕ)
         → ((key : List ℕ) → Contains (keys_of said) key → length key ≤ 24) → AllThree IsIndexed inputs archives os
-        → (told : AreToldAt inputs archives others said status text)
-        → TellsFrames (merged (merged set.empty os) told.held.contents) said status text }
+        → (told : AreToldAt lines inputs archives others said status text)
+        → TellsFrames lines (merged (merged set.empty os) told.held.contents) said status text }
 {}

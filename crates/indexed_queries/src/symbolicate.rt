@@ -1,4 +1,4 @@
-//! `symbolicate ARCHIVE UUID ARCH [--load HEX] ADDRESS... --index INDEX`, over one archive or several.
+//! `symbolicate ARCHIVE UUID ARCH [--load HEX] [--lines] ADDRESS... --index INDEX`, over one archive or several.
 ghost use Rattle.std.specs.Prelude.{◌≡◌, ◌<◌, ◌+◌, ◌^◌, length};
 ghost use Rattle.command_ends.specs.Ends.{EndsReport};
 ghost use Rattle.command_ends.specs.Inputs.{readers};
@@ -30,6 +30,7 @@ pub fn run_symbolicate_at<A: Archive + Drop, I: Source, P: Placed, R: Source, W:
     others: &mut [Result<R, CannotOpen>],
     key: &SliceKey,
     load: Option<u64>,
+    lines: bool,
     addresses: &[u64],
     report: &mut W,
 ) -> Result<Status, CommandFault>
@@ -37,9 +38,9 @@ pub fn run_symbolicate_at<A: Archive + Drop, I: Source, P: Placed, R: Source, W:
     requires few { length indexes.old + length others.old < 2 ^ 64 }
     ensures { EndsReport (symbolicate_at (readers I.left I.failures indexes.old indexes.new)
         (readers P.whole P.failures archives.old archives.new) (readers R.left R.failures others.old others.new)
-        key.now load addresses.now) (writer W.held W.failures report.old report.new) result }
+        key.now load lines addresses.now) (writer W.held W.failures report.old report.new) result }
 {
     let kept: A = read_fronts(&heap, &[Front::Key(*key)], indexes, archives, others)?;
-    let (status, text) = answer_each(heap, &kept, key, load, addresses)?;
+    let (status, text) = answer_each(heap, &kept, key, load, lines, addresses)?;
     publish_report(status, &text, report)
 }

@@ -1,6 +1,6 @@
 -- Archives and indexes that are handed on, and the query that they make.
 use Rattle.std.proofs.Common.{◌≡◌, ◌∙◌, ℕ, ◌<◌, ◌≤◌, suc, List, [], ◌∷◌, ◌++◌, length, take, drop, Option, Result}
-use Rattle.std.proofs.Common.{false, Err, refl, ap, sym, subst, arith, length-append}
+use Rattle.std.proofs.Common.{Bool, false, Err, refl, ap, sym, subst, arith, length-append}
 use Rattle.std.proofs.KnownBytes.{Appends-nil}
 use Rattle.std.proofs.lemmas.Bool.{le-ltb, lt-ltb}
 use Rattle.std.proofs.lemmas.Bool.Decides.{nat_tests}
@@ -62,21 +62,22 @@ pub not_none : {A : Type 0} (xs : List A) → false ≡ (length xs == 0) → 0 <
 not_none xs is = grind (arith, nat_tests)
 
 pub symbolicate_by : {S : Type 0} (archives places indexes : List (Reader S)) (key : SliceKey) (load : Option ℕ)
-    (addresses : List ℕ) → 0 < length indexes
-    → symbolicate_of archives places indexes key load addresses
+    (lines : Bool) (addresses : List ℕ) → 0 < length indexes
+    → symbolicate_of archives places indexes key load lines addresses
     ≡ unless_more (nat_lt (length archives) (length indexes)) (length archives)
-    (symbolicate_at indexes (take (length indexes) places) (drop (length indexes) archives) key load addresses)
-symbolicate_by archives places [] key load addresses some = absurd (omega arith)
-symbolicate_by [] places (i ∷ indexes) key load addresses some = refl
-symbolicate_by (a ∷ archives) places (i ∷ indexes) key load addresses some = refl
+    (symbolicate_at indexes (take (length indexes) places) (drop (length indexes) archives) key load lines addresses)
+symbolicate_by archives places [] key load lines addresses some = absurd (omega arith)
+symbolicate_by [] places (i ∷ indexes) key load lines addresses some = refl
+symbolicate_by (a ∷ archives) places (i ∷ indexes) key load lines addresses some = refl
 
-pub frames_by : {S : Type 0} (crash : Reader S) (archives places indexes : List (Reader S)) → 0 < length indexes
-    → frames_of crash archives places indexes
+pub frames_by : {S : Type 0} (lines : Bool) (crash : Reader S) (archives places indexes : List (Reader S))
+    → 0 < length indexes
+    → frames_of lines crash archives places indexes
     ≡ unless_more (nat_lt (length archives) (length indexes)) (length archives)
-    (frames_at crash indexes (take (length indexes) places) (drop (length indexes) archives))
-frames_by crash archives places [] some = absurd (omega arith)
-frames_by crash [] places (i ∷ indexes) some = refl
-frames_by crash (a ∷ archives) places (i ∷ indexes) some = refl
+    (frames_at lines crash indexes (take (length indexes) places) (drop (length indexes) archives))
+frames_by lines crash archives places [] some = absurd (omega arith)
+frames_by lines crash [] places (i ∷ indexes) some = refl
+frames_by lines crash (a ∷ archives) places (i ∷ indexes) some = refl
 
 -- of more than one archive
 pub find_by : {S : Type 0} (archives places indexes : List (Reader S)) (uuid : List ℕ) → 0 < length indexes

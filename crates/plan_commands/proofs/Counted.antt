@@ -4,7 +4,7 @@ use Rattle.std.proofs.Common.{arith, length, length-append, refl, sym, true≢fa
 use Rattle.std.specs.Option.{option_map_or}
 use Rattle.clap.proofs.WalkLemmas.{both}
 use Rattle.clap.specs.Words.{Text}
-use Rattle.command_line.specs.Arguments.{Amount, Argument, Count, Often, Once, Perhaps, Several, Values, are_values_of}
+use Rattle.command_line.specs.Arguments.{Amount, Argument, Count, Flag, Often, Once, Perhaps, Several, Values, are_values_of}
 use Rattle.command_line.specs.Arguments.{form_of, is_counted, is_formed, reads, reads_kind, several, texts}
 use Rattle.command_line.specs.Lines.{Line, inputs_of, inputs_of_kind, texts_by, texts_of}
 use Rattle.command_line.specs.Table.{Signature, arguments_named, frames_command, is_listed, signature_named}
@@ -43,6 +43,8 @@ few (a ∷ rest) (v ∷ vs) are =
         omega (arith, more, length-append (texts_of v) (texts_by reads rest vs))
     go (roles.Reads kind) (Often option) formed more =
         omega (arith, more, length-append (texts_of v) (texts_by reads rest vs))
+    go (roles.Reads kind) (Flag option) formed more =
+        omega (arith, more, length-append (texts_of v) (texts_by reads rest vs))
     go roles.Writes count formed more = more
     go (roles.Says form) count formed more = more
 
@@ -73,16 +75,17 @@ few_of_kind kind (a ∷ rest) (v ∷ vs) = go a.role (few_of_kind kind rest vs)
     go roles.Writes more = more
     go (roles.Says form) more = more
 
--- FRAMES, so many indexes, and an archive
+-- FRAMES, so many indexes, and an archive; a flag names none
 frames_few : (vs : List Values) → are_values_of frames_command.arguments vs ≡ true
     → suc (suc (length (texts_by (reads_kind kinds.Index) frames_command.arguments vs)))
     ≤ length (texts_by reads frames_command.arguments vs)
 frames_few [] are = cc
 frames_few (f ∷ []) are = absurd (true≢false (sym (both _ _ are).1))
-frames_few (f ∷ i ∷ []) are = absurd (true≢false (sym (both _ _ (both _ _ are).1).1))
-frames_few (f ∷ i ∷ a ∷ more) are =
+frames_few (f ∷ l ∷ []) are = absurd (true≢false (sym (both _ _ (both _ _ are).1).1))
+frames_few (f ∷ l ∷ i ∷ []) are = absurd (true≢false (sym (both _ _ (both _ _ (both _ _ are).1).1).1))
+frames_few (f ∷ l ∷ i ∷ a ∷ more) are =
     let first = both _ _ are in
-    let last = both _ _ (both _ _ first.1).1 in
+    let last = both _ _ (both _ _ (both _ _ first.1).1).1 in
     omega (
       arith,
       one_there Once f refl first.0,
@@ -119,8 +122,8 @@ enough asked line is listed = by_plan asked is (least line.name line.values list
         → least_inputs asked ≤ length (inputs_of line)
     by_plan (plan.Find uuid others) is some =
         rw (← is.1.1) (few_of_kind kinds.Archive (arguments_named line.name) line.values)
-    by_plan (plan.Symbolicate key load others addresses) is some =
-        rw (← is.1.4) (few_of_kind kinds.Archive (arguments_named line.name) line.values)
-    by_plan (plan.Frames indexes) is some =
-        rw (← is.1, is.0) (frames_few line.values (values_are line.name _ line.values is.0 listed))
+    by_plan (plan.Symbolicate key load lines others addresses) is some =
+        rw (← is.1.5) (few_of_kind kinds.Archive (arguments_named line.name) line.values)
+    by_plan (plan.Frames lines indexes) is some =
+        rw (← is.1.1, is.0) (frames_few line.values (values_are line.name _ line.values is.0 listed))
     by_plan asked is some = at _ _ is.0 refl some

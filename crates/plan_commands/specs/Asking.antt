@@ -53,18 +53,19 @@ list_of archive place (index ∷ _) = list_at index place
 
 -- `symbolicate`, over archives and indexes as those of `find`
 abbrev pub symbolicate_of : {S : Type 0} → List (Reader S) → List (Reader S) → List (Reader S) → SliceKey → Option ℕ
-    → List ℕ → Query
-symbolicate_of (archive ∷ others) places [] key load addresses = symbolicate archive others key load addresses
-symbolicate_of archives places indexes key load addresses =
+    → Bool → List ℕ → Query
+symbolicate_of (archive ∷ others) places [] key load lines addresses =
+    symbolicate archive others key load lines addresses
+symbolicate_of archives places indexes key load lines addresses =
     unless_more (nat_lt (length archives) (length indexes)) (length archives)
-    (symbolicate_at indexes (take (length indexes) places) (drop (length indexes) archives) key load addresses)
+    (symbolicate_at indexes (take (length indexes) places) (drop (length indexes) archives) key load lines addresses)
 
 -- `frames`, over FRAMES, and such archives and indexes
-abbrev pub frames_of : {S : Type 0} → Reader S → List (Reader S) → List (Reader S) → List (Reader S) → Query
-frames_of crash (archive ∷ others) places [] = frames crash archive others
-frames_of crash archives places indexes =
+abbrev pub frames_of : {S : Type 0} → Bool → Reader S → List (Reader S) → List (Reader S) → List (Reader S) → Query
+frames_of lines crash (archive ∷ others) places [] = frames lines crash archive others
+frames_of lines crash archives places indexes =
     unless_more (nat_lt (length archives) (length indexes)) (length archives)
-    (frames_at crash indexes (take (length indexes) places) (drop (length indexes) archives))
+    (frames_at lines crash indexes (take (length indexes) places) (drop (length indexes) archives))
 
 -- the name that a symbol has with a `_` before it alone, as it is noted
 abbrev pub underscored_in : Note → Option (List ℕ)

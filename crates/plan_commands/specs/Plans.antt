@@ -5,8 +5,8 @@ use Rattle.std.specs.Prelude.{Option, Some, None, Result}
 use Rattle.std.specs.FinSet as set
 use Rattle.std.specs.Str.{bytes_eq}
 use Rattle.clap.specs.Words.{Text}
-use Rattle.command_line.specs.Arguments.{Argument, Count, Once, Several, Values, archs, digests, numbers, one, perhaps}
-use Rattle.command_line.specs.Arguments.{reads, several, text, uuids}
+use Rattle.command_line.specs.Arguments.{Argument, Count, Once, Several, Values, archs, digests, flag, numbers, one}
+use Rattle.command_line.specs.Arguments.{perhaps, reads, several, text, texts, uuids}
 use Rattle.command_line.specs.Lines.{Line, inputs_of_kind}
 use Rattle.command_line.specs.declared.commands.Kind.{Kind}
 use Rattle.command_line.specs.declared.commands.Kind.TheVariants as kinds
@@ -65,8 +65,8 @@ command_of plan.Apply = apply_command
 command_of (plan.Find _ _) = find_command
 command_of plan.List = list_command
 command_of (plan.Name _) = name_command
-command_of (plan.Symbolicate _ _ _ _) = symbolicate_command
-command_of (plan.Frames _) = frames_command
+command_of (plan.Symbolicate _ _ _ _ _) = symbolicate_command
+command_of (plan.Frames _ _) = frames_command
 command_of plan.Summary = summary_command
 command_of plan.Index = index_command
 command_of plan.Delta = delta_command
@@ -80,11 +80,12 @@ HasValues (plan.Retire key digest) line =
 HasValues (plan.Find uuid others) line =
     Has line (codes "UUID") (uuids (one uuid)) × (count_of kinds.Archive line ≡ suc others)
 HasValues (plan.Name name) line = Has line (codes "NAME") (text name.now)
-HasValues (plan.Symbolicate key load others addresses) line =
+HasValues (plan.Symbolicate key load lines others addresses) line =
     Has line (codes "UUID") (uuids (one key.uuid)) × Has line (codes "ARCH") (archs (one key.arch))
-    × Has line (codes "HEX") (numbers (perhaps load)) × Has line (codes "ADDRESS") (numbers (several addresses.now))
-    × (count_of kinds.Archive line ≡ suc others)
-HasValues (plan.Frames indexes) line = count_of kinds.Index line ≡ indexes
+    × Has line (codes "HEX") (numbers (perhaps load)) × Has line (codes "LINES") (texts (flag lines))
+    × Has line (codes "ADDRESS") (numbers (several addresses.now)) × (count_of kinds.Archive line ≡ suc others)
+HasValues (plan.Frames lines indexes) line =
+    Has line (codes "LINES") (texts (flag lines)) × (count_of kinds.Index line ≡ indexes)
 HasValues _ line = ⊤
 
 -- The plan is the one that a line asks for.
@@ -105,8 +106,8 @@ least_of (a ∷ rest) = if reads a.role && has_to_stand a.count then suc (least_
 -- the fewest inputs that a line of a plan has
 abbrev pub least_inputs : Plan → ℕ
 least_inputs (plan.Find _ others) = suc others
-least_inputs (plan.Symbolicate _ _ others _) = suc others
-least_inputs (plan.Frames indexes) = suc (suc indexes)
+least_inputs (plan.Symbolicate _ _ _ others _) = suc others
+least_inputs (plan.Frames _ indexes) = suc (suc indexes)
 least_inputs asked = least_of (command_of asked).arguments
 
 -- which files the OUT of a plan replaces: a message or an index each of symarch's own, an archive those below it
@@ -143,11 +144,11 @@ deed_of (plan.Find uuid others) inputs places out =
     answers (find_of (take (suc others) inputs) (take (suc others) places) (drop (suc others) inputs) uuid)
 deed_of plan.List (archive ∷ indexes) (place ∷ _) out = answers (list_of archive place indexes)
 deed_of (plan.Name sought) (archive ∷ others) _ out = answers (name archive others sought.now)
-deed_of (plan.Symbolicate key load others addresses) inputs places out =
+deed_of (plan.Symbolicate key load lines others addresses) inputs places out =
     answers (symbolicate_of (take (suc others) inputs) (take (suc others) places) (drop (suc others) inputs) key load
-    addresses.now)
-deed_of (plan.Frames indexes) (crash ∷ inputs) (_ ∷ places) out =
-    answers (frames_of crash (drop indexes inputs) (drop indexes places) (take indexes inputs))
+    lines addresses.now)
+deed_of (plan.Frames lines indexes) (crash ∷ inputs) (_ ∷ places) out =
+    answers (frames_of lines crash (drop indexes inputs) (drop indexes places) (take indexes inputs))
 deed_of plan.Summary (archive ∷ []) _ out = changes (summary archive)
 deed_of plan.Summary (_ ∷ named ∷ _) (place ∷ _) out = changes (summary_at named place)
 deed_of plan.Index (archive ∷ _) _ out = changes (index archive)

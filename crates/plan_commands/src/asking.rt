@@ -140,6 +140,7 @@ pub fn symbolicate<A: Archive + Drop, S: Source + Placed, P: Sink>(
     indexes: &mut [Input<S>],
     key: &SliceKey,
     load: Option<u64>,
+    lines: bool,
     addresses: &[u64],
     report: &mut P,
 ) -> Result<Status, CommandFault>
@@ -147,30 +148,34 @@ pub fn symbolicate<A: Archive + Drop, S: Source + Placed, P: Sink>(
     ensures { EndsReport (symbolicate_of
         (readers ⟦<S as Source>⟧.left ⟦<S as Source>⟧.failures archives.old archives.new)
         (readers ⟦<S as Placed>⟧.whole ⟦<S as Placed>⟧.failures archives.old archives.new)
-        (readers ⟦<S as Source>⟧.left ⟦<S as Source>⟧.failures indexes.old indexes.new) key.now load addresses.now)
+        (readers ⟦<S as Source>⟧.left ⟦<S as Source>⟧.failures indexes.old indexes.new) key.now load lines
+        addresses.now)
         (writer P.held P.failures report.old report.new) result }
 {
     if indexes.is_empty() {
         let (archive, others) = first_and_rest(archives);
-        return run_symbolicate::<A, _, _>(heap, archive, others, key, load, addresses, report);
+        return run_symbolicate::<A, _, _>(
+            heap, archive, others, key, load, lines, addresses, report,
+        );
     }
     test_indexes(archives.len(), indexes.len())?;
     let (archives, others) = archives.split_at_mut(indexes.len());
     run_symbolicate_at::<A, _, _, _, _>(
-        heap, indexes, archives, others, key, load, addresses, report,
+        heap, indexes, archives, others, key, load, lines, addresses, report,
     )
 }
 
 /// `frames` over archives, the first of which are read by these indexes.
 pub fn frames<A: Archive + Drop, S: Source + Placed, P: Sink>(
     heap: Heap,
+    lines: bool,
     crash: &mut Input<S>,
     archives: &mut [Input<S>],
     indexes: &mut [Input<S>],
     report: &mut P,
 ) -> Result<Status, CommandFault>
     requires { 0 < length archives.old }
-    ensures { EndsReport (frames_of
+    ensures { EndsReport (frames_of lines
         (reader ⟦<S as Source>⟧.left ⟦<S as Source>⟧.failures crash.old crash.new)
         (readers ⟦<S as Source>⟧.left ⟦<S as Source>⟧.failures archives.old archives.new)
         (readers ⟦<S as Placed>⟧.whole ⟦<S as Placed>⟧.failures archives.old archives.new)
@@ -179,9 +184,9 @@ pub fn frames<A: Archive + Drop, S: Source + Placed, P: Sink>(
 {
     if indexes.is_empty() {
         let (archive, others) = first_and_rest(archives);
-        return run_frames::<A, _, _>(heap, crash, archive, others, report);
+        return run_frames::<A, _, _>(heap, lines, crash, archive, others, report);
     }
     test_indexes(archives.len(), indexes.len())?;
     let (archives, others) = archives.split_at_mut(indexes.len());
-    run_frames_at::<A, _, _, _, _, _>(heap, crash, indexes, archives, others, report)
+    run_frames_at::<A, _, _, _, _, _>(heap, lines, crash, indexes, archives, others, report)
 }

@@ -2,6 +2,7 @@
 //! what is said of how it ended.
 //!
 //! - `asking`: queries of archives that are read whole or by their indexes;
+//! - `queries`, `updates`: queries, and commands that write OUT, over the inputs of a line;
 //! - `plans`: what a line asks for, by name, and its command over its inputs, OUT and the report;
 //! - `places`: which input a place is, and what is told of one that was not opened;
 //! - `disks`: a line over inputs that are opened at their turn;
@@ -32,8 +33,10 @@ mod laws;
 mod looks;
 mod places;
 mod plans;
+mod queries;
 mod runs;
 mod said;
+mod updates;
 
 pub use disks::execute_on;
 pub use plans::Plan;

@@ -12,18 +12,16 @@ ghost use Rattle.command_line.specs.Table.{symbolicate_command};
 ghost use Rattle.plan_commands.specs.Plans.{Executes, IsPlanOf, Notes, key_of, least_inputs};
 
 use crate::asking::{self, Input, first_and_rest};
+use crate::{queries, updates};
 use archive_core::{ArchKey, Archive, Digest, SliceKey};
 use archive_files::Replaces;
-use archive_updates::{
-    Note, run_admit, run_apply, run_delta, run_merge, run_migrate, run_new, run_retire, run_summary,
-};
+use archive_updates::{Note, run_migrate, run_new, run_retire};
 use byte_device::{Sink, Source};
 use command_ends::{CommandFault, Output, Status, Target};
-use command_line::Amount::{One, Perhaps, Several};
+use command_line::Amount::{Flag, One, Perhaps, Several};
 use command_line::Values::{Archs, Digests, Numbers, Texts, Uuids};
 use command_line::{Line, Values};
 use index_updates::run_index;
-use indexed_queries::run_summary_at;
 use memory::Heap;
 use placed_bytes::Placed;
 use rehearse::run_rehearse;
@@ -60,15 +58,17 @@ pub enum Plan<'l> {
         name: &'l str,
     },
     /// To answer each address, in the order of the words. With `load` the addresses are those of an image that was
-    /// loaded there.
+    /// loaded there. If `lines`, the source frames follow what each slice answers.
     Symbolicate {
         key: SliceKey,
         load: Option<u64>,
+        lines: bool,
         others: usize,
         addresses: &'l [u64],
     },
-    /// To answer each frame of a crash, in the order of the lines of FRAMES.
+    /// To answer each frame of a crash, in the order of the lines of FRAMES; `lines` as of `Symbolicate`.
     Frames {
+        lines: bool,
         indexes: usize,
     },
     /// To write the summary of an archive.
@@ -187,7 +187,7 @@ fn symbolicate<'l>(values: &'l [Values]) -> Option<Plan<'l>>
     let [Texts(One(_)), Uuids(One(uuid)), Archs(One(arch)), rest @ ..] = values else {
         return None;
     };
-    let [Numbers(Perhaps(load)), rest @ ..] = rest else {
+    let [Numbers(Perhaps(load)), Texts(Flag(lines)), rest @ ..] = rest else {
         return None;
     };
     match rest {
@@ -198,6 +198,7 @@ fn symbolicate<'l>(values: &'l [Values]) -> Option<Plan<'l>>
         ] => Some(Plan::Symbolicate {
             key: key(uuid, arch),
             load: *load,
+            lines: *lines,
             others: others.len(),
             addresses,
         }),
@@ -209,8 +210,12 @@ fn frames<'l>(values: &'l [Values]) -> Option<Plan<'l>>
     requires { are_values_of frames_command.arguments (map values_view values.now) ≡ true }
     ensures { IsSomeAnd result (λ plan. IsPlanOf plan (line_with frames_command (map values_view values.now))) }
 {
-    match values {
-        [Texts(One(_)), Texts(Several(indexes)), Texts(Several(_))] => Some(Plan::Frames {
+    let [Texts(One(_)), Texts(Flag(lines)), rest @ ..] = values else {
+        return None;
+    };
+    match rest {
+        [Texts(Several(indexes)), Texts(Several(_))] => Some(Plan::Frames {
+            lines: *lines,
             indexes: indexes.len(),
         }),
         _ => None,
@@ -249,26 +254,16 @@ pub fn execute<A: Archive + Drop, L: Archive + Drop, S: Source + Placed, T: Targ
 {
     match plan {
         Plan::New => run_new::<A, _, _>(heap, out, report),
-        Plan::Admit => {
-            let (first, files) = first_and_rest(inputs);
-            run_admit(heap, first, files, notes, out, report)
-        }
+        Plan::Admit => updates::admit(heap, inputs, notes, out, report),
         Plan::Retire { key, digest } => {
             let (first, _) = first_and_rest(inputs);
             run_retire(heap, first, *key, *digest, notes, out, report)
         }
-        Plan::Merge => {
-            let (first, files) = first_and_rest(inputs);
-            run_merge::<A, _, _, _, _>(heap, first, files, out, report)
-        }
+        Plan::Merge => updates::merge::<A, _, _, _>(heap, inputs, out, report),
         Plan::Migrate => run_migrate(heap, first_and_rest(inputs).0, out, report),
-        Plan::Apply => {
-            let (first, ops) = first_and_rest(inputs);
-            run_apply(heap, first, first_and_rest(ops).0, out, report)
-        }
+        Plan::Apply => updates::apply(heap, inputs, out, report),
         Plan::Find { uuid, others } => {
-            let (archives, indexes) = inputs.split_at_mut(*others + 1);
-            asking::find::<A, _, _>(heap, archives, indexes, uuid, report)
+            queries::find::<A, _, _>(heap, inputs, *others, uuid, report)
         }
         Plan::List => {
             let (archive, indexes) = first_and_rest(inputs);
@@ -281,29 +276,19 @@ pub fn execute<A: Archive + Drop, L: Archive + Drop, S: Source + Placed, T: Targ
         Plan::Symbolicate {
             key,
             load,
+            lines,
             others,
             addresses,
-        } => {
-            let (archives, indexes) = inputs.split_at_mut(*others + 1);
-            asking::symbolicate::<L, _, _>(heap, archives, indexes, key, *load, addresses, report)
-        }
-        Plan::Frames { indexes } => {
+        } => queries::symbolicate::<L, _, _>(
+            heap, inputs, *others, key, *load, *lines, addresses, report,
+        ),
+        Plan::Frames { lines, indexes } => {
             let (crash, rest) = first_and_rest(inputs);
-            let (indexes, archives) = rest.split_at_mut(*indexes);
-            asking::frames::<L, _, _>(heap, crash, archives, indexes, report)
+            queries::frames::<L, _, _>(heap, *lines, crash, rest, *indexes, report)
         }
-        Plan::Summary => {
-            let (archive, indexes) = first_and_rest(inputs);
-            match indexes {
-                [] => run_summary(heap, archive, out, report),
-                [index, ..] => run_summary_at(heap, index, archive, out, report),
-            }
-        }
+        Plan::Summary => updates::summary(heap, inputs, out, report),
         Plan::Index => run_index(heap, first_and_rest(inputs).0, out, report),
-        Plan::Delta => {
-            let (archive, summary) = first_and_rest(inputs);
-            run_delta(heap, archive, first_and_rest(summary).0, out, report)
-        }
+        Plan::Delta => updates::delta(heap, inputs, out, report),
         Plan::Rehearse => run_rehearse::<A, _, _>(heap, first_and_rest(inputs).0, report),
     }
 }

@@ -2,3 +2,4 @@ pub mod Escapes
 pub mod Grouped
 pub mod Counted
 pub mod Named
+pub mod FrameTexts

@@ -2,5 +2,8 @@ pub mod Texts
 pub mod Rows
 pub mod Report
 pub mod Finds
+pub mod Escapes
+pub mod Frames
+pub mod FrameLists
 pub mod Answers
 pub mod Names

@@ -3,7 +3,7 @@ use Rattle.std.specs.Prelude.{ℕ, List, ◌++◌, codes}
 use Rattle.std.specs.List.{flat_map}
 use Rattle.archive_core.specs.Names.{NameRecord}
 use Rattle.archive_words.specs.Words.{address_text, digest_text}
-use Rattle.report_text.specs.Answers.{escaped}
+use Rattle.report_text.specs.Escapes.{escaped}
 use Rattle.report_text.specs.Report.{line}
 use Rattle.report_text.specs.Rows.{key_text}
 

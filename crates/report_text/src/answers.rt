@@ -1,13 +1,17 @@
 //! The lines of `symbolicate`.
 ghost use Rattle.std.specs.Prelude.{◌≡◌, ◌++◌, IfSome, OnOk, string_bytes};
-ghost use Rattle.std.specs.List.{flat_map, list_any};
-ghost use Rattle.report_text.specs.Answers.{answer_lines, escaped, is_escaped, own_line};
+ghost use Rattle.std.specs.List.{list_any};
+ghost use Rattle.report_text.specs.Answers.{answer_lines, own_line, owns_lines};
+ghost use Rattle.report_text.specs.Escapes.{escaped, is_escaped};
+ghost use Rattle.report_text.specs.FrameLists.{lists_view};
 
 use crate::Text;
+use crate::frames::{push_at, push_each};
 use archive_core::{Answer, Digest, Own};
 use archive_words::{Address, Spelled};
 use macho_symbols::Found;
 use memory::{Heap, NoMemory};
+use source_frames::Frame;
 use std::{fmt, str};
 
 /// A name of a symbol, a segment or a section as it is printed: each byte that is no printed
@@ -17,7 +21,7 @@ pub struct Escaped<'a>(pub &'a [u8]);
 
 // A byte of a name.
 #[derive(Clone, Copy)]
-struct EscapedByte(u8);
+pub(crate) struct EscapedByte(pub(crate) u8);
 
 // Whether a byte of a name is not printed as itself.
 fn is_escaped(byte: u8) -> bool
@@ -44,10 +48,10 @@ fn plain(name: &[u8]) -> Option<&str>
     str::from_utf8(name).ok()
 }
 
-#[tactic(auto, using(crate::proofs::Escapes::two_digits), unfolding(crate::specs::Answers::escaped_byte))]
+#[tactic(auto, using(crate::proofs::Escapes::two_digits), unfolding(crate::specs::Escapes::escaped_byte))]
 impl fmt::Display for EscapedByte {
     ghost use Rattle.std.specs.Prelude.{Some};
-    ghost use Rattle.report_text.specs.Answers.{escaped_byte};
+    ghost use Rattle.report_text.specs.Escapes.{escaped_byte};
 
     ghost output = { λ byte. Some (escaped_byte byte.0) };
 
@@ -63,7 +67,7 @@ impl fmt::Display for EscapedByte {
 
 impl<'a> fmt::Display for Escaped<'a> {
     ghost use Rattle.std.specs.Prelude.{Some};
-    ghost use Rattle.report_text.specs.Answers.{escaped};
+    ghost use Rattle.report_text.specs.Escapes.{escaped};
 
     ghost output = { λ name. Some (escaped name.0.now) };
 
@@ -113,41 +117,61 @@ impl<'a> fmt::Display for Text<Own<'a>> {
     }
 }
 
-// Writes what each of several slices answers.
+// Writes what one slice of several answers.
 #[tactic(auto, unfolding(crate::specs::Answers::own_line))]
-fn push_owns(text: &mut String<Heap>, owns: &[(Digest, Own<'_>)]) -> Result<(), NoMemory>
-    ensures { OnOk result (string_bytes text.new ≡ string_bytes text.old ++ flat_map own_line owns.now) }
+fn push_own(text: &mut String<Heap>, own: &(Digest, Own<'_>)) -> Result<(), NoMemory>
+    ensures { OnOk result (string_bytes text.new ≡ string_bytes text.old ++ own_line own.now) }
 {
-    'owns: for (digest, own) in owns {
-        let digest = Spelled(*digest);
-        let own = Text(*own);
-        writeln!(text, "  {digest} {own}")?;
+    let digest = Spelled(own.0);
+    let own = Text(own.1);
+    writeln!(text, "  {digest} {own}")
+}
+
+// Writes what each of several slices answers, and the lines of its frames.
+fn push_owns(
+    heap: &Heap,
+    text: &mut String<Heap>,
+    owns: &[(Digest, Own<'_>)],
+    frames: &[&[Frame<'_>]],
+) -> Result<(), NoMemory>
+    ensures { OnOk result (string_bytes text.new
+        ≡ string_bytes text.old ++ owns_lines owns.now (lists_view frames.now)) }
+{
+    'owns: for (index, own) in owns.iter().enumerate() {
+        push_own(text, own)?;
+        push_at(heap, text, frames, index)?;
     }
     Ok(())
 }
 
-/// Writes what a key answers for an address: a line, and behind that of a conflict one for each
-/// slice that answers. Where memory is refused, a part of them may stand there.
+/// Writes what a key answers for an address: a line, and after it those of the frames. The line of a conflict is
+/// followed by one for each slice that answers, and by those of its frames. `frames` has the frames of each slice that
+/// answers, in the order of their records, or is empty where none are wanted. Where memory is refused, a part of the
+/// lines may stand there.
 #[tactic(auto, unfolding(crate::specs::Answers::answer_lines))]
 pub fn push_answer(
+    heap: &Heap,
     text: &mut String<Heap>,
     address: u64,
     answer: &Answer<'_>,
+    frames: &[&[Frame<'_>]],
 ) -> Result<(), NoMemory>
-    ensures { OnOk result (string_bytes text.new ≡ string_bytes text.old ++ answer_lines address answer.now) }
+    ensures { OnOk result (string_bytes text.new ≡ string_bytes text.old
+        ++ answer_lines address answer.now (lists_view frames.now)) }
 {
     let address = Address(address);
     match answer {
-        Answer::Unknown => writeln!(text, "{address} ?"),
-        Answer::NoSymbol => writeln!(text, "{address} -"),
+        Answer::Unknown => writeln!(text, "{address} ?")?,
+        Answer::NoSymbol => writeln!(text, "{address} -")?,
         Answer::Symbol(found) => {
             let found = Text(*found);
-            writeln!(text, "{address} {found}")
+            writeln!(text, "{address} {found}")?;
         }
         Answer::Conflict(owns) => {
             let count = owns.len();
             writeln!(text, "{address} !{count}")?;
-            push_owns(text, owns)
+            return push_owns(heap, text, owns, frames);
         }
     }
+    push_each(heap, text, frames)
 }

@@ -4,6 +4,7 @@
 //! - `rows`: keys and the rows of reports;
 //! - `report`: reports, made whole in memory;
 //! - `finds`: the lines of `find` and of `list`;
+//! - `frames`: the lines of source frames;
 //! - `answers`: the lines of `symbolicate`;
 //! - `names`: the lines of `name`;
 //! - [`laws`]: what holds of the lines of `find` and of `list`.
@@ -15,6 +16,7 @@
 
 mod answers;
 mod finds;
+mod frames;
 pub mod laws;
 mod names;
 mod report;

@@ -22,7 +22,7 @@ returns-in_err-clone-3 g c = wanting_first _ _ _ _ _ _ c.from_residual-in_err-cl
 pub answer_archives-requires-clause-start : goal.answer_archives-requires-clause-start
 answer_archives-requires-clause-start g c = λ o.
     let left_is = c.in_ok-questions.ensures.left ∙ c.deref.ensures.value in
-    none_told o c.args.frames.now c.in_ok-questions.questions.left.now _ _ (rw left_is c.in_ok-asked.ensures.lines)
+    none_told c.args.lines o c.args.frames.now c.in_ok-questions.questions.left.now _ _ (rw left_is c.in_ok-asked.ensures.lines)
     (ap length left_is ∙ c.in_ok-asked.ensures.long) (c.in_ok-questions.ensures.told ∙ sym (ap length c.in_ok-questions.ensures.left))
 
 pub answer_archives-requires-clause-picked : goal.answer_archives-requires-clause-picked

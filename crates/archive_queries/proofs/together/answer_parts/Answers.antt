@@ -1,7 +1,7 @@
 use Rattle.std.proofs.Common.{arith}
 use Rattle.archive_core.specs.Key.{key_bytes}
-use Rattle.archive_core.proofs.Picked.{answer_alike}
 use Rattle.archive_queries.proofs.Parts.{together_tells}
+use Rattle.archive_queries.proofs.Sourced.{answers_alike}
 use Rattle.archive_queries.proofs.together.answer_parts.Goals as goal
 
 pub returns : goal.returns
@@ -11,8 +11,8 @@ returns g c =
     record {
       is = together_tells _ _ _ _ (λ o alike. (
         all.left,
-        all.answered c.args.questions o (λ key there long asked answer is.
-            answer_alike kept o key asked answer (alike (key_bytes key) (omega (arith, long)) (c.requires.picked key there long)) is) (c.requires.start o),
+        all.answered c.args.questions o (λ key there long.
+            answers_alike kept o key (alike (key_bytes key) (omega (arith, long)) (c.requires.picked key there long))) (c.requires.start o),
       )) c.in_ok-kept.ensures.is;
       unfailed = c.in_ok-kept.ensures.unfailed;
     }

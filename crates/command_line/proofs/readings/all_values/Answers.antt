@@ -1,4 +1,4 @@
-use Rattle.std.proofs.Common.{arith, ◌≡◌, ◌+◌, drop, map, subst, sym}
+use Rattle.std.proofs.Common.{arith, ◌+◌, drop, map, subst, sym}
 use Rattle.std.proofs.lemmas.Grind.{common_steps}
 use Rattle.std.proofs.lemmas.List.{at_drop_more}
 use Rattle.clap.specs.Words.{found_of, rows_of}

@@ -22,6 +22,6 @@ returns g c =
     (record {
       content = g.A.Join.content c.in_ok-kept.kept;
       held = c.in_ok-kept.ensures.is;
-      tells = subst (TellsAddresses (g.A.Join.content c.in_ok-kept.kept) c.args.key.now c.args.load c.args.addresses.now c.in_ok-status.status) (sym c.deref.ensures) c.in_ok-status.ensures;
+      tells = subst (TellsAddresses (g.A.Join.content c.in_ok-kept.kept) c.args.key.now c.args.load c.args.lines c.args.addresses.now c.in_ok-status.status) (sym c.deref.ensures) c.in_ok-status.ensures;
     })
     c.publish_report.ensures

@@ -13,9 +13,9 @@ returns-in_err-test_indexes g c =
     (omega (arith, c.in_err-test_indexes.ensures.more.0)) in
     let refused = err_from_is_err_and c.from_residual.result c.from_residual.ensures.1 in
     rw (refused.1, refused.2) (more_refused left g.S.Placed.whole failures g.S.Placed.failures g.P.Sink.held g.P.Sink.failures
-    (frames_at (reader left failures c.args.crash.now c.args.crash.now)) c.args.archives.now
+    (frames_at c.args.lines (reader left failures c.args.crash.now c.args.crash.now)) c.args.archives.now
     c.args.indexes.now _ _ _ (length c.args.archives.now) refl c.in_err-test_indexes.ensures.more.0 c.in_err-test_indexes.ensures.more.1
-    (frames_by _ _ _ _ some))
+    (frames_by _ _ _ _ _ some))
 
 pub returns : goal.returns
 returns g c =
@@ -25,8 +25,8 @@ returns g c =
     (not_none c.args.indexes.now c.if-is_empty.ensures) in
     rw (c.split_at_mut-archives.ensures.value)
     (few_kept left g.S.Placed.whole failures g.S.Placed.failures g.P.Sink.held g.P.Sink.failures
-    (frames_at (reader left failures c.args.crash.now c.run_frames_at.new.crash))
+    (frames_at c.args.lines (reader left failures c.args.crash.now c.run_frames_at.new.crash))
     c.split_at_mut-archives.result.0.now c.split_at_mut-archives.result.1.now c.run_frames_at.new.archives
     c.run_frames_at.new.others c.args.indexes.now c.run_frames_at.new.indexes _ _ _
     c.split_at_mut-archives.ensures.front_len c.run_frames_at.auto.archives c.run_frames_at.auto.others
-    c.run_frames_at.auto.indexes (frames_by _ _ _ _ some) c.run_frames_at.ensures)
+    c.run_frames_at.auto.indexes (frames_by _ _ _ _ _ some) c.run_frames_at.ensures)

@@ -12,9 +12,9 @@ returns-in_err-test_indexes g c =
     (omega (arith, c.in_err-test_indexes.ensures.more.0)) in
     let refused = err_from_is_err_and c.from_residual.result c.from_residual.ensures.1 in
     rw (refused.1, refused.2) (more_refused left g.S.Placed.whole failures g.S.Placed.failures g.P.Sink.held g.P.Sink.failures
-    (λ i p o. symbolicate_at i p o c.args.key.now c.args.load c.args.addresses.now) c.args.archives.now
+    (λ i p o. symbolicate_at i p o c.args.key.now c.args.load c.args.lines c.args.addresses.now) c.args.archives.now
     c.args.indexes.now _ _ _ (length c.args.archives.now) refl c.in_err-test_indexes.ensures.more.0 c.in_err-test_indexes.ensures.more.1
-    (symbolicate_by _ _ _ _ _ _ some))
+    (symbolicate_by _ _ _ _ _ _ _ some))
 
 pub returns : goal.returns
 returns g c =
@@ -24,8 +24,8 @@ returns g c =
     c.run_symbolicate_at.auto.indexes (not_none c.args.indexes.now c.if-is_empty.ensures) in
     rw (c.split_at_mut-archives.ensures.value)
     (few_kept left g.S.Placed.whole failures g.S.Placed.failures g.P.Sink.held g.P.Sink.failures
-    (λ i p o. symbolicate_at i p o c.args.key.now c.args.load c.args.addresses.now)
+    (λ i p o. symbolicate_at i p o c.args.key.now c.args.load c.args.lines c.args.addresses.now)
     c.split_at_mut-archives.result.0.now c.split_at_mut-archives.result.1.now c.run_symbolicate_at.new.archives
     c.run_symbolicate_at.new.others c.args.indexes.now c.run_symbolicate_at.new.indexes _ _ _
     c.split_at_mut-archives.ensures.front_len c.run_symbolicate_at.auto.archives c.run_symbolicate_at.auto.others
-    c.run_symbolicate_at.auto.indexes (symbolicate_by _ _ _ _ _ _ some) c.run_symbolicate_at.ensures)
+    c.run_symbolicate_at.auto.indexes (symbolicate_by _ _ _ _ _ _ _ some) c.run_symbolicate_at.ensures)

@@ -1,6 +1,6 @@
 use Rattle.std.proofs.Common.{append_assoc}
 use Rattle.std.specs.Prelude.{codes}
-use Rattle.report_text.specs.Answers.{escaped}
+use Rattle.report_text.specs.Escapes.{escaped}
 use Rattle.archive_updates.specs.Notes.{note_text}
 use Rattle.archive_updates.proofs.notes.NoteDisplay.fmt.Goals as goal
 

@@ -1,6 +1,6 @@
 use Rattle.std.proofs.Common.{take}
 use Rattle.std.specs.Fmt.{HasWritten, IsPlainFormatter}
-use Rattle.report_text.specs.Answers.{escaped}
+use Rattle.report_text.specs.Escapes.{escaped}
 use Rattle.report_text.proofs.answers.EscapedDisplay.fmt.Given as goal
 
 abbrev pub invariant-bytes : goal.invariant-bytes

@@ -1,7 +1,7 @@
 use Rattle.std.proofs.Common.{List, ℕ, codes, subst}
 use Rattle.std.specs.Fmt.{HasWritten}
 use Rattle.archive_words.specs.Words.{address_text, digest_text}
-use Rattle.report_text.specs.Answers.{escaped}
+use Rattle.report_text.specs.Escapes.{escaped}
 use Rattle.report_text.specs.Names.{name_row_text}
 use Rattle.report_text.specs.Rows.{key_text}
 use Rattle.report_text.proofs.Named.{regrouped}

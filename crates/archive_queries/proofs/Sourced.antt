@@ -1,0 +1,109 @@
+-- What a content answers under a key, with the source frames of the slices that answer.
+use Rattle.std.proofs.Common.{◌≡◌, ℕ, Bool, true, false, List, [], ◌∷◌, ◌++◌, map, filter_map, EachIndex, Option, Some, None, refl, sym, ap, subst, ◌∙◌, inl, inr, arith}
+use Rattle.std.specs.Prelude.{slice_index}
+use Rattle.std.specs.List.{AllZip, Contains}
+use Rattle.std.specs.Cmp.Lexicographic.{on_texts}
+use Rattle.std.proofs.lemmas.Grind.{get_or_default_zero}
+use Rattle.std.proofs.lemmas.List.{append-nil}
+use Rattle.sha2.specs.Sha256.{sha256}
+use Rattle.archive_core.specs.Content.{Operations, IsLive, IsAnswering}
+use Rattle.archive_core.specs.Find.{AreAnswering}
+use Rattle.archive_core.specs.Key.{key_bytes}
+use Rattle.archive_core.specs.Lookup.{AnswerRecord, IsAnswer, file_address}
+use Rattle.archive_core.specs.Part.{AreAlikeUnder}
+use Rattle.archive_core.specs.Record.{admission_record, retirement_record}
+use Rattle.archive_core.specs.declared.keys.SliceKey.{SliceKey}
+use Rattle.archive_core.specs.declared.lookup.Where.{Where}
+use Rattle.archive_core.proofs.Members.{in_cons, in_front, in_rest, one_with_members}
+use Rattle.archive_core.proofs.Picked.{admission_under, alike_back, retirement_under}
+use Rattle.archive_reading.specs.Keys.{AnswersAs}
+use Rattle.source_frames.specs.AddressFrames.{AreFramesOf}
+use Rattle.source_frames.specs.FoundFrames.{frames_under}
+use Rattle.source_frames.specs.Frames.{FrameRecord}
+use Rattle.archive_queries.specs.InnerSources.{AreSourcesOf, frames_in, slices_of}
+use Rattle.archive_queries.specs.Sources.{AreFramesAt, IsSourced}
+use Rattle.archive_queries.specs.declared.sources.SlicedFrames.{SlicedFrames}
+
+-- ---- contents that are alike under a key answer as one another
+
+module _ (o p : Operations) (key : SliceKey) (same : AreAlikeUnder (key_bytes key) o p) where
+  whole : key_bytes key ≡ key_bytes key ++ []
+  whole = sym (append-nil (key_bytes key))
+
+  live_alike : (slice : List ℕ) → IsLive o key slice → IsLive p key slice
+  live_alike slice live = record {
+    admitted = sym (same (admission_record slice) (admission_under (key_bytes key) [] slice (ap key_bytes live.under ∙ whole))) ∙ live.admitted;
+    under = live.under;
+    kept = sym (same (retirement_record key (sha256 slice)) (retirement_under (key_bytes key) [] key (sha256 slice) whole)) ∙ live.kept;
+  }
+
+answering_alike : (o p : Operations) (key : SliceKey) → AreAlikeUnder (key_bytes key) o p → (slice : List ℕ) → IsAnswering o key slice → IsAnswering p key slice
+answering_alike o p key same slice is = record {
+  live = live_alike o p key same slice is.live;
+  companions_first = λ companion live. is.companions_first companion (live_alike p o key (alike_back (key_bytes key) o p same) companion live);
+}
+
+pub answers_alike : (o p : Operations) (key : SliceKey) → AreAlikeUnder (key_bytes key) o p → AnswersAs key o p
+answers_alike o p key same slices is = record {
+  ascending = is.ascending;
+  exactly = λ slice. (
+    λ h. answering_alike o p key same slice ((is.exactly slice).0 h),
+    λ h. (is.exactly slice).1 (answering_alike p o key (alike_back (key_bytes key) o p same) slice h),
+  );
+}
+
+-- ---- answers with frames
+
+-- a content that answers as another one under a key has its answers, with their frames
+pub sourced_as : (o p : Operations) (key : SliceKey) (lines : Bool) (place : Where) (answer : AnswerRecord) (frames : List (List FrameRecord)) → AnswersAs key o p → IsSourced o key lines place answer frames → IsSourced p key lines place answer frames
+sourced_as o p key lines place answer frames as is = record { slices = is.slices; answering = as is.slices is.answering; answer_is = is.answer_is; shown = is.shown }
+
+-- the slices that answer are one list
+pub one_answering : (o : Operations) (key : SliceKey) (slices others : List (List ℕ)) → AreAnswering o key slices → AreAnswering o key others → slices ≡ others
+one_answering o key slices others a b = one_with_members (on_texts admission_record) slices others a.ascending b.ascending (λ s h. (b.exactly s).1 ((a.exactly s).0 h)) (λ s h. (a.exactly s).1 ((b.exactly s).0 h))
+
+pub answer_of : (o : Operations) (key : SliceKey) (lines : Bool) (place : Where) (answer : AnswerRecord) (frames : List (List FrameRecord)) → IsSourced o key lines place answer frames → IsAnswer o key place answer
+answer_of o key lines place answer frames is = record { slices = is.slices; answering = is.answering; answer_is = is.answer_is }
+
+-- an answer, and what was found in the slices that answer
+pub sourced : (o : Operations) (key : SliceKey) (lines : Bool) (place : Where) (answer : AnswerRecord) (found : List SlicedFrames) → IsAnswer o key place answer → AreSourcesOf o key lines place found → IsSourced o key lines place answer (map (frames_in place) found)
+sourced o key true place answer found is sources = record {
+  slices = is.slices;
+  answering = is.answering;
+  answer_is = is.answer_is;
+  shown = subst (λ (ss : List (List ℕ)). AllZip (AreFramesAt place) ss (map (frames_in place) found)) (one_answering o key (slices_of found) is.slices sources.0 is.answering) sources.1;
+}
+sourced o key false place answer found is none = record { slices = is.slices; answering = is.answering; answer_is = is.answer_is; shown = ap (map (frames_in place)) none }
+
+-- ---- the frames of places that were found in a slice
+
+kept : {X Y : Type 0} (f : X → Option Y) (first : X) (xs : List X) (y : Y) → Contains (filter_map f xs) y → (o : Option Y) → f first ≡ o → Contains (filter_map f (first ∷ xs)) y
+kept f first xs y there None is = rw is there
+kept f first xs y there (Some z) is = rw is (in_rest z (filter_map f xs) y there)
+
+mapped_there : {X Y : Type 0} (f : X → Option Y) (xs : List X) (x : X) (y : Y) → Contains xs x → f x ≡ Some y → Contains (filter_map f xs) y
+mapped_there f [] x y there is = absurd (omega (arith, there.1))
+mapped_there f (first ∷ xs) x y there is = elim (in_cons first xs x there) [
+  | inl same ↦ let first_is : f first ≡ Some y = ap f same ∙ is in rw first_is (in_front y (filter_map f xs))
+  | inr later ↦ kept f first xs y (mapped_there f xs x y later is) (f first) refl
+]
+
+pub places_found : (slice : List ℕ) (places : List Where) (it : SlicedFrames) (addresses : List ℕ) → it.slice.now ≡ slice → addresses ≡ filter_map (file_address slice) places
+    → EachIndex addresses (λ i. AreFramesOf slice (slice_index addresses i) (frames_under it.frames (slice_index addresses i)))
+    → (place : Where) → Contains places place → AreFramesAt place slice (frames_in place it)
+places_found slice places it addresses same all each place there = by_case (file_address slice place) refl
+  where
+    by_case : (at : Option ℕ) → file_address slice place ≡ at → AreFramesAt place slice (frames_in place it)
+    by_case None is = rw (same, is) refl
+    by_case (Some address) is =
+        let found : Contains addresses address = subst (λ (as : List ℕ). Contains as address) (sym all) (mapped_there (file_address slice) places place address there is) in
+        let at : slice_index addresses found.0 ≡ address = sym (get_or_default_zero addresses found.0 address found.1) ∙ found.2 in
+        rw (same, is) (subst (λ (a : ℕ). AreFramesOf slice a (frames_under it.frames a)) at (each found.0 found.1))
+
+-- ---- the frames that were found in one slice more
+
+module _ (place : Where) where
+  pub found_more : (found : List SlicedFrames) (it : SlicedFrames) → AllZip (AreFramesAt place) (slices_of found) (map (frames_in place) found) → AreFramesAt place it.slice.now (frames_in place it)
+      → AllZip (AreFramesAt place) (slices_of (found ++ it ∷ [])) (map (frames_in place) (found ++ it ∷ []))
+  found_more [] it are is = (is, tt)
+  found_more (first ∷ found) it are is = (are.0, found_more found it are.1 is)
