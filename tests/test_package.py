@@ -493,6 +493,9 @@ class Words(PackageCase):
         for words in (["add", "a", "b"], ["repair", "a"], ["exchange", "a"], ["check"], ["fold"]):
             self.assertEqual(self.completed("symarch-keep", *words, ""), ["paths"], words)
         self.assertEqual(self.completed("symarch-keep", "exchange", "a", "b", ""), [])
+        for words in (["--key"], ["a", "b", "c", "--key", "k", "--signers"]):
+            self.assertEqual(self.completed("symarch-keep", "exchange", *words, ""), ["paths"], words)
+        self.assertEqual(self.completed("symarch-keep", "exchange", "--most", ""), [])
         for words in ([""], ["--missing", "r", ""], ["--out", ""]):
             self.assertEqual(self.completed("symbolicate-report", *words), ["paths"], words)
 

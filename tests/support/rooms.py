@@ -27,7 +27,8 @@ def compiled() -> str:
 # The tool that the environment variable KEEP names, or else that of this tree.
 keep = os.environ.get("KEEP") or compiled()
 # What stays beside an archive.
-BESIDE = ("lock", "log", "idx", "idx.sum", "today", "today.idx", "today.idx.sum", "asked", "site", "lost", "builds")
+INDEXES = ("idx", "idx.sum", "today.idx", "today.idx.sum")
+BESIDE = ("lock", "log", *INDEXES, "today", "asked", "site", "lost", "builds", "signers")
 
 
 def today_of(archive: Union[str, pathlib.Path]) -> pathlib.Path:

@@ -11,10 +11,10 @@ DATE = r"[0-9]{4}-[0-9]{2}-[0-9]{2}T[0-9]{2}:[0-9]{2}:[0-9]{2}Z"
 
 
 class Site:
-    """A site: its archive, and the folder over which it exchanges."""
+    """A site: its archive, the folder over which it exchanges, and the words for its key, if it signs."""
 
-    def __init__(self, room: Room, name: str, folder: str = "shared") -> None:
-        self.room, self.name, self.folder = room, name, room.path / folder
+    def __init__(self, room: Room, name: str, folder: str = "shared", keys: Sequence[Any] = ()) -> None:
+        self.room, self.name, self.folder, self.keys = room, name, room.path / folder, keys
         self.archive = room.path / f"{name}.sym"
         self.folder.mkdir(exist_ok=True)
 
@@ -27,17 +27,22 @@ class Site:
         self.room.call("retire", "--before-it-comes", self.archive, *slice_words(made))
 
     def exchange(self, **more: Any) -> Tuple[List[str], List[str]]:
-        return self.room.call("exchange", self.archive, self.folder, self.name, **more)
+        return self.room.call(*self.words(), **more)
 
     def start(self, **more: Any) -> Any:
-        return self.room.start("exchange", self.archive, self.folder, self.name, **more)
+        return self.room.start(*self.words(), **more)
+
+    def words(self) -> List[Any]:
+        """Those of its exchange."""
+        return ["exchange", self.archive, self.folder, self.name, *self.keys]
 
     def has(self) -> bytes:
         """The archive of what the site has."""
         return bytes_of(self.archive) if self.archive.exists() else EMPTY
 
     def answers(self, to: "Site") -> List[str]:
-        return sorted(name for name in os.listdir(self.folder) if name.startswith(f"{self.name}.answers.{to.name}."))
+        begins = f"{self.name}.answers.{to.name}."
+        return sorted(it for it in os.listdir(self.folder) if it.startswith(begins) and it.endswith(".sym"))
 
 
 def until_same(

@@ -50,8 +50,9 @@ ARCHIVE. What a kill leaves the next call removes.
 Beside them stand their indexes, ARCHIVE.idx and ARCHIVE.today.idx, with the SHA-256 of each slice as it came in and
 where it stands; ARCHIVE.idx.sum and ARCHIVE.today.idx.sum, the SHA-256 of each index; ARCHIVE.builds, the names of
 builds; ARCHIVE.log, the lines of the words with their dates; ARCHIVE.asked, what `exchange` asked with; ARCHIVE.site,
-which tells this site from another one of its name; and ARCHIVE.lost, what was there and is not, if there is such. Keep
-them with ARCHIVE. An archive of version 1 has no index, and becomes one of version 2 by the next word that writes."""
+which tells this site from another one of its name; ARCHIVE.signers, if it signs; and ARCHIVE.lost, what was there and
+is not, if there is such. Keep them with ARCHIVE. An archive of version 1 has no index, and becomes one of version 2 by
+the next word that writes."""
 import argparse
 import os
 import sys

@@ -30,6 +30,7 @@
 - stating           `status`
 - checking          `check`, and what changed
 - repairing         `repair`
+- senders           who may send, by signatures
 - shared_folder     the questions and answers of sites, by their names
 - telling           how sites tell each other the names of builds
 - exchanging        `exchange`

@@ -205,9 +205,13 @@ def note_of(text: bytes, path: Optional[bytes] = None) -> str:
 
 def write_synced(path: bytes, chunks: Iterable[bytes]) -> None:
     with about(path), open(path, "wb", buffering=0) as file:
-        for chunk in chunks:
-            write(file.fileno(), chunk)
-        os.fsync(file.fileno())
+        write_to_disk(file.fileno(), chunks)
+
+
+def write_to_disk(descriptor: int, chunks: Iterable[bytes]) -> None:
+    for chunk in chunks:
+        write(descriptor, chunk)
+    os.fsync(descriptor)
 
 
 def append_synced(path: bytes, text: bytes) -> None:

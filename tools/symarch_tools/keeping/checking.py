@@ -7,8 +7,8 @@ archive. It changes nothing, so it may be called on a disk that is read-only.
   changed ends FILE                               the first 8 or the last 9 bytes are others
   lost UUID ARCH DIGEST                           the slice was there, and neither it nor its retirement is
   lost retired UUID ARCH DIGEST                   the retirement was there, and is not
-  damaged FILE                                    an index, what is kept of it, what is lost, or names of builds are not
-                                                  as symarch-keep wrote them
+  damaged FILE                                    an index, what is kept of it, what is lost, names of builds, or what
+                                                  `exchange` remembers of signers are not as symarch-keep wrote them
   unknown FILE                                    nothing says whether the file is as it was
 
 FILE is ARCHIVE, ARCHIVE.today or a file beside them, and OFFSET where in it the record stands, in bytes from the first.
@@ -36,6 +36,7 @@ from .indexes import HEAD, TAIL, Index, Row, held_against, index_by, index_of, i
 from .losing import lost_lines
 from .program import Program
 from .screen import Failed, Screen, screen_of, shown
+from .senders import SIGNERS, Remembered
 
 USAGE = "symarch-keep check [--quiet] [--json] ARCHIVE"
 ABOUT = "find each byte that changed"
@@ -149,7 +150,16 @@ def damaged_lines(archive: Archive) -> List[str]:
     paths = [file.beside(INDEX) for file in archive.files if file.doubt]
     paths += [file.beside(INDEX_SUM) for file in archive.files if file.has_damaged_sum()]
     paths += [archive.lost.path] * bool(archive.lost.fault) + [archive.builds.path] * bool(archive.builds.fault())
+    paths += [archive.beside(SIGNERS)] * are_damaged_signers(archive)
     return [file_line("damaged", path) for path in paths]
+
+
+def are_damaged_signers(archive: Archive) -> bool:
+    try:
+        Remembered(archive)
+        return False
+    except Failed:
+        return True
 
 
 def look_through(archive: Archive, files: List[ArchiveFile], screen: Screen) -> List[str]:

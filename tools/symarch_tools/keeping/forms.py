@@ -41,6 +41,14 @@ def digest_of(word: str) -> bytes:
     return bytes.fromhex(word)
 
 
+def size_in(word: str) -> int:
+    """A number of bytes."""
+    found = re.fullmatch("([0-9]{1,15})([kMGT]?)", word)
+    if not found:
+        raise other_form("BYTES", word, "a number of bytes, which may end in k, M, G or T")
+    return int(found[1]) * 1000 ** " kMGT".index(found[2] or " ")
+
+
 def hex_of(name: str, word: str) -> str:
     """A number in hex digits, as the program takes it."""
     if not re.fullmatch("(0x)?[0-9a-fA-F]{1,16}", word):

@@ -7,18 +7,26 @@
 
 DIGEST is the SHA-256 of the file's bytes, so a file that is not whole is told by its name. QUESTION begins the digest
 of the question, and HAS that of the answer's summary. No file is rewritten, and a new one is renamed into place. Of the
-marks of a name the last one counts, and of names of builds the last file of a site that is whole."""
+marks of a name the last one counts, and of names of builds the last file of a site that is whole.
+
+Who signs puts the signature of a file before it, under its name with the ending .sig, which also comes first where
+files are copied in the order of their names. Others may write to the folder: nothing is read but a copy, and no link is
+followed."""
 import calendar
 import contextlib
 import hashlib
+import itertools
 import os
 import re
+import secrets
+import stat
 import time
-from typing import Iterable, NamedTuple, Optional
+from typing import BinaryIO, Iterable, Iterator, List, NamedTuple, Optional, Set, Tuple, TypeVar, Union
 
-from .archive_file import sync_folder, write_synced
-from .contents import Moved, chunks_in, unmoved
-from .screen import about
+from .archive_file import sync_folder, write_to_disk
+from .contents import CHUNK, Moved, unmoved
+from .screen import Screen, about, shown, system_text
+from .senders import MOST_OF_SIGNATURE, Senders, Statement, Unfit, folder_in
 
 SITE = "[a-z0-9][a-z0-9_-]{0,31}"
 QUESTION = re.compile(rf"(?P<site>{SITE})\.asks\.(?P<time>[0-9]{{8}}T[0-9]{{6}}Z)\.(?P<digest>[0-9a-f]{{64}})\.sum")
@@ -28,6 +36,7 @@ ANSWER = re.compile(
 )
 MARK = re.compile(rf"(?P<site>{SITE})\.is\.(?P<time>[0-9]{{8}}T[0-9]{{6}}Z)\.(?P<digest>[0-9a-f]{{64}})\.site")
 BUILDS = re.compile(rf"(?P<site>{SITE})\.builds\.(?P<time>[0-9]{{8}}T[0-9]{{6}}Z)\.(?P<digest>[0-9a-f]{{64}})\.txt")
+SIGNATURE = re.compile(rf"(?P<site>{SITE})\.(?:asks|answers|is|builds)\.[a-zA-Z0-9._-]*\.sig")
 SHORT = 16
 TIME = "%Y%m%dT%H%M%SZ"
 DAY = 24 * 60 * 60
@@ -63,6 +72,17 @@ class BuildsFile(NamedTuple):
     digest: str
 
 
+Sent = Union[Question, Answer, Mark, BuildsFile]
+Timed = TypeVar("Timed", Question, BuildsFile)
+
+
+class Gone(Unfit):
+    """A file that is not there any more, since its site or another one removed it."""
+
+    def __init__(self) -> None:
+        super().__init__("is gone", is_half=True)
+
+
 def digest_of(data: bytes) -> str:
     return hashlib.sha256(data).hexdigest()
 
@@ -79,6 +99,10 @@ def builds_name(site: str, at: str, digest: str) -> str:
     return f"{site}.builds.{at}.{digest}.txt"
 
 
+def signature_name(name: str) -> str:
+    return f"{name.rpartition('.')[0]}.sig"
+
+
 def is_time(text: str) -> bool:
     with contextlib.suppress(ValueError):
         return bool(time.strptime(text, TIME))
@@ -91,67 +115,160 @@ def time_after(times: Iterable[str]) -> str:
     return time.strftime(TIME, time.gmtime(max(int(time.time()), last + 1)))
 
 
-class SharedFolder:
-    """The folder, as one site sees it when it begins."""
+def latest_first(files: Iterable[Timed]) -> Iterator[Tuple[str, List[Timed]]]:
+    """The files of each site, of which the last one comes first."""
+    ordered = sorted(files, key=lambda it: (it.site, it.time, it.digest), reverse=True)
+    for site, its in itertools.groupby(ordered, lambda it: it.site):
+        yield site, list(its)
 
-    def __init__(self, path: bytes, site: str) -> None:
-        self.path, self.site = path, site
+
+class SharedFolder:
+    """The folder, as one site sees it when it begins; who may send there, if files are signed; and how long a file may
+    be, if a word says that."""
+
+    def __init__(
+        self, path: bytes, site: str, senders: Optional[Senders] = None, most: Optional[int] = None
+    ) -> None:
+        self.path, self.site, self.senders, self.most = path, site, senders, most
         names = sorted(os.listdir(os.fsdecode(path)))
         questions = [Question(name, **found.groupdict()) for name in names if (found := QUESTION.fullmatch(name))]
         self.questions = [one for one in questions if is_time(one.time)]
         marks = [Mark(name, **found.groupdict()) for name in names if (found := MARK.fullmatch(name))]
-        self.marks = [one for one in marks if one.site == site and is_time(one.time)]
+        self.every_mark = [one for one in marks if is_time(one.time)]
         builds = [BuildsFile(name, **found.groupdict()) for name in names if (found := BUILDS.fullmatch(name))]
         self.builds = [one for one in builds if is_time(one.time)]
         self.answers = [Answer(name, **found.groupdict()) for name in names if (found := ANSWER.fullmatch(name))]
+        signatures = [found for name in names if (found := SIGNATURE.fullmatch(name))]
+        self.own_signatures = {found[0] for found in signatures if found["site"] == site}
+        # How many files are not whole, and how many were named before; which are done with, and which were seen now.
+        self.not_whole = self.named_before = 0
+        self.done: Set[str] = set()
+        self.unfit: Set[str] = set()
+        if senders and not senders.last:
+            senders.go_to(self.first_folder(senders))
 
     def at(self, name: str) -> bytes:
         return os.path.join(self.path, os.fsencode(name))
 
     def size(self, name: str) -> Optional[int]:
         with contextlib.suppress(OSError):
-            return os.stat(self.at(name)).st_size
+            return os.lstat(self.at(name)).st_size
         return None
 
     def is_old(self, name: str) -> bool:
         """Whether nobody wrote to a file for a day."""
         with contextlib.suppress(OSError):
-            return os.stat(self.at(name)).st_mtime < time.time() - DAY
+            return os.lstat(self.at(name)).st_mtime < time.time() - DAY
         return False
 
-    def question(self, question: Question) -> Optional[bytes]:
-        """The bytes of a question; None where they are not whole."""
-        with contextlib.suppress(OSError), open(self.at(question.name), "rb") as file:
-            data = file.read()
-            return data if digest_of(data) == question.digest else None
-        return None
+    def first_folder(self, senders: Senders) -> str:
+        """The ID of the folder, until a question of another site came with it: that of the earliest mark that its site
+        signed. Those of this site count with the ID that it began with; if it has none, only where there are no
+        others."""
+        before = senders.folder
+        others: List[Tuple[str, str]] = []
+        own: List[Tuple[str, str]] = []
+        for mark in self.every_mark:
+            with contextlib.suppress(Unfit):
+                senders.folder = folder_in(self.signature(mark.name))
+                self.check(mark)
+                (own if mark.site == self.site else others).append((mark.time, senders.folder))
+        senders.folder = before
+        own = [one for one in own if one[1] == before] if before else own if not others else []
+        return min(others + own)[1] if others or own else before or secrets.token_hex(32)
 
-    def builds_of(self, builds: BuildsFile, most: int) -> Optional[bytes]:
-        """The bytes of names of builds; None where they are not whole, or more than so many."""
-        with contextlib.suppress(OSError), open(self.at(builds.name), "rb") as file:
-            data = file.read(most + 1)
-            return data if len(data) <= most and digest_of(data) == builds.digest else None
-        return None
+    # ---- what comes
 
-    def fetch(self, answer: Answer, path: bytes, moved: Moved = unmoved) -> bool:
-        """Copies an answer, and returns whether it is whole."""
-        digest = hashlib.sha256()
+    def check(self, one: Sent) -> int:
+        """Raises Unfit unless a file is one that its site sent here, as its signature says. Returns its length."""
+        size = regular_size(self.at(one.name))
+        if self.senders:
+            self.senders.check(self.statement(one.name, size), self.signature(one.name))
+        return size
+
+    def fetch(self, one: Sent, path: bytes, moved: Moved = unmoved, most: Optional[int] = None) -> None:
+        """Copies a file that its site sent. Raises Unfit if it is another one, is not whole, or is too long."""
+        others = self.most if one.site != self.site else None
+        limit = min((it for it in (most, others) if it is not None), default=None)
+        if limit is not None and regular_size(self.at(one.name)) > limit:
+            raise Unfit(f"has more than {limit} bytes")
+        size = self.check(one)
+        with regular_file(self.at(one.name)) as source, about(path), open(path, "wb") as file:
+            digest = copied(source, file, size, moved)
+        if digest != one.digest:
+            raise Unfit("has other bytes than its name says", is_half=True)
+
+    def read(self, one: Sent, room: bytes, most: int) -> bytes:
+        """The bytes of a copy of a file."""
+        path = os.path.join(room, b"came")
+        self.fetch(one, path, most=most)
+        with open(path, "rb") as file:
+            return file.read()
+
+    def statement(self, name: str, size: int) -> Statement:
+        """What is signed of a file."""
+        words = name.split(".")
+        sender, kind, receiver, digest = words[0], words[1], words[2] if words[1] == "answers" else "*", words[-2]
+        return Statement(sender, receiver, kind, self.senders.folder if self.senders else "", name, size, digest)
+
+    def signature(self, name: str) -> bytes:
+        """What stands in the signature of a file. One that is not there is not waited for: it comes before the file."""
         try:
-            source = open(self.at(answer.name), "rb")
-        except OSError:
-            return False
-        with source, about(path), open(path, "wb") as file:
-            for chunk in chunks_in(source):
-                digest.update(chunk)
-                file.write(chunk)
-                moved(len(chunk))
-        return digest.hexdigest() == answer.digest
+            with regular_file(self.at(signature_name(name))) as file:
+                return file.read(MOST_OF_SIGNATURE + 1)
+        except Gone:
+            regular_size(self.at(name))
+            raise Unfit("has no signature") from None
+        except Unfit as unfit:
+            raise Unfit(f"its signature {unfit.reason}") from None
 
-    def put(self, chunks: Iterable[bytes], name: str) -> None:
-        """Puts a file into the folder under a name. Only this site makes the one that it renames."""
+    def pass_over(self, one: Sent, unfit: Unfit, screen: Screen, is_done: bool = False) -> None:
+        """Says of a file that it does not count. One that is not whole may come to be so, for a day. Where files are
+        signed each is named, by the first call that sees it."""
+        if one.name in self.unfit:
+            return
+        self.unfit.add(one.name)
+        if unfit.is_half:
+            self.not_whole += not is_done
+            self.done.update([one.name] * (is_done or self.is_old(one.name)))
+        if self.senders and not isinstance(unfit, Gone) and self.senders.was_named(one.name, unfit.reason):
+            self.named_before += not unfit.is_half
+        elif not unfit.is_half:
+            screen.refuse(self.at(one.name), unfit.reason)
+        elif self.senders and not isinstance(unfit, Gone):
+            screen.fail(f"{shown(self.at(one.name))}: {unfit.reason}")
+
+    def look_at(self, files: Iterable[Sent], screen: Screen) -> None:
+        """Names those of some files that their sites did not send. Of the others nothing is read."""
+        for one in files if self.senders else ():
+            try:
+                self.check(one)
+            except Unfit as unfit:
+                self.pass_over(one, unfit, screen)
+
+    # ---- what this site puts there
+
+    def has_own(self, one: Sent) -> bool:
+        """Whether a file of this site is as it put it there, with the key that it has."""
+        with contextlib.suppress(Unfit):
+            self.check(one)
+            return not self.senders or self.senders.is_own(one.name)
+        return False
+
+    def put(self, chunks: Iterable[bytes], name: str, size: int) -> None:
+        """Puts a file of this size into the folder under a name, after its signature."""
+        if self.senders:
+            self.place([self.senders.signature(self.statement(name, size))], signature_name(name))
+        self.place(chunks, name)
+
+    def place(self, chunks: Iterable[bytes], name: str) -> None:
+        """Only this site makes the file that it renames. What another one put in its place is removed, and no link
+        there is followed."""
         part = self.at(f".{self.site}.part")
         try:
-            write_synced(part, chunks)
+            self.remove_part()
+            with open(os.open(part, os.O_WRONLY | os.O_CREAT | os.O_EXCL, 0o666), "wb", buffering=0) as file:
+                write_to_disk(file.fileno(), chunks)
             os.replace(part, self.at(name))
         except OSError as error:
             # A full folder is this one's fault, and the name says which file did not go in.
@@ -161,8 +278,62 @@ class SharedFolder:
         sync_folder(self.path)
 
     def remove_part(self) -> None:
-        self.remove(f".{self.site}.part")
-
-    def remove(self, name: str) -> None:
         with contextlib.suppress(FileNotFoundError):
-            os.unlink(self.at(name))
+            os.unlink(self.at(f".{self.site}.part"))
+
+    def remove(self, name: str, screen: Screen) -> None:
+        """Removes a file, and then its signature. What is no file stays, and is named."""
+        for one in (name, signature_name(name)):
+            try:
+                with contextlib.suppress(FileNotFoundError):
+                    os.unlink(self.at(one))
+            except OSError as error:
+                if one not in self.unfit:
+                    screen.fail(system_text(error, self.at(one)))
+
+
+def regular_size(path: bytes) -> int:
+    """The length of a file. Raises Unfit if it is a link, or none."""
+    try:
+        status = os.lstat(path)
+    except FileNotFoundError:
+        raise Gone() from None
+    except OSError as error:
+        raise Unfit(f"{error.strerror}", is_half=True) from None
+    if not stat.S_ISREG(status.st_mode):
+        raise Unfit("is a link" if stat.S_ISLNK(status.st_mode) else "is no file")
+    return status.st_size
+
+
+@contextlib.contextmanager
+def regular_file(path: bytes) -> Iterator[BinaryIO]:
+    """Opens a file to which others may write, without waiting for it. Raises Unfit if it is a link, or none."""
+    regular_size(path)
+    try:
+        descriptor = os.open(path, os.O_RDONLY | os.O_NOFOLLOW | os.O_NONBLOCK)
+    except FileNotFoundError:
+        raise Gone() from None
+    except OSError as error:
+        raise Unfit(f"{error.strerror}", is_half=True) from None
+    with open(descriptor, "rb") as file:
+        if not stat.S_ISREG(os.fstat(descriptor).st_mode):
+            raise Unfit("is no file")
+        yield file
+
+
+def copied(source: BinaryIO, file: BinaryIO, size: int, moved: Moved) -> str:
+    """Copies so many bytes at most, and returns their SHA-256."""
+    digest = hashlib.sha256()
+    while size > 0 and (chunk := chunk_of(source, min(size, CHUNK))):
+        digest.update(chunk)
+        file.write(chunk)
+        size -= len(chunk)
+        moved(len(chunk))
+    return digest.hexdigest()
+
+
+def chunk_of(source: BinaryIO, size: int) -> bytes:
+    try:
+        return source.read(size)
+    except OSError as error:
+        raise Unfit(f"{error.strerror}", is_half=True) from None

@@ -1,12 +1,12 @@
 """How sites tell each other the names of builds: each puts its ARCHIVE.builds into the shared folder, and joins those
 of the others. A file is read only if it has other bytes than ARCHIVE.builds, so none is once all know the same."""
-import itertools
 from typing import List, Set
 
 from .archive import Archive
 from .builds import MOST_OF_LINE, Days, add_line, earliest, is_framed, line_in, lines_of
 from .screen import Screen
-from .shared_folder import BuildsFile, SharedFolder, builds_name, digest_of, time_after
+from .senders import Unfit
+from .shared_folder import BuildsFile, SharedFolder, builds_name, digest_of, latest_first, time_after
 
 # Longer files are refused. One of a million slices is as long.
 MOST = 1 << 28
@@ -15,23 +15,20 @@ MOST = 1 << 28
 class Telling:
     """What one call joins and puts into the folder."""
 
-    def __init__(self, archive: Archive, folder: SharedFolder, screen: Screen) -> None:
-        self.archive, self.folder, self.screen = archive, folder, screen
+    def __init__(self, archive: Archive, folder: SharedFolder, screen: Screen, room: bytes) -> None:
+        self.archive, self.folder, self.screen, self.room = archive, folder, screen, room
         self.own = {one.name for one in folder.builds if one.site == folder.site}
-        # The lines that are printed, the files of this site that stay, those that are done with, and how many of others
-        # are not whole.
+        # The lines that are printed, and the files of this site that stay.
         self.lines: List[str] = []
         self.kept: Set[str] = set(self.own)
-        self.done: Set[str] = set()
-        self.not_whole = 0
 
     def join(self) -> None:
         """Joins what each site told last: also this one, which may have lost its file since."""
         builds, digest = self.archive.builds, digest_of(self.archive.builds.text)
         came: Days = {}
-        files = sorted(self.folder.builds, key=lambda it: (it.site, it.time, it.digest), reverse=True)
-        for site, its in itertools.groupby(files, lambda it: it.site):
-            more = self.names_in(list(its), digest)
+        for site, its in latest_first(self.folder.builds):
+            more = self.names_in(its, digest)
+            self.folder.look_at(its, self.screen)
             new = [rest for rest, day in more.items() if day < min(builds.known.get(rest, b"~"), came.get(rest, b"~"))]
             self.lines += [f"named {len(new)} {site}"] * bool(new)
             came = earliest(came, more)
@@ -41,17 +38,14 @@ class Telling:
     def names_in(self, files: List[BuildsFile], digest: str) -> Days:
         """The lines of the last file of a site that is whole, if that has another digest than ARCHIVE.builds."""
         for one in files:
-            if one.digest == digest:
+            try:
+                if one.digest != digest:
+                    return self.lines_in(one, self.folder.read(one, self.room, MOST))
+                if one.site != self.folder.site:
+                    self.folder.check(one)
                 break
-            text = self.folder.builds_of(one, MOST)
-            if text is not None:
-                return self.lines_in(one, text)
-            if (self.folder.size(one.name) or 0) > MOST:
-                self.screen.refuse(self.folder.at(one.name), f"has more than {MOST} bytes")
-            else:
-                self.not_whole += 1
-                if self.folder.is_old(one.name):
-                    self.done.add(one.name)
+            except Unfit as unfit:
+                self.folder.pass_over(one, unfit, self.screen)
         return {}
 
     def lines_in(self, one: BuildsFile, text: bytes) -> Days:
@@ -78,11 +72,12 @@ class Telling:
     def tell(self) -> None:
         """Puts what this site knows into the folder, unless that is there."""
         text = self.archive.builds.text
-        digest, own = digest_of(text), [one for one in self.folder.builds if one.name in self.own]
-        there = [it.name for it in own if it.digest == digest and self.folder.size(it.name) == len(text)]
+        digest, folder = digest_of(text), self.folder
+        own = [one for one in folder.builds if one.site == folder.site and folder.has_own(one)]
+        there = [it.name for it in own if it.digest == digest and folder.size(it.name) == len(text)]
         if text and not there:
             there = [builds_name(self.folder.site, time_after(one.time for one in own), digest)]
-            self.folder.put([text], there[0])
+            self.folder.put([text], there[0], len(text))
             self.lines.append(f"told {there[0]}")
         self.kept = set(there[:1])
 
