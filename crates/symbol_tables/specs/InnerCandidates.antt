@@ -22,6 +22,7 @@ AreSectionsOf image all = map section_view all ≡ take 255 (sections image)
 pub record IsScanOf (image : List ℕ) (all : List Section) (table : List ℕ) : Type 0 where
   pub sections : AreSectionsOf image all
   pub strings : table ≡ strings_of image
+  pub few : length table < 2 ^ 32
 
 -- an entry that is a candidate, with the place of its name
 unfoldable pub numbered_in : List ℕ → List ℕ → Option Candidate

@@ -6,7 +6,7 @@ ghost use Rattle.std.specs.Cmp.Lexicographic.{slice_cmp};
 ghost use Rattle.macho_symbols.specs.Symbols.{name_of};
 ghost use Rattle.symbol_tables.specs.InnerCandidates.{first_of, is_before, tuple_of};
 
-use crate::strings::compare_names;
+use crate::compared::ComparedNames;
 use std::cmp::Ordering;
 
 /// An entry that is a candidate, with the place of its name in the string table.
@@ -20,14 +20,14 @@ pub(crate) struct Candidate {
 
 impl Candidate {
     /// Compares the names of two candidates. A name that both have is not read.
-    fn compare_names(&self, other: &Candidate, strings: &[u8]) -> Ordering
-        ensures { result ≡ slice_cmp nat_cmp (name_of strings.now self.now.n_strx)
-            (name_of strings.now other.now.n_strx) }
+    fn compare_names(&self, other: &Candidate, names: &ComparedNames<'_>) -> Ordering
+        ensures { result ≡ slice_cmp nat_cmp (name_of names.now self.now.n_strx)
+            (name_of names.now other.now.n_strx) }
     {
         if self.n_strx == other.n_strx {
             return Ordering::Equal;
         }
-        compare_names(strings, self.n_strx, other.n_strx)
+        names.compare(self.n_strx, other.n_strx)
     }
 
     /// Compares the values and the kinds.
@@ -43,14 +43,14 @@ impl Candidate {
 
     /// Whether it comes before another one. Names are read only where all that counts more ties.
     #[tactic(auto, unfolding(crate::specs::InnerCandidates::tuple_of))]
-    fn is_before(&self, other: &Candidate, strings: &[u8]) -> bool
-        ensures { result ≡ is_before strings.now self.now other.now }
+    fn is_before(&self, other: &Candidate, names: &ComparedNames<'_>) -> bool
+        ensures { result ≡ is_before names.now self.now other.now }
     {
         let heads = self.compare_heads(other);
         if heads.is_ne() {
             return heads.is_lt();
         }
-        self.compare_names(other, strings)
+        self.compare_names(other, names)
             .then(self.sect.cmp(&other.sect))
             .then(self.n_strx.cmp(&other.n_strx))
             .is_lt()
@@ -60,15 +60,15 @@ impl Candidate {
     pub(crate) fn first_of(
         best: Option<Candidate>,
         next: Option<Candidate>,
-        strings: &[u8],
+        names: &ComparedNames<'_>,
     ) -> Option<Candidate>
-        ensures { result ≡ first_of strings.now best next }
+        ensures { result ≡ first_of names.now best next }
     {
         let Some(candidate) = next else {
             return best;
         };
         match best {
-            Some(kept) if !candidate.is_before(&kept, strings) => best,
+            Some(kept) if !candidate.is_before(&kept, names) => best,
             _ => Some(candidate),
         }
     }

@@ -33,6 +33,7 @@
 
 mod asking;
 mod candidate;
+mod compared;
 mod head;
 pub mod laws;
 mod making;

@@ -1,6 +1,6 @@
 //! What a scan over the entries of an image reads (mach-o/nlist.h), and which entries are candidates.
 
-ghost use Rattle.std.specs.Prelude.{◌≡◌, ◌≤◌, ◌+◌, ◌*◌, IfOk, length, take, drop};
+ghost use Rattle.std.specs.Prelude.{◌≡◌, ◌<◌, ◌≤◌, ◌+◌, ◌*◌, ◌^◌, IfOk, length, take, drop};
 ghost use Rattle.macho_image.specs.Sections.{is_inside, sections};
 ghost use Rattle.macho_image.specs.SectionViews.{section_view};
 ghost use Rattle.macho_symbols.specs.Nlist.{n_strx, n_value};
@@ -122,7 +122,8 @@ impl<'a> Scan<'a> {
 
     /// The string table.
     pub(crate) fn strings(&self) -> &'a [u8]
-        ensures { result.now ≡ strings_of self.now }
+        ensures is { result.now ≡ strings_of self.now }
+        ensures few { length result.now < 2 ^ 32 }
     {
         self.strings
     }

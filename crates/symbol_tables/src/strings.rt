@@ -1,6 +1,6 @@
 //! The tables of an image: where they lie, and the names in the string table.
 
-ghost use Rattle.std.specs.Prelude.{◌≡◌, ◌==◌, drop, length, nat_lt, take};
+ghost use Rattle.std.specs.Prelude.{◌≡◌, ◌==◌, ◌<◌, ◌^◌, drop, length, nat_lt, take};
 ghost use Rattle.std.specs.List.{before_first};
 ghost use Rattle.std.specs.Ordering.{nat_cmp};
 ghost use Rattle.std.specs.Cmp.Lexicographic.{slice_cmp};
@@ -32,7 +32,8 @@ pub(crate) fn table_of(image: &Image<'_>) -> Symtab
 /// The string table of an image.
 #[tactic(auto, unfolding(macho_symbols::specs::Symbols::strings_of))]
 pub(crate) fn strings_of<'a>(image: &Image<'a>) -> &'a [u8]
-    ensures { result.now ≡ strings_of image.now }
+    ensures is { result.now ≡ strings_of image.now }
+    ensures few { length result.now < 2 ^ 32 }
 {
     let bytes = image.bytes();
     let table = table_of(image);
@@ -86,6 +87,13 @@ pub(crate) fn compare_names(strings: &[u8], n_strx: u32, other: u32) -> Ordering
     ensures { result ≡ slice_cmp nat_cmp (name_of strings.now n_strx) (name_of strings.now other) }
 {
     compare_from(from_place(strings, n_strx), from_place(strings, other))
+}
+
+/// How many bytes the name from a place of the string table has.
+pub(crate) fn name_len(strings: &[u8], n_strx: u32) -> usize
+    ensures { result ≡ length (name_of strings.now n_strx) }
+{
+    before_nul(from_place(strings, n_strx)).len()
 }
 
 /// Whether there is a name at a place of the string table. It looks at one byte.

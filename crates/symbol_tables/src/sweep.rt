@@ -12,6 +12,7 @@ ghost use Rattle.symbol_tables.specs.InnerCandidates.{first_of, row_saying};
 ghost use Rattle.symbol_tables.specs.declared.candidate.Candidate.{Candidate};
 
 use crate::candidate::Candidate;
+use crate::compared::ComparedNames;
 use crate::row::Row;
 use crate::scan::{Scan, is_inside};
 use crate::turns::collect_turns;
@@ -41,14 +42,14 @@ impl Row {
 }
 
 /// Puts a candidate among the first ones of their sections.
-fn note(firsts: &mut [Option<Candidate>], candidate: Candidate, strings: &[u8])
+fn note(firsts: &mut [Option<Candidate>], candidate: Candidate, names: &ComparedNames<'_>)
     requires some { 0 < candidate.sect }
     requires within { candidate.sect ≤ length firsts.old }
     ensures { firsts.new ≡ slice_set firsts.old (candidate.sect - 1)
-        (first_of strings.now (slice_index_or firsts.old (candidate.sect - 1) None) (Some candidate)) }
+        (first_of names.now (slice_index_or firsts.old (candidate.sect - 1) None) (Some candidate)) }
 {
     let index = candidate.sect as usize - 1;
-    firsts[index] = Candidate::first_of(firsts[index], Some(candidate), strings);
+    firsts[index] = Candidate::first_of(firsts[index], Some(candidate), names);
 }
 
 /// The candidate of an index, if there is one and it is not above an address.
@@ -68,16 +69,16 @@ fn not_above(candidates: &[Candidate], index: usize, address: u64) -> Option<Can
 fn note_up_to(
     firsts: &mut [Option<Candidate>],
     candidates: &[Candidate],
-    strings: &[u8],
+    names: &ComparedNames<'_>,
     from: usize,
     address: u64,
 ) -> (usize, Option<Candidate>)
     requires from { from ≤ length candidates.now }
     requires numbered { AreNumbered candidates.now (length firsts.old) }
     requires sorted { AreByValue candidates.now }
-    requires firsts { AreFirstsOf strings.now candidates.now from firsts.old }
+    requires firsts { AreFirstsOf names.now candidates.now from firsts.old }
     ensures within { result.0 ≤ length candidates.now }
-    ensures firsts { AreFirstsOf strings.now candidates.now result.0 firsts.new }
+    ensures firsts { AreFirstsOf names.now candidates.now result.0 firsts.new }
     ensures below { AreUpTo candidates.now from address → AreUpTo candidates.now result.0 address }
     ensures above { AreAbove candidates.now result.0 address }
     ensures best { IfSome result.1 (λ best. Contains candidates.now best × (best.value ≡ address)) }
@@ -85,9 +86,9 @@ fn note_up_to(
     let mut index = from;
     let mut best = None;
     'noting: while let Some(candidate) = not_above(candidates, index, address) {
-        note(firsts, candidate, strings);
+        note(firsts, candidate, names);
         if candidate.value == address {
-            best = Candidate::first_of(best, Some(candidate), strings);
+            best = Candidate::first_of(best, Some(candidate), names);
         }
         index += 1;
     }
@@ -98,21 +99,21 @@ fn note_up_to(
 fn first_at(
     sections: &[Section<'_>],
     firsts: &[Option<Candidate>],
-    strings: &[u8],
+    names: &ComparedNames<'_>,
     address: u64,
     best: Option<Candidate>,
 ) -> Option<Candidate>
     requires { length firsts.now ≡ length sections.now }
     ensures { (image : List ℕ) (candidates : List Candidate) (count : ℕ) → AreSectionsOf image sections.now
-        → strings.now ≡ strings_of image → AreCandidates image candidates
-        → AreFirstsOf strings.now candidates count firsts.now → AreUpTo candidates count address
+        → names.now ≡ strings_of image → AreCandidates image candidates
+        → AreFirstsOf names.now candidates count firsts.now → AreUpTo candidates count address
         → AreAbove candidates count address → IfSome best (λ c. Contains candidates c × (c.value ≡ address))
-        → IsLeastOrNone strings.now (StandsAt image candidates address) result }
+        → IsLeastOrNone names.now (StandsAt image candidates address) result }
 {
     let mut best = best;
     'sections: for index in 0..sections.len() {
         if is_inside(&sections[index], address) {
-            best = Candidate::first_of(best, firsts[index], strings);
+            best = Candidate::first_of(best, firsts[index], names);
         }
     }
     best
@@ -122,10 +123,12 @@ fn first_at(
 fn rows_of(
     heap: Heap,
     scan: &Scan<'_>,
+    names: &ComparedNames<'_>,
     candidates: &[Candidate],
     turns: &[u64],
     firsts: &mut [Option<Candidate>],
 ) -> Result<Vec<Row, Heap>, NoMemory>
+    requires names { names.now ≡ strings_of scan.now }
     requires candidates { AreCandidates scan.now candidates.now }
     requires sorted { AreByValue candidates.now }
     requires turns { AreTurns scan.now turns.now }
@@ -134,13 +137,12 @@ fn rows_of(
     ensures { IfOk result (λ rows. AreSteps scan.now rows.items) }
 {
     let sections = scan.sections();
-    let strings = scan.strings();
     let mut rows = Vec::with_capacity(heap, turns.len())?;
     let mut noted = 0;
     'turns: for start in turns {
-        let (count, best) = note_up_to(firsts, candidates, strings, noted, *start);
+        let (count, best) = note_up_to(firsts, candidates, names, noted, *start);
         noted = count;
-        let nearest = first_at(sections, firsts, strings, *start, best);
+        let nearest = first_at(sections, firsts, names, *start, best);
         rows.push(Row::saying(*start, nearest))?;
     }
     Ok(rows)
@@ -153,7 +155,8 @@ pub(crate) fn steps(heap: Heap, scan: &Scan<'_>) -> Result<Vec<Row, Heap>, NoMem
 {
     let mut candidates = scan.candidates(heap.clone()?)?;
     candidates.sort_unstable_by_key(|candidate| candidate.value);
+    let names = ComparedNames::new(heap.clone()?, scan, &candidates)?;
     let turns = collect_turns(heap.clone()?, &candidates, scan.sections())?;
     let mut firsts = vec![in heap.clone()?; None; scan.sections().len()]?;
-    rows_of(heap, scan, &candidates, &turns, &mut firsts)
+    rows_of(heap, scan, &names, &candidates, &turns, &mut firsts)
 }

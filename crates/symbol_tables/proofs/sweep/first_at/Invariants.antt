@@ -8,6 +8,6 @@ use Rattle.symbol_tables.proofs.sweep.first_at.Given as goal
 
 abbrev pub invariant-sections : goal.invariant-sections
 invariant-sections l = (image : List ℕ) (candidates : List Candidate) (count : ℕ) (of : AreSectionsOf image l.sections)
-    → l.strings ≡ strings_of image → (are : AreCandidates image candidates) → AreFirstsOf l.strings candidates count l.firsts
+    → l.names ≡ strings_of image → (are : AreCandidates image candidates) → AreFirstsOf l.names candidates count l.firsts
     → AreUpTo candidates count l.address → AreAbove candidates count l.address → IfSome l.initial.best (λ c. Contains candidates c × (c.value ≡ l.address))
     → IsLeastOrNone (strings_of image) (Seen image l.sections candidates l.address of are l.initial.best l.index) l.best

@@ -6,7 +6,7 @@ use Rattle.symbol_tables.proofs.sweep.note_up_to.Given as goal
 abbrev pub invariant-noting : goal.invariant-noting
 invariant-noting l = record {
   within : l.index ≤ length l.candidates;
-  firsts : AreFirstsOf l.strings l.candidates l.index l.firsts;
+  firsts : AreFirstsOf l.names l.candidates l.index l.firsts;
   below : AreUpTo l.candidates l.fn.from l.address → AreUpTo l.candidates l.index l.address;
   best : IfSome l.best (λ best. Contains l.candidates best × (best.value ≡ l.address));
 }

@@ -20,9 +20,9 @@ turns-preserved c =
     let cs = c.args.candidates.now in
     let index = c.turns.start-index in
     let a = get_or c.args.turns.now index 0 in
-    let found = c.first_at-nearest.ensures image cs c.note_up_to-count.result.0 c.sections-sections.ensures c.strings-strings.ensures c.requires.candidates c.note_up_to-count.ensures.firsts
+    let found = c.first_at-nearest.ensures image cs c.note_up_to-count.result.0 c.sections-sections.ensures c.requires.names c.requires.candidates c.note_up_to-count.ensures.firsts
     (c.note_up_to-count.ensures.below (c.turns.invariant.below c.turns-test.true)) c.note_up_to-count.ensures.above c.note_up_to-count.ensures.best in
-    let says = turn_says image cs a c.first_at-nearest.result c.saying.result c.requires.candidates (subst (λ s. IsLeastOrNone s (StandsAt image cs a) c.first_at-nearest.result) c.strings-strings.ensures found) c.saying.ensures in
+    let says = turn_says image cs a c.first_at-nearest.result c.saying.result c.requires.candidates (subst (λ s. IsLeastOrNone s (StandsAt image cs a) c.first_at-nearest.result) c.requires.names found) c.saying.ensures in
     record {
       within = c.note_up_to-count.ensures.within;
       firsts = c.note_up_to-count.ensures.firsts;

@@ -16,9 +16,10 @@ rows_of-requires c =
     let by_value : AreByValue sorted = λ i j d l m. IsNonDecreasingBy-from_sort_by_key (λ (k : Candidate). k.value) sorted c.sort_unstable_by_key.ensures.sorted (λ a r q k. search rules) i j d (omega (arith, l)) m in
     let all_none = c.in_ok-firsts.ensures.items_if_clones_equal (λ y q. search rules) in
     record {
-      candidates = subst (AreCandidates image) (sym c.deref-2.ensures.value) are;
-      sorted = subst AreByValue (sym c.deref-2.ensures.value) by_value;
-      turns = subst (AreTurns image) (sym c.deref-3.ensures.value) (c.in_ok-turns.ensures image (subst (AreCandidates image) (sym c.deref.ensures.value) are) c.sections.ensures);
+      names = c.in_ok-names.ensures;
+      candidates = subst (AreCandidates image) (sym c.deref-3.ensures.value) are;
+      sorted = subst AreByValue (sym c.deref-3.ensures.value) by_value;
+      turns = subst (AreTurns image) (sym c.deref-4.ensures.value) (c.in_ok-turns.ensures image (subst (AreCandidates image) (sym c.deref-2.ensures.value) are) c.sections.ensures);
       long = λ sections of.
           omega (
             arith,
@@ -29,5 +30,5 @@ rows_of-requires c =
             length-map c.sections-2.result.now section_view,
             length-map sections section_view,
           );
-      firsts = subst (AreFirstsOf (strings_of image) c.deref-2.result.now 0) (sym (c.deref_mut.ensures.value ∙ all_none)) (none_noted (strings_of image) c.deref-2.result.now _);
+      firsts = subst (AreFirstsOf (strings_of image) c.deref-3.result.now 0) (sym (c.deref_mut.ensures.value ∙ all_none)) (none_noted (strings_of image) c.deref-3.result.now _);
     }

@@ -1,0 +1,5 @@
+pub mod NameLemmas
+pub mod SpanLemmas
+pub mod OrderLemmas
+pub mod RankLemmas
+pub mod DoublingLemmas
