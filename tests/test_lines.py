@@ -157,8 +157,8 @@ class Printed(LinesCase):
     def test_what_documents_show(self) -> None:
         """The lines of README's first example, and of COMMANDS."""
         self.expect(["admit", "empty.sym", "spool.sym", crash.CRASH / "spool-1.dSYM"], prints=None)
-        words = "symbolicate --lines spool.sym 4c4c4419-5555-3144-a1d2-4341c97782f0 arm64 --load 0x104d38000 0x104d38410"
-        shown = self.call(*words.split()).out.decode()
+        words = "symbolicate --lines spool.sym 4c4c4419-5555-3144-a1d2-4341c97782f0 arm64".split()
+        shown = self.call(*words, "--load", "0x104d38000", "0x104d38410").out.decode()
         self.assertIn(f"```\n{shown}```\n", (TOP / "README.md").read_text(encoding="utf-8"))
         found = SHOWN.findall((TOP / "docs" / "COMMANDS.md").read_text(encoding="utf-8"))
         self.assertEqual(len(found), 1)
