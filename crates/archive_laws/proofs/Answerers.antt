@@ -120,6 +120,3 @@ module _ (o : Operations) (key : SliceKey) where
 
   pub some_answering : (slices : List (List ℕ)) × AreAnswering o key slices
   some_answering = answering_by (filter is_dsym_image slices_live) refl
-
-  pub one_answering : (slices others : List (List ℕ)) → AreAnswering o key slices → AreAnswering o key others → slices ≡ others
-  one_answering slices others a b = one_with_members (on_texts admission_record) slices others a.ascending b.ascending (λ s h. (b.exactly s).1 ((a.exactly s).0 h)) (λ s h. (a.exactly s).1 ((b.exactly s).0 h))

@@ -11,6 +11,8 @@ use Rattle.crash_frames.specs.Flaws.{frame_flaw}
 use Rattle.crash_frames.specs.Frames.{frames_of}
 use Rattle.crash_frames.specs.declared.frame.Frame.{Frame}
 use Rattle.report_text.specs.Answers.{answer_lines}
+use Rattle.source_frames.specs.AddressFrames.{AreFramesOf}
+use Rattle.source_frames.specs.Frames.{FrameRecord}
 use Rattle.byte_device.specs.declared.disks.CannotOpen.{CannotOpen}
 use Rattle.command_ends.specs.declared.faults.Place.{Place}
 use Rattle.command_ends.specs.declared.faults.Status.{Status}
@@ -37,125 +39,126 @@ all_done (row ∷ rows) = let rest = all_done rows in grind arith
 
 one_text : (rows : List Answered) → answers_text rows ≡ flat_map (λ (one : Told). one.text) (map alone_told rows)
 one_text [] = refl
-one_text (row ∷ rows) = rw (one_text rows, append-nil (answer_lines row.address row.answer)) refl
+one_text (row ∷ rows) = rw (one_text rows, append-nil (answer_lines row.address row.answer row.frames)) refl
 
-each_alone : {S T : Type 0} (input : Reader S) (others : List (Reader T)) (o : Operations) (frames : List Frame) (rows : List Answered) → IsGivenJoin input others o
-    → AllZip (IsFrameAnswered o) frames rows → AllZip (IsToldAlone input others) frames (map alone_told rows)
-each_alone input others o [] [] given all = tt
-each_alone input others o (frame ∷ frames) (row ∷ rows) given all =
-    let tells : TellsAddresses o frame.key frame.load (frame.address ∷ []) (answers_status (row ∷ [])) (answers_text (row ∷ [])) = record {
+each_alone : {S T : Type 0} (lines : Bool) (input : Reader S) (others : List (Reader T)) (o : Operations) (frames : List Frame) (rows : List Answered) → IsGivenJoin input others o
+    → AllZip (IsFrameAnswered lines o) frames rows → AllZip (IsToldAlone lines input others) frames (map alone_told rows)
+each_alone lines input others o [] [] given all = tt
+each_alone lines input others o (frame ∷ frames) (row ∷ rows) given all =
+    let tells : TellsAddresses o frame.key frame.load lines (frame.address ∷ []) (answers_status (row ∷ [])) (answers_text (row ∷ [])) = record {
       rows = row ∷ [];
       addresses_are = ap (λ (a : ℕ). a ∷ []) all.0.0;
       answered = (all.0.1, tt);
       status_is = refl;
       text_is = refl;
     } in (
-      holds_join input others o given (λ p. TellsAddresses p frame.key frame.load (frame.address ∷ []) (answers_status (row ∷ [])) (answers_text (row ∷ []))) tells,
-      each_alone input others o frames rows given all.1,
+      holds_join input others o given (λ p. TellsAddresses p frame.key frame.load lines (frame.address ∷ []) (answers_status (row ∷ [])) (answers_text (row ∷ []))) tells,
+      each_alone lines input others o frames rows given all.1,
     )
-each_alone input others o _ _ given all = absurd all
+each_alone lines input others o _ _ given all = absurd all
 
 -- the one row of an answer alone
-one_row : (o : Operations) (frame : Frame) (told : Told) (rows : List Answered) → map (λ (row : Answered). row.address) rows ≡ frame.address ∷ []
-    → AllByRecursion (IsAnswered o frame.key frame.load) rows → told.status ≡ answers_status rows → told.text ≡ answers_text rows
-    → (row : Answered) × IsFrameAnswered o frame row × (told ≡ alone_told row)
-one_row o frame told [] are all status text = cc
-one_row o frame told (row ∷ []) are all status text =
+one_row : (lines : Bool) (o : Operations) (frame : Frame) (told : Told) (rows : List Answered) → map (λ (row : Answered). row.address) rows ≡ frame.address ∷ []
+    → AllByRecursion (IsAnswered o frame.key frame.load lines) rows → told.status ≡ answers_status rows → told.text ≡ answers_text rows
+    → (row : Answered) × IsFrameAnswered lines o frame row × (told ≡ alone_told row)
+one_row lines o frame told [] are all status text = cc
+one_row lines o frame told (row ∷ []) are all status text =
     let address : row.address ≡ frame.address = cc in
     (row, (address, all.0), λ i. record { status = status i; text = text i })
-one_row o frame told (row ∷ next ∷ rows) are all status text = cc
+one_row lines o frame told (row ∷ next ∷ rows) are all status text = cc
 
-each_row : {S T : Type 0} (input : Reader S) (others : List (Reader T)) (o : Operations) (frames : List Frame) (told : List Told) → IsGivenJoin input others o
-    → AllZip (IsToldAlone input others) frames told → (rows : List Answered) × AllZip (IsFrameAnswered o) frames rows × (told ≡ map alone_told rows)
-each_row input others o [] [] given all = ([], tt, refl)
-each_row input others o (frame ∷ frames) (t ∷ told) given all =
-    let tells = told_of_join input others o given (λ p. TellsAddresses p frame.key frame.load (frame.address ∷ []) t.status t.text) all.0 in
-    let first = one_row o frame t tells.rows tells.addresses_are tells.answered tells.status_is tells.text_is in
-    let rest = each_row input others o frames told given all.1 in
+each_row : {S T : Type 0} (lines : Bool) (input : Reader S) (others : List (Reader T)) (o : Operations) (frames : List Frame) (told : List Told) → IsGivenJoin input others o
+    → AllZip (IsToldAlone lines input others) frames told → (rows : List Answered) × AllZip (IsFrameAnswered lines o) frames rows × (told ≡ map alone_told rows)
+each_row lines input others o [] [] given all = ([], tt, refl)
+each_row lines input others o (frame ∷ frames) (t ∷ told) given all =
+    let tells = told_of_join input others o given (λ p. TellsAddresses p frame.key frame.load lines (frame.address ∷ []) t.status t.text) all.0 in
+    let first = one_row lines o frame t tells.rows tells.addresses_are tells.answered tells.status_is tells.text_is in
+    let rest = each_row lines input others o frames told given all.1 in
     (first.0 ∷ rest.0, (first.1, rest.1), λ i. first.2 i ∷ rest.2 i)
-each_row input others o _ _ given all = absurd all
+each_row lines input others o _ _ given all = absurd all
 
 -- ---- frames of archives that have this content together
 
-pub command_fault_of : {R S T : Type 0} (input : Reader R) (first : Reader S) (others : List (Reader T)) (bytes : List ℕ) (said : List Frame) (o : Operations) (status : Status) (text : List ℕ)
-    → IsGiven input bytes → frames_of bytes ≡ Ok said → IsGivenJoin first others o → MakesFramed input first others status text → TellsFrames o said status text
-command_fault_of input first others bytes said o status text is says given_join makes =
+pub command_fault_of : {R S T : Type 0} (lines : Bool) (input : Reader R) (first : Reader S) (others : List (Reader T)) (bytes : List ℕ) (said : List Frame) (o : Operations) (status : Status) (text : List ℕ)
+    → IsGiven input bytes → frames_of bytes ≡ Ok said → IsGivenJoin first others o → MakesFramed lines input first others status text → TellsFrames lines o said status text
+command_fault_of lines input first others bytes said o status text is says given_join makes =
     let also = is_given input bytes (λ b. frames_of b ≡ Ok makes.said) is makes.frames_are in
     let frames : makes.said ≡ said = cc in
-    subst (λ (fs : List Frame). TellsFrames o fs status text) frames (told_of_join first others o given_join (λ p. TellsFrames p makes.said status text) makes.tells)
+    subst (λ (fs : List Frame). TellsFrames lines o fs status text) frames (told_of_join first others o given_join (λ p. TellsFrames lines p makes.said status text) makes.tells)
 
-pub each_is : {R S T : Type 0} (input : Reader R) (first : Reader S) (others : List (Reader T)) (bytes : List ℕ) (said : List Frame) (o : Operations) (status : Status) (text : List ℕ)
-    → IsGiven input bytes → frames_of bytes ≡ Ok said → IsGivenJoin first others o → MakesFramed input first others status text ↔ SymbolicatesEach first others said status text
-each_is input first others bytes said o status text is says given_join = (to, back)
+pub each_is : {R S T : Type 0} (lines : Bool) (input : Reader R) (first : Reader S) (others : List (Reader T)) (bytes : List ℕ) (said : List Frame) (o : Operations) (status : Status) (text : List ℕ)
+    → IsGiven input bytes → frames_of bytes ≡ Ok said → IsGivenJoin first others o → MakesFramed lines input first others status text ↔ SymbolicatesEach lines first others said status text
+each_is lines input first others bytes said o status text is says given_join = (to, back)
   where
-    to : MakesFramed input first others status text → SymbolicatesEach first others said status text
+    to : MakesFramed lines input first others status text → SymbolicatesEach lines first others said status text
     to makes =
-        let tells = command_fault_of input first others bytes said o status text is says given_join makes in
+        let tells = command_fault_of lines input first others bytes said o status text is says given_join makes in
         record {
           told = map alone_told tells.rows;
-          alone = each_alone first others o said tells.rows given_join tells.answered;
+          alone = each_alone lines first others o said tells.rows given_join tells.answered;
           status_is = tells.status_is ∙ ap (λ (all : Bool). if all then Done else Partial) (all_done tells.rows);
           text_is = tells.text_is ∙ one_text tells.rows;
         }
 
-    back : SymbolicatesEach first others said status text → MakesFramed input first others status text
+    back : SymbolicatesEach lines first others said status text → MakesFramed lines input first others status text
     back each =
-        let rows = each_row first others o said each.told given_join each.alone in
+        let rows = each_row lines first others o said each.told given_join each.alone in
         let symbols = ap (list_all (λ (one : Told). is_done one.status)) rows.2 ∙ sym (all_done rows.0) in
-        let lines = ap (flat_map (λ (one : Told). one.text)) rows.2 ∙ sym (one_text rows.0) in
+        let printed = ap (flat_map (λ (one : Told). one.text)) rows.2 ∙ sym (one_text rows.0) in
         record {
           said = said;
           frames_are = gives input bytes (λ b. frames_of b ≡ Ok said) is says;
-          tells = holds_join first others o given_join (λ p. TellsFrames p said status text) (record {
+          tells = holds_join first others o given_join (λ p. TellsFrames lines p said status text) (record {
             rows = rows.0;
             answered = rows.1;
             status_is = each.status_is ∙ ap (λ (all : Bool). if all then Done else Partial) symbols;
-            text_is = each.text_is ∙ lines;
+            text_is = each.text_is ∙ printed;
           });
         }
 
 -- what they tell is what the file tells that `merge` of them writes
-pub as_one : {Q R S T : Type 0} (input : Reader Q) (first : Reader R) (others : List (Reader S)) (file : Reader T) (o : Operations) (made told : List ℕ) (status : Status) (text : List ℕ)
-    → IsGivenJoin first others o → (merge first others).Makes made told → IsGiven file made → MakesFramed input first others status text ↔ MakesFramed {T = S} input file [] status text
-as_one input first others file o made told status text given_join makes is = (
-  λ m. record { said = m.said; frames_are = m.frames_are; tells = (as_merged first others file o made told (λ p. TellsFrames p m.said status text) given_join makes is).0 m.tells },
-  λ m. record { said = m.said; frames_are = m.frames_are; tells = (as_merged first others file o made told (λ p. TellsFrames p m.said status text) given_join makes is).1 m.tells },
+pub as_one : {Q R S T : Type 0} (lines : Bool) (input : Reader Q) (first : Reader R) (others : List (Reader S)) (file : Reader T) (o : Operations) (made told : List ℕ) (status : Status) (text : List ℕ)
+    → IsGivenJoin first others o → (merge first others).Makes made told → IsGiven file made → MakesFramed lines input first others status text ↔ MakesFramed {T = S} lines input file [] status text
+as_one lines input first others file o made told status text given_join makes is = (
+  λ m. record { said = m.said; frames_are = m.frames_are; tells = (as_merged first others file o made told (λ p. TellsFrames lines p m.said status text) given_join makes is).0 m.tells },
+  λ m. record { said = m.said; frames_are = m.frames_are; tells = (as_merged first others file o made told (λ p. TellsFrames lines p m.said status text) given_join makes is).1 m.tells },
 )
 
-pub as_alone : {Q R S : Type 0} (input : Reader Q) (first : Reader R) (status : Status) (text : List ℕ)
-    → MakesFramed {T = S} input first [] status text ↔ ((said : List Frame) × Gives input (λ bytes. frames_of bytes ≡ Ok said) × HoldsContent first (λ o. TellsFrames o said status text))
-as_alone input first status text = (
-  λ m. (m.said, m.frames_are, (alone_held first (λ o. TellsFrames o m.said status text)).0 m.tells),
-  λ m. record { said = m.0; frames_are = m.1; tells = (alone_held first (λ o. TellsFrames o m.0 status text)).1 m.2 },
+pub as_alone : {Q R S : Type 0} (lines : Bool) (input : Reader Q) (first : Reader R) (status : Status) (text : List ℕ)
+    → MakesFramed {T = S} lines input first [] status text ↔ ((said : List Frame) × Gives input (λ bytes. frames_of bytes ≡ Ok said) × HoldsContent first (λ o. TellsFrames lines o said status text))
+as_alone lines input first status text = (
+  λ m. (m.said, m.frames_are, (alone_held first (λ o. TellsFrames lines o m.said status text)).0 m.tells),
+  λ m. record { said = m.0; frames_are = m.1; tells = (alone_held first (λ o. TellsFrames lines o m.0 status text)).1 m.2 },
 )
 
 -- ---- one report
 
-module _ (one : (o : Operations) (key : SliceKey) (place : Where) (answer other : AnswerRecord) → IsAnswer o key place answer → IsAnswer o key place other → answer ≡ other) where
-  all_seen : (o : Operations) (frames : List Frame) (rows others : List Answered) → AllZip (IsFrameAnswered o) frames rows → AllZip (IsFrameAnswered o) frames others → map seen rows ≡ map seen others
-  all_seen o [] [] [] a b = refl
-  all_seen o [] [] (y ∷ ys) a b = absurd b
-  all_seen o (frame ∷ frames) (x ∷ xs) [] a b = absurd b
-  all_seen o (frame ∷ frames) (x ∷ xs) (y ∷ ys) a b =
-      let head = one_seen one o frame.key frame.load x y (a.0.0 ∙ sym b.0.0) a.0.1 b.0.1 in
-      let tail = all_seen o frames xs ys a.1 b.1 in
+module _ (one : (o : Operations) (key : SliceKey) (place : Where) (answer other : AnswerRecord) → IsAnswer o key place answer → IsAnswer o key place other → answer ≡ other)
+    (single : (image : List ℕ) (address : ℕ) (frames other : List FrameRecord) → AreFramesOf image address frames → AreFramesOf image address other → frames ≡ other) where
+  all_seen : (lines : Bool) (o : Operations) (frames : List Frame) (rows others : List Answered) → AllZip (IsFrameAnswered lines o) frames rows → AllZip (IsFrameAnswered lines o) frames others → map seen rows ≡ map seen others
+  all_seen lines o [] [] [] a b = refl
+  all_seen lines o [] [] (y ∷ ys) a b = absurd b
+  all_seen lines o (frame ∷ frames) (x ∷ xs) [] a b = absurd b
+  all_seen lines o (frame ∷ frames) (x ∷ xs) (y ∷ ys) a b =
+      let head = one_seen one single o frame.key frame.load lines x y (a.0.0 ∙ sym b.0.0) a.0.1 b.0.1 in
+      let tail = all_seen lines o frames xs ys a.1 b.1 in
       λ i. head i ∷ tail i
-  all_seen o _ _ ys a b = absurd a
+  all_seen lines o _ _ ys a b = absurd a
 
-  one_told : (o : Operations) (frames : List Frame) (status other_status : Status) (text other_text : List ℕ) → TellsFrames o frames status text → TellsFrames o frames other_status other_text
+  one_told : (lines : Bool) (o : Operations) (frames : List Frame) (status other_status : Status) (text other_text : List ℕ) → TellsFrames lines o frames status text → TellsFrames lines o frames other_status other_text
       → (status ≡ other_status) × (text ≡ other_text)
-  one_told o frames status other_status text other_text a b =
-      let told = alike_told a.rows b.rows (all_seen o frames a.rows b.rows a.answered b.answered) in
+  one_told lines o frames status other_status text other_text a b =
+      let told = alike_told a.rows b.rows (all_seen lines o frames a.rows b.rows a.answered b.answered) in
       (a.status_is ∙ told.0 ∙ sym b.status_is, a.text_is ∙ told.1 ∙ sym b.text_is)
 
-  pub one_made : {Q R S T U V : Type 0} (input : Reader Q) (first : Reader R) (others : List (Reader S)) (also : Reader T) (other : Reader U) (more : List (Reader V)) (bytes : List ℕ) (o : Operations)
+  pub one_made : {Q R S T U V : Type 0} (lines : Bool) (input : Reader Q) (first : Reader R) (others : List (Reader S)) (also : Reader T) (other : Reader U) (more : List (Reader V)) (bytes : List ℕ) (o : Operations)
       (status other_status : Status) (text other_text : List ℕ) → IsGiven input bytes → IsGiven also bytes → IsGivenJoin first others o → IsGivenJoin other more o
-      → MakesFramed input first others status text → MakesFramed also other more other_status other_text → (status ≡ other_status) × (text ≡ other_text)
-  one_made input first others also other more bytes o status other_status text other_text is also_is first_given other_given makes other_makes =
+      → MakesFramed lines input first others status text → MakesFramed lines also other more other_status other_text → (status ≡ other_status) × (text ≡ other_text)
+  one_made lines input first others also other more bytes o status other_status text other_text is also_is first_given other_given makes other_makes =
       let says = is_given input bytes (λ b. frames_of b ≡ Ok makes.said) is makes.frames_are in
-      one_told o makes.said status other_status text other_text
-      (command_fault_of input first others bytes makes.said o status text is says first_given makes)
-      (command_fault_of also other more bytes makes.said o other_status other_text also_is says other_given other_makes)
+      one_told lines o makes.said status other_status text other_text
+      (command_fault_of lines input first others bytes makes.said o status text is says first_given makes)
+      (command_fault_of lines also other more bytes makes.said o other_status other_text also_is says other_given other_makes)
 
 -- ---- inputs that are accepted
 

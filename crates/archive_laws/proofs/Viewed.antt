@@ -1,12 +1,12 @@
 -- What is told of addresses depends on the content alone: an answer's lines, and whether it is one symbol, do not depend on
 -- where its names lie.
-use Rattle.std.proofs.Common.{◌≡◌, ℕ, Bool, true, false, ◌&&◌, if◌then◌else◌, List, [], ◌∷◌, ◌++◌, map, length, codes, Option, Some, None, refl, sym, ap, ◌∙◌, subst}
+use Rattle.std.proofs.Common.{◌≡◌, ℕ, Bool, true, false, ◌&&◌, if◌then◌else◌, List, [], ◌∷◌, ◌++◌, map, length, codes, Option, Some, None, MatchOption, refl, sym, ap, ◌∙◌, subst}
 use Rattle.std.proofs.lemmas.List.{length-map}
-use Rattle.std.specs.List.{AllByRecursion, flat_map, list_all}
+use Rattle.std.specs.List.{AllByRecursion, AllZip, flat_map, list_all}
 use Rattle.std.specs.Fmt.{decimal}
 use Rattle.macho_symbols.specs.Found.{FoundRecord}
 use Rattle.archive_core.specs.Content.{Operations}
-use Rattle.archive_core.specs.Lookup.{OwnRow, AnswerRecord, Unanswered, Alone, Disputed, IsAnswer, own_view, own_row, answer_view}
+use Rattle.archive_core.specs.Lookup.{OwnRow, AnswerRecord, Unanswered, Alone, Disputed, IsAnswer, file_address, own_view, own_row, answer_view}
 use Rattle.archive_core.specs.declared.keys.Digest.{Digest}
 use Rattle.archive_core.specs.declared.keys.SliceKey.{SliceKey}
 use Rattle.archive_core.specs.declared.lookup.Own.{Own}
@@ -15,10 +15,16 @@ use Rattle.archive_core.specs.declared.lookup.Answer.{Answer}
 use Rattle.archive_core.specs.declared.lookup.Answer.TheVariants.{Unknown, Conflict}
 use Rattle.archive_core.specs.declared.lookup.Where.{Where}
 use Rattle.archive_words.specs.Words.{address_text, digest_text}
-use Rattle.report_text.specs.Answers.{escaped, found_text, own_text, own_line, answer_lines}
+use Rattle.report_text.specs.Answers.{found_text, own_text, own_line, owns_lines, answer_lines}
+use Rattle.report_text.specs.Escapes.{escaped}
+use Rattle.report_text.specs.Frames.{frame_lines}
 use Rattle.report_text.specs.Report.{line}
 use Rattle.command_ends.specs.declared.faults.Status.{Status}
 use Rattle.command_ends.specs.declared.faults.Status.TheVariants.{Done, Partial}
+use Rattle.source_frames.specs.AddressFrames.{AreFramesOf}
+use Rattle.source_frames.specs.Frames.{FrameRecord}
+use Rattle.archive_queries.proofs.Sourced.{answer_of, one_answering}
+use Rattle.archive_queries.specs.Sources.{AreFramesAt, AreShown, IsSourced}
 use Rattle.archive_queries.specs.Symbolicate.{asked_of, is_symbol, Answered, IsAnswered, answers_status, answers_text, TellsAddresses}
 
 abbrev seen_found : FoundRecord → List ℕ
@@ -33,11 +39,16 @@ seen_own (Some found) = seen_found found
 abbrev seen_row : OwnRow → List ℕ
 seen_row row = line (codes "  " ++ digest_text (record { 0 = row.digest }) ++ codes " " ++ seen_own row.own)
 
-abbrev seen_lines : ℕ → AnswerRecord → List ℕ
-seen_lines address Unanswered = line (address_text address ++ codes " ?")
-seen_lines address (Alone None) = line (address_text address ++ codes " -")
-seen_lines address (Alone (Some found)) = line (address_text address ++ codes " " ++ seen_found found)
-seen_lines address (Disputed rows) = line (address_text address ++ codes " !" ++ decimal (length rows)) ++ flat_map seen_row rows
+abbrev seen_rows : List OwnRow → List (List FrameRecord) → List ℕ
+seen_rows [] frames = []
+seen_rows (row ∷ rows) [] = seen_row row ++ seen_rows rows []
+seen_rows (row ∷ rows) (its ∷ frames) = seen_row row ++ frame_lines its ++ seen_rows rows frames
+
+abbrev seen_lines : ℕ → AnswerRecord → List (List FrameRecord) → List ℕ
+seen_lines address Unanswered frames = line (address_text address ++ codes " ?") ++ flat_map frame_lines frames
+seen_lines address (Alone None) frames = line (address_text address ++ codes " -") ++ flat_map frame_lines frames
+seen_lines address (Alone (Some found)) frames = line (address_text address ++ codes " " ++ seen_found found) ++ flat_map frame_lines frames
+seen_lines address (Disputed rows) frames = line (address_text address ++ codes " !" ++ decimal (length rows)) ++ seen_rows rows frames
 
 abbrev seen_symbol : AnswerRecord → Bool
 seen_symbol (Alone (Some found)) = true
@@ -52,15 +63,16 @@ row_seen : (row : Digest × Own) → own_line row ≡ seen_row (own_row row)
 unfolding own_line
 row_seen row = ap (λ text. line (codes "  " ++ digest_text row.0 ++ codes " " ++ text)) (own_seen row.1)
 
-rows_seen : (rows : List (Digest × Own)) → flat_map own_line rows ≡ flat_map seen_row (map own_row rows)
-rows_seen [] = refl
-rows_seen (row ∷ rows) = λ i. row_seen row i ++ rows_seen rows i
+rows_seen : (rows : List (Digest × Own)) (frames : List (List FrameRecord)) → owns_lines rows frames ≡ seen_rows (map own_row rows) frames
+rows_seen [] frames = refl
+rows_seen (row ∷ rows) [] = λ i. row_seen row i ++ rows_seen rows [] i
+rows_seen (row ∷ rows) (its ∷ frames) = λ i. row_seen row i ++ frame_lines its ++ rows_seen rows frames i
 
-lines_seen : (address : ℕ) (answer : Answer) → answer_lines address answer ≡ seen_lines address (answer_view answer)
+lines_seen : (address : ℕ) (answer : Answer) (frames : List (List FrameRecord)) → answer_lines address answer frames ≡ seen_lines address (answer_view answer) frames
 unfolding answer_lines found_text
-lines_seen address (Conflict rows) =
-    λ i. line (address_text address ++ codes " !" ++ decimal (sym (length-map rows.items own_row) i)) ++ rows_seen rows.items i
-lines_seen address answer = refl
+lines_seen address (Conflict rows) frames =
+    λ i. line (address_text address ++ codes " !" ++ decimal (sym (length-map rows.items own_row) i)) ++ rows_seen rows.items frames i
+lines_seen address answer frames = refl
 
 symbol_seen : (answer : Answer) → is_symbol answer ≡ seen_symbol (answer_view answer)
 symbol_seen Unknown = refl
@@ -69,13 +81,14 @@ symbol_seen answer = refl
 pub record ModelEvent : Type 0 where
   pub address : ℕ
   pub answer : AnswerRecord
+  pub frames : List (List FrameRecord)
 
 abbrev pub seen : Answered → ModelEvent
-seen row = record { address = row.address; answer = answer_view row.answer }
+seen row = record { address = row.address; answer = answer_view row.answer; frames = row.frames }
 
-text_seen : (rows : List Answered) → answers_text rows ≡ flat_map (λ (s : ModelEvent). seen_lines s.address s.answer) (map seen rows)
+text_seen : (rows : List Answered) → answers_text rows ≡ flat_map (λ (s : ModelEvent). seen_lines s.address s.answer s.frames) (map seen rows)
 text_seen [] = refl
-text_seen (row ∷ rows) = λ i. lines_seen row.address row.answer i ++ text_seen rows i
+text_seen (row ∷ rows) = λ i. lines_seen row.address row.answer row.frames i ++ text_seen rows i
 
 symbols_seen : (rows : List Answered) → list_all (λ row. is_symbol row.answer) rows ≡ list_all (λ (s : ModelEvent). seen_symbol s.answer) (map seen rows)
 symbols_seen [] = refl
@@ -85,32 +98,89 @@ symbols_seen (row ∷ rows) = λ i. symbol_seen row.answer i && symbols_seen row
 pub alike_told : (rows others : List Answered) → map seen rows ≡ map seen others → (answers_status rows ≡ answers_status others) × (answers_text rows ≡ answers_text others)
 alike_told rows others same =
     let symbols = symbols_seen rows ∙ ap (list_all (λ (s : ModelEvent). seen_symbol s.answer)) same ∙ sym (symbols_seen others) in
-    let lines = text_seen rows ∙ ap (flat_map (λ (s : ModelEvent). seen_lines s.address s.answer)) same ∙ sym (text_seen others) in
+    let lines = text_seen rows ∙ ap (flat_map (λ (s : ModelEvent). seen_lines s.address s.answer s.frames)) same ∙ sym (text_seen others) in
     (ap (λ (all : Bool). if all then Done else Partial) symbols, lines)
 
-module _ (one : (o : Operations) (key : SliceKey) (place : Where) (answer other : AnswerRecord) → IsAnswer o key place answer → IsAnswer o key place other → answer ≡ other) where
-  pub one_seen : (content : Operations) (key : SliceKey) (load : Option ℕ) (row other : Answered) → row.address ≡ other.address → IsAnswered content key load row → IsAnswered content key load other → seen row ≡ seen other
-  one_seen content key load row other address a b =
-      let moved = subst (λ n. IsAnswer content key (asked_of load n) (answer_view row.answer)) address a in
-      let answer = one content key (asked_of load other.address) (answer_view row.answer) (answer_view other.answer) moved b in
-      λ i. record { address = address i; answer = answer i }
+-- ---- the same answers without their frames
 
-  all_seen : (content : Operations) (key : SliceKey) (load : Option ℕ) (rows others : List Answered)
+abbrev bare : Answered → Answered
+bare row = record { address = row.address; answer = row.answer; frames = [] }
+
+bare_addresses : (rows : List Answered) → map (λ (row : Answered). row.address) (map bare rows) ≡ map (λ (row : Answered). row.address) rows
+bare_addresses [] = refl
+bare_addresses (row ∷ rows) = ap (λ (as : List ℕ). row.address ∷ as) (bare_addresses rows)
+
+bare_answered : (content : Operations) (key : SliceKey) (load : Option ℕ) (rows : List Answered) → AllByRecursion (IsAnswered content key load true) rows → AllByRecursion (IsAnswered content key load false) (map bare rows)
+bare_answered content key load [] are = tt
+bare_answered content key load (row ∷ rows) are = (
+  record { slices = are.0.slices; answering = are.0.answering; answer_is = are.0.answer_is; shown = refl },
+  bare_answered content key load rows are.1,
+)
+
+bare_symbols : (rows : List Answered) → list_all (λ (row : Answered). is_symbol row.answer) rows ≡ list_all (λ (row : Answered). is_symbol row.answer) (map bare rows)
+bare_symbols [] = refl
+bare_symbols (row ∷ rows) = ap (λ (all : Bool). is_symbol row.answer && all) (bare_symbols rows)
+
+bare_text : (rows : List Answered) → flat_map (λ (row : Answered). answer_lines row.address row.answer []) rows ≡ answers_text (map bare rows)
+bare_text [] = refl
+bare_text (row ∷ rows) = ap (λ (t : List ℕ). answer_lines row.address row.answer [] ++ t) (bare_text rows)
+
+pub without_lines : (content : Operations) (key : SliceKey) (load : Option ℕ) (addresses : List ℕ) (status : Status) (text : List ℕ) → (told : TellsAddresses content key load true addresses status text)
+    → TellsAddresses content key load false addresses status (flat_map (λ (row : Answered). answer_lines row.address row.answer []) told.rows)
+without_lines content key load addresses status text told = record {
+  rows = map bare told.rows;
+  addresses_are = bare_addresses told.rows ∙ told.addresses_are;
+  answered = bare_answered content key load told.rows told.answered;
+  status_is = told.status_is ∙ ap (λ (all : Bool). if all then Done else Partial) (bare_symbols told.rows);
+  text_is = bare_text told.rows;
+}
+
+-- ---- one telling
+
+module _ (one : (o : Operations) (key : SliceKey) (place : Where) (answer other : AnswerRecord) → IsAnswer o key place answer → IsAnswer o key place other → answer ≡ other)
+    (single : (image : List ℕ) (address : ℕ) (frames other : List FrameRecord) → AreFramesOf image address frames → AreFramesOf image address other → frames ≡ other) where
+  -- a slice has one list of frames of a place
+  one_place : (slice : List ℕ) (at : Option ℕ) (frames other : List FrameRecord)
+      → MatchOption at (frames ≡ []) (λ address. AreFramesOf slice address frames) → MatchOption at (other ≡ []) (λ address. AreFramesOf slice address other) → frames ≡ other
+  one_place slice None frames other a b = a ∙ sym b
+  one_place slice (Some address) frames other a b = single slice address frames other a b
+
+  one_each : (place : Where) (slices : List (List ℕ)) (frames others : List (List FrameRecord)) → AllZip (AreFramesAt place) slices frames → AllZip (AreFramesAt place) slices others → frames ≡ others
+  one_each place [] [] [] a b = refl
+  one_each place [] [] (y ∷ ys) a b = absurd b
+  one_each place (s ∷ slices) (x ∷ xs) [] a b = absurd b
+  one_each place (s ∷ slices) (x ∷ xs) (y ∷ ys) a b = λ i. one_place s (file_address s place) x y a.0 b.0 i ∷ one_each place slices xs ys a.1 b.1 i
+  one_each place _ _ others a b = absurd a
+
+  one_shown : (lines : Bool) (place : Where) (slices : List (List ℕ)) (frames others : List (List FrameRecord)) → AreShown lines place slices frames → AreShown lines place slices others → frames ≡ others
+  one_shown true place slices frames others a b = one_each place slices frames others a b
+  one_shown false place slices frames others a b = a ∙ sym b
+
+  pub one_seen : (content : Operations) (key : SliceKey) (load : Option ℕ) (lines : Bool) (row other : Answered) → row.address ≡ other.address → IsAnswered content key load lines row → IsAnswered content key load lines other → seen row ≡ seen other
+  one_seen content key load lines row other address a b =
+      let place : Where = asked_of load other.address in
+      let moved : IsSourced content key lines place (answer_view row.answer) row.frames = subst (λ n. IsSourced content key lines (asked_of load n) (answer_view row.answer) row.frames) address a in
+      let answer = one content key place (answer_view row.answer) (answer_view other.answer) (answer_of content key lines place (answer_view row.answer) row.frames moved) (answer_of content key lines place (answer_view other.answer) other.frames b) in
+      let same = one_answering content key moved.slices b.slices moved.answering b.answering in
+      let frames = one_shown lines place b.slices row.frames other.frames (subst (λ (ss : List (List ℕ)). AreShown lines place ss row.frames) same moved.shown) b.shown in
+      λ i. record { address = address i; answer = answer i; frames = frames i }
+
+  all_seen : (content : Operations) (key : SliceKey) (load : Option ℕ) (lines : Bool) (rows others : List Answered)
       → map (λ row. row.address) rows ≡ map (λ row. row.address) others
-      → AllByRecursion (IsAnswered content key load) rows → AllByRecursion (IsAnswered content key load) others → map seen rows ≡ map seen others
-  all_seen content key load [] [] e a b = refl
-  all_seen content key load [] (y ∷ ys) e a b = cc
-  all_seen content key load (x ∷ xs) [] e a b = cc
-  all_seen content key load (x ∷ xs) (y ∷ ys) e a b =
+      → AllByRecursion (IsAnswered content key load lines) rows → AllByRecursion (IsAnswered content key load lines) others → map seen rows ≡ map seen others
+  all_seen content key load lines [] [] e a b = refl
+  all_seen content key load lines [] (y ∷ ys) e a b = cc
+  all_seen content key load lines (x ∷ xs) [] e a b = cc
+  all_seen content key load lines (x ∷ xs) (y ∷ ys) e a b =
       let address : x.address ≡ y.address = cc in
       let rest : map (λ (row : Answered). row.address) xs ≡ map (λ (row : Answered). row.address) ys = cc in
-      let head = one_seen content key load x y address a.0 b.0 in
-      let tail = all_seen content key load xs ys rest a.1 b.1 in
+      let head = one_seen content key load lines x y address a.0 b.0 in
+      let tail = all_seen content key load lines xs ys rest a.1 b.1 in
       λ i. head i ∷ tail i
 
-  pub one_told : (content : Operations) (key : SliceKey) (load : Option ℕ) (addresses : List ℕ) (status other_status : Status) (text other_text : List ℕ)
-      → TellsAddresses content key load addresses status text → TellsAddresses content key load addresses other_status other_text → (status ≡ other_status) × (text ≡ other_text)
-  one_told content key load addresses status other_status text other_text a b =
-      let same = all_seen content key load a.rows b.rows (a.addresses_are ∙ sym b.addresses_are) a.answered b.answered in
+  pub one_told : (content : Operations) (key : SliceKey) (load : Option ℕ) (lines : Bool) (addresses : List ℕ) (status other_status : Status) (text other_text : List ℕ)
+      → TellsAddresses content key load lines addresses status text → TellsAddresses content key load lines addresses other_status other_text → (status ≡ other_status) × (text ≡ other_text)
+  one_told content key load lines addresses status other_status text other_text a b =
+      let same = all_seen content key load lines a.rows b.rows (a.addresses_are ∙ sym b.addresses_are) a.answered b.answered in
       let told = alike_told a.rows b.rows same in
       (a.status_is ∙ told.0 ∙ sym b.status_is, a.text_is ∙ told.1 ∙ sym b.text_is)

@@ -1,5 +1,5 @@
 -- What is told of frames that are asked in the order of their keys.
-use Rattle.std.proofs.Common.{◌≡◌, ℕ, suc, false, ◌+◌, ◌-◌, ◌<◌, ◌≤◌, Bool, ◌&&◌, if◌then◌else◌, List, [], ◌∷◌, ◌++◌, length, map, take, drop, set, get_or, Some, Result, Ok, Err, is_ok, true, refl, sym, ap, ◌∙◌, arith, inl, inr, ◌⊎◌, length-append}
+use Rattle.std.proofs.Common.{◌≡◌, ℕ, zero, suc, subst, false, ◌+◌, ◌-◌, ◌<◌, ◌≤◌, Bool, ◌&&◌, if◌then◌else◌, List, [], ◌∷◌, ◌++◌, length, map, take, drop, set, get_or, Some, Result, Ok, Err, is_ok, true, refl, sym, ap, ◌∙◌, arith, inl, inr, ◌⊎◌, length-append}
 use Rattle.std.specs.Prelude.{slice_get, slice_range}
 use Rattle.std.specs.List.{AllByRecursion, AllZip, Contains, HoldsAt, flat_map, list_all, list_any, prefix_len}
 use Rattle.std.specs.Str.{bytes_eq}
@@ -11,10 +11,11 @@ use Rattle.std.specs.Cmp.{IsTotalOrder, tied_itself}
 use Rattle.std.specs.Cmp.Lexicographic.{slice_cmp, nat_list_cmp_total}
 use Rattle.std.proofs.lemmas.Cmp.{nat_cmp_total, on_total, then_total}
 use Rattle.std.proofs.lemmas.Bool.{cases_eq, cases_lt, false_from_ne_true}
+use Rattle.std.proofs.Math.Seq.{drop-nil}
 use Rattle.std.proofs.lemmas.List.Sums.{prefix_len_passes}
 use Rattle.std.proofs.lemmas.List.Folds.{Any-from_list_any, list_any-from_Any, list_any_at}
 use Rattle.std.proofs.lemmas.Slice.Eq.{bytes_eq-Decides}
-use Rattle.std.proofs.lemmas.List.{get_or-map, get_or-set_same, get_or-set_other, length-map, length-set, nil_from_length, take_all, drop_at, take-append-le, drop-append-le, length-drop}
+use Rattle.std.proofs.lemmas.List.{drop_more, get_or-take, length-take, get_or-map, get_or-set_same, get_or-set_other, length-map, length-set, nil_from_length, take_all, drop_at, take-append-le, drop-append-le, length-drop}
 use Rattle.std.proofs.lemmas.List.Sorted.{Contains-permutation, IsPermutation-sym, searchable_from_sorted}
 use Rattle.std.proofs.lemmas.Option.{get_or_from_slice_get, same_Some, slice_get-get_or, slice_get_within}
 use Rattle.archive_core.specs.Content.{Operations}
@@ -26,7 +27,8 @@ use Rattle.archive_core.specs.declared.lookup.Answer.{Answer}
 use Rattle.archive_core.specs.Part.{is_under}
 use Rattle.archive_core.proofs.Made.{bytes_same}
 use Rattle.archive_core.proofs.Members.{in_cons, in_front, in_map, in_rest}
-use Rattle.archive_reading.specs.Keys.{AreInOrder, first_key}
+use Rattle.std.specs.Option.{ForSome}
+use Rattle.archive_reading.specs.Keys.{AnswersAs, AreInOrder, first_key}
 use Rattle.crash_frames.specs.declared.frame.Frame.{Frame}
 use Rattle.report_text.specs.Answers.{answer_lines}
 use Rattle.report_text.proofs.Grouped.{key_is_same, same_key}
@@ -240,6 +242,60 @@ first_of_run first asked left is = rw (is, key_is_same first.frame.key) (omega a
 pub run_key : (key : SliceKey) (asked : List AskedFrame) (i : ℕ) (d : AskedFrame) → i < prefix_len (of_key key) asked → (get_or asked i d).frame.key ≡ key
 run_key key asked i d lt = same_key (get_or asked i d).frame.key key (prefix_len_passes (of_key key) asked i d lt)
 
+pub in_run : (key : SliceKey) (left run : List AskedFrame) (n i : ℕ) (one : AskedFrame) → n ≡ prefix_len (of_key key) left → run ≡ take n left → i < length run → one ≡ get_or run i one
+    → (one.frame.key ≡ key) × Contains run one × (one ≡ get_or left i one) × (i < length left)
+in_run key left run n i one long front lt at =
+    let within : length run ≡ length (take n left) = ap length front in
+    let few : i < n = omega (arith, within, length-take n left) in
+    let also : i < length left = omega (arith, within, length-take n left) in
+    let there : one ≡ get_or left i one = at ∙ ap (λ (l : List AskedFrame). get_or l i one) front ∙ get_or-take n left i one few in
+    (
+      ap (λ (a : AskedFrame). a.frame.key) there ∙ run_key key left i one (omega (arith, long)),
+      (i, lt, sym at),
+      there,
+      also,
+    )
+
+pub first_is : (one : AskedFrame) (left : List AskedFrame) → Some one ≡ slice_get left 0 → first_key (map key_of_asked left) ≡ Some one.frame.key
+first_is one [] is = cc
+first_is one (next ∷ left) is = let same : next ≡ one = cc in ap (λ (a : AskedFrame). Some a.frame.key) same
+
+pub run_long : (one : AskedFrame) (left : List AskedFrame) (n : ℕ) → Some one ≡ slice_get left 0 → n ≡ prefix_len (of_key one.frame.key) left → 0 < n
+run_long one [] n is long = cc
+run_long one (next ∷ left) n is long =
+    let same : next ≡ one = cc in
+    let first = first_of_run one (next ∷ left) left (ap (λ (a : AskedFrame). a ∷ left) same) in
+    omega (arith, long, first)
+
+-- one more of them is told
+pub run_told : (content o : Operations) (wanted now : Bool) (all left : List AskedFrame) (i count : ℕ) (one : AskedFrame) (key : SliceKey) (told after : List ToldFrame) (text grown : List ℕ)
+    → now ≡ wanted → i < length left → one ≡ get_or left i one → one.frame.key ≡ key → first_key (map key_of_asked left) ≡ Some key
+    → ((o : Operations) (all left : List AskedFrame) (count : ℕ) → AnswersAs one.frame.key content o → AreTold now o all (one ∷ left) count told text → AreTold now o all left count after grown)
+    → ForSome (first_key (map key_of_asked left)) (λ k. AnswersAs k content o)
+    → AreTold wanted o all (drop i left) count told text
+    → AreTold wanted o all (drop (i + 1) left) count after grown
+run_told content o wanted now all left i count one key told after text grown same lt at of first step answers before =
+    let rest : List AskedFrame = drop (i + 1) left in
+    let moved : AreTold now o all (one ∷ rest) count told text =
+    subst (λ (w : Bool). AreTold w o all (one ∷ rest) count told text) (sym same)
+    (subst (λ (l : List AskedFrame). AreTold wanted o all l count told text) (drop_more left i one lt ∙ ap (λ (a : AskedFrame). a ∷ rest) (sym at)) before) in
+    subst (λ (w : Bool). AreTold w o all rest count after grown) same
+    (step o all rest count (subst (λ (k : SliceKey). AnswersAs k content o) (sym of) (answers key first)) moved)
+
+-- the next question is passed, of which the frame was told
+pub one_less : (ahead : ℕ) (before now left : List AskedFrame) (one : AskedFrame) → now ≡ before → now ≡ one ∷ left → (now ≡ []) ⊎ (0 < ahead) → drop ahead before ≡ drop (ahead - 1) left
+one_less zero before now left one same is (inl none) = cc
+one_less zero before now left one same is (inr some) = absurd (omega (arith, some))
+one_less (suc n) before now left one same is some =
+    let less : suc n - 1 ≡ n = omega arith in
+    ap (drop (suc n)) (sym same ∙ is) ∙ ap (λ (m : ℕ). drop m left) (sym less)
+
+-- none was told yet
+pub begun : (wanted : Bool) (content : Operations) (frames : List Frame) (asked : List AskedFrame) (ahead : ℕ) (told : List ToldFrame) (text : List ℕ) → AreLines frames asked → length asked ≡ length frames → length told ≡ length asked → ahead ≡ 0
+    → AreTold wanted content asked (drop ahead asked) (length told) told text
+begun wanted content frames asked ahead told text lines long many none =
+    subst (λ (n : ℕ). AreTold wanted content asked (drop n asked) (length told) told text) (sym none) (none_told wanted content frames asked told text lines long many)
+
 -- ---- what was told of all, in the order of their lines
 
 -- what was told of each
@@ -265,11 +321,11 @@ pub all_told : (wanted : Bool) (content : Operations) (frames : List Frame) (ask
 all_told wanted content frames asked count told text lines many are = along wanted content text frames told (are.long ∙ many) (told_each wanted content frames asked count told text lines are)
 
 -- where no frame is left
-pub told_to_the_end : (wanted : Bool) (content : Operations) (frames : List Frame) (asked left : List AskedFrame) (count : ℕ) (told : List ToldFrame) (text : List ℕ) → AreLines frames asked → count ≡ length frames → map key_of_asked left ≡ []
-    → AreTold wanted content asked left count told text → AllZip (IsFrameTold wanted content text) frames told
-told_to_the_end wanted content frames asked left count told text lines many none are =
-    let nothing = nil_from_length left (omega (arith, length-map left key_of_asked, ap length none)) in
-    all_told wanted content frames asked count told text lines many (rw nothing at are)
+pub told_to_the_end : (wanted : Bool) (content : Operations) (frames : List Frame) (asked left : List AskedFrame) (ahead count : ℕ) (told : List ToldFrame) (text : List ℕ) → AreLines frames asked → count ≡ length frames → map key_of_asked left ≡ []
+    → AreTold wanted content asked (drop ahead left) count told text → AllZip (IsFrameTold wanted content text) frames told
+told_to_the_end wanted content frames asked left ahead count told text lines many none are =
+    let nothing : left ≡ [] = nil_from_length left (omega (arith, length-map left key_of_asked, ap length none)) in
+    all_told wanted content frames asked count told text lines many (subst (λ (l : List AskedFrame). AreTold wanted content asked l count told text) (ap (drop ahead) nothing ∙ drop-nil ahead) are)
 
 -- so each piece of the text is there
 pub pieces : (wanted : Bool) (content : Operations) (text : List ℕ) (frames : List Frame) (told : List ToldFrame) → AllZip (IsFrameTold wanted content text) frames told → AllByRecursion (λ (it : ToldFrame). (it.from ≤ it.to) × (it.to ≤ length text)) told

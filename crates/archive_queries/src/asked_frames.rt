@@ -284,13 +284,14 @@ impl<'f> FrameQuestions<'f> {
 }
 
 impl<'f> Questions for FrameQuestions<'f> {
-    ghost use Rattle.std.specs.Prelude.{drop, length, map, string_bytes};
+    ghost use Rattle.std.specs.Prelude.{◌≡◌, drop, length, map, string_bytes};
     ghost use Rattle.archive_queries.specs.InnerFrames.{AreTold};
 
     ghost left = { λ questions. map (λ asked. asked.frame.key) questions.left.now };
 
-    ghost answered = { λ start content now. AreTold start.lines content start.left.now (drop now.ahead now.left.now)
-        (length start.told.items) now.told.items (string_bytes now.text) };
+    ghost answered = { λ start content now. (now.lines ≡ start.lines)
+        × AreTold start.lines content start.left.now (drop now.ahead now.left.now) (length start.told.items)
+        now.told.items (string_bytes now.text) };
 
     fn next_key(&self) -> Option<SliceKey> {
         Some(self.left.first()?.frame.key)

@@ -27,7 +27,8 @@ pub fn answer_frames<A: Archive>(
     let asked = in_key_order(heap.clone()?, frames)?;
     let mut questions = FrameQuestions::of(heap.clone()?, lines, &asked)?;
     answer_all(&mut questions, archive)?;
-    questions.in_line_order(heap)
+    let text = questions.in_line_order(heap)?;
+    Ok(text)
 }
 
 /// Reads the archives, and gives the lines of the answers of their join to the frames, in the order of these, with how

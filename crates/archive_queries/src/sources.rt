@@ -49,7 +49,7 @@ impl<'s> SlicedFrames<'s> {
     }
 
     /// The frames of a place, where it stands for an address that has some.
-    fn at(&self, place: Where) -> Option<&[Frame<'s>]>
+    fn at(&self, place: Where) -> Option<&[Frame<'_>]>
         ensures { option_map_or (λ frames. list_view frames.now) result [] ≡ frames_in place self.now }
     {
         let address = file_address(self.slice, place)?;
@@ -86,12 +86,15 @@ impl<'s> Sources<'s> {
     }
 
     /// The frames of a place in each of the slices.
-    pub(crate) fn at(&self, heap: Heap, place: Where) -> Result<Vec<&[Frame<'s>], Heap>, NoMemory>
+    pub(crate) fn at(&self, heap: Heap, place: Where) -> Result<Vec<&[Frame<'_>], Heap>, NoMemory>
         ensures { IfOk result (λ lists. lists_view lists.items ≡ map (frames_in place) self.now.found.items) }
     {
         let mut lists = Vec::new(heap);
         'slices: for it in &self.found {
-            lists.push(it.at(place).unwrap_or(&[]))?;
+            match it.at(place) {
+                Some(frames) => lists.push(frames)?,
+                None => lists.push(&[])?,
+            }
         }
         Ok(lists)
     }

@@ -9,7 +9,8 @@ use Rattle.archive_core.specs.Content.{Operations}
 use Rattle.archive_core.specs.Lookup.{file_address, IsOwn, OwnRow, IsOwnRow, AnswerRecord, Unanswered, Alone, Disputed, IsAnswerOf, IsAnswer}
 use Rattle.archive_core.specs.declared.keys.SliceKey.{SliceKey}
 use Rattle.archive_core.specs.declared.lookup.Where.{Where}
-use Rattle.archive_laws.proofs.Answerers.{some_answering, one_answering}
+use Rattle.archive_laws.proofs.Answerers.{some_answering}
+use Rattle.archive_queries.proofs.Sourced.{one_answering}
 use Rattle.archive_laws.proofs.content_laws.one_answer.Goals as goal
 
 module _ (one : (image : List ℕ) (address : ℕ) (found other : Option Tuple) → IsNearest image address found → IsNearest image address other → found ≡ other) where

@@ -7,6 +7,6 @@ use Rattle.archive_queries.proofs.sources.Sources.of.Given as goal
 
 abbrev pub invariant-slices : goal.invariant-slices
 invariant-slices g l = record {
-  slices : slices_of l.found.items ≡ map (λ slice. slice.now) (take l.slice-index l.slices.items);
+  slices : slices_of l.found.items ≡ map (λ slice. slice.now) (take l.slice-index l.slice-items);
   frames : (place : Where) → Contains l.places place → AllZip (AreFramesAt place) (slices_of l.found.items) (map (frames_in place) l.found.items);
 }
