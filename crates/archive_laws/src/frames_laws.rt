@@ -19,18 +19,19 @@ use source_frames::laws::one_list_of_frames;
 /// The lines of a frame are those of `symbolicate` for it: `frames` ends so and writes this text if and only if these
 /// are the status and the text of `symbolicate` over the same archives, asked once for each frame of FRAMES.
 pub fn each_is_symbolicated<R: Source, S: Source, T: Source>()
-    ensures { (lines : Bool) (input : Reader R) (archive : Reader S) (others : List (Reader T)) (bytes : List ℕ) (said : List Frame)
-        (o : Operations) (status : Status) (text : List ℕ)
+    ensures { (lines : Bool) (input : Reader R) (archive : Reader S) (others : List (Reader T)) (bytes : List ℕ)
+        (said : List Frame) (o : Operations) (status : Status) (text : List ℕ)
         → IsGiven input bytes
         → frames_of bytes ≡ Ok said
         → IsGivenJoin archive others o
-        → (MakesFramed lines input archive others status text ↔ SymbolicatesEach lines archive others said status text) }
+        → (MakesFramed lines input archive others status text
+        ↔ SymbolicatesEach lines archive others said status text) }
 {}
 
 /// Where FRAMES says frames and the archives are the texts of contents, none is refused but for its device.
 pub fn accepted_inputs_are_not_refused<R: Source, S: Source, T: Source>()
-    ensures { (lines : Bool) (input : Reader R) (archive : Reader S) (others : List (Reader T)) (bytes : List ℕ) (said : List Frame)
-        (o : Operations) (place : Place) (why : Why)
+    ensures { (lines : Bool) (input : Reader R) (archive : Reader S) (others : List (Reader T)) (bytes : List ℕ)
+        (said : List Frame) (o : Operations) (place : Place) (why : Why)
         → IsGiven input bytes
         → frames_of bytes ≡ Ok said
         → IsGivenJoin archive others o
@@ -41,8 +42,8 @@ pub fn accepted_inputs_are_not_refused<R: Source, S: Source, T: Source>()
 /// Two calls whose FRAMES hold the same bytes, and whose archives hold one content together, give the same status and
 /// the same report, however many archives there are.
 pub fn one_report<Q: Source, R: Source, S: Source, T: Source, U: Source, V: Source>()
-    ensures { (lines : Bool) (input : Reader Q) (archive : Reader R) (others : List (Reader S)) (also : Reader T) (other : Reader U)
-        (more : List (Reader V)) (bytes : List ℕ) (o : Operations) (status other_status : Status)
+    ensures { (lines : Bool) (input : Reader Q) (archive : Reader R) (others : List (Reader S)) (also : Reader T)
+        (other : Reader U) (more : List (Reader V)) (bytes : List ℕ) (o : Operations) (status other_status : Status)
         (text other_text : List ℕ)
         → IsGiven input bytes
         → IsGiven also bytes
@@ -59,8 +60,8 @@ pub fn one_report<Q: Source, R: Source, S: Source, T: Source, U: Source, V: Sour
 /// What is told of several archives is what is told of the one archive that `merge` of them writes, with the same
 /// status.
 pub fn asked_together<Q: Source, R: Source, S: Source, T: Source>()
-    ensures { (lines : Bool) (input : Reader Q) (archive : Reader R) (others : List (Reader S)) (file : Reader T) (o : Operations)
-        (made told : List ℕ) (status : Status) (text : List ℕ)
+    ensures { (lines : Bool) (input : Reader Q) (archive : Reader R) (others : List (Reader S)) (file : Reader T)
+        (o : Operations) (made told : List ℕ) (status : Status) (text : List ℕ)
         → IsGivenJoin archive others o
         → (merge archive others).Makes made told
         → IsGiven file made

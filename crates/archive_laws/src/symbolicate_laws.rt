@@ -50,8 +50,8 @@ pub fn accepted_archives_are_not_refused<R: Source, S: Source>()
 /// Two calls whose archives hold one content together give the same status and the same report, however many there are.
 pub fn one_report<R: Source, S: Source, T: Source, U: Source>()
     ensures { (archive : Reader R) (others : List (Reader S)) (also : Reader T) (more : List (Reader U))
-        (o : Operations) (key : SliceKey) (load : Option ℕ) (lines : Bool) (addresses : List ℕ) (status other_status : Status)
-        (text other_text : List ℕ)
+        (o : Operations) (key : SliceKey) (load : Option ℕ) (lines : Bool) (addresses : List ℕ)
+        (status other_status : Status) (text other_text : List ℕ)
         → IsGivenJoin archive others o
         → IsGivenJoin also more o
         → MakesAnswered archive others key load lines addresses status text
@@ -76,8 +76,8 @@ pub fn asked_together<R: Source, S: Source, T: Source>()
 
 /// What is told of one archive is what its content tells.
 pub fn one_archive<R: Source, S: Source>()
-    ensures { (archive : Reader R) (key : SliceKey) (load : Option ℕ) (lines : Bool) (addresses : List ℕ) (status : Status)
-        (text : List ℕ)
+    ensures { (archive : Reader R) (key : SliceKey) (load : Option ℕ) (lines : Bool) (addresses : List ℕ)
+        (status : Status) (text : List ℕ)
         → MakesAnswered {S = S} archive [] key load lines addresses status text
         ↔ HoldsContent archive (λ o. TellsAddresses o key load lines addresses status text) }
 {}

@@ -248,8 +248,7 @@ in_run key left run n i one long front lt at =
     let within : length run ≡ length (take n left) = ap length front in
     let few : i < n = omega (arith, within, length-take n left) in
     let also : i < length left = omega (arith, within, length-take n left) in
-    let there : one ≡ get_or left i one = at ∙ ap (λ (l : List AskedFrame). get_or l i one) front ∙ get_or-take n left i one few in
-    (
+    let there : one ≡ get_or left i one = at ∙ ap (λ (l : List AskedFrame). get_or l i one) front ∙ get_or-take n left i one few in (
       ap (λ (a : AskedFrame). a.frame.key) there ∙ run_key key left i one (omega (arith, long)),
       (i, lt, sym at),
       there,

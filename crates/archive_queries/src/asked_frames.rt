@@ -128,10 +128,7 @@ fn run_len(asked: &[AskedFrame], key: &SliceKey) -> usize
     ensures len { result ≡ prefix_len (λ one. is_key one.frame.key key.now) asked.now }
     ensures within { result ≤ length asked.now }
 {
-    asked
-        .iter()
-        .take_while(|one| one.frame.key == *key)
-        .count()
+    asked.iter().take_while(|one| one.frame.key == *key).count()
 }
 
 /// The places that frames mean.

@@ -14,8 +14,8 @@ use command_ends::{CommandFault, Status, publish_bytes, read_crash};
 use crash_frames::Frame;
 use memory::{Heap, NoMemory};
 
-/// The lines of the answers to frames, in their order, with how a command ends that prints them. The frames are asked in
-/// the order of their keys; if `lines`, the DWARF of each slice is read once for all frames of its key.
+/// The lines of the answers to frames, in their order, with how a command ends that prints them. The frames are asked
+/// in the order of their keys; if `lines`, the DWARF of each slice is read once for all frames of its key.
 pub fn answer_frames<A: Archive>(
     heap: Heap,
     archive: &A,

@@ -86,7 +86,10 @@ fn next_key<Q: Questions>(questions: &Q) -> Option<SliceKey>
 }
 
 /// Answers all questions by an archive that answers under each of their keys.
-pub(crate) fn answer_all<A: Archive, Q: Questions>(questions: &mut Q, archive: &A) -> Result<(), NoMemory>
+pub(crate) fn answer_all<A: Archive, Q: Questions>(
+    questions: &mut Q,
+    archive: &A,
+) -> Result<(), NoMemory>
     ensures left { OnOk result (Q.left questions.new ≡ []) }
     ensures answered { OnOk result ((start : Q) (o : Operations)
         → ((key : SliceKey) → Contains (Q.left questions.old) key → length (key_bytes key) ≡ 24

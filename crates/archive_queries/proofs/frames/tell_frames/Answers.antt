@@ -23,9 +23,11 @@ returns-in_err-clone-3 g c = wanting_first _ _ _ _ _ _ c.from_residual-in_err-cl
 pub answer_archives-requires-clause-start : goal.answer_archives-requires-clause-start
 answer_archives-requires-clause-start g c = λ o.
     let questions = c.in_ok-questions.questions in
-    let left_is = c.in_ok-questions.ensures.left ∙ c.deref.ensures.value in
-    (refl, begun questions.lines o c.args.frames.now questions.left.now questions.ahead questions.told.items _ (rw left_is c.in_ok-asked.ensures.lines)
-        (ap length left_is ∙ c.in_ok-asked.ensures.long) (c.in_ok-questions.ensures.told ∙ sym (ap length c.in_ok-questions.ensures.left)) c.in_ok-questions.ensures.ahead)
+    let left_is = c.in_ok-questions.ensures.left ∙ c.deref.ensures.value in (
+      refl,
+      begun questions.lines o c.args.frames.now questions.left.now questions.ahead questions.told.items _ (rw left_is c.in_ok-asked.ensures.lines)
+          (ap length left_is ∙ c.in_ok-asked.ensures.long) (c.in_ok-questions.ensures.told ∙ sym (ap length c.in_ok-questions.ensures.left)) c.in_ok-questions.ensures.ahead,
+    )
 
 pub answer_archives-requires-clause-picked : goal.answer_archives-requires-clause-picked
 answer_archives-requires-clause-picked g c = λ key there long r under.

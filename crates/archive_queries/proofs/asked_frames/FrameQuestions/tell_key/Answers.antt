@@ -1,4 +1,4 @@
-use Rattle.std.proofs.Common.{◌≡◌, ◌<◌, ◌∙◌, ℕ, List, Bool, drop, length, refl, sym, subst, string_bytes, inr, arith}
+use Rattle.std.proofs.Common.{◌≡◌, ◌∙◌, ℕ, List, Bool, drop, length, sym, subst, string_bytes, inr, arith}
 use Rattle.archive_core.specs.declared.keys.SliceKey.{SliceKey}
 use Rattle.archive_queries.specs.InnerFrames.{AreTold}
 use Rattle.archive_queries.specs.InnerSources.{AreSourcesOf}

@@ -1,4 +1,4 @@
-use Rattle.std.proofs.Common.{◌≡◌, ℕ, Contains, map, take}
+use Rattle.std.proofs.Common.{◌≡◌, Contains, map, take}
 use Rattle.std.specs.List.{AllZip}
 use Rattle.archive_core.specs.declared.lookup.Where.{Where}
 use Rattle.archive_queries.specs.InnerSources.{frames_in, slices_of}
