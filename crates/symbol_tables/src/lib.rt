@@ -6,6 +6,7 @@
 //! Made:
 //!
 //! - `strings`, `candidate`: the string table and its names; an entry that counts, and the order of those;
+//! - `compared`: how names that tie in all that counts more are compared;
 //! - `scan`: the entries of an image that are candidates;
 //! - `turns`: the addresses at which the nearest candidate may change;
 //! - `sweep`: the rows of an image, from its first turn to its last;
@@ -26,6 +27,8 @@
 //! - A sweep over the candidates by value keeps the first one of each section. An address at which candidates begin
 //!   has the first of them; so names are compared once for each candidate, and once more for each begin and end of a
 //!   section. No candidate is looked for among those of other addresses.
+//! - Names are compared piece by piece. Where those of candidates of one value have more bytes than the strings, they
+//!   overlap, and are compared by their order, which costs at most 1,023 bytes and two ranks each time.
 //! - The order of candidates goes on with `n_strx`, so the first one has the least place of its name.
 //! - A table is its front (head, sections, rows) in memory and the strings where they lie: a page is hashed in these
 //!   two parts, and no string is copied.

@@ -43,7 +43,8 @@ fn part(bytes: &[u8], from: usize, len: usize) -> &[u8]
 
 impl<'a> TableText<'a> {
     /// The table of an image whose symbols can be read. It takes 24 bytes for each entry that is a candidate and 45 for
-    /// each row, and no copy of the strings; `NoMemory` where a growth was refused.
+    /// each row, and no copy of the strings; where names that are compared overlap, up to two bytes for each of the
+    /// strings. `NoMemory` where a growth was refused.
     pub fn new(heap: Heap, image: &Image<'a>) -> Result<TableText<'a>, NoMemory>
         requires { HasSymbols image.now }
         ensures { IfOk result (λ text. IsTableText image.now text) }
