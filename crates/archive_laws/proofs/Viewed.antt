@@ -108,7 +108,7 @@ bare row = record { address = row.address; answer = row.answer; frames = [] }
 
 bare_addresses : (rows : List Answered) → map (λ (row : Answered). row.address) (map bare rows) ≡ map (λ (row : Answered). row.address) rows
 bare_addresses [] = refl
-bare_addresses (row ∷ rows) = ap (λ (as : List ℕ). row.address ∷ as) (bare_addresses rows)
+bare_addresses (row ∷ rows) = ap (λ (addresses : List ℕ). row.address ∷ addresses) (bare_addresses rows)
 
 bare_answered : (content : Operations) (key : SliceKey) (load : Option ℕ) (rows : List Answered) → AllByRecursion (IsAnswered content key load true) rows → AllByRecursion (IsAnswered content key load false) (map bare rows)
 bare_answered content key load [] are = tt
