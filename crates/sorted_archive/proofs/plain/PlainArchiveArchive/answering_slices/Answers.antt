@@ -22,7 +22,7 @@ returns-then-is_empty c =
     let under = c.under-admissions.ensures.range ∙ ap (filter (is_under_key Admission key)) c.deref.ensures.value in
     let nothing : c.in_ok-companions.companions.items ≡ [] = nil_from_length c.in_ok-companions.companions.items (sym c.in_ok-companions.companions.ok.0 ∙ eqb-true c.in_ok-companions.companions.len 0 (sym c.is_empty.ensures ∙ c.if-is_empty.true)) in
     let none : held_among key true operations ≡ [] =
-        sym (live_under key true operations) ∙ ap (held_among key true) (sym under) ∙ sym c.in_ok-companions.ensures ∙ ap (map (λ slice. slice.now)) nothing in
+    sym (live_under key true operations) ∙ ap (held_among key true) (sym under) ∙ sym c.in_ok-companions.ensures ∙ ap (map (λ slice. slice.now)) nothing in
     let answering = images_answer o key operations c.self.invariant c.self.view_is c.under-admissions.ensures.key none in
     IfOk-weaker c.live_slices-then-is_empty.result (λ slices. map (λ slice. slice.now) slices.items ≡ held_among key false operations)
     (λ slices. AreAnswering o key (map (λ slice. slice.now) slices.items)) (λ slices is. subst (AreAnswering o key) (sym is) answering)
@@ -36,8 +36,8 @@ returns c =
     let under = c.under-admissions.ensures.range ∙ ap (filter (is_under_key Admission key)) c.deref.ensures.value in
     let held = c.in_ok-companions.ensures ∙ ap (held_among key true) under ∙ live_under key true operations in
     let some : (held_among key true operations ≡ [] → ⊥) = λ none.
-        let zero = nothing_mapped (λ slice. slice.now) c.in_ok-companions.companions.items (held ∙ none) in
-        let there : c.is_empty.result ≡ true = c.is_empty.ensures ∙ eq-eqb c.in_ok-companions.companions.len 0 (c.in_ok-companions.companions.ok.0 ∙ zero) in
-        let not_there = c.if-is_empty.false in
-        cc in
+    let zero = nothing_mapped (λ slice. slice.now) c.in_ok-companions.companions.items (held ∙ none) in
+    let there : c.is_empty.result ≡ true = c.is_empty.ensures ∙ eq-eqb c.in_ok-companions.companions.len 0 (c.in_ok-companions.companions.ok.0 ∙ zero) in
+    let not_there = c.if-is_empty.false in
+    cc in
     subst (AreAnswering o key) (sym held) (companions_answer o key operations c.self.invariant c.self.view_is c.under-admissions.ensures.key some)
