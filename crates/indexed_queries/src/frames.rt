@@ -91,6 +91,8 @@ pub fn run_frames_at<A: Archive + Drop, C: Source, I: Source, P: Placed, R: Sour
         (writer W.held W.failures report.old report.new) result }
 {
     let frames = read_crash(heap.clone()?, crash)?;
-    let (status, text) = tell_frames::<A, I, P, R>(&heap, lines, &frames, indexes, archives, others)?;
+    let (status, text) = tell_frames::<A, I, P, R>(
+        &heap, lines, &frames, indexes, archives, others,
+    )?;
     publish_bytes(status, &text, report)
 }
