@@ -2,7 +2,7 @@
 use Rattle.std.proofs.Common.{◌≡◌, ℕ, Bool, true, ◌&&◌, not, List, [], ◌∷◌, ◌++◌, length, drop, map, filter, refl, sym, ap, ◌∙◌, subst, arith}
 use Rattle.std.specs.Int.{w64, to_be_bytes}
 use Rattle.std.specs.Ordering.{nat_cmp, on}
-use Rattle.std.specs.Cmp.Lexicographic.{slice_cmp, nat_list_cmp_total, on_texts}
+use Rattle.std.specs.Cmp.Lexicographic.{slice_cmp, nat_list_cmp_total}
 use Rattle.std.specs.List.{Contains}
 use Rattle.std.specs.List.Sorted.{IsStrictlySortedBy}
 use Rattle.std.specs.Str.{bytes_eq}
@@ -23,7 +23,7 @@ use Rattle.archive_core.specs.Find.{is_key, AreAnswering}
 use Rattle.archive_core.specs.Order.{not_true}
 use Rattle.archive_core.specs.declared.keys.SliceKey.{SliceKey}
 use Rattle.sorted_archive.proofs.Held.{bytes_same}
-use Rattle.archive_core.proofs.Members.{in_front, in_filter, to_filter, ascending_by, one_with_members}
+use Rattle.archive_core.proofs.Members.{in_front, in_filter, to_filter, ascending_by}
 use Rattle.archive_core.proofs.Members.{in_map, to_map}
 use Rattle.archive_core.proofs.Answering.{both}
 use Rattle.sorted_archive.proofs.Lookups.{one_key, is_key_of}

@@ -27,7 +27,7 @@ use Rattle.command_ends.specs.Indexes.{HasOtherLength, IsRefusedBehindIndex, IsR
 use Rattle.command_ends.specs.Inputs.{Reader, IsDeviceFault, IsGiven, IsUnread, reader}
 use Rattle.command_ends.specs.declared.faults.Place.{Place}
 use Rattle.command_ends.specs.declared.faults.Why.{Why}
-use Rattle.command_ends.specs.declared.faults.Why.TheVariants.{CannotOpen as NotOpened, Device, Record, Take, Script, BadFrame, OldArchive, TooLong, Index as IndexFaulty, NoArchive, Stale}
+use Rattle.command_ends.specs.declared.faults.Why.TheVariants.{Index as IndexFaulty}
 use Rattle.indexed_queries.specs.Fronts.{IsStaleFor, IsStaleUnder}
 use Rattle.indexed_queries.proofs.ByIndex.{entries_are, index_entries, of_given}
 

@@ -1,5 +1,5 @@
 -- What an entry tells, as a row and as the entry of a summary; and entries that are gone through one after another.
-use Rattle.std.proofs.Common.{◌≡◌, ℕ, ◌+◌, ◌-◌, ◌<◌, ◌^◌, Bool, true, false, cond, ◌||◌, List, [], ◌∷◌, ◌++◌, length, map, take, drop, get_or, ◌⊎◌, refl, sym, ap, ◌∙◌, subst, inl, inr, arith, length-append, length-take, append_assoc, eqb}
+use Rattle.std.proofs.Common.{◌≡◌, ℕ, ◌+◌, ◌-◌, ◌<◌, ◌^◌, Bool, true, false, cond, ◌||◌, List, [], ◌∷◌, ◌++◌, length, map, take, drop, get_or, ◌⊎◌, refl, sym, ap, ◌∙◌, subst, arith, length-append, length-take, append_assoc, eqb}
 use Rattle.std.specs.Prelude.{filter}
 use Rattle.std.specs.Int.{w64, to_be_bytes}
 use Rattle.std.specs.List.{AllByRecursion, AllZip}
@@ -8,7 +8,6 @@ use Rattle.std.proofs.Math.ListN.{length-map}
 use Rattle.std.proofs.Math.Seq.{take-append_seam, drop-append_seam, get_or-append_right}
 use Rattle.std.proofs.lemmas.List.{map-append, append-nil, get_or-map, take_more}
 use Rattle.std.proofs.lemmas.List.Elements.{filter_more}
-use Rattle.std.proofs.lemmas.Bool.{eqb-true}
 use Rattle.archive_core.specs.Key.{IsKey, key_bytes}
 use Rattle.archive_core.specs.Part.{is_under}
 use Rattle.archive_core.specs.declared.find.FindRow.{FindRow}

@@ -1,5 +1,5 @@
 -- Frames, and the keys that they have.
-use Rattle.std.proofs.Common.{◌≡◌, ℕ, Bool, ◌+◌, ◌<◌, List, [], ◌∷◌, ◌++◌, length, map, take, get_or, Ok, Err, refl, sym, ap, ◌∙◌, subst, inl, inr, arith, if◌then◌else◌}
+use Rattle.std.proofs.Common.{◌≡◌, ℕ, Bool, ◌+◌, ◌<◌, List, [], ◌∷◌, ◌++◌, length, map, take, get_or, Ok, Err, sym, ap, ◌∙◌, arith}
 use Rattle.std.proofs.Math.ListN.{length-map}
 use Rattle.std.proofs.lemmas.List.{get_or-map, take_more}
 use Rattle.archive_core.specs.Content.{HaveSameMembers}
@@ -10,8 +10,6 @@ use Rattle.command_ends.specs.Ends.{EndsReport}
 use Rattle.command_ends.specs.Inputs.{Reader, EachUntouched, Gives, IsRefusal, IsRefusedFrames, Unfailed}
 use Rattle.command_ends.specs.Outputs.{Takes, Writer}
 use Rattle.command_ends.specs.declared.faults.CommandFault.{CommandFault}
-use Rattle.command_ends.specs.declared.faults.CommandFault.TheVariants.{Input, Output, Report, OutOfMemory}
-use Rattle.command_ends.specs.declared.faults.Status.{Status}
 use Rattle.indexed_queries.specs.declared.fronts.Front.{Front}
 use Rattle.indexed_queries.specs.Frames.{AreRefusedAt, MakesFramedAt, RefusesFramesAt, keys_of}
 use Rattle.indexed_queries.specs.Fronts.{front_bytes}

@@ -1,5 +1,5 @@
 -- What is refused, from what reading an index and its archive came to.
-use Rattle.std.proofs.Common.{arith, ◌≡◌, ◌≢◌, ℕ, List, [], Option, Result, Ok, Err, refl, ap, sym, inr}
+use Rattle.std.proofs.Common.{arith, ◌≡◌, ◌≢◌, ℕ, List, [], Option, Result, Ok, Err, inr}
 use Rattle.std.specs.Prelude.{MatchResult}
 use Rattle.archive_core.specs.Summary.{Entries}
 use Rattle.archive_index.specs.Reading.{IsIndexRefused}
