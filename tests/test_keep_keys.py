@@ -53,8 +53,9 @@ class Limits(ThreeSites):
                 make(path)
                 self.refused(self.east, path, reason)
                 path = self.forge(name, data, "west")
-                beside(path).unlink()
-                make(beside(path))
+                signature = beside(path)
+                signature.unlink()
+                make(signature)
                 self.refused(self.east, path, f"its signature {reason}")
 
     def test_no_files_where_nobody_signs(self) -> None:

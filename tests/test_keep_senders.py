@@ -15,7 +15,7 @@ from .support.kills import status_where_killed
 from .support.cases import same
 from .support.made_images import archive, image, slice_words, summary
 from .support.signers import LATER, ThreeSites, answer_name, beside, builds_name, builds_of, evil, fields_of, folder_of
-from .support.signers import mark_name, named, one_of, question_name, signed, text_of
+from .support.signers import mark_name, named, one_of, put_beside, question_name, signed, text_of
 from .support.sites import Site, folded, until_same
 
 DAY = 24 * 60 * 60
@@ -121,7 +121,7 @@ class Month(ThreeSites):
         return Attack(self.north, self.forge(answer_name("west", "north", data), data, key=""), "has no signature")
 
     def forged_retirement(self, day: int) -> Attack:
-        data = archive([], retired=[image(0)])
+        data = archive([evil(day)], retired=[image(0)])
         return Attack(self.west, self.forge(answer_name("east", "west", data), data), self.unknown("east"))
 
     def forged_question(self, day: int) -> Attack:
@@ -152,13 +152,15 @@ class Month(ThreeSites):
     def swapped_receiver(self, day: int) -> Attack:
         path, data, signature = self.real_answer(day)
         path = path.with_name(path.name.replace(".east.", ".north."))
-        self.put_back({path: data, beside(path): signature})
+        path.write_bytes(data)
+        put_beside(path, signature)
         return Attack(self.north, path, "its signature says `receiver east`, and not `receiver north`")
 
     def swapped_sender(self, day: int) -> Attack:
         path, data, signature = self.real_answer(day)
         path = path.with_name(path.name.replace("west.", "north.", 1))
-        self.put_back({path: data, beside(path): signature})
+        path.write_bytes(data)
+        put_beside(path, signature)
         return Attack(self.east, path, "its signature says `sender west`, and not `sender north`")
 
     def cut(self, _: int) -> Attack:
@@ -175,7 +177,8 @@ class Month(ThreeSites):
 
     def huge(self, day: int) -> Attack:
         path, data, signature = self.real_answer(day)
-        self.put_back({path: data, beside(path): signature})
+        path.write_bytes(data)
+        put_beside(path, signature)
         os.truncate(path, 1 << 40)
         return Attack(self.east, path, f"has {1 << 40} bytes, and {len(data)} were signed")
 
@@ -188,8 +191,9 @@ class Month(ThreeSites):
 
     def linked_signature(self, day: int) -> Attack:
         path = self.forge(answer_name("west", "east", archive([evil(day)])), archive([evil(day)]))
-        beside(path).rename(self.folder / "outside.sig")
-        beside(path).symlink_to(self.folder / "outside.sig")
+        signature = beside(path)
+        signature.rename(self.folder / "outside.sig")
+        signature.symlink_to(self.folder / "outside.sig")
         return Attack(self.east, path, "its signature is a link")
 
 
@@ -253,10 +257,24 @@ class Rules(ThreeSites):
         for number, (make, reason) in enumerate(makers):
             for name, data in self.files(number):
                 path = self.forge(name, data, key="")
-                beside(path).write_bytes(make(text_of(fields_of(name, data, self.shared_id))))
+                put_beside(path, make(text_of(fields_of(name, data, self.shared_id))))
                 self.refused(self.east, path, reason)
         for name, data in self.files():
             self.refused(self.east, self.forge(name, data, key=""), "has no signature")
+            path = self.forge(name, data, "west")
+            beside(path).rename(path.with_suffix(f".{'0' * 16}.sig"))
+            self.refused(self.east, path, "its signature has other bytes than its name says")
+
+    def test_one_of_several_signatures(self) -> None:
+        """As after a change of the key."""
+        self.begin(self.east, self.west)
+        for name, data in self.files():
+            path = self.forge(name, data, "west")
+            for key in ("mallory", "north"):
+                put_beside(path, signed(text_of(fields_of(name, data, self.shared_id)), self.keys / key))
+        said, _ = self.east.exchange()
+        same("joined", (said[0], "named 1 west" in said), (f"added {words_of(image(50))} west", True))
+        same("answers", len(self.east.answers(self.west)), 1)
 
     def test_marks(self) -> None:
         """One that another made neither refuses this site, nor takes the place of its own."""

@@ -55,8 +55,16 @@ def text_of(fields: Dict[str, str]) -> bytes:
 
 
 def beside(path: pathlib.Path) -> pathlib.Path:
-    """The signature of a file."""
-    return path.with_suffix(".sig")
+    """The signature of a file, of which it has one; a path where there is none, if it has none."""
+    found = sorted(path.parent.glob(f"{path.stem}.{'[0-9a-f]' * 16}.sig"))
+    return found[-1] if found else path.with_suffix(f".{'0' * 16}.sig")
+
+
+def put_beside(path: pathlib.Path, signature: bytes) -> pathlib.Path:
+    """Puts a signature of a file beside it."""
+    at = path.with_suffix(f".{hashlib.sha256(signature).hexdigest()[:16]}.sig")
+    at.write_bytes(signature)
+    return at
 
 
 class SignersCase(RoomCase):
@@ -91,7 +99,7 @@ class SignersCase(RoomCase):
         path = shared / name
         if key:
             text = text_of({**fields_of(name, data, over), **other})
-            beside(path).write_bytes(signed(text, self.keys / key))
+            put_beside(path, signed(text, self.keys / key))
         path.write_bytes(data)
         return path
 

@@ -80,7 +80,7 @@ from .program import Program
 from .screen import Failed, Screen, about, screen_of, shown, system_text
 from .senders import SIGNERS, Keys, Older, Senders, Unfit
 from .shared_folder import MARK, SHORT, SITE, TIME, Answer, Mark, Question, SharedFolder
-from .shared_folder import digest_of, latest_first, mark_name, question_name, signature_name, time_after
+from .shared_folder import digest_of, latest_first, mark_name, question_name, time_after
 from .telling import Telling
 
 USAGE = """symarch-keep exchange [--quiet] [--take-name] [--most BYTES] ARCHIVE FOLDER NAME
@@ -432,7 +432,7 @@ class Exchange:
         going = {*self.done, *self.telling.own, *self.folder.done, *(one.name for one in own)}
         going.update(one.name for one in self.folder.questions if one.site == site)
         going.update(one.name for one in self.folder.every_mark if one.site == site)
-        signatures = self.folder.own_signatures - set(map(signature_name, self.stays))
+        signatures = self.folder.own_signatures - self.folder.signatures_that_stay(self.stays)
         for name in [*sorted(going - self.stays), *sorted(signatures)]:
             self.folder.remove(name, self.screen)
         self.folder.remove_part()

@@ -176,8 +176,6 @@ class Senders(Remembered):
 
     def check(self, wanted: Statement, signature: bytes) -> None:
         """Raises Unfit unless a signature says that its sender sent a file here."""
-        if len(signature) > MOST_OF_SIGNATURE:
-            raise Unfit(f"its signature has more than {MOST_OF_SIGNATURE} bytes")
         text, begin, rest = signature.partition(ARMOR)
         found = LENGTH.search(text)
         signed = wanted._replace(length=int(found[1])) if found else wanted

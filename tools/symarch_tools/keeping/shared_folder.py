@@ -9,9 +9,11 @@ DIGEST is the SHA-256 of the file's bytes, so a file that is not whole is told b
 of the question, and HAS that of the answer's summary. No file is rewritten, and a new one is renamed into place. Of the
 marks of a name the last one counts, and of names of builds the last file of a site that is whole.
 
-Who signs puts the signature of a file before it, under its name with the ending .sig, which also comes first where
-files are copied in the order of their names. Others may write to the folder: nothing is read but a copy, and no link is
-followed."""
+    SITE.KIND. .. .DIGEST.SUM.sig                 a signature of a file, of which SUM begins the SHA-256
+
+Who signs puts a signature before its file, so that it also comes first where files are copied in the order of their
+names. A file may have several, as when a key is changed, of which one has to be right. Others may write to the folder:
+nothing is read but a copy, and no link is followed."""
 import calendar
 import contextlib
 import hashlib
@@ -21,7 +23,7 @@ import re
 import secrets
 import stat
 import time
-from typing import BinaryIO, Iterable, Iterator, List, NamedTuple, Optional, Set, Tuple, TypeVar, Union
+from typing import BinaryIO, Dict, Iterable, Iterator, List, NamedTuple, Optional, Set, Tuple, TypeVar, Union
 
 from .archive_file import sync_folder, write_to_disk
 from .contents import CHUNK, Moved, unmoved
@@ -36,7 +38,9 @@ ANSWER = re.compile(
 )
 MARK = re.compile(rf"(?P<site>{SITE})\.is\.(?P<time>[0-9]{{8}}T[0-9]{{6}}Z)\.(?P<digest>[0-9a-f]{{64}})\.site")
 BUILDS = re.compile(rf"(?P<site>{SITE})\.builds\.(?P<time>[0-9]{{8}}T[0-9]{{6}}Z)\.(?P<digest>[0-9a-f]{{64}})\.txt")
-SIGNATURE = re.compile(rf"(?P<site>{SITE})\.(?:asks|answers|is|builds)\.[a-zA-Z0-9._-]*\.sig")
+SIGNATURE = re.compile(
+    rf"(?P<of>(?P<site>{SITE})\.(?:asks|answers|is|builds)\.[a-zA-Z0-9._-]*)\.(?P<digest>[0-9a-f]{{16}})\.sig"
+)
 SHORT = 16
 TIME = "%Y%m%dT%H%M%SZ"
 DAY = 24 * 60 * 60
@@ -99,8 +103,12 @@ def builds_name(site: str, at: str, digest: str) -> str:
     return f"{site}.builds.{at}.{digest}.txt"
 
 
-def signature_name(name: str) -> str:
-    return f"{name.rpartition('.')[0]}.sig"
+def without_ending(name: str) -> str:
+    return name.rpartition(".")[0]
+
+
+def signature_name(name: str, signature: bytes) -> str:
+    return f"{without_ending(name)}.{digest_of(signature)[:SHORT]}.sig"
 
 
 def is_time(text: str) -> bool:
@@ -138,8 +146,13 @@ class SharedFolder:
         builds = [BuildsFile(name, **found.groupdict()) for name in names if (found := BUILDS.fullmatch(name))]
         self.builds = [one for one in builds if is_time(one.time)]
         self.answers = [Answer(name, **found.groupdict()) for name in names if (found := ANSWER.fullmatch(name))]
-        signatures = [found for name in names if (found := SIGNATURE.fullmatch(name))]
-        self.own_signatures = {found[0] for found in signatures if found["site"] == site}
+        # The signatures of each file, by its name without the ending; those of this site; and the right one of a file.
+        self.signatures: Dict[str, List[str]] = {}
+        self.own_signatures: Set[str] = set()
+        self.right: Dict[str, str] = {}
+        for found in filter(None, map(SIGNATURE.fullmatch, names)):
+            self.signatures.setdefault(found["of"], []).append(found[0])
+            self.own_signatures.update([found[0]] * (found["site"] == site))
         # How many files are not whole, and how many were named before; which are done with, and which were seen now.
         self.not_whole = self.named_before = 0
         self.done: Set[str] = set()
@@ -169,10 +182,12 @@ class SharedFolder:
         others: List[Tuple[str, str]] = []
         own: List[Tuple[str, str]] = []
         for mark in self.every_mark:
-            with contextlib.suppress(Unfit):
-                senders.folder = folder_in(self.signature(mark.name))
-                self.check(mark)
-                (own if mark.site == self.site else others).append((mark.time, senders.folder))
+            for name in self.signatures_of(mark.name):
+                with contextlib.suppress(Unfit):
+                    signature = self.signature(name)
+                    senders.folder = folder_in(signature)
+                    senders.check(self.statement(mark.name, regular_size(self.at(mark.name))), signature)
+                    (own if mark.site == self.site else others).append((mark.time, senders.folder))
         senders.folder = before
         own = [one for one in own if one[1] == before] if before else own if not others else []
         return min(others + own)[1] if others or own else before or secrets.token_hex(32)
@@ -183,8 +198,22 @@ class SharedFolder:
         """Raises Unfit unless a file is one that its site sent here, as its signature says. Returns its length."""
         size = regular_size(self.at(one.name))
         if self.senders:
-            self.senders.check(self.statement(one.name, size), self.signature(one.name))
+            self.right[one.name] = self.right_signature(one.name, self.statement(one.name, size), self.senders)
         return size
+
+    def right_signature(self, name: str, wanted: Statement, senders: Senders) -> str:
+        """Which of the signatures of a file is right. One that is not there is not waited for: it comes before the
+        file."""
+        unfit = Unfit("has no signature")
+        for signature in self.signatures_of(name):
+            try:
+                senders.check(wanted, self.signature(signature))
+                return signature
+            except Unfit as fault:
+                unfit = unfit if unfit.is_half else fault
+        # Its site may have removed both.
+        regular_size(self.at(name))
+        raise unfit
 
     def fetch(self, one: Sent, path: bytes, moved: Moved = unmoved, most: Optional[int] = None) -> None:
         """Copies a file that its site sent. Raises Unfit if it is another one, is not whole, or is too long."""
@@ -211,16 +240,21 @@ class SharedFolder:
         sender, kind, receiver, digest = words[0], words[1], words[2] if words[1] == "answers" else "*", words[-2]
         return Statement(sender, receiver, kind, self.senders.folder if self.senders else "", name, size, digest)
 
+    def signatures_of(self, name: str) -> List[str]:
+        return self.signatures.get(without_ending(name), [])
+
     def signature(self, name: str) -> bytes:
-        """What stands in the signature of a file. One that is not there is not waited for: it comes before the file."""
+        """The bytes of a signature."""
         try:
-            with regular_file(self.at(signature_name(name))) as file:
-                return file.read(MOST_OF_SIGNATURE + 1)
-        except Gone:
-            regular_size(self.at(name))
-            raise Unfit("has no signature") from None
+            with regular_file(self.at(name)) as file:
+                data = file.read(MOST_OF_SIGNATURE + 1)
         except Unfit as unfit:
             raise Unfit(f"its signature {unfit.reason}") from None
+        if len(data) > MOST_OF_SIGNATURE:
+            raise Unfit(f"its signature has more than {MOST_OF_SIGNATURE} bytes")
+        if signature_name(f"{name[:-SHORT - len('..sig')]}.", data) != name:
+            raise Unfit("its signature has other bytes than its name says")
+        return data
 
     def pass_over(self, one: Sent, unfit: Unfit, screen: Screen, is_done: bool = False) -> None:
         """Says of a file that it does not count. One that is not whole may come to be so, for a day. Where files are
@@ -258,7 +292,9 @@ class SharedFolder:
     def put(self, chunks: Iterable[bytes], name: str, size: int) -> None:
         """Puts a file of this size into the folder under a name, after its signature."""
         if self.senders:
-            self.place([self.senders.signature(self.statement(name, size))], signature_name(name))
+            signature = self.senders.signature(self.statement(name, size))
+            self.right[name] = signature_name(name, signature)
+            self.place([signature], self.right[name])
         self.place(chunks, name)
 
     def place(self, chunks: Iterable[bytes], name: str) -> None:
@@ -282,14 +318,21 @@ class SharedFolder:
             os.unlink(self.at(f".{self.site}.part"))
 
     def remove(self, name: str, screen: Screen) -> None:
-        """Removes a file, and then its signature. What is no file stays, and is named."""
-        for one in (name, signature_name(name)):
+        """Removes a file, and then its signatures. What is no file stays, and is named."""
+        for one in (name, *self.signatures_of(name)):
             try:
                 with contextlib.suppress(FileNotFoundError):
                     os.unlink(self.at(one))
             except OSError as error:
                 if one not in self.unfit:
                     screen.fail(system_text(error, self.at(one)))
+
+    def signatures_that_stay(self, names: Iterable[str]) -> Set[str]:
+        """Of each file that stays the right signature; all of them, if it was not looked at."""
+        stay: Set[str] = set()
+        for name in names:
+            stay.update([self.right[name]] if name in self.right else self.signatures_of(name))
+        return stay
 
 
 def regular_size(path: bytes) -> int:
