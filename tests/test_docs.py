@@ -31,7 +31,7 @@ INNER = {
 }
 # Help and refusals, which have usage lines; and what these have of options.
 HELPS = "crates/acceptance/data/cases/words"
-OPTIONS = re.compile(r"\[OPTIONS\] |--\w+ <\w+> ")
+OPTIONS = re.compile(r"\[OPTIONS\] |--lines |--\w+ <\w+> ")
 # A command of the program in a line of README.
 COMMAND_LINE = re.compile(r"(?<![\w./-])symarch((?: [\w./-]+)+)")
 # How long README is, and what it speaks of only once a crash is named.

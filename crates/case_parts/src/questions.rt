@@ -31,7 +31,7 @@ fn tell_lookups<A: Archive>(heap: &Heap, archive: &A, address: u64, told: &mut S
     for key in keys_of(*told.allocator(), archive)? {
         let answer = archive.lookup(&key, Where::File(address))?;
         let mut text = String::new(heap.clone()?);
-        push_answer(&mut text, address, &answer)?;
+        push_answer(heap, &mut text, address, &answer, &[])?;
         told.push_str(&text)?;
     }
     Ok(())

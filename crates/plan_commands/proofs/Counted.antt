@@ -7,7 +7,8 @@ use Rattle.clap.specs.Words.{Text}
 use Rattle.command_line.specs.Arguments.{Amount, Argument, Count, Flag, Often, Once, Perhaps, Several, Values, are_values_of}
 use Rattle.command_line.specs.Arguments.{form_of, is_counted, is_formed, reads, reads_kind, several, texts}
 use Rattle.command_line.specs.Lines.{Line, inputs_of, inputs_of_kind, texts_by, texts_of}
-use Rattle.command_line.specs.Table.{Signature, arguments_named, frames_command, is_listed, signature_named}
+use Rattle.command_line.specs.Table.{Signature, arguments_named, frames_command, index_paths, is_listed, lines_flag}
+use Rattle.command_line.specs.Table.{signature_named}
 use Rattle.command_line.specs.declared.commands.Form.TheVariants as forms
 use Rattle.command_line.specs.declared.commands.Kind.{Kind}
 use Rattle.command_line.specs.declared.commands.Kind.TheVariants as kinds
@@ -82,10 +83,14 @@ frames_few : (vs : List Values) → are_values_of frames_command.arguments vs �
 frames_few [] are = cc
 frames_few (f ∷ []) are = absurd (true≢false (sym (both _ _ are).1))
 frames_few (f ∷ l ∷ []) are = absurd (true≢false (sym (both _ _ (both _ _ are).1).1))
-frames_few (f ∷ l ∷ i ∷ []) are = absurd (true≢false (sym (both _ _ (both _ _ (both _ _ are).1).1).1))
+frames_few (f ∷ l ∷ i ∷ []) are =
+    let behind = both (is_formed forms.Plain lines_flag.count l) _ (both (is_formed forms.Plain Once f) _ are).1 in
+    absurd (true≢false (sym (both (is_formed forms.Plain index_paths.count i) _ behind.1).1))
 frames_few (f ∷ l ∷ i ∷ a ∷ more) are =
-    let first = both _ _ are in
-    let last = both _ _ (both _ _ (both _ _ first.1).1).1 in
+    let first = both (is_formed forms.Plain Once f) _ are in
+    let behind = both (is_formed forms.Plain lines_flag.count l) _ first.1 in
+    let last = both (is_formed forms.Plain Several a) _
+    (both (is_formed forms.Plain index_paths.count i) _ behind.1).1 in
     omega (
       arith,
       one_there Once f refl first.0,
