@@ -35,8 +35,6 @@ class Limits(ThreeSites):
     def test_no_files(self) -> None:
         """Links, pipes, folders, sockets and devices, in the place of files and of signatures."""
         self.begin(self.east, self.west)
-        data = archive([evil(0)])
-        (self.folder / "outside").write_bytes(data)
         makers: List[Tuple[Callable[[pathlib.Path], object], str]] = [
             (lambda path: path.symlink_to(self.folder / "outside"), "is a link"),
             (lambda path: path.symlink_to("/dev/zero"), "is a link"),
@@ -46,8 +44,11 @@ class Limits(ThreeSites):
         ]
         if is_done(["mknod", self.folder / "zero", "c", "1", "5"]):
             makers.append((lambda path: os.mknod(path, stat.S_IFCHR | 0o666, os.makedev(1, 5)), "is no file"))
-        for name in (answer_name("west", "east", data), question_name("west", data), builds_name("west", data, LATER)):
-            for make, reason in makers:
+        for number, (make, reason) in enumerate(makers):
+            data = archive([evil(number)])
+            (self.folder / "outside").write_bytes(data)
+            for name in (answer_name("west", "east", data), question_name("west", data, LATER),
+                         builds_name("west", data, LATER)):
                 path = self.forge(name, data, "west")
                 path.unlink()
                 make(path)
@@ -124,13 +125,12 @@ class Limits(ThreeSites):
             self.forge(name, b"text", key="")
         for number in range(1000):
             (self.shared / f"junk.{number}\n").write_bytes(b"x")
-        began = time.monotonic()
         said, errors = self.east.exchange(status=2)
-        self.assertLess(time.monotonic() - began, 20)
         same("joined", said[0], f"added {words_of(image(60))} west")
         for name in begins:
             same(name, named(errors, self.shared / name), ["has no signature"])
         same("last line", errors[-1], "symarch-keep: 1 added, 0 retired, 0 answered; 0 not whole, 1000 refused")
+        same("calls of ssh-keygen", self.calls_of(self.east), [])
 
     def test_names_of_other_forms(self) -> None:
         """They are left, and never opened."""

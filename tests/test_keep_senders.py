@@ -136,8 +136,14 @@ class Month(ThreeSites):
         data = b"evil %d\n" % day
         return Attack(self.east, self.forge(mark_name("east", data, LATER), data), self.unknown("east"))
 
+    def question(self) -> pathlib.Path:
+        """The last question of west, which it puts there again if it was taken away."""
+        self.west.exchange(status=None)
+        return one_of(self.west, "asks")
+
     def replayed_question(self, _: int) -> Attack:
-        last = one_of(self.west, "asks")
+        last = self.question()
+        self.east.exchange(status=None)
         last.unlink()
         self.put_back(self.old)
         (path,) = [path for path in self.old if path.suffix == ".sum"]
@@ -164,13 +170,13 @@ class Month(ThreeSites):
         return Attack(self.east, path, "its signature says `sender west`, and not `sender north`")
 
     def cut(self, _: int) -> Attack:
-        path = one_of(self.west, "asks")
+        path = self.question()
         size = path.stat().st_size
         os.truncate(path, size // 2)
         return Attack(self.north, path, f"has {size // 2} bytes, and {size} were signed")
 
     def changed(self, _: int) -> Attack:
-        path = one_of(self.west, "asks")
+        path = self.question()
         data = path.read_bytes()
         path.write_bytes(data[:20] + bytes([data[20] ^ 1]) + data[21:])
         return Attack(self.east, path, "has other bytes than its name says")
