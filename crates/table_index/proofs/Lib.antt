@@ -1,0 +1,6 @@
+pub mod Texts
+pub mod Entries
+pub mod Tests
+pub mod ReadLemmas
+pub mod Faults
+pub mod Contents

@@ -1,0 +1,173 @@
+//! What stands at the two ends of an index.
+
+ghost use Rattle.std.specs.Prelude.{◌≡◌, ◌+◌, ◌-◌, ◌*◌, ◌<◌, ◌≤◌, ◌^◌, ℕ, List, Ok, Err, IfOk, MatchResult, OnOk};
+ghost use Rattle.std.specs.Prelude.{length, take, drop, min};
+ghost use Rattle.archive_index.specs.Text.{index_magic};
+ghost use Rattle.table_index.specs.Fault.{FailsInFront, FailsAtEnd, test_front};
+ghost use Rattle.table_index.specs.InnerReading.{AreEndsOf, FailsInEnds, IsUnread};
+ghost use Rattle.table_index.specs.Reading.{IsRefused, ReadsText};
+
+use crate::entry::{ENTRY_LEN, number_at};
+use crate::{IndexFault, IndexFaultKind};
+use byte_device::{Failed, ReadFault};
+use memory::Heap;
+use placed_bytes::{Placed, read_at};
+
+/// How many bytes the magic has.
+pub const MAGIC_LEN: u64 = 8;
+
+/// How many bytes the end record has.
+pub const END_LEN: u64 = 41;
+
+/// The tag of the end record.
+const END: u8 = 3;
+
+/// What the end record says of the entries.
+#[derive(Clone, Copy)]
+pub(crate) struct Ends {
+    /// Where the entries begin.
+    pub start: u64,
+    /// How many there are.
+    pub count: u64,
+    /// The SHA-256 of their bytes.
+    pub digest: [u8; 32],
+}
+
+/// What an index begins with.
+pub fn magic() -> [u8; 8]
+    ensures { result ≡ index_magic }
+{
+    *b"MSYMIDX1"
+}
+
+/// How many bytes there are.
+fn read_size<P: Placed>(device: &mut P) -> Result<u64, IndexFault>
+    ensures { ReadsText P.whole P.failures device.old device.new result
+        (λ text size. size ≡ length text) (λ text fault. ⊥) }
+{
+    match device.size() {
+        Ok(size) => Ok(size),
+        Err(Failed) => Err(IndexFault {
+            kind: IndexFaultKind::Device,
+            offset: 0,
+        }),
+    }
+}
+
+/// So many bytes from an offset on.
+pub(crate) fn read_part<P: Placed>(
+    heap: Heap,
+    device: &mut P,
+    offset: u64,
+    count: u64,
+) -> Result<Vec<u8, Heap>, IndexFault>
+    requires { offset + count < 2 ^ 64 }
+    ensures long { IfOk result (λ bytes. length bytes.items ≡ count) }
+    ensures read { ReadsText P.whole P.failures device.old device.new result
+        (λ text bytes. bytes.items ≡ take count (drop offset text)) (IsUnread offset count) }
+{
+    match read_at(heap, device, offset, count) {
+        Ok(Some(bytes)) => Ok(bytes),
+        Ok(None) => Err(IndexFault {
+            kind: IndexFaultKind::Truncated,
+            offset,
+        }),
+        Err(ReadFault::Device) => Err(IndexFault {
+            kind: IndexFaultKind::Device,
+            offset,
+        }),
+        Err(ReadFault::OutOfMemory) => Err(IndexFault::out_of_memory(offset)),
+    }
+}
+
+/// Tests the front of a text of this size, whose first bytes these are.
+#[tactic(auto, unfolding(crate::specs::Fault::test_front))]
+fn test_front(size: u64, front: &[u8]) -> Result<(), IndexFault>
+    requires { length front.now ≡ min size 8 }
+    ensures tested { (text : List ℕ) → size ≡ length text → front.now ≡ take 8 text
+        → MatchResult result (λ _. test_front text ≡ Ok tt) (FailsInFront text) }
+    ensures room { OnOk result (49 ≤ size) }
+{
+    if front != &magic()[..front.len()] {
+        return Err(IndexFault {
+            kind: IndexFaultKind::BadMagic,
+            offset: 0,
+        });
+    }
+    if size < MAGIC_LEN + END_LEN {
+        return Err(IndexFault {
+            kind: IndexFaultKind::Truncated,
+            offset: size.saturating_sub(END_LEN),
+        });
+    }
+    Ok(())
+}
+
+/// Reads the magic, and says how many bytes there are: room for an end record at least.
+fn read_front<P: Placed>(heap: Heap, device: &mut P) -> Result<u64, IndexFault>
+    ensures room { IfOk result (λ size. 49 ≤ size) }
+    ensures read { ReadsText P.whole P.failures device.old device.new result
+        (λ text size. (size ≡ length text) × (test_front text ≡ Ok tt)) FailsInFront }
+{
+    let size = read_size(device)?;
+    let front = read_part(heap, device, 0, size.min(MAGIC_LEN))?;
+    test_front(size, &front)?;
+    Ok(size)
+}
+
+/// What an end record says that these bytes are, at the end of a text of this size.
+#[tactic(auto, unfolding(crate::specs::Fault::test_end))]
+fn ends_in(size: u64, end: &[u8]) -> Result<Ends, IndexFault>
+    requires room { 49 ≤ size }
+    requires long { length end.now ≡ 41 }
+    ensures tested { (text : List ℕ) → size ≡ length text → end.now ≡ drop (length text - 41) text
+        → test_front text ≡ Ok tt → MatchResult result (AreEndsOf text) (FailsAtEnd text) }
+    ensures fits { IfOk result (λ ends. ends.start + 122 * ends.count + 41 ≡ size) }
+{
+    let offset = size - END_LEN;
+    if end[0] != END {
+        return Err(IndexFault {
+            kind: IndexFaultKind::Truncated,
+            offset,
+        });
+    }
+    let count = number_at(end, 1);
+    let room = u128::from(offset - MAGIC_LEN);
+    if u128::from(count) * ENTRY_LEN as u128 > room {
+        return Err(IndexFault {
+            kind: IndexFaultKind::BadCount,
+            offset,
+        });
+    }
+    let mut digest = [0; 32];
+    digest.copy_from_slice(&end[9..]);
+    Ok(Ends {
+        start: offset - count * ENTRY_LEN as u64,
+        count,
+        digest,
+    })
+}
+
+/// Reads the end record of a text of this size.
+fn read_end<P: Placed>(heap: Heap, device: &mut P, size: u64) -> Result<Ends, IndexFault>
+    requires { 49 ≤ size }
+    ensures fits { IfOk result (λ ends. ends.start + 122 * ends.count + 41 ≡ size) }
+    ensures read { ReadsText P.whole P.failures device.old device.new result
+        (λ text ends. size ≡ length text → test_front text ≡ Ok tt → AreEndsOf text ends)
+        (λ text fault. size ≡ length text → test_front text ≡ Ok tt → IsRefused FailsAtEnd text fault) }
+{
+    let end = read_part(heap, device, size - END_LEN, END_LEN)?;
+    ends_in(size, &end)
+}
+
+/// Reads the magic and the end record.
+pub(crate) fn read_ends<P: Placed>(heap: Heap, device: &mut P) -> Result<Ends, IndexFault>
+    ensures fits { IfOk result (λ ends. ends.start + 122 * ends.count + 41 < 2 ^ 64) }
+    ensures read { ReadsText P.whole P.failures device.old device.new result AreEndsOf FailsInEnds }
+{
+    let Ok(own) = heap.clone() else {
+        return Err(IndexFault::out_of_memory(0));
+    };
+    let size = read_front(own, device)?;
+    read_end(heap, device, size)
+}

@@ -1,0 +1,42 @@
+//! What an index tells of the content that it was made of. Each law is the contract of a function that does nothing.
+
+ghost use Rattle.std.specs.Prelude.{◌≡◌, ◌<◌, ◌^◌, ℕ, List, Option, length, true};
+ghost use Rattle.std.specs.FinSet as set;
+ghost use Rattle.join_core.specs.Listing.{listing};
+ghost use Rattle.checked_pages.specs.Pages.{AreStored};
+ghost use Rattle.symbol_tables.specs.Asked.{IsSaid};
+ghost use Rattle.symbol_tables.specs.Steps.{AreBytes};
+ghost use Rattle.symbol_tables.specs.Table.{IsTableText};
+ghost use Rattle.symbol_tables.specs.declared.nearest.NearestSymbol.{NearestSymbol};
+ghost use Rattle.archive_core.specs.Content.{Operations, IsContent, is_admission};
+ghost use Rattle.table_index.specs.Asked.{IsToldBy};
+ghost use Rattle.table_index.specs.Content.{HasTable, IsIndexOf, entries_of};
+ghost use Rattle.table_index.specs.Entry.{claim_in};
+ghost use Rattle.table_index.specs.Fault.{IsIndexFault};
+ghost use Rattle.table_index.specs.Text.{IsIndexText};
+ghost use Rattle.table_index.specs.declared.fault.IndexFault.{IndexFault};
+
+/// A content has one index.
+pub fn one_index()
+    ensures { (o : Operations) (text other : List ℕ) → IsIndexOf o text → IsIndexOf o other → text ≡ other }
+{}
+
+/// A text is the index with one list of entries or has one fault, and never both.
+pub fn one_index_fault()
+    ensures one { (text : List ℕ) (f g : IndexFault) → IsIndexFault text f → IsIndexFault text g → f ≡ g }
+    ensures none { (text : List ℕ) (entries : List (List ℕ)) (f : IndexFault) → IsIndexText text entries
+        → IsIndexFault text f → ⊥ }
+    ensures alone { (text : List ℕ) (entries others : List (List ℕ)) → IsIndexText text entries
+        → IsIndexText text others → entries ≡ others }
+{}
+
+/// The index of a content has an entry for each of its slices, and the table of the slice stands where the entry says.
+/// What such an entry tells of an address is the nearest symbol of its slice. Nothing is supposed of SHA-256.
+pub fn right()
+    ensures table { (o : Operations) (text : List ℕ) → (index : IsIndexOf o text) → IsContent o
+        → length text < 2 ^ 64 → (r : List ℕ) → set.contains o r ≡ true → is_admission r ≡ true
+        → HasTable text (entries_of (listing o) index.tables) r }
+    ensures told { (text e slice table : List ℕ) (address : ℕ) (found : Option NearestSymbol)
+        → IsTableText slice table → AreStored text (claim_in e) table → AreBytes slice
+        → IsToldBy text e address found → IsSaid slice address found }
+{}

@@ -1,0 +1,46 @@
+//! Whether the records of entries follow one another, and their tables.
+
+ghost use Rattle.std.specs.Prelude.{◌≡◌, ◌↔◌, ◌<◌, ◌^◌, IfOk, IsTrue, [], map};
+ghost use Rattle.table_index.specs.Entry.{entry_bytes};
+ghost use Rattle.table_index.specs.Text.{AreLaid, FollowOn, PassTests};
+
+use crate::TableEntry;
+use crate::ends::MAGIC_LEN;
+use crate::testing::stored_size;
+use archive_core::FindState;
+use memory::{Heap, NoMemory};
+
+/// Whether an entry is that of an admission.
+fn is_admission(entry: &TableEntry) -> bool {
+    entry.placed.row.state != FindState::Retired
+}
+
+/// Whether the records follow one another in this order from the magic of their archive on, and the tables from that of
+/// the index up to this offset.
+fn follow_on(order: &[TableEntry], end: u64) -> bool
+    ensures { IsTrue result ↔ FollowOn 8 8 end (map entry_bytes order.now) }
+{
+    let mut offset = u128::from(MAGIC_LEN);
+    let mut at = u128::from(MAGIC_LEN);
+    'following: for entry in order {
+        if u128::from(entry.placed.offset) != offset {
+            return false;
+        }
+        if is_admission(entry) && u128::from(entry.claim.offset) != at {
+            return false;
+        }
+        offset += u128::from(entry.placed.length);
+        at += stored_size(&entry.claim);
+    }
+    at == u128::from(end)
+}
+
+/// Whether in some order they do. The entries are copied to be sorted by their offsets.
+pub(crate) fn are_laid(heap: Heap, entries: &[TableEntry], end: u64) -> Result<bool, NoMemory>
+    requires { PassTests end [] (map entry_bytes entries.now) }
+    ensures { IfOk result (λ laid. IsTrue laid ↔ AreLaid end (map entry_bytes entries.now)) }
+{
+    let mut order = Vec::from_slice(heap, entries)?;
+    order.sort_unstable_by_key(|entry| entry.placed.offset);
+    Ok(follow_on(&order, end))
+}

@@ -1,0 +1,82 @@
+//! The tables of all records of an archive, one after another.
+
+ghost use Rattle.std.specs.Prelude.{◌≡◌, ◌<◌, ◌^◌, ℕ, List, Option, [], IfOk, OnOk};
+ghost use Rattle.archive_records.specs.Reader.{HasRead};
+ghost use Rattle.archive_records.specs.declared.format.Format.TheVariants.{Archive};
+ghost use Rattle.byte_device.specs.Writes.{IsPut};
+ghost use Rattle.table_indexing.specs.InnerMaking.{HasPutAll, front_of};
+
+use crate::fault::{MakingFault, TableFault};
+use crate::tables::put_table;
+use archive_index::{IndexingFault, PlacedEntry};
+use archive_records::{NextRecord, RecordFault, RecordReader};
+use byte_device::{Sink, Source};
+use memory::Heap;
+use table_index::TableEntry;
+
+/// A fault of the archive.
+fn refused(fault: RecordFault) -> MakingFault {
+    MakingFault::Archive(IndexingFault::Archive(fault))
+}
+
+/// Writes the table of the last record after the first `done` bytes of an index. `before` bytes of the archive stand
+/// before the record. It gives its entry, and how many bytes the index has then.
+fn put_record<W: Sink>(
+    heap: Heap,
+    reader: &RecordReader,
+    before: u128,
+    w: &mut W,
+    done: u128,
+) -> Result<(TableEntry, u128), MakingFault> {
+    let (Ok(offset), Ok(at)) = (u64::try_from(before), u64::try_from(done)) else {
+        return Err(MakingFault::Archive(IndexingFault::TooLong));
+    };
+    let item = reader.record();
+    let size = reader.last().len() as u64;
+    match put_table(heap, &item, w, at) {
+        Ok((claim, done)) => {
+            let placed = PlacedEntry::of_record(&item, offset, size);
+            Ok((TableEntry { placed, claim }, done))
+        }
+        Err(TableFault::OutOfMemory) => Err(refused(RecordFault::out_of_memory(before))),
+        Err(TableFault::Write(fault)) => Err(MakingFault::Write(fault)),
+    }
+}
+
+/// Takes the records up to the end record, writes their tables after the first `done` bytes of an index, and keeps
+/// their entries.
+pub(crate) fn put_tables<R: Source, W: Sink>(
+    heap: Heap,
+    reader: &mut RecordReader,
+    r: &mut R,
+    w: &mut W,
+    done: u128,
+) -> Result<(Vec<TableEntry, Heap>, u128), MakingFault>
+    requires file { reader.old.file ≡ Archive }
+    ensures all { IfOk result (λ put. (a : Option (List ℕ)) (first : W)
+        → HasRead Archive a (R.left r.old) [] reader.old → IsPut W.held W.failures first w.old 0 (front_of []) done
+        → HasPutAll a (R.left r.new) W.held W.failures first w.new put.0.items reader.new put.1) }
+    ensures unfailed { OnOk result (R.failures r.new ≡ R.failures r.old) }
+{
+    let Ok(own) = heap.clone() else {
+        return Err(refused(RecordFault::out_of_memory(reader.offset())));
+    };
+    let mut entries = Vec::new(own);
+    let mut done = done;
+    'taking: loop {
+        let before = reader.offset();
+        match reader.advance(r) {
+            Ok(NextRecord::End) => return Ok((entries, done)),
+            Ok(NextRecord::Item(_)) => {}
+            Err(fault) => return Err(refused(fault)),
+        }
+        let Ok(own) = heap.clone() else {
+            return Err(refused(RecordFault::out_of_memory(before)));
+        };
+        let (entry, end) = put_record(own, reader, before, w, done)?;
+        if let Err(_) = entries.push(entry) {
+            return Err(refused(RecordFault::out_of_memory(before)));
+        }
+        done = end;
+    }
+}
