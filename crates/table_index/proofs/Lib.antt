@@ -2,5 +2,7 @@ pub mod Texts
 pub mod Entries
 pub mod Tests
 pub mod ReadLemmas
+pub mod Ends
 pub mod Faults
 pub mod Contents
+pub mod Places

@@ -45,6 +45,10 @@ pub pass_push : (end : ℕ) (low : List ℕ) (xs : List (List ℕ)) (x : List �
 pass_push end low [] x a long h = (long, h, tt)
 pass_push end low (y ∷ ys) x a long h = (a.0, a.1, pass_push end y ys x a.2 long h)
 
+pub last_push : (low : List ℕ) (xs : List (List ℕ)) (x : List ℕ) → last_of low (xs ++ x ∷ []) ≡ x
+last_push low [] x = refl
+last_push low (y ∷ ys) x = last_push y ys x
+
 pub long_entries : (end : ℕ) (low : List ℕ) (xs : List (List ℕ)) → PassTests end low xs → length (concat xs) ≡ 122 * length xs
 long_entries end low [] a = refl
 long_entries end low (x ∷ xs) a = omega (arith, length-append x (concat xs), a.0, long_entries end x xs a.2)

@@ -1,6 +1,7 @@
 //! Whether the records of entries follow one another, and their tables.
 
-ghost use Rattle.std.specs.Prelude.{◌≡◌, ◌↔◌, ◌<◌, ◌^◌, IfOk, IsTrue, [], map};
+ghost use Rattle.std.specs.Prelude.{◌≡◌, ◌↔◌, All, IfOk, IsTrue, [], length, map};
+ghost use Rattle.archive_core.specs.Content.{is_admission};
 ghost use Rattle.table_index.specs.Entry.{entry_bytes};
 ghost use Rattle.table_index.specs.Text.{AreLaid, FollowOn, PassTests};
 
@@ -11,13 +12,20 @@ use archive_core::FindState;
 use memory::{Heap, NoMemory};
 
 /// Whether an entry is that of an admission.
-fn is_admission(entry: &TableEntry) -> bool {
-    entry.placed.row.state != FindState::Retired
+#[tactic(auto, unfolding(crate::specs::Entry::entry_bytes, archive_index::specs::Entry::placed_bytes))]
+fn is_admission(entry: &TableEntry) -> bool
+    ensures { result ≡ is_admission (entry_bytes entry.now) }
+{
+    match entry.placed.row.state {
+        FindState::Retired => false,
+        FindState::Image | FindState::Dsym => true,
+    }
 }
 
 /// Whether the records follow one another in this order from the magic of their archive on, and the tables from that of
 /// the index up to this offset.
 fn follow_on(order: &[TableEntry], end: u64) -> bool
+    requires { All (λ e. length e ≡ 122) (map entry_bytes order.now) }
     ensures { IsTrue result ↔ FollowOn 8 8 end (map entry_bytes order.now) }
 {
     let mut offset = u128::from(MAGIC_LEN);
