@@ -2,15 +2,14 @@
 use Rattle.std.proofs.Common.{◌≡◌, ℕ, ◌+◌, ◌-◌, ◌<◌, ◌^◌, true, ◌||◌, ◌&&◌, eqb, List, ◌++◌, length, take, drop, get_or, sym, ap, ◌∙◌, arith, length-append, length-drop}
 use Rattle.std.specs.Int.{w64, to_be_bytes, from_be_bytes}
 use Rattle.std.proofs.Math.Seq.{take-append_seam, drop-append_seam}
-use Rattle.std.proofs.lemmas.List.{drop-append-le, drop-drop, drop_at, get_or-take, take-append-drop, take-append-le}
+use Rattle.std.proofs.lemmas.List.{drop-drop, drop-take, drop_at, get_or-take, take-append-drop, take-take}
 use Rattle.std.proofs.lemmas.Nat.{from_be_bytes-to_be_bytes_8}
 use borrow.Rule.Slice.PartMut.{put_mid}
 use Rattle.checked_pages.specs.Pages.{Claim}
 use Rattle.checked_pages.specs.Views.{claim_view}
 use Rattle.archive_core.proofs.Heads.{laid_last}
 use Rattle.archive_index.specs.Entry.{has_kind, has_tag, length_in, offset_in, placed_bytes}
-use Rattle.archive_index.proofs.Entries.{length_of_bytes, offset_of_bytes}
-use Rattle.table_index.specs.Entry.{claim_bytes, claim_in, entry_bytes}
+use Rattle.table_index.specs.Entry.{HasItsFields, claim_bytes, claim_in, entry_bytes}
 use Rattle.table_index.specs.declared.entry.TableEntry.{TableEntry}
 
 -- ---- laid in place
@@ -69,29 +68,17 @@ module _ (front : List ℕ) (c : Claim) (long : length front ≡ 74) where
   pub claim_read : c.offset < 2 ^ 64 → c.size < 2 ^ 64 → claim_in (front ++ claim_bytes c) ≡ c
   claim_read offset size = λ i. record { offset = offset_read offset i; size = size_read size i; root = root_read i }
 
-  -- the offset and the length of the record
-  pub place_kept : (at : ℕ) → at + 8 < 75 → take 8 (drop at (front ++ claim_bytes c)) ≡ take 8 (drop at front)
-  place_kept at within =
-      ap (take 8) (drop-append-le at front (claim_bytes c) (omega (arith, long, within))) ∙ take-append-le 8 (drop at front) (claim_bytes c) (omega (arith, long, within, length-drop at front))
+-- numbers in the first 74 bytes
+front_number : (at : ℕ) (bytes : List ℕ) → at + 8 < 75 → take 8 (drop at (take 74 bytes)) ≡ take 8 (drop at bytes)
+front_number at bytes within =
+    let rest : ℕ = 74 - at in
+    let whole : 74 ≡ at + rest = omega (arith, within) in
+    ap (λ (n : ℕ). take 8 (drop at (take n bytes))) whole ∙ ap (take 8) (drop-take at rest bytes) ∙ take-take 8 rest (drop at bytes) (omega (arith, within))
 
-length-claim : (c : Claim) → length (claim_bytes c) ≡ 16 + length c.root
-unfolding claim_bytes
-length-claim c = omega (arith, length-append (to_be_bytes w64 c.offset) (to_be_bytes w64 c.size ++ c.root), length-append (to_be_bytes w64 c.size) c.root)
-
--- an entry of 122 bytes whose root has 32
-module _ (e : TableEntry) (long : length (entry_bytes e) ≡ 122) (root : length e.claim.root ≡ 32) where
-  front_long : length (placed_bytes e.placed) ≡ 74
-  unfolding entry_bytes
-  front_long = omega (arith, long, root, length-append (placed_bytes e.placed) (claim_bytes (claim_view e.claim)), length-claim (claim_view e.claim))
-
-  pub offset_of_entry : e.placed.offset < 2 ^ 64 → offset_in (entry_bytes e) ≡ e.placed.offset
-  unfolding entry_bytes
-  offset_of_entry fits = ap (from_be_bytes w64) (place_kept (placed_bytes e.placed) (claim_view e.claim) front_long 58 (omega arith)) ∙ offset_of_bytes e.placed front_long fits
-
-  pub length_of_entry : e.placed.length < 2 ^ 64 → length_in (entry_bytes e) ≡ e.placed.length
-  unfolding entry_bytes
-  length_of_entry fits = ap (from_be_bytes w64) (place_kept (placed_bytes e.placed) (claim_view e.claim) front_long 66 (omega arith)) ∙ length_of_bytes e.placed front_long fits
-
-  pub claim_of_entry : e.claim.offset < 2 ^ 64 → e.claim.size < 2 ^ 64 → claim_in (entry_bytes e) ≡ claim_view e.claim
-  unfolding entry_bytes
-  claim_of_entry offset size = claim_read (placed_bytes e.placed) (claim_view e.claim) front_long offset size
+pub fields_of : (bytes : List ℕ) (e : TableEntry) → length bytes ≡ 122 → entry_bytes e ≡ bytes → offset_in (take 74 bytes) ≡ e.placed.offset → length_in (take 74 bytes) ≡ e.placed.length → claim_view e.claim ≡ claim_in bytes → HasItsFields e
+fields_of bytes e long same offset len claim = record {
+  long = ap length same ∙ long;
+  offset_is = ap offset_in same ∙ ap (from_be_bytes w64) (sym (front_number 58 bytes (omega arith))) ∙ offset;
+  length_is = ap length_in same ∙ ap (from_be_bytes w64) (sym (front_number 66 bytes (omega arith))) ∙ len;
+  claim_is = ap claim_in same ∙ sym claim;
+}

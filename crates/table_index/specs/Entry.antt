@@ -1,5 +1,5 @@
 -- Entries of an index: what a record is, where it stands in its archive, and where the table of its slice is stored.
-use Rattle.std.specs.Prelude.{ℕ, ◌+◌, ◌*◌, List, ◌++◌, length, take, drop, Bool, nat_le, if◌then◌else◌}
+use Rattle.std.specs.Prelude.{◌≡◌, ℕ, ◌+◌, ◌*◌, List, ◌++◌, length, take, drop, Bool, nat_le, if◌then◌else◌}
 use Rattle.std.specs.Int.{w64, to_be_bytes, from_be_bytes}
 use Rattle.std.specs.Str.{bytes_eq}
 use Rattle.sha2.specs.Sha256.{sha256}
@@ -7,7 +7,7 @@ use Rattle.checked_pages.specs.Pages.{Claim, page_digests, pages_in}
 use Rattle.checked_pages.specs.Views.{claim_view}
 use Rattle.symbol_tables.specs.Table.{zeros}
 use Rattle.archive_core.specs.Content.{is_admission}
-use Rattle.archive_index.specs.Entry.{placed_bytes, placed_entry}
+use Rattle.archive_index.specs.Entry.{length_in, offset_in, placed_bytes, placed_entry}
 use Rattle.table_index.specs.declared.entry.TableEntry.{TableEntry}
 
 -- a claim as it stands in an entry: the offset, the size, and the SHA-256 of the page digests
@@ -51,3 +51,10 @@ abbrev pub has_claim : ℕ → List ℕ → Bool
 has_claim end e =
     if is_admission e then nat_le ((claim_in e).offset + stored_size (claim_in e)) end
     else bytes_eq (drop 74 e) (zeros 48)
+
+-- the fields of an entry are what its bytes say
+pub record HasItsFields (e : TableEntry) : Type 0 where
+  pub long : length (entry_bytes e) ≡ 122
+  pub offset_is : offset_in (entry_bytes e) ≡ e.placed.offset
+  pub length_is : length_in (entry_bytes e) ≡ e.placed.length
+  pub claim_is : claim_in (entry_bytes e) ≡ claim_view e.claim

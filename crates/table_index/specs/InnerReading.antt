@@ -1,8 +1,8 @@
 -- An index that is read: the words of the inner functions. No contract of a public one has them.
-use Rattle.std.specs.Prelude.{◌≡◌, ℕ, ◌+◌, ◌-◌, ◌<◌, List, [], ◌⊎◌, length, map, take, drop}
+use Rattle.std.specs.Prelude.{◌≡◌, ℕ, ◌+◌, ◌-◌, ◌<◌, List, [], ◌⊎◌, All, length, map, take, drop}
 use Rattle.std.specs.Int.{w64, to_be_bytes}
 use Rattle.std.specs.List.{concat}
-use Rattle.table_index.specs.Entry.{entry_bytes}
+use Rattle.table_index.specs.Entry.{HasItsFields, entry_bytes}
 use Rattle.table_index.specs.Fault.{FailsAtEnd, FailsDigest, FailsInEntries, FailsInFront, FailsInPlaces, HasDigest}
 use Rattle.table_index.specs.Fault.{HasEnds, IsOfMachine}
 use Rattle.table_index.specs.Text.{AreLaid, PassTests, count_in, digest_in, entries_in, start_in}
@@ -31,12 +31,13 @@ pub record AreEntriesOf (text bytes : List ℕ) : Type 0 where
   pub digest : HasDigest text
   pub bytes_are : bytes ≡ entries_in text
 
--- entries that pass their tests and are laid
+-- these are the entries that the bytes are, and they pass their tests
 pub record AreTested (end : ℕ) (bytes : List ℕ) (entries : List TableEntry) : Type 0 where
   pub whole : concat (map entry_bytes entries) ≡ bytes
+  pub fields : All HasItsFields entries
   pub pass : PassTests end [] (map entry_bytes entries)
 
--- the same of the entries of a text, which are laid
+-- the same of the entries of a text, whose records and tables follow one another
 pub record AreReadOf (text : List ℕ) (entries : List TableEntry) : Type 0 where
   pub digest : HasDigest text
   pub tested : AreTested (start_in text) (entries_in text) entries

@@ -26,11 +26,12 @@ pub fn nearest_at<P: Placed>(
     ensures { TellsNearest P.whole P.failures device.old device.new (slice_index_or index.now place []) place address
         result }
 {
-    let claim = index.entries()[place as usize].claim;
-    match nearest_by_claim(heap, device, claim, address) {
+    let entries = index.entries();
+    let entry = &entries[place as usize];
+    match nearest_by_claim(heap, device, entry.claim, address) {
         Ok(found) => Ok(found),
         Err(CheckFault::Changed) => Err(EntryFault::Damaged(place)),
-        Err(CheckFault::Device) => Err(EntryFault::Device(claim.offset)),
+        Err(CheckFault::Device) => Err(EntryFault::Device(entry.claim.offset)),
         Err(CheckFault::OutOfMemory) => Err(EntryFault::OutOfMemory),
     }
 }

@@ -5,8 +5,8 @@ ghost use Rattle.std.specs.Int.{w64, to_be_bytes, from_be_bytes};
 ghost use Rattle.std.specs.Ordering.{nat_cmp};
 ghost use Rattle.std.specs.Cmp.Lexicographic.{slice_cmp};
 ghost use Rattle.checked_pages.specs.Views.{claim_view};
-ghost use Rattle.archive_index.specs.Entry.{dsym_byte, has_kind, has_tag, placed_bytes, tag_byte};
-ghost use Rattle.table_index.specs.Entry.{claim_bytes, claim_in, entry_bytes, no_claim};
+ghost use Rattle.archive_index.specs.Entry.{dsym_byte, has_kind, has_tag, length_in, offset_in, placed_bytes, tag_byte};
+ghost use Rattle.table_index.specs.Entry.{HasItsFields, claim_bytes, claim_in, entry_bytes, no_claim};
 
 use archive_core::{FindRow, FindState};
 use archive_index::PlacedEntry;
@@ -79,7 +79,9 @@ fn placed_in(bytes: &[u8]) -> PlacedEntry
     requires long { length bytes.now ≡ 74 }
     requires tag { has_tag bytes.now ≡ true }
     requires kind { has_kind bytes.now ≡ true }
-    ensures { placed_bytes result ≡ bytes.now }
+    ensures bytes { placed_bytes result ≡ bytes.now }
+    ensures offset { offset_in bytes.now ≡ result.offset }
+    ensures length { length_in bytes.now ≡ result.length }
 {
     PlacedEntry {
         row: FindRow {
@@ -131,7 +133,8 @@ impl TableEntry {
         requires long { length bytes.now ≡ 122 }
         requires tag { has_tag bytes.now ≡ true }
         requires kind { has_kind bytes.now ≡ true }
-        ensures { entry_bytes result ≡ bytes.now }
+        ensures bytes { entry_bytes result ≡ bytes.now }
+        ensures fields { HasItsFields result }
     {
         TableEntry {
             placed: placed_in(&bytes[..PLACED_LEN]),

@@ -1,7 +1,7 @@
 //! The entries of an index that was read.
 
-ghost use Rattle.std.specs.Prelude.{◌≡◌, length, map};
-ghost use Rattle.table_index.specs.Entry.{entry_bytes};
+ghost use Rattle.std.specs.Prelude.{◌≡◌, All, length, map};
+ghost use Rattle.table_index.specs.Entry.{HasItsFields, entry_bytes};
 
 use crate::TableEntry;
 use memory::Heap;
@@ -14,17 +14,20 @@ pub struct TableIndex {
 }
 
 impl Model for TableIndex {
-    ghost use Rattle.std.specs.Prelude.{ℕ, List, map};
-    ghost use Rattle.table_index.specs.Entry.{entry_bytes};
+    ghost use Rattle.std.specs.Prelude.{ℕ, List, All, map};
+    ghost use Rattle.table_index.specs.Entry.{HasItsFields, entry_bytes};
 
     ghost Value = { List (List ℕ) };
 
     ghost view = { λ index. map entry_bytes index.entries.items };
+
+    ghost invariant = { λ index. All HasItsFields index.entries.items };
 }
 
 impl TableIndex {
     /// The index of these entries.
     pub(crate) fn of_entries(entries: Vec<TableEntry, Heap>) -> TableIndex
+        requires { All HasItsFields entries.items }
         ensures { result ≡ map entry_bytes entries.items }
     {
         TableIndex { entries }
@@ -39,7 +42,8 @@ impl TableIndex {
 
     /// The entries in their order.
     pub fn entries(&self) -> &[TableEntry]
-        ensures { map entry_bytes result.now ≡ self.now }
+        ensures bytes { map entry_bytes result.now ≡ self.now }
+        ensures fields { All HasItsFields result.now }
     {
         &self.entries
     }

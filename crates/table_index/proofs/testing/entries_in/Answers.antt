@@ -1,9 +1,10 @@
 use Rattle.std.proofs.Common.{◌≡◌, ◌+◌, ◌*◌, ◌-◌, ◌≤◌, ◌∙◌, ℕ, List, [], ◌∷◌, ◌++◌, sym, ap, subst, inr, arith, length, map, take, drop, length-drop, length-take}
-use Rattle.std.specs.Prelude.{Err, Ok}
+use Rattle.std.specs.Prelude.{All, Err, Ok}
+use Rattle.std.proofs.lemmas.List.Elements.{All-push}
 use Rattle.std.specs.List.{concat}
 use Rattle.std.proofs.lemmas.List.{length-take-le, map-append, take-append-drop, take_all}
 use Rattle.archive_records.specs.Text.{last_of}
-use Rattle.table_index.specs.Entry.{entry_bytes}
+use Rattle.table_index.specs.Entry.{HasItsFields, entry_bytes}
 use Rattle.table_index.specs.Text.{PassTests, test_entry}
 use Rattle.table_index.proofs.Tests.{concat_more, last_push, pass_push, passed}
 use Rattle.table_index.proofs.testing.entries_in.Goals as goal
@@ -54,10 +55,11 @@ reading-preserved c =
     let x = take 122 (drop (122 * k) bytes) in
     let inv = c.reading.invariant in
     let grown : map entry_bytes c.push.new.self.items ≡ xs ++ x ∷ [] =
-    ap (map entry_bytes) c.in_default-push.ensures.items ∙ map-append entry_bytes c.reading.entries.items (c.of_bytes.result ∷ []) ∙ ap (λ (t : List ℕ). xs ++ t ∷ []) (c.of_bytes.ensures ∙ part_is bytes (122 * k) 122) in
+    ap (map entry_bytes) c.in_default-push.ensures.items ∙ map-append entry_bytes c.reading.entries.items (c.of_bytes.result ∷ []) ∙ ap (λ (t : List ℕ). xs ++ t ∷ []) (c.of_bytes.ensures.bytes ∙ part_is bytes (122 * k) 122) in
     let tested : test_entry c.args.end (last_of [] xs) x ≡ Ok tt = (λ i. test_entry c.args.end (sym inv.last_is i) (sym (part_is bytes (122 * k) 122) i)) ∙ sym c.test_entry.ensures ∙ c.in_default.is in
     record {
       whole = ap concat grown ∙ concat_more bytes xs k inv.whole;
+      fields = subst (All HasItsFields) (sym c.in_default-push.ensures.items) (All-push HasItsFields c.reading.entries.items c.of_bytes.result inv.fields c.of_bytes.ensures.fields);
       pass = subst (PassTests c.args.end []) (sym grown) (pass_push c.args.end [] xs x inv.pass (long_part bytes k c.args.count c.requires.whole (omega arith)) tested);
       last_is = part_is bytes (122 * k) 122 ∙ sym (ap (last_of []) grown ∙ last_push [] xs x);
     }
@@ -66,6 +68,7 @@ pub returns-clause-read : goal.returns-clause-read
 returns-clause-read c =
     let bytes = c.args.bytes.now in
     record {
+      fields = c.reading.invariant.fields;
       whole = c.reading.invariant.whole ∙ take_all (122 * c.reading.index) bytes (omega (arith, c.requires.whole, c.reading-test.false));
       pass = c.reading.invariant.pass;
     }
