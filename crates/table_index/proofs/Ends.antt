@@ -37,6 +37,11 @@ first_eight text = elim (cases_lt (length text) 8) [
       ap (λ (n : ℕ). take n text) least
 ]
 
+-- the question of the magic, of the bytes that were read
+pub asked : (text front : List ℕ) (size : ℕ) → size ≡ length text → front ≡ take 8 text → length front ≡ min size 8 → bytes_eq front (take (length front) index_magic) ≡ bytes_eq (take 8 text) (take (min (length text) 8) index_magic)
+asked text front size same is long =
+    ap (λ (n : ℕ). bytes_eq front (take n index_magic)) (long ∙ ap (λ (n : ℕ). min n 8) same) ∙ ap (λ (t : List ℕ). bytes_eq t (take (min (length text) 8) index_magic)) is
+
 pub magic_fails : (text : List ℕ) → bytes_eq (take 8 text) (take (min (length text) 8) index_magic) ≡ false → test_front text ≡ Err BadMagic
 unfolding test_front
 magic_fails text h = rw h refl

@@ -151,3 +151,6 @@ module _ (text : List ℕ) (ends : Ends) (are : AreEndsOf text ends) where
 
   pub tables_long : 8 + length (take (start_in text - 8) (drop 8 text)) ≡ start_in text
   tables_long = omega (arith, ended.1, length-take (start_in text - 8) (drop 8 text), length-drop 8 text)
+
+  pub ends_fill : ends.start + 122 * ends.count + 41 ≡ length text
+  ends_fill = omega (arith, ended.1, are.start_is, are.count_is)

@@ -1,7 +1,8 @@
 //! What stands at the two ends of an index.
 
-ghost use Rattle.std.specs.Prelude.{◌≡◌, ◌+◌, ◌-◌, ◌*◌, ◌<◌, ◌≤◌, ◌^◌, ℕ, List, Ok, Err, IfOk, MatchResult, OnOk};
-ghost use Rattle.std.specs.Prelude.{length, take, drop, min};
+ghost use Rattle.std.specs.Prelude.{◌≡◌, ◌↔◌, ◌+◌, ◌-◌, ◌*◌, ◌<◌, ◌≤◌, ◌^◌, ℕ, List, Ok, IfOk, OnOk, MatchResult};
+ghost use Rattle.std.specs.Prelude.{IsTrue, length, slice_index, take, drop, min};
+ghost use Rattle.std.specs.Str.{bytes_eq};
 ghost use Rattle.archive_index.specs.Text.{index_magic};
 ghost use Rattle.table_index.specs.Fault.{FailsInFront, FailsAtEnd, test_front};
 ghost use Rattle.table_index.specs.InnerReading.{AreEndsOf, FailsInEnds, IsUnread};
@@ -80,21 +81,36 @@ pub(crate) fn read_part<P: Placed>(
     }
 }
 
+/// Whether these bytes begin the magic.
+fn begins(front: &[u8]) -> bool
+    requires { length front.now ≤ 8 }
+    ensures { result ≡ bytes_eq front.now (take (length front.now) index_magic) }
+{
+    front == &magic()[..front.len()]
+}
+
+/// Whether so many bytes have room for the magic, an end record and so many entries.
+fn has_room(size: u64, count: u64) -> bool
+    ensures { IsTrue result ↔ (49 + 122 * count ≤ size) }
+{
+    let entries = ENTRY_LEN as u128 * u128::from(count);
+    u128::from(MAGIC_LEN + END_LEN) + entries <= u128::from(size)
+}
+
 /// Tests the front of a text of this size, whose first bytes these are.
-#[tactic(auto, unfolding(crate::specs::Fault::test_front))]
 fn test_front(size: u64, front: &[u8]) -> Result<(), IndexFault>
     requires { length front.now ≡ min size 8 }
     ensures tested { (text : List ℕ) → size ≡ length text → front.now ≡ take 8 text
         → MatchResult result (λ _. test_front text ≡ Ok tt) (FailsInFront text) }
     ensures room { OnOk result (49 ≤ size) }
 {
-    if front != &magic()[..front.len()] {
+    if !begins(front) {
         return Err(IndexFault {
             kind: IndexFaultKind::BadMagic,
             offset: 0,
         });
     }
-    if size < MAGIC_LEN + END_LEN {
+    if !has_room(size, 0) {
         return Err(IndexFault {
             kind: IndexFaultKind::Truncated,
             offset: size.saturating_sub(END_LEN),
@@ -115,8 +131,25 @@ fn read_front<P: Placed>(heap: Heap, device: &mut P) -> Result<u64, IndexFault>
     Ok(size)
 }
 
+/// Whether an end record begins here.
+fn is_end(bytes: &[u8]) -> bool
+    requires { 0 < length bytes.now }
+    ensures { IsTrue result ↔ (slice_index bytes.now 0 ≡ 3) }
+{
+    bytes[0] == END
+}
+
+/// The SHA-256 in an end record.
+fn digest_in(end: &[u8]) -> [u8; 32]
+    requires { length end.now ≡ 41 }
+    ensures { result ≡ drop 9 end.now }
+{
+    let mut digest = [0; 32];
+    digest.copy_from_slice(&end[9..]);
+    digest
+}
+
 /// What an end record says that these bytes are, at the end of a text of this size.
-#[tactic(auto, unfolding(crate::specs::Fault::test_end))]
 fn ends_in(size: u64, end: &[u8]) -> Result<Ends, IndexFault>
     requires room { 49 ≤ size }
     requires long { length end.now ≡ 41 }
@@ -125,26 +158,23 @@ fn ends_in(size: u64, end: &[u8]) -> Result<Ends, IndexFault>
     ensures fits { IfOk result (λ ends. ends.start + 122 * ends.count + 41 ≡ size) }
 {
     let offset = size - END_LEN;
-    if end[0] != END {
+    if !is_end(end) {
         return Err(IndexFault {
             kind: IndexFaultKind::Truncated,
             offset,
         });
     }
     let count = number_at(end, 1);
-    let room = u128::from(offset - MAGIC_LEN);
-    if u128::from(count) * ENTRY_LEN as u128 > room {
+    if !has_room(size, count) {
         return Err(IndexFault {
             kind: IndexFaultKind::BadCount,
             offset,
         });
     }
-    let mut digest = [0; 32];
-    digest.copy_from_slice(&end[9..]);
     Ok(Ends {
-        start: offset - count * ENTRY_LEN as u64,
+        start: offset - ENTRY_LEN as u64 * count,
         count,
-        digest,
+        digest: digest_in(end),
     })
 }
 

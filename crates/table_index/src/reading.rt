@@ -1,6 +1,7 @@
 //! An index that is read.
 
-ghost use Rattle.std.specs.Prelude.{◌≡◌, ◌⊎◌, ◌+◌, ◌*◌, ◌<◌, ◌^◌, ℕ, List, IfOk, IfErr, length};
+ghost use Rattle.std.specs.Prelude.{◌≡◌, ◌⊎◌, ◌+◌, ◌*◌, ◌<◌, ◌^◌, ◌↔◌, ℕ, List, IfOk, IfErr, IsTrue, length};
+ghost use Rattle.sha2.specs.Sha256.{sha256};
 ghost use Rattle.table_index.specs.InnerReading.{AreEndsOf, AreEntriesOf, AreReadOf, FailsBehindEnds};
 ghost use Rattle.table_index.specs.Fault.{FailsDigest, FailsInEntries, FailsInPlaces};
 ghost use Rattle.table_index.specs.Reading.{IsRefused, ReadsIndex, ReadsText};
@@ -15,6 +16,14 @@ use memory::{Heap, NoMemory};
 use placed_bytes::Placed;
 use sha2::{Digest, Sha256};
 
+/// Whether bytes have this SHA-256.
+fn has_digest(bytes: &[u8], digest: &[u8]) -> bool
+    ensures { IsTrue result ↔ (sha256 bytes.now ≡ digest.now) }
+{
+    let found = Sha256::digest(bytes);
+    &found[..] == digest
+}
+
 /// Reads the bytes of the entries, and compares them with their digest.
 fn read_bytes<P: Placed>(
     heap: Heap,
@@ -27,9 +36,8 @@ fn read_bytes<P: Placed>(
         (λ text bytes. AreEndsOf text ends.now → AreEntriesOf text bytes.items)
         (λ text fault. AreEndsOf text ends.now → IsRefused FailsDigest text fault) }
 {
-    let bytes = read_part(heap, device, ends.start, ends.count * ENTRY_LEN as u64)?;
-    let found = Sha256::digest(&bytes[..]);
-    if &found[..] != &ends.digest[..] {
+    let bytes = read_part(heap, device, ends.start, ENTRY_LEN as u64 * ends.count)?;
+    if !has_digest(&bytes, &ends.digest) {
         return Err(IndexFault {
             kind: IndexFaultKind::BadDigest,
             offset: ends.start,
