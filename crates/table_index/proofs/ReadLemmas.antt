@@ -1,9 +1,11 @@
 -- What a call says that reads an index, said otherwise.
-use Rattle.std.proofs.Common.{◌≡◌, ◌∙◌, ℕ, List, subst, sym, inl, inr}
-use Rattle.std.specs.Prelude.{Option, Some, Result, Ok, Err, MatchResult, ◌⊎◌}
+use Rattle.std.proofs.Common.{◌≡◌, ◌≢◌, ◌∙◌, ℕ, List, refl, subst, sym, inl, inr}
+use Rattle.std.specs.Prelude.{Option, Some, Result, Ok, Err, IfErr, MatchResult, ◌⊎◌}
 use Rattle.table_index.specs.Fault.{IsOfMachine, IsPartOffset}
 use Rattle.table_index.specs.Reading.{Blames, IsRefused, ReadsText}
 use Rattle.table_index.specs.declared.fault.IndexFault.{IndexFault}
+use Rattle.table_index.specs.declared.fault.IndexFaultKind.{IndexFaultKind}
+use Rattle.table_index.specs.declared.fault.IndexFaultKind.TheVariants.{Device}
 
 -- a fault of the text is one of another kind too
 pub refused_as : (A B : List ℕ → IndexFault → Type 0) (text : List ℕ) (f : IndexFault) → (A text f → B text f) → IsRefused A text f → IsRefused B text f
@@ -50,3 +52,24 @@ unread B text f part (inr none) = absurd none
 pub flat : {P : Type 0} (B : List ℕ → IndexFault → Type 0) (text : List ℕ) (f : IndexFault) → ((IsOfMachine f.kind × IsPartOffset text f.offset) ⊎ P) → (P → IsRefused B text f) → IsRefused B text f
 flat B text f (inl machine) to = inl machine
 flat B text f (inr under) to = to under
+
+-- a device that did not fail is not blamed
+pub unfailed_blames : (old new : ℕ) (kind : IndexFaultKind) → kind ≢ Device → new ≡ old → Blames old new kind
+unfailed_blames old new Device other same = absurd (other refl)
+unfailed_blames old new _ other same = same
+
+-- what was read is tested
+pub tested : {D T : Type 0} (whole : D → Option (List ℕ)) (failures : D → ℕ) (old new : D) (r : Result T IndexFault) (A : List ℕ → T → Type 0) (B : List ℕ → IndexFault → Type 0)
+    → whole new ≡ whole old → failures new ≡ failures old → ((text : List ℕ) → whole old ≡ Some text → MatchResult r (A text) (B text)) → IfErr r (λ f. f.kind ≢ Device) → ReadsText whole failures old new r A B
+tested whole failures old new (Ok value) A B keeps same says other = record { says = says; keeps = keeps; counts = same }
+tested whole failures old new (Err f) A B keeps same says other = record { says = λ text is. inr (says text is); keeps = keeps; counts = unfailed_blames (failures old) (failures new) f.kind other same }
+
+-- a premise of what is said
+pub under : {T P : Type 0} (r : Result T IndexFault) (A : T → Type 0) (B : IndexFault → Type 0) → (P → MatchResult r A B) → MatchResult r (λ value. P → A value) (λ f. P → B f)
+under (Ok value) A B h = h
+under (Err f) A B h = h
+
+-- a fault of the text is one that the machine might have had
+pub as_refused : {T : Type 0} (r : Result T IndexFault) (A : T → Type 0) (B : List ℕ → IndexFault → Type 0) (text : List ℕ) → MatchResult r A (B text) → MatchResult r A (IsRefused B text)
+as_refused (Ok value) A B text h = h
+as_refused (Err f) A B text h = inr h

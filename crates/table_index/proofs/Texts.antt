@@ -154,3 +154,6 @@ module _ (text : List ℕ) (ends : Ends) (are : AreEndsOf text ends) where
 
   pub ends_fill : ends.start + 122 * ends.count + 41 ≡ length text
   ends_fill = omega (arith, ended.1, are.start_is, are.count_is)
+
+  pub length_entries : length (entries_in text) ≡ 122 * count_in text
+  length_entries = omega (arith, ended.1, length-take (122 * count_in text) (drop (start_in text) text), length-drop (start_in text) text)

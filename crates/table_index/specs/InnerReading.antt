@@ -1,10 +1,10 @@
 -- An index that is read: the words of the inner functions. No contract of a public one has them.
-use Rattle.std.specs.Prelude.{◌≡◌, ℕ, ◌+◌, ◌-◌, ◌<◌, List, [], ◌⊎◌, All, length, map, take, drop}
+use Rattle.std.specs.Prelude.{◌≡◌, ℕ, ◌+◌, ◌-◌, ◌<◌, List, [], ◌⊎◌, All, Ok, length, map, take, drop}
 use Rattle.std.specs.Int.{w64, to_be_bytes}
 use Rattle.std.specs.List.{concat}
 use Rattle.table_index.specs.Entry.{HasItsFields, entry_bytes}
 use Rattle.table_index.specs.Fault.{FailsAtEnd, FailsDigest, FailsInEntries, FailsInFront, FailsInPlaces, HasDigest}
-use Rattle.table_index.specs.Fault.{HasEnds, IsOfMachine}
+use Rattle.table_index.specs.Fault.{HasEnds, IsOfMachine, test_front}
 use Rattle.table_index.specs.Text.{AreLaid, PassTests, count_in, digest_in, entries_in, start_in}
 use Rattle.table_index.specs.declared.ends.Ends.{Ends}
 use Rattle.table_index.specs.declared.entry.TableEntry.{TableEntry}
@@ -13,6 +13,11 @@ use Rattle.table_index.specs.declared.fault.IndexFault.{IndexFault}
 -- why so many bytes from an offset on were not read: the machine's fault, or there are fewer
 abbrev pub IsUnread : ℕ → ℕ → List ℕ → IndexFault → Type 0
 IsUnread offset count text fault = (fault.offset ≡ offset) × (IsOfMachine fault.kind ⊎ (length text < offset + count))
+
+-- the text has the magic, and this is its size
+pub record IsFronted (text : List ℕ) (size : ℕ) : Type 0 where
+  pub size_is : size ≡ length text
+  pub front : test_front text ≡ Ok tt
 
 -- these are the ends of a text
 pub record AreEndsOf (text : List ℕ) (ends : Ends) : Type 0 where

@@ -1,12 +1,13 @@
 //! What stands at the two ends of an index.
 
-ghost use Rattle.std.specs.Prelude.{◌≡◌, ◌↔◌, ◌+◌, ◌-◌, ◌*◌, ◌<◌, ◌≤◌, ◌^◌, ℕ, List, Ok, IfOk, OnOk, MatchResult};
+ghost use Rattle.std.specs.Prelude.{◌≡◌, ◌≢◌, ◌↔◌, ◌+◌, ◌-◌, ◌*◌, ◌<◌, ◌≤◌, ◌^◌, ℕ, List, Ok, IfOk, IfErr, OnOk, MatchResult};
 ghost use Rattle.std.specs.Prelude.{IsTrue, length, slice_index, take, drop, min};
 ghost use Rattle.std.specs.Str.{bytes_eq};
 ghost use Rattle.archive_index.specs.Text.{index_magic};
 ghost use Rattle.table_index.specs.Fault.{FailsInFront, FailsAtEnd, test_front};
-ghost use Rattle.table_index.specs.InnerReading.{AreEndsOf, FailsInEnds, IsUnread};
+ghost use Rattle.table_index.specs.InnerReading.{AreEndsOf, FailsInEnds, IsFronted, IsUnread};
 ghost use Rattle.table_index.specs.Reading.{IsRefused, ReadsText};
+ghost use Rattle.table_index.specs.declared.fault.IndexFaultKind.TheVariants.{Device};
 
 use crate::entry::{ENTRY_LEN, number_at};
 use crate::{IndexFault, IndexFaultKind};
@@ -103,6 +104,7 @@ fn test_front(size: u64, front: &[u8]) -> Result<(), IndexFault>
     ensures tested { (text : List ℕ) → size ≡ length text → front.now ≡ take 8 text
         → MatchResult result (λ _. test_front text ≡ Ok tt) (FailsInFront text) }
     ensures room { OnOk result (49 ≤ size) }
+    ensures faulty { IfErr result (λ fault. fault.kind ≢ Device) }
 {
     if !begins(front) {
         return Err(IndexFault {
@@ -123,7 +125,7 @@ fn test_front(size: u64, front: &[u8]) -> Result<(), IndexFault>
 fn read_front<P: Placed>(heap: Heap, device: &mut P) -> Result<u64, IndexFault>
     ensures room { IfOk result (λ size. 49 ≤ size) }
     ensures read { ReadsText P.whole P.failures device.old device.new result
-        (λ text size. (size ≡ length text) × (test_front text ≡ Ok tt)) FailsInFront }
+        IsFronted FailsInFront }
 {
     let size = read_size(device)?;
     let front = read_part(heap, device, 0, size.min(MAGIC_LEN))?;
@@ -153,8 +155,9 @@ fn digest_in(end: &[u8]) -> [u8; 32]
 fn ends_in(size: u64, end: &[u8]) -> Result<Ends, IndexFault>
     requires room { 49 ≤ size }
     requires long { length end.now ≡ 41 }
-    ensures tested { (text : List ℕ) → size ≡ length text → end.now ≡ drop (length text - 41) text
-        → test_front text ≡ Ok tt → MatchResult result (AreEndsOf text) (FailsAtEnd text) }
+    ensures tested { (text : List ℕ) → IsFronted text size → end.now ≡ drop (length text - 41) text
+        → MatchResult result (AreEndsOf text) (FailsAtEnd text) }
+    ensures faulty { IfErr result (λ fault. fault.kind ≢ Device) }
     ensures fits { IfOk result (λ ends. ends.start + 122 * ends.count + 41 ≡ size) }
 {
     let offset = size - END_LEN;
@@ -183,8 +186,8 @@ fn read_end<P: Placed>(heap: Heap, device: &mut P, size: u64) -> Result<Ends, In
     requires { 49 ≤ size }
     ensures fits { IfOk result (λ ends. ends.start + 122 * ends.count + 41 ≡ size) }
     ensures read { ReadsText P.whole P.failures device.old device.new result
-        (λ text ends. size ≡ length text → test_front text ≡ Ok tt → AreEndsOf text ends)
-        (λ text fault. size ≡ length text → test_front text ≡ Ok tt → IsRefused FailsAtEnd text fault) }
+        (λ text ends. IsFronted text size → AreEndsOf text ends)
+        (λ text fault. IsFronted text size → IsRefused FailsAtEnd text fault) }
 {
     let end = read_part(heap, device, size - END_LEN, END_LEN)?;
     ends_in(size, &end)

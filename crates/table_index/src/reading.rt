@@ -1,11 +1,11 @@
 //! An index that is read.
 
-ghost use Rattle.std.specs.Prelude.{◌≡◌, ◌⊎◌, ◌+◌, ◌*◌, ◌<◌, ◌^◌, ◌↔◌, ℕ, List, IfOk, IfErr, IsTrue, length};
+ghost use Rattle.std.specs.Prelude.{◌≡◌, ◌≢◌, ◌⊎◌, ◌+◌, ◌*◌, ◌<◌, ◌^◌, ◌↔◌, ℕ, List, IfOk, IfErr, IsTrue, length};
 ghost use Rattle.sha2.specs.Sha256.{sha256};
 ghost use Rattle.table_index.specs.InnerReading.{AreEndsOf, AreEntriesOf, AreReadOf, FailsBehindEnds};
 ghost use Rattle.table_index.specs.Fault.{FailsDigest, FailsInEntries, FailsInPlaces};
 ghost use Rattle.table_index.specs.Reading.{IsRefused, ReadsIndex, ReadsText};
-ghost use Rattle.table_index.specs.declared.fault.IndexFaultKind.TheVariants.{OutOfMemory};
+ghost use Rattle.table_index.specs.declared.fault.IndexFaultKind.TheVariants.{Device, OutOfMemory};
 
 use crate::ends::{Ends, read_ends, read_part};
 use crate::entry::ENTRY_LEN;
@@ -55,6 +55,7 @@ fn test_entries(heap: Heap, bytes: &[u8], ends: &Ends) -> Result<Vec<TableEntry,
     ensures faulty { IfErr result (λ fault. ((fault.kind ≡ OutOfMemory) × (fault.offset ≡ ends.now.start))
         ⊎ ((text : List ℕ) → AreEndsOf text ends.now → AreEntriesOf text bytes.now
         → FailsInEntries text fault ⊎ FailsInPlaces text fault)) }
+    ensures device { IfErr result (λ fault. fault.kind ≢ Device) }
 {
     let Ok(own) = heap.clone() else {
         return Err(IndexFault::out_of_memory(ends.start));

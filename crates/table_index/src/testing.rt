@@ -1,13 +1,13 @@
 //! The tests of the entries of an index.
 
-ghost use Rattle.std.specs.Prelude.{◌≡◌, ◌⊎◌, ◌+◌, ◌*◌, ◌<◌, ◌≤◌, ◌^◌, ℕ, List, IfOk, IfErr, length};
+ghost use Rattle.std.specs.Prelude.{◌≡◌, ◌≢◌, ◌⊎◌, ◌+◌, ◌*◌, ◌<◌, ◌≤◌, ◌^◌, ℕ, List, IfOk, IfErr, length};
 ghost use Rattle.checked_pages.specs.Views.{claim_view};
 ghost use Rattle.archive_index.specs.Entry.{has_kind, has_length, has_tag};
 ghost use Rattle.table_index.specs.Entry.{has_claim, stored_size};
 ghost use Rattle.table_index.specs.Fault.{FailsAfter};
 ghost use Rattle.table_index.specs.InnerReading.{AreTested};
 ghost use Rattle.table_index.specs.Text.{test_entry};
-ghost use Rattle.table_index.specs.declared.fault.IndexFaultKind.TheVariants.{OutOfMemory};
+ghost use Rattle.table_index.specs.declared.fault.IndexFaultKind.TheVariants.{Device, OutOfMemory};
 
 use crate::entry::{ADMISSION, ENTRY_LEN, RETIREMENT, claim_in, number_at};
 use crate::{IndexFault, IndexFaultKind, TableEntry};
@@ -79,7 +79,8 @@ fn has_claim(bytes: &[u8], end: u64) -> bool
 #[tactic(auto, unfolding(crate::specs::Text::test_entry))]
 fn test_entry(last: &[u8], bytes: &[u8], end: u64) -> Result<(), IndexFaultKind>
     requires { length bytes.now ≡ 122 }
-    ensures { result ≡ test_entry end last.now bytes.now }
+    ensures tested { result ≡ test_entry end last.now bytes.now }
+    ensures faulty { IfErr result (λ kind. kind ≢ Device) }
 {
     if !has_tag(bytes) {
         return Err(IndexFaultKind::BadTag);
@@ -111,6 +112,7 @@ pub(crate) fn entries_in(
     ensures read { IfOk result (λ entries. AreTested end bytes.now entries.items) }
     ensures faulty { IfErr result (λ fault. ((fault.kind ≡ OutOfMemory) × (fault.offset ≡ end))
         ⊎ ((before : List (List ℕ)) × FailsAfter end bytes.now before fault)) }
+    ensures device { IfErr result (λ fault. fault.kind ≢ Device) }
 {
     let mut entries = Vec::new(heap);
     let mut last: &[u8] = &[];

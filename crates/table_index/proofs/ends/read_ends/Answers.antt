@@ -17,6 +17,6 @@ pub returns-clause-read : goal.returns-clause-read
 returns-clause-read g c =
     let front = c.in_ok-size.ensures.read in
     read_as _ _ _ _ _ _ _ _ _
-    (λ text known ends are. are (front.says text known).0 (front.says text known).1)
-    (λ text known f refused. refused_as FailsAtEnd FailsInEnds text f (λ fault. inr fault) (flat FailsAtEnd text f refused (λ under. under (front.says text known).0 (front.says text known).1)))
+    (λ text known ends are. are (front.says text known))
+    (λ text known f refused. refused_as FailsAtEnd FailsInEnds text f (λ fault. inr fault) (flat FailsAtEnd text f refused (λ under. under (front.says text known))))
     (after_ok _ _ _ _ _ _ _ _ front.keeps front.counts c.read_end.ensures.read)
