@@ -11,11 +11,11 @@ use Rattle.table_index.specs.declared.fault.IndexFaultKind.TheVariants.{OutOfMem
 use Rattle.table_index.proofs.ReadLemmas.{passed_on, refused_as, tested, flat}
 use Rattle.table_index.proofs.reading.read_entries.Goals as goal
 
-pub returns-in_default : goal.returns-in_default
-returns-in_default g c = record { says = λ text known. inr (λ are. inl (inr refl, inr (inr are.start_is))); keeps = refl; counts = refl }
+pub returns-in_default-clause-read : goal.returns-in_default-clause-read
+returns-in_default-clause-read g c = record { says = λ text known. inr (λ are. inl (inr refl, inr (inr are.start_is))); keeps = refl; counts = refl }
 
-pub returns-in_err-bytes : goal.returns-in_err-bytes
-returns-in_err-bytes g c =
+pub returns-in_err-bytes-clause-read : goal.returns-in_err-bytes-clause-read
+returns-in_err-bytes-clause-read g c =
     let p = err_from_is_err_and c.from_residual.result c.from_residual.ensures.1 in
     passed_on _ _ _ _ _ _ _ _ _ _ _ c.in_err-bytes.was (p.1 ∙ ap Err p.2)
     (λ text known refused. inr (λ are. refused_as FailsDigest FailsBehindEnds text _ (λ fault. inl fault) (flat FailsDigest text _ refused (λ under. under are)))) c.read_bytes.ensures.read
@@ -30,8 +30,8 @@ said (Ok v) ends bytes text entries_of read faulty are_entries = λ are. read te
 said (Err f) ends bytes text entries_of read (inl machine) are_entries = λ are. inl (inr machine.0, inr (inr (machine.1 ∙ are.start_is)))
 said (Err f) ends bytes text entries_of read (inr fault) are_entries = λ are. inr (inr (fault text are (are_entries are)))
 
-pub returns : goal.returns
-returns g c =
+pub returns-clause-read : goal.returns-clause-read
+returns-clause-read g c =
     let read = c.in_ok-bytes.ensures.read in
     tested _ _ _ _ _ _ _ read.keeps read.counts
     (λ text known. said c.test_entries.result c.args.ends.now c.deref.result.now text (λ entries. entries.items) c.test_entries.ensures.read c.test_entries.ensures.faulty

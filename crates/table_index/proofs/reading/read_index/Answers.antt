@@ -50,12 +50,12 @@ returns-in_err-entries g c =
     let ends = c.in_ok-ends.ensures.read in
     passed_on _ _ _ _ _ _ _ _ _ _ _ c.in_err-entries.was (p.1 ∙ ap Err p.2)
     (λ text known refused. refused_as FailsBehindEnds IsIndexFault text _ (behind_ends text _) (flat FailsBehindEnds text _ refused (λ under. under (ends.says text known))))
-    (after_ok _ _ _ _ _ _ _ _ ends.keeps ends.counts c.read_entries.ensures)
+    (after_ok _ _ _ _ _ _ _ _ ends.keeps ends.counts c.read_entries.ensures.read)
 
 pub returns : goal.returns
 returns g c =
     let ends = c.in_ok-ends.ensures.read in
-    let read = after_ok _ _ _ _ _ _ _ _ ends.keeps ends.counts c.in_ok-entries.ensures in
+    let read = after_ok _ _ _ _ _ _ _ _ ends.keeps ends.counts c.in_ok-entries.ensures.read in
     record {
       says = λ text known.
           let are = ends.says text known in
