@@ -27,7 +27,7 @@ failed kind = Err kind
 
 -- ---- what the text of tables and entries has
 
-end_long : (entries : List (List ℕ)) → length (end_of entries) ≡ 41
+pub end_long : (entries : List (List ℕ)) → length (end_of entries) ≡ 41
 unfolding end_of
 end_long entries = omega (arith, length-append (to_be_bytes w64 (length entries)) (sha256 (concat entries)), length-sha256 (concat entries))
 

@@ -1,13 +1,13 @@
 -- An index that is made, record by record: the words of the inner functions. No contract of a public one has them.
-use Rattle.std.specs.Prelude.{◌≡◌, ◌≢◌, ℕ, List, [], ◌++◌, length, map, Option, Result, Ok, Err}
-use Rattle.std.specs.List.{AllZip}
-use Rattle.std.specs.Io.KnownBytes.{Appends}
+use Rattle.std.specs.Prelude.{◌≡◌, ◌≤◌, ℕ, List, [], ◌++◌, ◌⊎◌, length, map, take, Option}
+use Rattle.std.specs.List.{AllZip, concat}
+use Rattle.std.specs.Io.KnownBytes.{Appends, Consumes}
 use Rattle.byte_device.specs.Writes.{IsPut, StopsPut}
+use Rattle.archive_records.specs.Kind.{magic}
 use Rattle.archive_records.specs.Reader.{HasRead, HasReadAll, Position}
+use Rattle.archive_records.specs.Text.{AreApart, InOrder}
 use Rattle.archive_records.specs.declared.format.Format.TheVariants.{Archive}
-use Rattle.archive_index.specs.InnerMaking.{HasStoppedIndexing}
 use Rattle.archive_index.specs.Text.{index_magic}
-use Rattle.archive_index.specs.declared.fault.IndexingFault.{IndexingFault}
 use Rattle.table_index.specs.Content.{IsTableOf, table_entries, tables_text}
 use Rattle.table_index.specs.Entry.{entry_bytes}
 use Rattle.table_index.specs.declared.entry.TableEntry.{TableEntry}
@@ -46,3 +46,21 @@ pub record HasPutAll {W : Type 0} (a b : Option (List ℕ)) (held : W → Option
   pub read : HasReadAll Archive a b records position
   pub tabled : AreTabled records tables entries
   pub put : IsPut held failures old new 0 (front_of tables) done
+
+-- The magic of an archive, these records and what came after them were read, and of the front of its index with these
+-- tables the first n bytes were written.
+pub record HasBegun {W : Type 0} (a b : Option (List ℕ)) (held : W → Option (List ℕ)) (old new : W) (n : ℕ)
+    : Type 0 where
+  pub records : List (List ℕ)
+  pub tables : List (List ℕ)
+  pub rest : List ℕ
+  pub taken : Consumes a b (magic ++ (concat records ++ rest))
+  pub ordered : InOrder Archive [] records
+  pub apart : AreApart Archive records
+  pub each : AllZip IsTableOf records tables
+  pub within : n ≤ length (front_of tables)
+  pub gained : Appends (held old) (held new) (take n (front_of tables))
+
+-- the same, or nothing was written yet
+abbrev pub IsBegun : {W : Type 0} → Option (List ℕ) → Option (List ℕ) → (W → Option (List ℕ)) → W → W → ℕ → Type 0
+IsBegun a b held old new n = ((n ≡ 0) × Appends (held old) (held new) []) ⊎ HasBegun a b held old new n
