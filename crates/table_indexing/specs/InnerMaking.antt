@@ -1,16 +1,24 @@
 -- An index that is made, record by record: the words of the inner functions. No contract of a public one has them.
-use Rattle.std.specs.Prelude.{◌≡◌, ◌≤◌, ℕ, List, [], ◌++◌, ◌⊎◌, length, map, take, Option}
+use Rattle.std.specs.Prelude.{◌≡◌, ◌≤◌, ◌^◌, ℕ, List, [], ◌++◌, ◌⊎◌, length, map, take, Option}
 use Rattle.std.specs.List.{AllZip, concat}
 use Rattle.std.specs.Io.KnownBytes.{Appends, Consumes}
 use Rattle.byte_device.specs.Writes.{IsPut, StopsPut}
-use Rattle.archive_records.specs.Kind.{magic}
-use Rattle.archive_records.specs.Reader.{HasRead, HasReadAll, Position}
+use Rattle.byte_device.specs.Devices.{FailedIn}
+use Rattle.checked_pages.specs.Pages.{stored}
+use Rattle.archive_records.specs.Kind.{magic, old_magic}
+use Rattle.archive_records.specs.Reader.{HasRead, HasReadAll, HasStopped, Position}
 use Rattle.archive_records.specs.Text.{AreApart, InOrder}
 use Rattle.archive_records.specs.declared.format.Format.TheVariants.{Archive}
+use Rattle.archive_records.specs.declared.fault.RecordFaultKind.TheVariants.{OutOfMemory as Wanted}
+use Rattle.archive_records.specs.declared.kind.TextKind.TheVariants.{Archive as Archive_text}
+use Rattle.archive_index.specs.InnerMaking.{BlamesIndexing}
 use Rattle.archive_index.specs.Text.{index_magic}
+use Rattle.archive_index.specs.declared.fault.IndexingFault.TheVariants.{Archive as Archive_fault, OldArchive, TooLong}
 use Rattle.table_index.specs.Content.{IsTableOf, table_entries, tables_text}
 use Rattle.table_index.specs.Entry.{entry_bytes}
 use Rattle.table_index.specs.declared.entry.TableEntry.{TableEntry}
+use Rattle.table_indexing.specs.declared.fault.MakingFault.{MakingFault}
+use Rattle.table_indexing.specs.declared.fault.MakingFault.TheVariants.{Archive as Refused, Write as Wrote}
 use Rattle.table_indexing.specs.declared.fault.TableFault.{TableFault}
 use Rattle.table_indexing.specs.declared.fault.TableFault.TheVariants.{OutOfMemory, Write}
 
@@ -64,3 +72,32 @@ pub record HasBegun {W : Type 0} (a b : Option (List ℕ)) (held : W → Option 
 -- the same, or nothing was written yet
 abbrev pub IsBegun : {W : Type 0} → Option (List ℕ) → Option (List ℕ) → (W → Option (List ℕ)) → W → W → ℕ → Type 0
 IsBegun a b held old new n = ((n ≡ 0) × Appends (held old) (held new) []) ⊎ HasBegun a b held old new n
+
+-- why the table of a record was not written, which stands so many bytes after the archive's beginning
+abbrev pub StopsRecord : {W : Type 0} → (W → Option (List ℕ)) → (W → ℕ) → W → W → ℕ → ℕ → List ℕ → MakingFault → Type 0
+StopsRecord held failures old new before done r (Refused TooLong) =
+    Appends (held old) (held new) [] × (failures new ≡ failures old) × ((2 ^ 64 ≤ before) ⊎ (2 ^ 64 ≤ done))
+StopsRecord held failures old new before done r (Refused OldArchive) = ⊥
+StopsRecord held failures old new before done r (Refused (Archive_fault fault)) =
+    Appends (held old) (held new) [] × (failures new ≡ failures old)
+    × (fault ≡ record { kind = Wanted; offset = before })
+StopsRecord held failures old new before done r (Wrote fault) = (table : List ℕ) × IsTableOf r table
+    × StopsPut held failures old new done (stored table) fault.written
+
+-- why reading and writing stopped, and that a beginning of the index was written
+abbrev pub HasStoppedMaking : {W : Type 0} → Option (List ℕ) → Option (List ℕ) → (W → Option (List ℕ)) → (W → ℕ) → W
+    → W → MakingFault → Type 0
+HasStoppedMaking a b held failures old new (Refused (Archive_fault fault)) =
+    HasStopped Archive_text a b fault × (failures new ≡ failures old) × ((n : ℕ) × IsBegun a b held old new n)
+HasStoppedMaking a b held failures old new (Refused OldArchive) =
+    Consumes a b old_magic × (failures new ≡ failures old) × ((n : ℕ) × IsBegun a b held old new n)
+HasStoppedMaking a b held failures old new (Refused TooLong) =
+    ((bytes : List ℕ) × (2 ^ 64 ≤ length bytes) × (Consumes a b bytes ⊎ Appends (held old) (held new) bytes))
+    × (failures new ≡ failures old) × ((n : ℕ) × IsBegun a b held old new n)
+HasStoppedMaking a b held failures old new (Wrote fault) =
+    FailedIn (failures old) (failures new) × IsBegun a b held old new fault.written
+
+-- what a fault says of the reader
+abbrev pub BlamesMaking : {R : Type 0} → (R → Option (List ℕ)) → (R → ℕ) → R → R → MakingFault → Type 0
+BlamesMaking left failures old new (Refused fault) = BlamesIndexing left failures old new fault
+BlamesMaking left failures old new (Wrote fault) = failures new ≡ failures old

@@ -1,7 +1,10 @@
 //! The entries of an index in byte order, and its end record.
 
-ghost use Rattle.std.specs.Prelude.{◌≡◌, ◌++◌, ◌<◌, ◌≤◌, ◌^◌, IfOk, length, map};
+ghost use Rattle.std.specs.Prelude.{◌≡◌, ◌∷◌, ◌++◌, ◌<◌, ◌^◌, IfOk, length, map};
+ghost use Rattle.std.specs.FinSet as set;
+ghost use Rattle.std.specs.Int.{w64, to_be_bytes};
 ghost use Rattle.std.specs.List.{concat};
+ghost use Rattle.join_core.specs.Listing.{listing};
 ghost use Rattle.byte_device.specs.Writes.{Puts};
 ghost use Rattle.table_index.specs.Entry.{entry_bytes};
 ghost use Rattle.table_index.specs.Text.{end_of};
@@ -35,7 +38,7 @@ pub(crate) fn put_entries<W: Sink>(
     w: &mut W,
     done: u128,
 ) -> Result<Sizes, WriteFault>
-    requires { done < 2 ^ 127 }
+    requires { done < 2 ^ 80 }
     ensures puts { Puts W.held W.failures (λ sizes. sizes.bytes) w.old w.new done
         (concat (map entry_bytes entries.now) ++ end_of (map entry_bytes entries.now)) result }
     ensures records { IfOk result (λ sizes. sizes.records ≡ length entries.now) }

@@ -1,6 +1,10 @@
 //! The index of an archive, made as it comes.
 
+ghost use Rattle.std.specs.Prelude.{◌≡◌, ◌<◌, ◌^◌, IfErr, IfOk, OnOk};
+ghost use Rattle.std.specs.Io.KnownBytes.{IsAtEnd};
 ghost use Rattle.byte_device.specs.Devices.{stream};
+ghost use Rattle.archive_records.specs.Reader.{Position};
+ghost use Rattle.table_indexing.specs.InnerMaking.{BlamesMaking, HasPutAll, HasStoppedMaking};
 ghost use Rattle.table_indexing.specs.Making.{Makes};
 
 use crate::beginning::begin;

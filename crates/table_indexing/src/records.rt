@@ -1,10 +1,16 @@
 //! The tables of all records of an archive, one after another.
 
-ghost use Rattle.std.specs.Prelude.{◌≡◌, ◌<◌, ◌^◌, ℕ, List, Option, [], IfOk, OnOk};
+ghost use Rattle.std.specs.Prelude.{◌≡◌, ℕ, List, Option, [], IfErr, IfOk, OnOk};
+ghost use Rattle.byte_device.specs.Writes.{IsPut};
+ghost use Rattle.checked_pages.specs.Pages.{stored};
+ghost use Rattle.archive_core.specs.Record.{IsRecord};
 ghost use Rattle.archive_records.specs.Reader.{HasRead};
 ghost use Rattle.archive_records.specs.declared.format.Format.TheVariants.{Archive};
-ghost use Rattle.byte_device.specs.Writes.{IsPut};
-ghost use Rattle.table_indexing.specs.InnerMaking.{HasPutAll, front_of};
+ghost use Rattle.archive_index.specs.declared.fault.IndexingFault.TheVariants.{Archive as Archive_fault};
+ghost use Rattle.table_index.specs.Content.{IsTableOf};
+ghost use Rattle.table_index.specs.Entry.{entry_bytes, table_entry};
+ghost use Rattle.table_indexing.specs.InnerMaking.{BlamesMaking, HasPutAll, HasStoppedMaking, StopsRecord, front_of};
+ghost use Rattle.table_indexing.specs.declared.fault.MakingFault.TheVariants.{Archive as Refused};
 
 use crate::fault::{MakingFault, TableFault};
 use crate::tables::put_table;
@@ -15,7 +21,9 @@ use memory::Heap;
 use table_index::TableEntry;
 
 /// A fault of the archive.
-fn refused(fault: RecordFault) -> MakingFault {
+fn refused(fault: RecordFault) -> MakingFault
+    ensures { result ≡ Refused (Archive_fault fault) }
+{
     MakingFault::Archive(IndexingFault::Archive(fault))
 }
 
@@ -56,7 +64,11 @@ pub(crate) fn put_tables<R: Source, W: Sink>(
     ensures all { IfOk result (λ put. (a : Option (List ℕ)) (first : W)
         → HasRead Archive a (R.left r.old) [] reader.old → IsPut W.held W.failures first w.old 0 (front_of []) done
         → HasPutAll a (R.left r.new) W.held W.failures first w.new put.0.items reader.new put.1) }
+    ensures stopped { IfErr result (λ fault. (a : Option (List ℕ)) (first : W)
+        → HasRead Archive a (R.left r.old) [] reader.old → IsPut W.held W.failures first w.old 0 (front_of []) done
+        → HasStoppedMaking a (R.left r.new) W.held W.failures first w.new fault) }
     ensures unfailed { OnOk result (R.failures r.new ≡ R.failures r.old) }
+    ensures blames { IfErr result (BlamesMaking R.left R.failures r.old r.new) }
 {
     let Ok(own) = heap.clone() else {
         return Err(refused(RecordFault::out_of_memory(reader.offset())));
