@@ -22,11 +22,13 @@ use Rattle.table_indexing.specs.declared.fault.MakingFault.TheVariants.{Archive 
 use Rattle.table_indexing.specs.declared.fault.TableFault.{TableFault}
 use Rattle.table_indexing.specs.declared.fault.TableFault.TheVariants.{OutOfMemory, Write}
 
--- why a stored table was not written whole: memory was refused before its first byte, or the writer failed in it
-abbrev pub StopsTable : {W : Type 0} → (W → Option (List ℕ)) → (W → ℕ) → W → W → ℕ → List ℕ → TableFault → Type 0
-StopsTable held failures old new done text OutOfMemory =
+-- why a table of this kind was not written whole: memory was refused before its first byte, or the writer failed in it
+abbrev pub StopsTable : {W : Type 0} → (W → Option (List ℕ)) → (W → ℕ) → W → W → ℕ → (List ℕ → Type 0) → TableFault
+    → Type 0
+StopsTable held failures old new done IsTable OutOfMemory =
     Appends (held old) (held new) [] × (failures new ≡ failures old)
-StopsTable held failures old new done text (Write fault) = StopsPut held failures old new done text fault.written
+StopsTable held failures old new done IsTable (Write fault) = (table : List ℕ) × IsTable table
+    × StopsPut held failures old new done (stored table) fault.written
 
 -- what an index begins with that has these tables
 abbrev pub front_of : List (List ℕ) → List ℕ

@@ -1,6 +1,6 @@
 //! The tables of all records of an archive, one after another.
 
-ghost use Rattle.std.specs.Prelude.{◌≡◌, ℕ, List, Option, [], IfErr, IfOk, OnOk};
+ghost use Rattle.std.specs.Prelude.{◌≡◌, ◌<◌, ◌^◌, ℕ, List, Option, [], IfErr, IfOk, OnOk};
 ghost use Rattle.byte_device.specs.Writes.{IsPut};
 ghost use Rattle.checked_pages.specs.Pages.{stored};
 ghost use Rattle.archive_core.specs.Record.{IsRecord};
@@ -61,6 +61,7 @@ pub(crate) fn put_tables<R: Source, W: Sink>(
     done: u128,
 ) -> Result<(Vec<TableEntry, Heap>, u128), MakingFault>
     requires file { reader.old.file ≡ Archive }
+    requires fits { done < 2 ^ 80 }
     ensures all { IfOk result (λ put. (a : Option (List ℕ)) (first : W)
         → HasRead Archive a (R.left r.old) [] reader.old → IsPut W.held W.failures first w.old 0 (front_of []) done
         → HasPutAll a (R.left r.new) W.held W.failures first w.new put.0.items reader.new put.1) }
@@ -69,6 +70,7 @@ pub(crate) fn put_tables<R: Source, W: Sink>(
         → HasStoppedMaking a (R.left r.new) W.held W.failures first w.new fault) }
     ensures unfailed { OnOk result (R.failures r.new ≡ R.failures r.old) }
     ensures blames { IfErr result (BlamesMaking R.left R.failures r.old r.new) }
+    ensures short { IfOk result (λ put. put.1 < 2 ^ 80) }
 {
     let Ok(own) = heap.clone() else {
         return Err(refused(RecordFault::out_of_memory(reader.offset())));

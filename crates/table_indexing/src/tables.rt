@@ -1,6 +1,6 @@
 //! The table of a record, made and written.
 
-ghost use Rattle.std.specs.Prelude.{◌≡◌, ℕ, List, IfOk, IfErr};
+ghost use Rattle.std.specs.Prelude.{◌≡◌, ◌<◌, ◌^◌, ℕ, List, IfOk, IfErr};
 ghost use Rattle.byte_device.specs.Writes.{IsPut};
 ghost use Rattle.checked_pages.specs.Pages.{stored};
 ghost use Rattle.checked_pages.specs.Views.{claim_view};
@@ -28,11 +28,11 @@ fn put_slice_table<W: Sink>(
     done: u64,
 ) -> Result<(Claim, u128), TableFault>
     requires { IsValid slice.now }
+    ensures short { IfOk result (λ put. put.1 < 2 ^ 80) }
     ensures put { IfOk result (λ put. (table : List ℕ) × IsTableText slice.now table
         × (claim_view put.0 ≡ claim_at done table)
         × IsPut W.held W.failures w.old w.new done (stored table) put.1) }
-    ensures stopped { IfErr result (λ fault. (table : List ℕ) × IsTableText slice.now table
-        × StopsTable W.held W.failures w.old w.new done (stored table) fault) }
+    ensures stopped { IfErr result (StopsTable W.held W.failures w.old w.new done (IsTableText slice.now)) }
 {
     let Ok(own) = heap.clone() else {
         return Err(TableFault::OutOfMemory);
@@ -57,11 +57,11 @@ pub(crate) fn put_table<W: Sink>(
     done: u64,
 ) -> Result<(Claim, u128), TableFault>
     requires { IsOperation (operation_lent item.now) }
+    ensures short { IfOk result (λ put. put.1 < 2 ^ 80) }
     ensures put { IfOk result (λ put. (table : List ℕ) × IsTableOf (lent_bytes item.now) table
         × (claim_view put.0 ≡ claim_of done (lent_bytes item.now) table)
         × IsPut W.held W.failures w.old w.new done (stored table) put.1) }
-    ensures stopped { IfErr result (λ fault. (table : List ℕ) × IsTableOf (lent_bytes item.now) table
-        × StopsTable W.held W.failures w.old w.new done (stored table) fault) }
+    ensures stopped { IfErr result (StopsTable W.held W.failures w.old w.new done (IsTableOf (lent_bytes item.now))) }
 {
     match item {
         Record::Admit(slice) => put_slice_table(heap, slice, w, done),
