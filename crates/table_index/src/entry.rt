@@ -80,8 +80,8 @@ fn placed_in(bytes: &[u8]) -> PlacedEntry
     requires tag { has_tag bytes.now ≡ true }
     requires kind { has_kind bytes.now ≡ true }
     ensures bytes { placed_bytes result ≡ bytes.now }
-    ensures offset { offset_in bytes.now ≡ result.offset }
-    ensures length { length_in bytes.now ≡ result.length }
+    ensures offset_is { offset_in bytes.now ≡ result.offset }
+    ensures length_is { length_in bytes.now ≡ result.length }
 {
     PlacedEntry {
         row: FindRow {

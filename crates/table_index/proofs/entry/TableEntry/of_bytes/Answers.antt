@@ -12,4 +12,4 @@ returns-clause-bytes c = entry_of_parts c.args.bytes.now _ c.placed_in.ensures.b
 
 pub returns-clause-fields : goal.returns-clause-fields
 returns-clause-fields c =
-    fields_of c.args.bytes.now _ c.requires.long (entry_of_parts c.args.bytes.now _ c.placed_in.ensures.bytes c.claim_in.ensures.bytes) c.placed_in.ensures.offset c.placed_in.ensures.length c.claim_in.ensures.is
+    fields_of c.args.bytes.now _ c.requires.long (entry_of_parts c.args.bytes.now _ c.placed_in.ensures.bytes c.claim_in.ensures.bytes) c.placed_in.ensures.offset_is c.placed_in.ensures.length_is c.claim_in.ensures.is
