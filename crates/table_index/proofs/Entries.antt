@@ -1,8 +1,9 @@
 -- Entries as values and as bytes.
 use Rattle.std.proofs.Common.{◌≡◌, ℕ, ◌+◌, ◌-◌, ◌<◌, ◌^◌, true, ◌||◌, ◌&&◌, eqb, List, ◌++◌, length, take, drop, get_or, sym, ap, ◌∙◌, arith, length-append, length-drop}
 use Rattle.std.specs.Int.{w64, to_be_bytes, from_be_bytes}
+use Rattle.std.proofs.Math.ListN.{get_or-append}
 use Rattle.std.proofs.Math.Seq.{take-append_seam, drop-append_seam}
-use Rattle.std.proofs.lemmas.List.{drop-drop, drop-take, drop_at, get_or-take, take-append-drop, take-take}
+use Rattle.std.proofs.lemmas.List.{drop-append-le, drop-drop, drop-take, drop_at, get_or-take, take-append-drop, take-append-le, take-take}
 use Rattle.std.proofs.lemmas.Nat.{from_be_bytes-to_be_bytes_8}
 use borrow.Rule.Slice.PartMut.{put_mid}
 use Rattle.checked_pages.specs.Pages.{Claim}
@@ -67,6 +68,22 @@ module _ (front : List ℕ) (c : Claim) (long : length front ≡ 74) where
 
   pub claim_read : c.offset < 2 ^ 64 → c.size < 2 ^ 64 → claim_in (front ++ claim_bytes c) ≡ c
   claim_read offset size = λ i. record { offset = offset_read offset i; size = size_read size i; root = root_read i }
+
+length-claim : (c : Claim) → length (claim_bytes c) ≡ 16 + length c.root
+unfolding claim_bytes
+length-claim c = omega (arith, length-append (to_be_bytes w64 c.offset) (to_be_bytes w64 c.size ++ c.root), length-append (to_be_bytes w64 c.size) c.root)
+
+-- 74 bytes with a claim after them say what they say alone
+module _ (front : List ℕ) (c : Claim) (long : length front ≡ 74) where
+  pub number_kept : (at : ℕ) → at + 8 < 75 → take 8 (drop at (front ++ claim_bytes c)) ≡ take 8 (drop at front)
+  number_kept at within =
+      ap (take 8) (drop-append-le at front (claim_bytes c) (omega (arith, long, within))) ∙ take-append-le 8 (drop at front) (claim_bytes c) (omega (arith, long, within, length-drop at front))
+
+  pub byte_kept : (i : ℕ) → i < 74 → get_or (front ++ claim_bytes c) i 0 ≡ get_or front i 0
+  byte_kept i lt = get_or-append front (claim_bytes c) 0 i (omega (arith, long, lt))
+
+pub long_with : (front : List ℕ) (c : Claim) → length front ≡ 74 → length c.root ≡ 32 → length (front ++ claim_bytes c) ≡ 122
+long_with front c long root = omega (arith, long, root, length-append front (claim_bytes c), length-claim c)
 
 -- numbers in the first 74 bytes
 front_number : (at : ℕ) (bytes : List ℕ) → at + 8 < 75 → take 8 (drop at (take 74 bytes)) ≡ take 8 (drop at bytes)
