@@ -6,3 +6,4 @@ pub mod Ends
 pub mod Faults
 pub mod Contents
 pub mod Places
+pub mod Accepted

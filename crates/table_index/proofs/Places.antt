@@ -52,7 +52,7 @@ alike_tails x xs ys alike f = omega (arith, alike f, sum_by-cons f x xs, sum_by-
 -- ---- one order
 
 -- what follows begins no earlier
-follows : (offset at end : ℕ) (xs : List (List ℕ)) (z : List ℕ) → FollowOn offset at end xs → Contains xs z → offset ≤ offset_in z
+pub follows : (offset at end : ℕ) (xs : List (List ℕ)) (z : List ℕ) → FollowOn offset at end xs → Contains xs z → offset ≤ offset_in z
 follows offset at end [] z follow c = absurd (omega (arith, c.1))
 follows offset at end (x ∷ xs) z follow c = elim (cons_cases x z xs c) [
   | inl e ↦ omega (arith, follow.0, ap offset_in e)
@@ -81,13 +81,13 @@ one_order offset at end (x ∷ xs) (y ∷ ys) follow some up alike =
 
 -- ---- entries that pass their tests
 
-length_some : (a : Bool) (n : ℕ) → cond a (nat_le 33 n && nat_le n (33 + largest_slice)) (eqb n 57) ≡ true → 0 < n
-length_some a n h = grind (arith, nat_tests)
+pub some_length : (a : Bool) (n : ℕ) → cond a (nat_le 33 n && nat_le n (33 + largest_slice)) (eqb n 57) ≡ true → 0 < n
+some_length a n h = grind (arith, nat_tests)
 
 pub each_some : (end : ℕ) (low : List ℕ) (xs : List (List ℕ)) (z : List ℕ) → PassTests end low xs → Contains xs z → 0 < length_in z
 each_some end low [] z pass c = absurd (omega (arith, c.1))
 each_some end low (x ∷ xs) z pass c = elim (cons_cases x z xs c) [
-  | inl e ↦ subst (λ (t : List ℕ). 0 < length_in t) e (length_some (is_admission x) (length_in x) (passed end low x pass.1).length_is)
+  | inl e ↦ subst (λ (t : List ℕ). 0 < length_in t) e (some_length (is_admission x) (length_in x) (passed end low x pass.1).length_is)
   | inr there ↦ each_some end x xs z pass.2 there
 ]
 

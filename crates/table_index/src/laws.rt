@@ -9,6 +9,7 @@ ghost use Rattle.symbol_tables.specs.Steps.{AreBytes};
 ghost use Rattle.symbol_tables.specs.Table.{IsTableText};
 ghost use Rattle.symbol_tables.specs.declared.nearest.NearestSymbol.{NearestSymbol};
 ghost use Rattle.archive_core.specs.Content.{Operations, IsContent, is_admission};
+ghost use Rattle.archive_records.specs.Text.{written};
 ghost use Rattle.table_index.specs.Asked.{IsToldBy};
 ghost use Rattle.table_index.specs.Content.{HasTable, IsIndexOf, entries_of};
 ghost use Rattle.table_index.specs.Entry.{claim_in};
@@ -28,6 +29,13 @@ pub fn one_index_fault()
         → IsIndexFault text f → ⊥ }
     ensures alone { (text : List ℕ) (entries others : List (List ℕ)) → IsIndexText text entries
         → IsIndexText text others → entries ≡ others }
+{}
+
+/// The index of a content is read: it is the text of an index, with the entries of that content.
+pub fn accepted()
+    ensures { (o : Operations) (text : List ℕ) → (index : IsIndexOf o text) → IsContent o
+        → length (written o) < 2 ^ 64 → length text < 2 ^ 64
+        → IsIndexText text (entries_of (listing o) index.tables) }
 {}
 
 /// The index of a content has an entry for each of its slices, and the table of the slice stands where the entry says.
