@@ -7,3 +7,4 @@ pub mod Faults
 pub mod Contents
 pub mod Places
 pub mod Accepted
+pub mod AnyBytes

@@ -14,7 +14,7 @@ use Rattle.sha2.proofs.Facts256.{length-sha256}
 use Rattle.archive_index.specs.Text.{index_magic}
 use Rattle.table_index.specs.Fault.{HasDigest, HasEnds, test_end, test_front}
 use Rattle.table_index.specs.InnerReading.{AreEndsOf}
-use Rattle.table_index.specs.Text.{count_in, digest_in, end_of, entries_in, index_text, start_in}
+use Rattle.table_index.specs.Text.{IsIndexText, count_in, digest_in, end_of, entries_in, index_text, start_in}
 use Rattle.table_index.specs.declared.ends.Ends.{Ends}
 use Rattle.table_index.specs.declared.fault.IndexFaultKind.{IndexFaultKind}
 use Rattle.table_index.specs.declared.fault.IndexFaultKind.TheVariants.{BadMagic, Truncated, BadCount}
@@ -157,3 +157,12 @@ module _ (text : List ℕ) (ends : Ends) (are : AreEndsOf text ends) where
 
   pub length_entries : length (entries_in text) ≡ 122 * count_in text
   length_entries = omega (arith, ended.1, length-take (122 * count_in text) (drop (start_in text) text), length-drop (start_in text) text)
+
+-- the last bytes of an index are its end record
+pub last_is : (text : List ℕ) (entries : List (List ℕ)) → IsIndexText text entries → drop (length text - 41) text ≡ end_of entries
+last_is text entries is =
+    let front : List ℕ = index_magic ++ (is.tables ++ concat entries) in
+    let whole : text ≡ front ++ end_of entries =
+    is.whole ∙ ap (λ (t : List ℕ). index_magic ++ t) (sym (append_assoc is.tables (concat entries) (end_of entries))) ∙ sym (append_assoc index_magic (is.tables ++ concat entries) (end_of entries)) in
+    let at : length text - 41 ≡ length front = omega (arith, ap length whole, length-append front (end_of entries), end_long entries) in
+    (λ i. drop (at i) (whole i)) ∙ drop-append_seam front (end_of entries)

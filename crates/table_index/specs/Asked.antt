@@ -1,7 +1,8 @@
 -- What is told by the table of an entry.
-use Rattle.std.specs.Prelude.{◌≡◌, ◌<◌, ◌^◌, ℕ, List, length, Option, Some, Result, MatchResult}
+use Rattle.std.specs.Prelude.{◌≡◌, ◌<◌, ◌*◌, ◌^◌, ℕ, List, length, Option, Some, Result, MatchResult}
 use Rattle.byte_device.specs.Devices.{FailedIn}
-use Rattle.checked_pages.specs.Pages.{AreStored, MayBeStored}
+use Rattle.sha2.specs.Sha256.{sha256}
+use Rattle.checked_pages.specs.Pages.{AreStored, Claim, MayBeStored, digests_in, page_digests, page_in, page_of}
 use Rattle.symbol_tables.specs.Asked.{IsSaid}
 use Rattle.symbol_tables.specs.Steps.{AreBytes}
 use Rattle.symbol_tables.specs.Table.{IsTableText}
@@ -15,6 +16,13 @@ use Rattle.table_index.specs.declared.fault.EntryFault.TheVariants.{Damaged, Dev
 abbrev pub IsToldBy : List ℕ → List ℕ → ℕ → Option NearestSymbol → Type 0
 IsToldBy text e address found = (slice table : List ℕ) → AreBytes slice → IsTableText slice table
     → MayBeStored text (claim_in e) table → IsSaid slice address found
+
+-- As far as SHA-256 tells, what stands where a claim says and has the digest of these bytes' page digests, or of a page
+-- of theirs, is that. Where they do stand there, this supposes nothing.
+pub record DigestsTell (text : List ℕ) (claim : Claim) (all : List ℕ) : Type 0 where
+  pub digests : sha256 (digests_in text claim) ≡ claim.root → digests_in text claim ≡ page_digests all
+  pub pages : (i : ℕ) → 16384 * i < claim.size → sha256 (page_in text claim i) ≡ sha256 (page_of all i)
+      → page_in text claim i ≡ page_of all i
 
 -- no table of a slice is stored where the entry says
 abbrev pub HasNoTable : List ℕ → List ℕ → Type 0

@@ -1,5 +1,5 @@
 -- The index of a content.
-use Rattle.std.specs.Prelude.{◌≡◌, ◌+◌, ℕ, true, false, List, [], ◌∷◌, length, take, drop, flat_map, Contains}
+use Rattle.std.specs.Prelude.{◌≡◌, ◌+◌, ◌-◌, ℕ, true, false, List, [], ◌∷◌, length, take, drop, flat_map, Contains}
 use Rattle.std.specs.List.{AllZip}
 use Rattle.std.specs.Ordering.{nat_cmp}
 use Rattle.std.specs.Cmp.Lexicographic.{slice_cmp}
@@ -51,3 +51,7 @@ pub record HasTable (text : List ℕ) (entries : List (List ℕ)) (r : List ℕ)
   pub table : List ℕ
   pub is_table : IsTableText (drop 33 r) table
   pub stored : AreStored text (claim_in e) table
+
+-- two texts end with one end record
+abbrev pub EndAlike : List ℕ → List ℕ → Type 0
+EndAlike text other = drop (length text - 41) text ≡ drop (length other - 41) other
