@@ -4,7 +4,4 @@ pub mod Tests
 pub mod ReadLemmas
 pub mod Ends
 pub mod Faults
-pub mod Contents
 pub mod Places
-pub mod Accepted
-pub mod AnyBytes

@@ -1,14 +1,18 @@
 -- Entries of an index: what a record is, where it stands in its archive, and where the table of its slice is stored.
-use Rattle.std.specs.Prelude.{◌≡◌, ℕ, ◌+◌, ◌*◌, List, ◌++◌, length, take, drop, Bool, nat_le, if◌then◌else◌}
+use Rattle.std.specs.Prelude.{◌≡◌, ℕ, ◌+◌, ◌*◌, zero, suc, List, [], ◌∷◌, ◌++◌, length, take, drop, Bool, nat_le, if◌then◌else◌}
 use Rattle.std.specs.Int.{w64, to_be_bytes, from_be_bytes}
 use Rattle.std.specs.Str.{bytes_eq}
 use Rattle.sha2.specs.Sha256.{sha256}
 use Rattle.checked_pages.specs.Pages.{Claim, page_digests, pages_in}
 use Rattle.checked_pages.specs.Views.{claim_view}
-use Rattle.symbol_tables.specs.Table.{zeros}
 use Rattle.archive_core.specs.Content.{is_admission}
-use Rattle.archive_index.specs.Entry.{length_in, offset_in, placed_bytes, placed_entry}
+use Rattle.archive_index.specs.Entry.{length_in, offset_in, placed_bytes}
 use Rattle.table_index.specs.declared.entry.TableEntry.{TableEntry}
+
+-- so many zeros
+unfoldable pub zeros : ℕ → List ℕ
+zeros zero = []
+zeros (suc n) = 0 ∷ zeros n
 
 -- a claim as it stands in an entry: the offset, the size, and the SHA-256 of the page digests
 unfoldable pub claim_bytes : Claim → List ℕ
@@ -21,14 +25,6 @@ claim_at at bytes = record { offset = at; size = length bytes; root = sha256 (pa
 -- what a retirement has in the place of a claim
 abbrev pub no_claim : Claim
 no_claim = record { offset = 0; size = 0; root = zeros 32 }
-
--- the claim of a record's table that is stored from this offset on; a retirement has none
-unfoldable pub claim_of : ℕ → List ℕ → List ℕ → Claim
-claim_of at r table = if is_admission r then claim_at at table else no_claim
-
--- the entry of a record that stands at this offset, and whose table is stored from that one on
-unfoldable pub table_entry : ℕ → ℕ → List ℕ → List ℕ → List ℕ
-table_entry offset at r table = placed_entry offset r ++ claim_bytes (claim_of at r table)
 
 -- the bytes of an entry
 unfoldable pub entry_bytes : TableEntry → List ℕ

@@ -2,6 +2,4 @@ pub mod Entry
 pub mod Text
 pub mod Fault
 pub mod Reading
-pub mod Asked
-pub mod Content
 pub mod InnerReading

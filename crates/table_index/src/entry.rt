@@ -37,7 +37,7 @@ pub struct TableEntry {
 }
 
 /// What a retirement has in the place of a claim.
-#[tactic(auto, unfolding(symbol_tables::specs::Table::zeros))]
+#[tactic(auto, unfolding(crate::specs::Entry::zeros))]
 pub fn no_claim() -> Claim
     ensures { claim_view result ≡ no_claim }
 {

@@ -1,4 +1,4 @@
-//! Why bytes are no index, and why a table of one is not read.
+//! Why bytes are no index.
 
 ghost use Rattle.std.specs.Prelude.{◌≡◌};
 ghost use Rattle.table_index.specs.declared.fault.IndexFaultKind.TheVariants.{OutOfMemory};
@@ -51,15 +51,4 @@ impl IndexFault {
             offset,
         }
     }
-}
-
-/// Why the table of an entry is not read.
-#[derive(Clone, Copy, Debug, PartialEq, Eq)]
-pub enum EntryFault {
-    /// What stands where the table of this entry is stored, from 0 on, is not what the entry vouches for.
-    Damaged(u64),
-    /// The device failed while a table was read that is stored at this offset.
-    Device(u64),
-    /// A growth of the memory was refused.
-    OutOfMemory,
 }

@@ -1,4 +1,4 @@
-//! The index of an archive with the tables of its slices: read from its end, and asked.
+//! The index of an archive with the tables of its slices, read from its end.
 //!
 //! An index is the magic `MSYMIDX1`, the stored tables of the slices in the order of their records in the archive, an
 //! entry of 122 bytes for each record, strictly ascending in byte order, and the end record: `03`, the number of
@@ -11,8 +11,7 @@
 //! - `fault`: why bytes are no index, and why a table is not read;
 //! - `ends`: the magic and the end record; `testing`: the tests of an entry; `places`: whether records and tables
 //!   follow one another; `reading`: [`read_index`];
-//! - `asking`: [`nearest_at`], the nearest symbol of an address by the table of an entry;
-//! - [`laws`]: what an index tells of the content that it was made of.
+//! - [`laws`]: a text is the index with one list of entries, or has one fault.
 //!
 //! # Why it is so
 //!
@@ -21,7 +20,6 @@
 //!   read.
 #![tactic(auto)]
 
-mod asking;
 mod ends;
 mod entry;
 mod fault;
@@ -31,9 +29,8 @@ mod places;
 mod reading;
 mod testing;
 
-pub use asking::nearest_at;
 pub use ends::{END_LEN, MAGIC_LEN, magic};
 pub use entry::{ENTRY_LEN, TableEntry, no_claim};
-pub use fault::{EntryFault, IndexFault, IndexFaultKind};
+pub use fault::{IndexFault, IndexFaultKind};
 pub use index::TableIndex;
 pub use reading::read_index;

@@ -62,7 +62,7 @@ pub(crate) fn stored_size(claim: &Claim) -> u128
 }
 
 /// Whether the claim is zero, or that of an admission whose table ends before this offset.
-#[tactic(auto, unfolding(symbol_tables::specs::Table::zeros))]
+#[tactic(auto, unfolding(crate::specs::Entry::zeros))]
 fn has_claim(bytes: &[u8], end: u64) -> bool
     requires { length bytes.now ≡ 122 }
     ensures { result ≡ has_claim end bytes.now }

@@ -1,8 +1,0 @@
-use Rattle.table_index.proofs.Contents.{has_table, told}
-use Rattle.table_index.proofs.laws.right.Goals as goal
-
-pub returns-clause-table : goal.returns-clause-table
-returns-clause-table c = has_table
-
-pub returns-clause-told : goal.returns-clause-told
-returns-clause-told c = told
