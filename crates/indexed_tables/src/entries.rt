@@ -16,7 +16,9 @@ use sha2::{Digest, Sha256};
 use table_index::TableEntry;
 
 /// The entries in ascending byte order.
-pub(crate) fn sorted(entries: Vec<TableEntry, Heap>) -> Vec<TableEntry, Heap> {
+pub(crate) fn sorted(entries: Vec<TableEntry, Heap>) -> Vec<TableEntry, Heap>
+    ensures { map entry_bytes result.items ≡ listing (set.from_list (map entry_bytes entries.items)) }
+{
     let mut entries = entries;
     entries.sort_unstable_by(|a, b| a.compare(b));
     entries.dedup_by(|a, b| a.compare(b).is_eq());
@@ -24,7 +26,9 @@ pub(crate) fn sorted(entries: Vec<TableEntry, Heap>) -> Vec<TableEntry, Heap> {
 }
 
 /// The end record of so many entries, whose bytes have this SHA-256.
-fn end_record(count: u64, digest: &[u8; 32]) -> [u8; 41] {
+fn end_record(count: u64, digest: &[u8; 32]) -> [u8; 41]
+    ensures { result ≡ 3 ∷ (to_be_bytes w64 count ++ digest.now) }
+{
     let mut bytes = [0; 41];
     bytes[..9].copy_from_slice(&end_bytes(count));
     bytes[9..].copy_from_slice(digest);

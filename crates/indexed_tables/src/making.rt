@@ -23,7 +23,15 @@ fn put_front<R: Source, W: Sink>(
     heap: Heap,
     r: &mut R,
     w: &mut W,
-) -> Result<(Vec<TableEntry, Heap>, u128), MakingFault> {
+) -> Result<(Vec<TableEntry, Heap>, u128), MakingFault>
+    ensures all { IfOk result (λ put. (position : Position) × HasPutAll (R.left r.old) (R.left r.new) W.held W.failures
+        w.old w.new put.0.items position put.1) }
+    ensures at_end { OnOk result (IsAtEnd (R.left r.new)) }
+    ensures unfailed { OnOk result (R.failures r.new ≡ R.failures r.old) }
+    ensures stopped { IfErr result (HasStoppedMaking (R.left r.old) (R.left r.new) W.held W.failures w.old w.new) }
+    ensures blames { IfErr result (BlamesMaking R.left R.failures r.old r.new) }
+    ensures short { IfOk result (λ put. put.1 < 2 ^ 80) }
+{
     let Ok(own) = heap.clone() else {
         return Err(MakingFault::Archive(IndexingFault::Archive(RecordFault::out_of_memory(0))));
     };

@@ -36,7 +36,14 @@ fn put_record<W: Sink>(
     before: u128,
     w: &mut W,
     done: u128,
-) -> Result<(TableEntry, u128), MakingFault> {
+) -> Result<(TableEntry, u128), MakingFault>
+    requires { IsRecord reader.now.last }
+    ensures short { IfOk result (λ put. put.1 < 2 ^ 80) }
+    ensures put { IfOk result (λ put. (table : List ℕ) × IsTableOf reader.now.last table
+        × (entry_bytes put.0 ≡ table_entry before done reader.now.last table)
+        × IsPut W.held W.failures w.old w.new done (stored table) put.1) }
+    ensures stopped { IfErr result (StopsRecord W.held W.failures w.old w.new before done reader.now.last) }
+{
     let (Ok(offset), Ok(at)) = (u64::try_from(before), u64::try_from(done)) else {
         return Err(MakingFault::Archive(IndexingFault::TooLong));
     };
