@@ -42,7 +42,7 @@ use Rattle.table_index.specs.Entry.{claim_at, claim_bytes, claim_in, has_claim, 
 use Rattle.indexed_tables.specs.Content.{claim_of, table_entry}
 use Rattle.table_index.specs.Text.{AreLaid, FollowOn, IsIndexText, PassTests, end_of, index_text, test_entry}
 use Rattle.table_index.proofs.Entries.{byte_kept, claim_read, long_with, number_kept}
-use Rattle.table_index.proofs.Places.{follows, some_length}
+use Rattle.table_index.proofs.PlaceLemmas.{follows, some_length}
 use Rattle.table_index.proofs.Tests.{long_entries}
 
 -- ---- the claim of a table

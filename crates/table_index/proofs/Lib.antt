@@ -2,6 +2,6 @@ pub mod Texts
 pub mod Entries
 pub mod Tests
 pub mod ReadLemmas
-pub mod Ends
+pub mod EndLemmas
 pub mod Faults
-pub mod Places
+pub mod PlaceLemmas

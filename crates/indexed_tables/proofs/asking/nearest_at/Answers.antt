@@ -2,7 +2,7 @@ use Rattle.std.proofs.Common.{◌≡◌, List, ℕ, [], get_or, refl, ap, sym, s
 use Rattle.checked_pages.specs.Pages.{AreStored, Claim, MayBeStored}
 use Rattle.checked_pages.specs.Views.{claim_view}
 use Rattle.table_index.specs.Entry.{claim_in}
-use Rattle.table_index.proofs.Places.{claim_at_place}
+use Rattle.table_index.proofs.PlaceLemmas.{claim_at_place}
 use Rattle.indexed_tables.proofs.asking.nearest_at.Goals as goal
 
 pub returns-in-Ok : goal.returns-in-Ok

@@ -1,5 +1,5 @@
 use Rattle.std.proofs.Common.{◌≡◌, ◌∙◌, get_or, refl, sym, ap, arith}
-use Rattle.table_index.proofs.Ends.{are_ends, count_fails, tag_fails}
+use Rattle.table_index.proofs.EndLemmas.{are_ends, count_fails, tag_fails}
 use Rattle.table_index.proofs.ends.ends_in.Goals as goal
 
 pub returns-then-not-is_end-clause-tested : goal.returns-then-not-is_end-clause-tested

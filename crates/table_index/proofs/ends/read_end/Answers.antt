@@ -4,7 +4,7 @@ use Rattle.std.proofs.lemmas.Result.{err_from_is_err_and}
 use Rattle.table_index.specs.Fault.{FailsAtEnd}
 use Rattle.table_index.specs.InnerReading.{AreEndsOf, IsFronted}
 use Rattle.table_index.specs.Reading.{IsRefused}
-use Rattle.table_index.proofs.Ends.{part_unread}
+use Rattle.table_index.proofs.EndLemmas.{part_unread}
 use Rattle.table_index.proofs.ReadLemmas.{as_refused, passed_on, tested, under}
 use Rattle.table_index.proofs.ends.read_end.Goals as goal
 

@@ -2,7 +2,7 @@ use Rattle.std.proofs.Common.{◌≡◌, ◌∙◌, List, ℕ, Err, ap, sym, sub
 use Rattle.std.proofs.lemmas.Result.{err_from_is_err_and}
 use Rattle.archive_records.proofs.Blamed.{failed}
 use Rattle.table_index.specs.Fault.{FailsInFront}
-use Rattle.table_index.proofs.Ends.{first_eight, part_unread}
+use Rattle.table_index.proofs.EndLemmas.{first_eight, part_unread}
 use Rattle.table_index.proofs.ReadLemmas.{after_ok, passed_on, refused_as, unfailed_blames}
 use Rattle.table_index.proofs.ends.read_front.Goals as goal
 

@@ -1,5 +1,5 @@
 use Rattle.std.proofs.Common.{◌≡◌, length, inl, refl, sym}
-use Rattle.table_index.proofs.Ends.{some_is}
+use Rattle.table_index.proofs.EndLemmas.{some_is}
 use Rattle.table_index.proofs.ends.read_size.Goals as goal
 
 pub returns-in-Ok : goal.returns-in-Ok

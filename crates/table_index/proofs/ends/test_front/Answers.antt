@@ -1,5 +1,5 @@
 use Rattle.std.proofs.Common.{◌∙◌, refl, sym, arith, ap}
-use Rattle.table_index.proofs.Ends.{asked, front_passes, magic_fails, room_fails}
+use Rattle.table_index.proofs.EndLemmas.{asked, front_passes, magic_fails, room_fails}
 use Rattle.table_index.proofs.ends.test_front.Goals as goal
 
 pub returns-then-not-begins-clause-tested : goal.returns-then-not-begins-clause-tested

@@ -5,7 +5,7 @@ use Rattle.std.proofs.lemmas.List.Sorted.{All-permutation, IsNonDecreasingBy-fro
 use Rattle.archive_index.specs.Entry.{offset_in}
 use Rattle.table_index.specs.Entry.{HasItsFields, entry_bytes}
 use Rattle.table_index.specs.declared.entry.TableEntry.{TableEntry}
-use Rattle.table_index.proofs.Places.{follow_sorted, offsets_rise}
+use Rattle.table_index.proofs.PlaceLemmas.{follow_sorted, offsets_rise}
 use Rattle.table_index.proofs.places.are_laid.Goals as goal
 
 pub follow_on-requires : goal.follow_on-requires

@@ -5,7 +5,7 @@ use Rattle.table_index.specs.Fault.{FailsDigest}
 use Rattle.table_index.specs.InnerReading.{AreEndsOf}
 use Rattle.table_index.specs.Text.{entries_in}
 use Rattle.table_index.specs.declared.ends.Ends.{Ends}
-use Rattle.table_index.proofs.Ends.{part_unread}
+use Rattle.table_index.proofs.EndLemmas.{part_unread}
 use Rattle.table_index.proofs.ReadLemmas.{passed_on}
 use Rattle.table_index.proofs.Texts.{ends_fill}
 use Rattle.table_index.proofs.reading.read_bytes.Goals as goal
