@@ -4,18 +4,19 @@ ghost use Rattle.std.specs.Prelude.{◌≡◌, ◌≢◌, ◌≤◌, ℕ, true, 
 ghost use Rattle.std.specs.Ordering.{nat_cmp};
 ghost use Rattle.std.specs.BTreeSet as tree_set;
 ghost use Rattle.std.specs.BTreeMap as tree_map;
-ghost use Rattle.debug_entries.specs.EntryViews.{entry_view};
+ghost use Rattle.code_ranges.specs.UnitViews.{unit_view as ranges_view};
+ghost use Rattle.debug_entries.specs.EntryViews.{unread_view};
 ghost use Rattle.source_frames.specs.ChainSteps.{Settles, TakesHits, TakesRange, chain_after, entries_of_chain};
-ghost use Rattle.source_frames.specs.ChainSteps.{extended, is_open, known_of, last_of};
-ghost use Rattle.source_frames.specs.Scopes.{scopes_of};
+ghost use Rattle.source_frames.specs.ChainSteps.{extended, is_open, known_next, known_of, last_of, scope_of};
+ghost use Rattle.source_frames.specs.Scopes.{left_after_scope, scopes_of};
 ghost use Rattle.source_frames.specs.SectionsViews.{sections_view};
 ghost use Rattle.source_frames.specs.UnitViews.{unit_view};
 
 use crate::debug_info::DebugInfo;
 use crate::debug_unit::DebugUnit;
-use crate::scopes::scope_ranges;
-use code_ranges::{CodeRange, Ranges};
-use debug_entries::{Entries, Entry};
+use crate::scopes::{is_function, scope_ranges};
+use code_ranges::{CodeRange, Ranges, UnitRanges};
+use debug_entries::{Entries, Entry, UnreadEntry};
 use memory::{Heap, NoMemory};
 use pending_addresses::take_within;
 use std::collections::{BTreeMap, BTreeSet};
@@ -94,10 +95,10 @@ fn extend<'a>(
     chains: &mut Chains<'a>,
     address: u64,
     last: Last,
-    entry: &Entry<'a>,
+    entry: &UnreadEntry<'_, 'a>,
 ) -> Result<(), NoMemory>
     ensures taken { OnOk result (known_of address pending.new chains.new
-        ≡ extended last (entry_view entry.now) (known_of address pending.old chains.old)) }
+        ≡ extended last (unread_view entry.now) (known_of address pending.old chains.old)) }
     ensures others { OnOk result ((a : ℕ) → a ≢ address →
         known_of a pending.new chains.new ≡ known_of a pending.old chains.old) }
 {
@@ -108,7 +109,7 @@ fn extend<'a>(
             last: None,
         },
     };
-    chain.entries.push(*entry)?;
+    chain.entries.push(entry.read())?;
     chain.last = Some(last);
     if chain.entries.len() < FRAMES_MAX {
         pending.insert(address)?;
@@ -125,9 +126,9 @@ fn settle<'a>(
     chains: &mut Chains<'a>,
     path: &[usize],
     last: Last,
-    entry: &Entry<'a>,
+    entry: &UnreadEntry<'_, 'a>,
 ) -> Result<(), NoMemory>
-    ensures { OnOk result (Settles path.now last (entry_view entry.now) hits
+    ensures { OnOk result (Settles path.now last (unread_view entry.now) hits
         (λ a. known_of a pending.old chains.old) (λ a. known_of a pending.new chains.new)) }
 {
     'addresses: while let Some(address) = hits.pop_first() {
@@ -135,6 +136,34 @@ fn settle<'a>(
             extend(heap.clone()?, pending, chains, address, last, entry)?;
         }
     }
+    Ok(())
+}
+
+/// Takes on each pending address that an entry of a unit contains, if the last entry of its chain is open. Of an entry
+/// that is not of a function no value is read.
+fn take_on<'a>(
+    heap: Heap,
+    ranges: &UnitRanges<'a>,
+    left: &mut u128,
+    pending: &mut BTreeSet<u64, Heap>,
+    chains: &mut Chains<'a>,
+    path: &[usize],
+    last: Last,
+    entry: &UnreadEntry<'_, 'a>,
+) -> Result<(), NoMemory>
+    ensures left { OnOk result (left.new
+        ≡ left_after_scope (ranges_view ranges.now) left.old (unread_view entry.now)) }
+    ensures known { OnOk result ((a : ℕ) → known_of a pending.new chains.new
+        ≡ known_next a path.now last.index
+        (scope_of (ranges_view ranges.now) left.old last.depth (unread_view entry.now))
+        (known_of a pending.old chains.old)) }
+{
+    if !is_function(entry) {
+        return Ok(());
+    }
+    let own = scope_ranges(ranges, entry, left);
+    let hits = take_hits(heap.clone()?, pending, own)?;
+    settle(heap, hits, pending, chains, path, last, entry)?;
     Ok(())
 }
 
@@ -160,12 +189,11 @@ impl<'a> DebugInfo<'a> {
             let depth = placed.depth;
             path.truncate(depth);
             path.push(index)?;
-            let own = scope_ranges(&ranges, &placed.entry, &mut left);
-            let hits = take_hits(heap.clone()?, &mut pending, own)?;
             let last = Last { index, depth };
-            settle(
+            take_on(
                 heap.clone()?,
-                hits,
+                &ranges,
+                &mut left,
                 &mut pending,
                 &mut chains,
                 &path,

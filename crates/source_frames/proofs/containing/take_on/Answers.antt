@@ -1,0 +1,29 @@
+use Rattle.std.proofs.Common.{◌≡◌, ◌∙◌, false, sym}
+use Rattle.code_ranges.specs.UnitViews.{unit_view as ranges_view}
+use Rattle.debug_entries.specs.EntryViews.{unread_view}
+use Rattle.source_frames.specs.ChainSteps.{known_of, scope_of}
+use Rattle.source_frames.specs.Scopes.{is_function}
+use Rattle.source_frames.proofs.SettledLemmas.{none_taken, passed_by, knows_next}
+use Rattle.source_frames.proofs.containing.take_on.Goals as goal
+
+pub returns-then-is_function : goal.returns-then-is_function
+returns-then-is_function c =
+    let none : is_function (unread_view c.args.entry.now) ≡ false = sym c.is_function.ensures ∙ c.if-is_function.false in
+    record {
+      left = none_taken (ranges_view c.args.ranges.now) c.args.left.now (unread_view c.args.entry.now) none;
+      known = λ a.
+          let known = known_of a c.args.pending.now c.args.chains.now in
+          passed_by a c.args.path.now c.args.last.index c.args.last.depth (ranges_view c.args.ranges.now) c.args.left.now (unread_view c.args.entry.now) known.waits known.last known.entries none;
+    }
+
+pub returns : goal.returns
+returns c =
+    record {
+      left = c.scope_ranges-own.ensures.left;
+      known = λ a.
+          let known = known_of a c.args.pending.now c.args.chains.now in
+          let scope = scope_of (ranges_view c.args.ranges.now) c.args.left.now c.args.last.depth (unread_view c.args.entry.now) in
+          let hit = rw c.scope_ranges-own.ensures.ranges at (c.in_ok-hits.ensures.hit a) in
+          let left = rw c.scope_ranges-own.ensures.ranges at (c.in_ok-hits.ensures.left_is a) in
+          knows_next a c.args.path.now c.args.last.index scope _ _ _ known.last known.entries _ hit left (c.in_ok-settle.ensures a);
+    }
