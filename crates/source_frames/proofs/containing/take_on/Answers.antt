@@ -1,4 +1,5 @@
-use Rattle.std.proofs.Common.{◌≡◌, ◌∙◌, false, sym}
+use Rattle.std.proofs.Common.{◌≡◌, false, arith}
+use Rattle.std.proofs.lemmas.Grind.{common_steps}
 use Rattle.code_ranges.specs.UnitViews.{unit_view as ranges_view}
 use Rattle.debug_entries.specs.EntryViews.{unread_view}
 use Rattle.source_frames.specs.ChainSteps.{known_of, scope_of}
@@ -6,9 +7,9 @@ use Rattle.source_frames.specs.Scopes.{is_function}
 use Rattle.source_frames.proofs.SettledLemmas.{none_taken, passed_by, knows_next}
 use Rattle.source_frames.proofs.containing.take_on.Goals as goal
 
-pub returns-then-is_function : goal.returns-then-is_function
-returns-then-is_function c =
-    let none : is_function (unread_view c.args.entry.now) ≡ false = sym c.is_function.ensures ∙ c.if-is_function.false in
+pub returns-then-not-is_function : goal.returns-then-not-is_function
+returns-then-not-is_function c =
+    let none : is_function (unread_view c.args.entry.now) ≡ false = grind (arith, common_steps) in
     record {
       left = none_taken (ranges_view c.args.ranges.now) c.args.left.now (unread_view c.args.entry.now) none;
       known = λ a.
