@@ -5,7 +5,7 @@ ghost use Rattle.std.specs.Ordering.{nat_cmp};
 ghost use Rattle.std.specs.BTreeSet as tree_set;
 ghost use Rattle.std.specs.BTreeMap as tree_map;
 ghost use Rattle.code_ranges.specs.UnitViews.{unit_view as ranges_view};
-ghost use Rattle.debug_entries.specs.EntryViews.{unread_view};
+ghost use Rattle.debug_entries.specs.EntryViews.{entry_view, unread_view};
 ghost use Rattle.source_frames.specs.ChainSteps.{Settles, TakesHits, TakesRange, chain_after, entries_of_chain};
 ghost use Rattle.source_frames.specs.ChainSteps.{extended, is_open, known_next, known_of, last_of, scope_of};
 ghost use Rattle.source_frames.specs.Scopes.{left_after_scope, scopes_of};
@@ -95,10 +95,10 @@ fn extend<'a>(
     chains: &mut Chains<'a>,
     address: u64,
     last: Last,
-    entry: &UnreadEntry<'_, 'a>,
+    entry: &Entry<'a>,
 ) -> Result<(), NoMemory>
     ensures taken { OnOk result (known_of address pending.new chains.new
-        ≡ extended last (unread_view entry.now) (known_of address pending.old chains.old)) }
+        ≡ extended last (entry_view entry.now) (known_of address pending.old chains.old)) }
     ensures others { OnOk result ((a : ℕ) → a ≢ address →
         known_of a pending.new chains.new ≡ known_of a pending.old chains.old) }
 {
@@ -109,7 +109,7 @@ fn extend<'a>(
             last: None,
         },
     };
-    chain.entries.push(entry.read())?;
+    chain.entries.push(*entry)?;
     chain.last = Some(last);
     if chain.entries.len() < FRAMES_MAX {
         pending.insert(address)?;
@@ -126,9 +126,9 @@ fn settle<'a>(
     chains: &mut Chains<'a>,
     path: &[usize],
     last: Last,
-    entry: &UnreadEntry<'_, 'a>,
+    entry: &Entry<'a>,
 ) -> Result<(), NoMemory>
-    ensures { OnOk result (Settles path.now last (unread_view entry.now) hits
+    ensures { OnOk result (Settles path.now last (entry_view entry.now) hits
         (λ a. known_of a pending.old chains.old) (λ a. known_of a pending.new chains.new)) }
 {
     'addresses: while let Some(address) = hits.pop_first() {
@@ -139,8 +139,8 @@ fn settle<'a>(
     Ok(())
 }
 
-/// Takes on each pending address that an entry of a unit contains, if the last entry of its chain is open. Of an entry
-/// that is not of a function no value is read.
+/// Takes on each pending address that an entry of a unit contains, if the last entry of its chain is open. The values of
+/// an entry are read only if it is of a function, and once, however many addresses it contains.
 fn take_on<'a>(
     heap: Heap,
     ranges: &UnitRanges<'a>,
@@ -161,9 +161,10 @@ fn take_on<'a>(
     if !is_function(entry) {
         return Ok(());
     }
-    let own = scope_ranges(ranges, entry, left);
+    let entry = entry.read();
+    let own = scope_ranges(ranges, &entry, left);
     let hits = take_hits(heap.clone()?, pending, own)?;
-    settle(heap, hits, pending, chains, path, last, entry)?;
+    settle(heap, hits, pending, chains, path, last, &entry)?;
     Ok(())
 }
 

@@ -1,7 +1,7 @@
-use Rattle.std.proofs.Common.{◌≡◌, false, arith}
+use Rattle.std.proofs.Common.{◌≡◌, ℕ, false, arith}
 use Rattle.std.proofs.lemmas.Grind.{common_steps}
 use Rattle.code_ranges.specs.UnitViews.{unit_view as ranges_view}
-use Rattle.debug_entries.specs.EntryViews.{unread_view}
+use Rattle.debug_entries.specs.EntryViews.{entry_view, unread_view}
 use Rattle.source_frames.specs.ChainSteps.{known_of, scope_of}
 use Rattle.source_frames.specs.Scopes.{is_function}
 use Rattle.source_frames.proofs.SettledLemmas.{none_taken, passed_by, knows_next}
@@ -19,12 +19,13 @@ returns-then-not-is_function c =
 
 pub returns : goal.returns
 returns c =
+    let known = λ (a : ℕ).
+    let known = known_of a c.args.pending.now c.args.chains.now in
+    let scope = scope_of (ranges_view c.args.ranges.now) c.args.left.now c.args.last.depth (entry_view c.read-entry.result) in
+    let hit = rw c.scope_ranges-own.ensures.ranges at (c.in_ok-hits.ensures.hit a) in
+    let left = rw c.scope_ranges-own.ensures.ranges at (c.in_ok-hits.ensures.left_is a) in
+    knows_next a c.args.path.now c.args.last.index scope _ _ _ known.last known.entries _ hit left (c.in_ok-settle.ensures a) in
     record {
-      left = c.scope_ranges-own.ensures.left;
-      known = λ a.
-          let known = known_of a c.args.pending.now c.args.chains.now in
-          let scope = scope_of (ranges_view c.args.ranges.now) c.args.left.now c.args.last.depth (unread_view c.args.entry.now) in
-          let hit = rw c.scope_ranges-own.ensures.ranges at (c.in_ok-hits.ensures.hit a) in
-          let left = rw c.scope_ranges-own.ensures.ranges at (c.in_ok-hits.ensures.left_is a) in
-          knows_next a c.args.path.now c.args.last.index scope _ _ _ known.last known.entries _ hit left (c.in_ok-settle.ensures a);
+      left = rw c.read-entry.ensures at c.scope_ranges-own.ensures.left;
+      known = λ a. rw c.read-entry.ensures at (known a);
     }
