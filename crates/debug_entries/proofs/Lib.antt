@@ -1,4 +1,5 @@
 mod SpecificationLemmas
 mod DeclarationLemmas
 mod KeyLemmas
+mod SizeLemmas
 mod EntryLemmas

@@ -4,7 +4,8 @@ use Rattle.std.specs.Prelude.{if◌then◌else◌, Option, Some, None}
 use Rattle.std.specs.Option.{option_map, option_map_or, option_and_then, option_to_list}
 use Rattle.dwarf_numbers.specs.Leb128.{unsigned_leb128_at}
 use Rattle.dwarf_numbers.specs.Forms.{value_at}
-use Rattle.debug_entries.specs.Attributes.{AttributesRecord, with_attribute}
+use Rattle.debug_entries.specs.Attributes.{AttributesRecord, no_attributes, with_attribute}
+use Rattle.debug_entries.specs.Specifications.{ShapeRecord}
 use Rattle.debug_entries.specs.Abbreviations.{declaration_of}
 use Rattle.debug_entries.specs.declared.unit_header.UnitHeader.{UnitHeader}
 
@@ -21,6 +22,11 @@ attributes_from version a (pair ∷ pairs) bytes =
     option_and_then
     (λ x. attributes_from version (with_attribute a pair.0 x.0) pairs x.1)
     (value_at version pair.1 0 bytes)
+
+-- the attributes of an entry of a declaration's shape, whose values begin the bytes; none if they cannot be read
+abbrev pub attributes_of : ℕ → ShapeRecord → List ℕ → AttributesRecord
+attributes_of version shape bytes =
+    option_map_or (λ x. x.0) (attributes_from version shape.constants shape.pairs bytes) no_attributes
 
 -- the entry that begins the bytes, whose abbreviations stand in a section: its code, and the values that its
 -- declaration asks for; the code 0 is a null entry, which ends the entries of a parent

@@ -1,7 +1,8 @@
 -- The attribute specifications of a declaration (DWARF 5, section 7.5.3).
-use Rattle.std.specs.Prelude.{ℕ, List, [], ◌∷◌, ◌++◌, ◌==◌, ◌&&◌, if◌then◌else◌, Option, Some, None}
+use Rattle.std.specs.Prelude.{ℕ, List, [], ◌∷◌, ◌++◌, ◌+◌, ◌==◌, ◌&&◌, if◌then◌else◌, Option, Some, None}
 use Rattle.std.specs.Option.{option_map, option_and_then}
 use Rattle.dwarf_numbers.specs.FormNumbers.{DW_FORM_flag_present, DW_FORM_implicit_const}
+use Rattle.dwarf_numbers.specs.Forms.{fixed_size, value_at}
 use Rattle.dwarf_numbers.specs.Leb128.{unsigned_leb128_at, signed_leb128_at}
 use Rattle.dwarf_numbers.specs.Sequences.{ended}
 use Rattle.dwarf_numbers.specs.Values.{Constant}
@@ -51,3 +52,15 @@ shaped shape (Some y) = Some (shape_from shape y.0, y.1)
 -- the shape that the specifications make which begin the bytes, and the bytes after these
 abbrev pub shape_at : List ℕ → Option (ShapeRecord × List ℕ)
 shape_at bytes = shaped empty_shape (ended specification_at bytes)
+
+-- the size of the values of pairs, where each form has one size in the versions 3 to 5
+unfoldable pub total_size : List (ℕ × ℕ) → Option ℕ
+total_size [] = Some 0
+total_size (pair ∷ pairs) =
+    option_and_then (λ n. option_map (λ m. n + m) (total_size pairs)) (fixed_size 3 pair.1)
+
+-- the bytes after the values of pairs
+unfoldable pub values_after : ℕ → List (ℕ × ℕ) → List ℕ → Option (List ℕ)
+values_after version [] bytes = Some bytes
+values_after version (pair ∷ pairs) bytes =
+    option_and_then (λ x. values_after version pairs x.1) (value_at version pair.1 0 bytes)

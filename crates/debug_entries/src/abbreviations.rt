@@ -1,18 +1,17 @@
 //! The tables of `__debug_abbrev` (DWARF 5, section 7.5.3).
 
-ghost use Rattle.std.specs.Prelude.{◌≡◌, ◌==◌, ◌&&◌, ℕ, IfOk, OnOk, Some, if◌then◌else◌};
+ghost use Rattle.std.specs.Prelude.{◌≡◌, ℕ, IfOk};
 ghost use Rattle.std.specs.Option.{option_map, option_or};
 ghost use Rattle.std.specs.BTreeMap as tree_map;
 ghost use Rattle.debug_entries.specs.Abbreviations.{declaration_of};
-ghost use Rattle.debug_entries.specs.DeclarationViews.{declaration_view, key_cmp};
+ghost use Rattle.debug_entries.specs.DeclarationViews.{declaration_in, declaration_view, key_cmp, row_in};
+ghost use Rattle.debug_entries.specs.DeclarationViews.{rows_or_none};
 
-use crate::declaration::{Declaration, read_declaration};
+use crate::declaration::Declaration;
+use crate::declarations::{Declarations, DeclarationsByCode, Rows, row_in};
+use crate::reading::read_declaration;
 use memory::{Heap, NoMemory};
-use std::collections::BTreeMap;
 use std::marker::Model;
-
-/// Declarations under the offset of their table and their code.
-type Declarations<'a> = BTreeMap<(u64, u64), Declaration<'a>, Heap>;
 
 /// The declarations of `__debug_abbrev`, up to the first that cannot be read. The section is read once, whatever units
 /// say. A contract sees the section.
@@ -33,42 +32,52 @@ impl<'a> Model for Abbreviations<'a> {
     ghost invariant = { λ a. AreDeclarations a.section.now a.declarations };
 }
 
-/// Puts a declaration into the table, unless there is one under its key.
-fn keep_first<'a>(
-    declarations: &mut Declarations<'a>,
-    key: (u64, u64),
-    declaration: Declaration<'a>,
-) -> Result<(), NoMemory>
-    ensures { OnOk result ((table code : ℕ) →
-        option_map declaration_view (tree_map.get key_cmp declarations.new (table, code))
-        ≡ (if (table == key.0) && (code == key.1)
-        then option_or (option_map declaration_view (tree_map.get key_cmp declarations.old (table, code)))
-        (Some (declaration_view declaration.entry))
-        else option_map declaration_view (tree_map.get key_cmp declarations.old (table, code)))) }
-{
-    if !declarations.contains_key(&key) {
-        declarations.insert(key, declaration)?;
-    }
-    Ok(())
-}
-
 /// The declarations of a section.
 fn read_declarations<'a>(heap: Heap, section: &'a [u8]) -> Result<Declarations<'a>, NoMemory>
     ensures { IfOk result (λ declarations. (table code : ℕ) →
-        option_map declaration_view (tree_map.get key_cmp declarations (table, code))
-        ≡ declaration_of section.now table code) }
+        option_map declaration_view (declaration_in declarations table code) ≡ declaration_of section.now table code) }
 {
-    let mut declarations = BTreeMap::new(heap.clone()?);
+    let mut declarations = Declarations::none(heap.clone()?)?;
     let mut table = 0u64;
     let mut rest = section;
     'declarations: while let Some((found, after)) = read_declaration(heap.clone()?, rest)? {
         rest = after;
         match found {
-            Some((code, declaration)) => keep_first(&mut declarations, (table, code), declaration)?,
+            Some((code, declaration)) => declarations.keep_first(
+                heap.clone()?,
+                table,
+                code,
+                declaration,
+            )?,
             None => table = (section.len() - rest.len()) as u64,
         }
     }
     Ok(declarations)
+}
+
+/// The declarations of one table.
+#[derive(Clone, Copy)]
+pub(crate) struct Table<'t, 'a> {
+    section: &'a [u8],
+    offset: u64,
+    rows: Option<&'t Rows<'a>>,
+    others: &'t DeclarationsByCode<'a>,
+    ghost each: { (code : ℕ) →
+        option_map declaration_view (option_or (row_in (rows_or_none (option_map (λ r. r.now) rows)) code) (tree_map.get key_cmp others.now (offset, code)))
+        ≡ declaration_of section.now offset code },
+}
+
+impl<'t, 'a> Table<'t, 'a> {
+    /// The first declaration of a code.
+    pub fn declaration(&self, code: u64) -> Option<&'t Declaration<'a>>
+        ensures { option_map (λ d. declaration_view d.now) result
+            ≡ declaration_of self.now.section.now self.now.offset code }
+    {
+        match row_in(self.rows, code) {
+            Some(declaration) => Some(declaration),
+            None => self.others.get(&(self.offset, code)),
+        }
+    }
 }
 
 impl<'a> Abbreviations<'a> {
@@ -83,10 +92,15 @@ impl<'a> Abbreviations<'a> {
         })
     }
 
-    /// The first declaration of a code in the table at an offset; `None` if no table begins there or it has none.
-    pub(crate) fn declaration(&self, table: u64, code: u64) -> Option<&Declaration<'a>>
-        ensures { option_map (λ d. declaration_view d.now) result ≡ declaration_of self.now table code }
+    /// The table at an offset; it has no declaration if none begins there.
+    pub(crate) fn table(&self, offset: u64) -> Table<'_, 'a>
+        ensures { (result.section.now ≡ self.now) × (result.offset ≡ offset) }
     {
-        self.declarations.get(&(table, code))
+        Table {
+            section: self.section,
+            offset,
+            rows: self.declarations.rows_of(offset),
+            others: &self.declarations.others,
+        }
     }
 }

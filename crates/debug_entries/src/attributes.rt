@@ -54,33 +54,31 @@ impl<'a> Attributes<'a> {
         }
     }
 
-    /// The attributes with a value more; of two values of one attribute the first counts.
+    /// Puts a value; of two values of one attribute the first counts.
     #[tactic(auto, unfolding(crate::specs::Attributes::with_attribute))]
-    pub(crate) fn with(mut self, attribute: u64, value: Value<'a>) -> Attributes<'a>
-        ensures { attributes_view result
-            ≡ with_attribute (attributes_view self.entry) attribute (value_view value.entry) }
+    pub(crate) fn put(&mut self, attribute: u64, value: Value<'a>)
+        ensures { attributes_view self.new
+            ≡ with_attribute (attributes_view self.old) attribute (value_view value.entry) }
     {
+        let value = Some(value);
         match attribute {
-            DW_AT_NAME => self.name = self.name.or(Some(value)),
-            DW_AT_STMT_LIST => self.stmt_list = self.stmt_list.or(Some(value)),
-            DW_AT_LOW_PC => self.low_pc = self.low_pc.or(Some(value)),
-            DW_AT_HIGH_PC => self.high_pc = self.high_pc.or(Some(value)),
-            DW_AT_COMP_DIR => self.comp_dir = self.comp_dir.or(Some(value)),
-            DW_AT_ABSTRACT_ORIGIN => self.abstract_origin = self.abstract_origin.or(Some(value)),
-            DW_AT_SPECIFICATION => self.specification = self.specification.or(Some(value)),
-            DW_AT_RANGES => self.ranges = self.ranges.or(Some(value)),
-            DW_AT_CALL_COLUMN => self.call_column = self.call_column.or(Some(value)),
-            DW_AT_CALL_FILE => self.call_file = self.call_file.or(Some(value)),
-            DW_AT_CALL_LINE => self.call_line = self.call_line.or(Some(value)),
-            DW_AT_LINKAGE_NAME => self.linkage_name = self.linkage_name.or(Some(value)),
-            DW_AT_STR_OFFSETS_BASE => self.str_offsets_base = self.str_offsets_base.or(Some(value)),
-            DW_AT_ADDR_BASE => self.addr_base = self.addr_base.or(Some(value)),
-            DW_AT_RNGLISTS_BASE => self.rnglists_base = self.rnglists_base.or(Some(value)),
-            DW_AT_MIPS_LINKAGE_NAME => self.mips_linkage_name = self
-                .mips_linkage_name
-                .or(Some(value)),
+            DW_AT_NAME => self.name = self.name.or(value),
+            DW_AT_STMT_LIST => self.stmt_list = self.stmt_list.or(value),
+            DW_AT_LOW_PC => self.low_pc = self.low_pc.or(value),
+            DW_AT_HIGH_PC => self.high_pc = self.high_pc.or(value),
+            DW_AT_COMP_DIR => self.comp_dir = self.comp_dir.or(value),
+            DW_AT_ABSTRACT_ORIGIN => self.abstract_origin = self.abstract_origin.or(value),
+            DW_AT_SPECIFICATION => self.specification = self.specification.or(value),
+            DW_AT_RANGES => self.ranges = self.ranges.or(value),
+            DW_AT_CALL_COLUMN => self.call_column = self.call_column.or(value),
+            DW_AT_CALL_FILE => self.call_file = self.call_file.or(value),
+            DW_AT_CALL_LINE => self.call_line = self.call_line.or(value),
+            DW_AT_LINKAGE_NAME => self.linkage_name = self.linkage_name.or(value),
+            DW_AT_STR_OFFSETS_BASE => self.str_offsets_base = self.str_offsets_base.or(value),
+            DW_AT_ADDR_BASE => self.addr_base = self.addr_base.or(value),
+            DW_AT_RNGLISTS_BASE => self.rnglists_base = self.rnglists_base.or(value),
+            DW_AT_MIPS_LINKAGE_NAME => self.mips_linkage_name = self.mips_linkage_name.or(value),
             _ => {}
         }
-        self
     }
 }

@@ -1,14 +1,11 @@
 //! A declaration of an abbreviation (DWARF 5, section 7.5.3).
 
-ghost use Rattle.std.specs.Prelude.{◌≡◌, IfOk};
-ghost use Rattle.std.specs.Option.{option_map};
-ghost use Rattle.debug_entries.specs.Abbreviations.{declaration_body_at, declaration_at};
-ghost use Rattle.debug_entries.specs.DeclarationViews.{declaration_view};
+ghost use Rattle.std.specs.Prelude.{◌≡◌};
+ghost use Rattle.std.specs.Option.{option_map, option_or};
+ghost use Rattle.debug_entries.specs.Specifications.{total_size, values_after};
 
-use crate::dw::DW_CHILDREN_YES;
-use crate::specification::{Shape, read_shape};
-use dwarf_numbers::unsigned_leb128;
-use memory::{Heap, NoMemory};
+use crate::specification::Shape;
+use dwarf_numbers::{fixed_size, skip_value};
 
 /// A declaration, without its code.
 #[derive(Drop)]
@@ -16,52 +13,55 @@ pub struct Declaration<'a> {
     pub tag: u64,
     pub has_children: bool,
     pub shape: Shape<'a>,
+    /// The size of the values of an entry in bytes, where each form has one size in the versions 3 to 5.
+    pub(crate) size: Option<usize>,
+    ghost size_is: { option_or size (total_size shape.pairs.items) ≡ total_size shape.pairs.items },
 }
 
-/// A declaration from its tag on, and the bytes after it.
-#[tactic(auto, unfolding(crate::specs::Abbreviations::declaration_body_at))]
-fn read_body<'a>(
-    heap: Heap,
-    bytes: &'a [u8],
-) -> Result<Option<(Declaration<'a>, &'a [u8])>, NoMemory>
-    ensures { IfOk result (λ found. option_map (λ x. (declaration_view x.0, x.1.now)) found
-        ≡ declaration_body_at bytes.now) }
+/// The size of the values of pairs of attributes and forms, where each form has one size in the versions 3 to 5.
+pub(crate) fn total_size(pairs: &[(u64, u64)]) -> Option<usize>
+    ensures { option_or result (total_size pairs.now) ≡ total_size pairs.now }
 {
-    let Some((tag, rest)) = unsigned_leb128(bytes) else {
-        return Ok(None);
-    };
-    let Some((children, rest)) = rest.split_first() else {
-        return Ok(None);
-    };
-    let Some((shape, rest)) = read_shape(heap, rest)? else {
-        return Ok(None);
-    };
-    let declaration = Declaration {
-        tag,
-        has_children: *children == DW_CHILDREN_YES,
-        shape,
-    };
-    Ok(Some((declaration, rest)))
-}
-
-/// A code and its declaration, or `None` for the code 0 that ends a table, and the bytes after it.
-#[tactic(auto, unfolding(crate::specs::Abbreviations::declaration_at))]
-pub(crate) fn read_declaration<'a>(
-    heap: Heap,
-    bytes: &'a [u8],
-) -> Result<Option<(Option<(u64, Declaration<'a>)>, &'a [u8])>, NoMemory>
-    ensures { IfOk result (λ found.
-        option_map (λ x. (option_map (λ d. (d.0, declaration_view d.1)) x.0, x.1.now)) found
-        ≡ declaration_at bytes.now) }
-{
-    let Some((code, rest)) = unsigned_leb128(bytes) else {
-        return Ok(None);
-    };
-    if code == 0 {
-        return Ok(Some((None, rest)));
+    let mut size = 0usize;
+    for pair in pairs {
+        let Some(one) = fixed_size(3, pair.1) else {
+            return None;
+        };
+        let Some(sum) = size.checked_add(one) else {
+            return None;
+        };
+        size = sum;
     }
-    let Some((declaration, rest)) = read_body(heap, rest)? else {
-        return Ok(None);
-    };
-    Ok(Some((Some((code, declaration)), rest)))
+    Some(size)
+}
+
+/// The bytes after the values of pairs of attributes and forms.
+fn after_pairs<'a>(version: u16, pairs: &[(u64, u64)], bytes: &'a [u8]) -> Option<&'a [u8]>
+    ensures { option_map (λ r. r.now) result ≡ values_after version pairs.now bytes.now }
+{
+    let mut rest = bytes;
+    for pair in pairs {
+        let Some(after) = skip_value(version, pair.1, rest) else {
+            return None;
+        };
+        rest = after;
+    }
+    Some(rest)
+}
+
+impl<'a> Declaration<'a> {
+    /// The bytes after the values of an entry, whose values begin the bytes.
+    pub fn after_values<'b>(&self, version: u16, bytes: &'b [u8]) -> Option<&'b [u8]>
+        ensures { option_map (λ r. r.now) result ≡ values_after version self.now.shape.pairs.items bytes.now }
+    {
+        match self.size {
+            Some(size) if version > 2 => {
+                if bytes.len() < size {
+                    return None;
+                }
+                Some(bytes.split_at(size).1)
+            }
+            _ => after_pairs(version, &self.shape.pairs, bytes),
+        }
+    }
 }

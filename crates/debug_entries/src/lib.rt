@@ -3,23 +3,30 @@
 //! error: what stands before it counts.
 //!
 //! The modules in reading order: `dw`, the constants; `attributes`, those that are asked here; `specification`,
-//! `declaration` and `abbreviations`, what `__debug_abbrev` says of entries; `unit_header`; `entry`, one of them, and
-//! `entries`, those of a unit with their depths.
+//! `declaration`, `reading`, `declarations` and `abbreviations`, what `__debug_abbrev` says of entries; `unit_header`; `entry`, one of
+//! them with its values, `unread_entry`, one whose values are read when they are asked for, and `one_entry`, the one at an
+//! offset; `entries`, those of a unit with their depths.
 #![tactic(auto)]
 
 mod abbreviations;
 mod attributes;
 mod declaration;
+mod declarations;
 pub mod dw;
 mod entries;
 mod entry;
+mod one_entry;
+mod reading;
 mod specification;
 mod unit_header;
+mod unread_entry;
 
 pub use abbreviations::Abbreviations;
 pub use attributes::Attributes;
 pub use declaration::Declaration;
 pub use entries::{Entries, PlacedEntry};
-pub use entry::{Entry, entry_of};
+pub use entry::Entry;
+pub use one_entry::entry_of;
 pub use specification::{Shape, Specification};
 pub use unit_header::UnitHeader;
+pub use unread_entry::UnreadEntry;

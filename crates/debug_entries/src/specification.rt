@@ -59,7 +59,7 @@ impl<'a> Shape<'a> {
     {
         if specification.form == DW_FORM_IMPLICIT_CONST {
             let value = Value::Constant(specification.implicit);
-            self.constants = self.constants.with(specification.attribute, value);
+            self.constants.put(specification.attribute, value);
         } else if specification.form != DW_FORM_FLAG_PRESENT {
             self.pairs
                 .push((specification.attribute, specification.form))?;

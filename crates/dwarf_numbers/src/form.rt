@@ -59,7 +59,7 @@ fn class_value<'a>(class: Class, number: u64) -> Value<'a>
 }
 
 /// The size of each value of a form in bytes, 0 to 8 or 16; `None` if they differ in size.
-fn fixed_size(version: u16, form: u64) -> Option<usize>
+pub fn fixed_size(version: u16, form: u64) -> Option<usize>
     ensures { result ≡ fixed_size version form }
 {
     match form {
@@ -209,4 +209,22 @@ pub fn read_value(
         class_value(class_of(form), number_of_size(bytes, size)),
         bytes.split_at(size).1,
     ))
+}
+
+/// The bytes after the value of a form that begins the bytes: as [`read_value`], without the value.
+#[tactic(auto, unfolding(crate::specs::Forms::value_at))]
+pub fn skip_value(version: u16, form: u64, bytes: &[u8]) -> Option<&[u8]>
+    ensures { option_map (λ rest. rest.now) result ≡ option_map (λ x. x.1) (value_at version form 0 bytes.now) }
+{
+    if form == DW_FORM_IMPLICIT_CONST {
+        return Some(bytes);
+    }
+    let Some(size) = fixed_size(version, form) else {
+        let (_, rest) = variable_value(form, bytes)?;
+        return Some(rest);
+    };
+    if bytes.len() < size {
+        return None;
+    }
+    Some(bytes.split_at(size).1)
 }

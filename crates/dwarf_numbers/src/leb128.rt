@@ -33,14 +33,25 @@ fn onto_high_bits(bytes: &[u8], high: u64) -> u64
     value
 }
 
-/// The unsigned number that begins the bytes, and the bytes after it; `None` if no byte below 128 comes. Of a number
-/// with more than 64 bits the low 64 count.
-pub fn unsigned_leb128(bytes: &[u8]) -> Option<(u64, &[u8])>
+/// The unsigned number that begins the bytes, of any size, and the bytes after it.
+fn long_unsigned_leb128(bytes: &[u8]) -> Option<(u64, &[u8])>
     ensures { option_map (λ x. (x.0, x.1.now)) result ≡ unsigned_leb128_at bytes.now }
 {
     let last = last_index(bytes)?;
     let (number, rest) = bytes.split_at(last + 1);
     Some((onto_high_bits(number, 0), rest))
+}
+
+/// The unsigned number that begins the bytes, and the bytes after it; `None` if no byte below 128 comes. Of a number
+/// with more than 64 bits the low 64 count.
+#[tactic(auto, unfolding(crate::specs::Leb128::leb128_at))]
+pub fn unsigned_leb128(bytes: &[u8]) -> Option<(u64, &[u8])>
+    ensures { option_map (λ x. (x.0, x.1.now)) result ≡ unsigned_leb128_at bytes.now }
+{
+    match bytes.split_first() {
+        Some((byte, rest)) if *byte < 128 => Some((u64::from(*byte), rest)),
+        _ => long_unsigned_leb128(bytes),
+    }
 }
 
 /// The signed number that begins the bytes, as its two's complement of 64 bits, and the bytes after it; `None` if no

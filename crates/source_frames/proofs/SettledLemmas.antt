@@ -4,9 +4,11 @@ use Rattle.std.proofs.lemmas.Bool.{cases_Bool, ltb-true, ltb-false, lt-ltb, ne_e
 use Rattle.std.proofs.lemmas.Bool.Decides.{nat_tests}
 use Rattle.std.proofs.lemmas.List.{append-nil, get_or_append_left, get_or-append_right, get_or-take}
 use Rattle.code_ranges.specs.Lists.{in_ranges}
+use Rattle.code_ranges.specs.declared.range.CodeRange.{CodeRange}
 use Rattle.debug_entries.specs.Entries.{EntryRecord}
-use Rattle.source_frames.specs.Scopes.{ScopeRecord}
-use Rattle.source_frames.specs.ChainSteps.{is_out, chain_after, is_open, Known, known_after}
+use Rattle.code_ranges.specs.EntryRanges.{UnitRangesRecord}
+use Rattle.source_frames.specs.Scopes.{ScopeRecord, is_function, scope_ranges, left_after_scope}
+use Rattle.source_frames.specs.ChainSteps.{is_out, chain_after, is_open, Known, known_after, known_next}
 use Rattle.source_frames.specs.declared.containing.Last.{Last}
 use Rattle.source_frames.proofs.ScopeWalk.{after_none, after_full, after_out, after_hit, after_miss}
 
@@ -114,12 +116,6 @@ earlier_more : (last : Option Last) (index : ℕ) → IsEarlier last index → I
 earlier_more None index h = tt
 earlier_more (Some last) index h = omega arith
 
--- what is known after an entry
-abbrev pub known_next : ℕ → List ℕ → ℕ → ScopeRecord → Known → Known
-known_next a path index scope known =
-    let taken = record known { waits = known.waits && not (in_ranges a scope.ranges) } in
-    cond (known.waits && in_ranges a scope.ranges) (known_after path (record { index = index; depth = scope.depth }) scope.entry taken) taken
-
 module _ (a : ℕ) (path : List ℕ) (chain : List EntryRecord) (index : ℕ) (scope : ScopeRecord) (scopes : List ScopeRecord) (h : scope.depth ≤ length path) where
   -- an entry more
   taken : (waits : Bool) (entries : List EntryRecord) (room : ℕ) → waits ≡ nat_lt (length entries + 1) 256 → length entries + suc room ≡ 256
@@ -209,3 +205,25 @@ pub knows_next : (a : ℕ) (path : List ℕ) (index : ℕ) (scope : ScopeRecord)
 knows_next a path index scope waits hit waits_now last entries after h w e =
     e ∙ ap (λ b. cond b (known_after path (record { index = index; depth = scope.depth }) scope.entry (record { waits = waits_now; last = last; entries = entries })) (record { waits = waits_now; last = last; entries = entries })) h
     ∙ ap (λ b. cond (waits && in_ranges a scope.ranges) (known_after path (record { index = index; depth = scope.depth }) scope.entry (record { waits = b; last = last; entries = entries })) (record { waits = b; last = last; entries = entries })) w
+
+-- an entry that is not of a function has no ranges, and takes no entry of a list
+pub none_taken : (unit : UnitRangesRecord) (left : ℕ) (entry : EntryRecord) → is_function entry ≡ false → left ≡ left_after_scope unit left entry
+unfolding left_after_scope
+none_taken unit left entry e = rw e refl
+
+no_ranges : (unit : UnitRangesRecord) (left : ℕ) (entry : EntryRecord) → is_function entry ≡ false → scope_ranges unit left entry ≡ []
+unfolding scope_ranges
+no_ranges unit left entry e = rw e refl
+
+-- so it changes nothing that is known
+none_known : (a : ℕ) (path : List ℕ) (index depth : ℕ) (entry : EntryRecord) (waits : Bool) (last : Option Last) (entries : List EntryRecord)
+    → record { waits = waits; last = last; entries = entries } ≡ known_next a path index (record { depth = depth; entry = entry; ranges = [] }) (record { waits = waits; last = last; entries = entries })
+none_known a path index depth entry true last entries = refl
+none_known a path index depth entry false last entries = refl
+
+pub passed_by : (a : ℕ) (path : List ℕ) (index depth : ℕ) (unit : UnitRangesRecord) (left : ℕ) (entry : EntryRecord) (waits : Bool) (last : Option Last) (entries : List EntryRecord) → is_function entry ≡ false
+    → record { waits = waits; last = last; entries = entries }
+    ≡ known_next a path index (record { depth = depth; entry = entry; ranges = scope_ranges unit left entry }) (record { waits = waits; last = last; entries = entries })
+passed_by a path index depth unit left entry waits last entries e =
+    none_known a path index depth entry waits last entries
+    ∙ ap (λ (ranges : List CodeRange). known_next a path index (record { depth = depth; entry = entry; ranges = ranges }) (record { waits = waits; last = last; entries = entries })) (sym (no_ranges unit left entry e))

@@ -5,11 +5,12 @@ use Rattle.std.specs.Prelude.{nat_le, nat_lt, length, map, slice_index, Option, 
 use Rattle.std.specs.Ordering.{nat_cmp}
 use Rattle.std.specs.BTreeSet as tree_set
 use Rattle.std.specs.BTreeMap as tree_map
+use Rattle.code_ranges.specs.EntryRanges.{UnitRangesRecord}
 use Rattle.code_ranges.specs.Lists.{in_ranges}
 use Rattle.code_ranges.specs.declared.range.CodeRange.{CodeRange}
 use Rattle.debug_entries.specs.Entries.{EntryRecord}
 use Rattle.debug_entries.specs.EntryViews.{entry_view}
-use Rattle.source_frames.specs.Scopes.{ScopeRecord}
+use Rattle.source_frames.specs.Scopes.{ScopeRecord, scope_ranges}
 use Rattle.source_frames.specs.declared.containing.Chain.{Chain}
 use Rattle.source_frames.specs.declared.containing.Last.{Last}
 
@@ -82,6 +83,18 @@ extended last entry known =
 -- what is known of a hit address after an entry: if its last entry is open, this is the next one
 abbrev pub known_after : List ℕ → Last → EntryRecord → Known → Known
 known_after path last entry known = if is_open path known.last then extended last entry known else known
+
+-- an entry of a depth with its ranges, of whose list so many entries count at most
+abbrev pub scope_of : UnitRangesRecord → ℕ → ℕ → EntryRecord → ScopeRecord
+scope_of unit left depth entry = record { depth = depth; entry = entry; ranges = scope_ranges unit left entry }
+
+-- what is known of an address after an entry of an index with its ranges
+abbrev pub known_next : ℕ → List ℕ → ℕ → ScopeRecord → Known → Known
+known_next a path index scope known =
+    if known.waits && in_ranges a scope.ranges
+    then known_after path (record { index = index; depth = scope.depth }) scope.entry
+    (record known { waits = known.waits && not (in_ranges a scope.ranges) })
+    else record known { waits = known.waits && not (in_ranges a scope.ranges) }
 
 -- each hit address, and no other, is taken on
 abbrev pub Settles : List ℕ → Last → EntryRecord → tree_set.BTreeSet ℕ → (ℕ → Known) → (ℕ → Known) → Type 0

@@ -4,18 +4,19 @@ ghost use Rattle.std.specs.Prelude.{◌≡◌, ◌≢◌, ◌≤◌, ℕ, true, 
 ghost use Rattle.std.specs.Ordering.{nat_cmp};
 ghost use Rattle.std.specs.BTreeSet as tree_set;
 ghost use Rattle.std.specs.BTreeMap as tree_map;
-ghost use Rattle.debug_entries.specs.EntryViews.{entry_view};
+ghost use Rattle.code_ranges.specs.UnitViews.{unit_view as ranges_view};
+ghost use Rattle.debug_entries.specs.EntryViews.{entry_view, unread_view};
 ghost use Rattle.source_frames.specs.ChainSteps.{Settles, TakesHits, TakesRange, chain_after, entries_of_chain};
-ghost use Rattle.source_frames.specs.ChainSteps.{extended, is_open, known_of, last_of};
-ghost use Rattle.source_frames.specs.Scopes.{scopes_of};
+ghost use Rattle.source_frames.specs.ChainSteps.{extended, is_open, known_next, known_of, last_of, scope_of};
+ghost use Rattle.source_frames.specs.Scopes.{left_after_scope, scopes_of};
 ghost use Rattle.source_frames.specs.SectionsViews.{sections_view};
 ghost use Rattle.source_frames.specs.UnitViews.{unit_view};
 
 use crate::debug_info::DebugInfo;
 use crate::debug_unit::DebugUnit;
-use crate::scopes::scope_ranges;
-use code_ranges::{CodeRange, Ranges};
-use debug_entries::{Entries, Entry};
+use crate::scopes::{is_function, scope_ranges};
+use code_ranges::{CodeRange, Ranges, UnitRanges};
+use debug_entries::{Entries, Entry, UnreadEntry};
 use memory::{Heap, NoMemory};
 use pending_addresses::take_within;
 use std::collections::{BTreeMap, BTreeSet};
@@ -138,6 +139,35 @@ fn settle<'a>(
     Ok(())
 }
 
+/// Takes on each pending address that an entry of a unit contains, if the last entry of its chain is open. The values of
+/// an entry are read only if it is of a function, and once, however many addresses it contains.
+fn take_on<'a>(
+    heap: Heap,
+    ranges: &UnitRanges<'a>,
+    left: &mut u128,
+    pending: &mut BTreeSet<u64, Heap>,
+    chains: &mut Chains<'a>,
+    path: &[usize],
+    last: Last,
+    entry: &UnreadEntry<'_, 'a>,
+) -> Result<(), NoMemory>
+    ensures left { OnOk result (left.new
+        ≡ left_after_scope (ranges_view ranges.now) left.old (unread_view entry.now)) }
+    ensures known { OnOk result ((a : ℕ) → known_of a pending.new chains.new
+        ≡ known_next a path.now last.index
+        (scope_of (ranges_view ranges.now) left.old last.depth (unread_view entry.now))
+        (known_of a pending.old chains.old)) }
+{
+    if !is_function(entry) {
+        return Ok(());
+    }
+    let entry = entry.read();
+    let own = scope_ranges(ranges, &entry, left);
+    let hits = take_hits(heap.clone()?, pending, own)?;
+    settle(heap, hits, pending, chains, path, last, &entry)?;
+    Ok(())
+}
+
 impl<'a> DebugInfo<'a> {
     /// The chain of each pending address, of the entries of a unit.
     pub(crate) fn chains(
@@ -160,12 +190,11 @@ impl<'a> DebugInfo<'a> {
             let depth = placed.depth;
             path.truncate(depth);
             path.push(index)?;
-            let own = scope_ranges(&ranges, &placed.entry, &mut left);
-            let hits = take_hits(heap.clone()?, &mut pending, own)?;
             let last = Last { index, depth };
-            settle(
+            take_on(
                 heap.clone()?,
-                hits,
+                &ranges,
+                &mut left,
                 &mut pending,
                 &mut chains,
                 &path,

@@ -1,35 +1,33 @@
 //! The ranges of the functions of a unit.
 
-ghost use Rattle.std.specs.Prelude.{◌≡◌};
+ghost use Rattle.std.specs.Prelude.{◌≡◌, true};
 ghost use Rattle.code_ranges.specs.UnitViews.{unit_view as ranges_view};
-ghost use Rattle.debug_entries.specs.EntryViews.{entry_view};
+ghost use Rattle.debug_entries.specs.EntryViews.{entry_view, unread_view};
 ghost use Rattle.source_frames.specs.Scopes.{is_function, left_after_scope, scope_ranges};
 
 use crate::unit_code::range_attributes;
 use code_ranges::{Ranges, UnitRanges};
-use debug_entries::Entry;
 use debug_entries::dw::{DW_TAG_INLINED_SUBROUTINE, DW_TAG_SUBPROGRAM};
+use debug_entries::{Entry, UnreadEntry};
 
 /// Whether an entry is of a function.
-fn is_function(entry: &Entry<'_>) -> bool
-    ensures { result ≡ is_function (entry_view entry.now) }
+pub(crate) fn is_function(entry: &UnreadEntry<'_, '_>) -> bool
+    ensures { result ≡ is_function (unread_view entry.now) }
 {
-    entry.tag == DW_TAG_SUBPROGRAM || entry.tag == DW_TAG_INLINED_SUBROUTINE
+    entry.tag() == DW_TAG_SUBPROGRAM || entry.tag() == DW_TAG_INLINED_SUBROUTINE
 }
 
-/// The ranges of an entry of a unit, or none if it is not of a function. Of its list, `left` entries count at most, and
-/// `left` is then how many more may count.
+/// The ranges of an entry of a unit that is of a function. Of its list, `left` entries count at most, and `left` is then
+/// how many more may count.
 #[tactic(auto, unfolding(crate::specs::Scopes::scope_ranges, crate::specs::Scopes::left_after_scope))]
 pub(crate) fn scope_ranges<'a>(
     unit: &UnitRanges<'a>,
     entry: &Entry<'a>,
     left: &mut u128,
 ) -> Ranges<'a>
+    requires { is_function (entry_view entry.now) ≡ true }
     ensures ranges { result ≡ scope_ranges (ranges_view unit.now) left.old (entry_view entry.now) }
     ensures left { left.new ≡ left_after_scope (ranges_view unit.now) left.old (entry_view entry.now) }
 {
-    if !is_function(entry) {
-        return Ranges::none();
-    }
     unit.ranges_of(&range_attributes(entry), left)
 }

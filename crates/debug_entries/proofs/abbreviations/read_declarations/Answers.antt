@@ -1,8 +1,7 @@
 use Rattle.std.proofs.Common.{◌≡◌, ◌-◌, ℕ, List, length, Option, Some, None, arith, refl, sym}
 use Rattle.std.specs.Option.{option_map}
-use Rattle.std.specs.BTreeMap as tree_map
 use Rattle.debug_entries.specs.Abbreviations.{DeclarationRecord, declaration_at}
-use Rattle.debug_entries.specs.DeclarationViews.{declaration_view, key_cmp}
+use Rattle.debug_entries.specs.DeclarationViews.{declaration_in, declaration_view}
 use Rattle.debug_entries.proofs.DeclarationLemmas.{declaration_shortens, read_step, read_end, read_done}
 use Rattle.debug_entries.proofs.abbreviations.read_declarations.Goals as goal
 
@@ -18,7 +17,7 @@ declarations-preserved-in_ok-keep_first-in-Some-found c =
     record {
       within = omega (arith, less, c.declarations.invariant.within);
       each = λ table code.
-          read_step (option_map declaration_view (tree_map.get key_cmp c.declarations.declarations (table, code))) _ table code (length c.args.section.now) c.declarations.table
+          read_step (option_map declaration_view (declaration_in c.declarations.declarations table code)) _ table code (length c.args.section.now) c.declarations.table
           (c.in-Some-found.code, declaration_view c.in-Some-found.declaration) c.declarations.rest.now c.in-Some.after.now _ read (c.in_ok-keep_first-in-Some-found.ensures table code) (c.declarations.invariant.each table code);
     }
 
@@ -41,11 +40,11 @@ declarations-preserved c =
     record {
       within = omega (arith, less, c.declarations.invariant.within);
       each = λ table code.
-          read_end (option_map declaration_view (tree_map.get key_cmp c.declarations.declarations (table, code))) table code (length c.args.section.now) c.declarations.table (length c.args.section.now - length c.in-Some.after.now)
+          read_end (option_map declaration_view (declaration_in c.declarations.declarations table code)) table code (length c.args.section.now) c.declarations.table (length c.args.section.now - length c.in-Some.after.now)
           c.declarations.rest.now c.in-Some.after.now _ read refl (c.declarations.invariant.each table code);
     }
 
 pub returns : goal.returns
 returns c = λ table code.
     let none : declaration_at c.declarations.rest.now ≡ None = sym (rw c.in_default.is at c.in_ok-found.ensures) in
-    read_done (option_map declaration_view (tree_map.get key_cmp c.declarations.declarations (table, code))) table code (length c.args.section.now) c.declarations.table c.declarations.rest.now _ none (c.declarations.invariant.each table code)
+    read_done (option_map declaration_view (declaration_in c.declarations.declarations table code)) table code (length c.args.section.now) c.declarations.table c.declarations.rest.now _ none (c.declarations.invariant.each table code)

@@ -9,7 +9,7 @@ returns-in_default c =
 
 pub loop-pair-preserved : goal.loop-pair-preserved
 loop-pair-preserved c =
-    attributes_step c.args.version (attributes_view c.loop-pair.attributes) (attributes_view c.with-attributes.result) c.args.pairs.now c.loop-pair.pair-index c.loop-pair.rest.now c.in-Some.after.now _ _ (omega arith) c.in-Some.ensures c.with-attributes.ensures c.loop-pair.invariant
+    attributes_step c.args.version (attributes_view c.loop-pair.attributes) (attributes_view c.put.new.self) c.args.pairs.now c.loop-pair.pair-index c.loop-pair.rest.now c.in-Some.after.now _ _ (omega arith) c.in-Some.ensures c.put.ensures c.loop-pair.invariant
 
 pub returns : goal.returns
 returns c = attributes_done c.args.version (attributes_view c.loop-pair.attributes) c.args.pairs.now c.loop-pair.pair-index c.loop-pair.rest.now _ (omega arith) c.loop-pair.invariant

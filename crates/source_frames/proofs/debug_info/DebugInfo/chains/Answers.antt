@@ -10,7 +10,7 @@ use Rattle.source_frames.specs.Scopes.{ScopeRecord, scope_ranges, left_after_sco
 use Rattle.source_frames.specs.SectionsViews.{sections_view}
 use Rattle.source_frames.specs.UnitViews.{unit_view}
 use Rattle.source_frames.proofs.NestedLemmas.{AreNested, entries_nested, scopes_none, scopes_more}
-use Rattle.source_frames.proofs.SettledLemmas.{IsRight, path_with, length_with, right_start, right_next, right_end, knows_next}
+use Rattle.source_frames.proofs.SettledLemmas.{IsRight, path_with, length_with, right_start, right_next, right_end}
 use Rattle.source_frames.proofs.debug_info.DebugInfo.chains.Goals as goal
 
 pub overflow_add-index : goal.overflow_add-index
@@ -61,11 +61,8 @@ loop-placed-preserved c =
           let here = ap (scopes_from ranges c.loop-placed.left) c.in-Some.ensures.steps ∙ scopes_more ranges c.loop-placed.left placed rest in
           let r = subst (λ (s : List ScopeRecord). IsRight a (chain_after a 256 None all) path index s known) here (c.loop-placed.invariant.right a waits) in
           let next = right_next a (chain_after a 256 None all) path index scope scopes known room r in
-          let settled = rw (c.deref.ensures.value, made) at (c.in_ok-settle.ensures a) in
-          let hit = rw c.scope_ranges-own.ensures.ranges at (c.in_ok-hits.ensures.hit a) in
-          let left = rw c.scope_ranges-own.ensures.ranges at (c.in_ok-hits.ensures.left_is a) in
-          let same = knows_next a (path_with path scope.depth index) index scope _ _ _ known.last known.entries _ hit left settled in
-          rw (made, c.scope_ranges-own.ensures.left, same) next;
+          let same = rw (c.deref.ensures.value, made) at (c.in_ok-take_on.ensures.known a) in
+          rw (made, c.in_ok-take_on.ensures.left, same) next;
     }
 
 pub returns : goal.returns

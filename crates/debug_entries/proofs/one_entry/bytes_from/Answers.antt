@@ -1,5 +1,5 @@
 use Rattle.std.proofs.lemmas.List.{take_min, drop_min}
-use Rattle.debug_entries.proofs.entry.bytes_from.Goals as goal
+use Rattle.debug_entries.proofs.one_entry.bytes_from.Goals as goal
 
 pub returns : goal.returns
 returns c =

@@ -1,6 +1,6 @@
 use Rattle.dwarf_numbers.specs.Leb128.{last_unsigned}
 use Rattle.dwarf_numbers.proofs.Leb128Lemmas.{number_found, leb_missing, ends_unsigned}
-use Rattle.dwarf_numbers.proofs.leb128.unsigned_leb128.Goals as goal
+use Rattle.dwarf_numbers.proofs.leb128.long_unsigned_leb128.Goals as goal
 
 pub returns-in_err-last : goal.returns-in_err-last
 returns-in_err-last c =
