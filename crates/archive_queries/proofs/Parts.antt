@@ -30,7 +30,8 @@ use Rattle.command_ends.specs.declared.faults.Why.{Why}
 use Rattle.command_ends.specs.Ends.{EndsReport}
 use Rattle.command_ends.specs.Outputs.{Takes, Writer}
 use Rattle.command_ends.specs.Inputs.{EachUnfailed, EachUntouched, HoldsArchive, HoldsContent, HoldsPart, IsArchive, IsArchiveRefused, IsFirstRefused, IsRefusal, IsRefusedArchive, Reader, Reads, Unfailed, readers}
-use Rattle.archive_queries.specs.InnerTogether.{AreAlikeWhere, HasJoinedParts}
+use Rattle.archive_queries.specs.InnerTogether.{HasJoinedParts}
+use Rattle.archive_queries.specs.Together.{AreAlikeWhere}
 
 -- ---- records under a front of a key
 

@@ -1,8 +1,8 @@
 -- Parts of several archives, joined: the words of inner functions. No contract of a public one has them.
-use Rattle.std.specs.Prelude.{◌≡◌, ℕ, ◌≤◌, List, Bool, true, length, map}
+use Rattle.std.specs.Prelude.{◌≡◌, ℕ, List, Bool, map}
 use Rattle.std.specs.List.{AllByRecursion, AllZip}
 use Rattle.archive_core.specs.Content.{Operations, IsContent}
-use Rattle.archive_core.specs.Part.{AreAlikeUnder, is_under, part}
+use Rattle.archive_core.specs.Part.{part}
 use Rattle.command_ends.specs.Archives.{merged}
 use Rattle.command_ends.specs.Inputs.{Reader, HoldsArchive}
 
@@ -13,9 +13,3 @@ pub record HasJoinedParts {R : Type 0} (archives : List (Reader R)) (picks : Lis
   pub are_contents : AllByRecursion IsContent contents
   pub archives_are : AllZip HoldsArchive archives contents
   pub content : new ≡ merged old (map (λ o. part o picks) contents)
-
--- the two have the same records under each front of a key under which all records are picked
-abbrev pub AreAlikeWhere : (List ℕ → Bool) → Operations → Operations → Type 0
-AreAlikeWhere picks o p =
-    (front : List ℕ) → length front ≤ 24 → ((r : List ℕ) → is_under front r ≡ true → picks r ≡ true)
-    → AreAlikeUnder front o p

@@ -4,6 +4,7 @@ pub mod Name
 pub mod Sources
 pub mod Symbolicate
 pub mod Frames
+pub mod Together
 pub mod InnerTogether
 pub mod InnerSources
 pub mod InnerFrames

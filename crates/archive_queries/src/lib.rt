@@ -25,4 +25,4 @@ pub use frames::{answer_frames, run_frames};
 pub use list::run_list;
 pub use name::{NameAnswer, answer_name};
 pub use symbolicate::{answer_each, asked_of, run_symbolicate, status_behind};
-pub use together::join_part;
+pub use together::{join_part, read_parts};

@@ -7,7 +7,8 @@ ghost use Rattle.archive_core.specs.declared.keys.SliceKey.{SliceKey};
 ghost use Rattle.archive_reading.specs.Keys.{AnswersAs, AreInOrder, first_key};
 ghost use Rattle.command_ends.specs.Archives.{ReadsOthers, ReadsTogether};
 ghost use Rattle.command_ends.specs.Inputs.{HoldsContent, IsRefusedArchive, Reads, reader, readers};
-ghost use Rattle.archive_queries.specs.InnerTogether.{AreAlikeWhere, HasJoinedParts};
+ghost use Rattle.archive_queries.specs.InnerTogether.{HasJoinedParts};
+ghost use Rattle.archive_queries.specs.Together.{AreAlikeWhere};
 
 use archive_core::{Archive, SliceKey, take_all};
 use archive_reading::{Questions, Selects};
@@ -52,7 +53,7 @@ fn join_parts<A: Archive + Drop, S: Selects, R: Source>(
 
 /// Reads the archives in the order of the words, each to its end, and keeps the join of what is picked of each: under a
 /// front of a key, or the whole of one, it has what the join of the archives has.
-pub(crate) fn read_parts<A: Archive + Drop, S: Selects, R: Source>(
+pub fn read_parts<A: Archive + Drop, S: Selects, R: Source>(
     heap: Heap,
     select: &S,
     archive: &mut Result<R, CannotOpen>,

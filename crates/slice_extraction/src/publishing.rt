@@ -1,0 +1,70 @@
+//! The end of the command: OUT, and then the report.
+
+ghost use Rattle.std.specs.Prelude.{◌≡◌, IfOk, length, string_bytes};
+ghost use Rattle.archive_core.specs.Key.{key_bytes};
+ghost use Rattle.command_ends.specs.Outputs.{Publishes, out_of, outs, writer};
+ghost use Rattle.slice_extraction.specs.InnerChoice.{PublishesWanted};
+ghost use Rattle.slice_extraction.specs.Wanted.{slice_line};
+
+use crate::choosing::{Choice, choose};
+use archive_core::{Archive, CheckedSlice, Digest, SliceKey};
+use archive_words::Spelled;
+use byte_device::{Sink, push_all};
+use command_ends::{CommandFault, Output, Status, Target, publish_report, put_in_place};
+use memory::{Heap, NoMemory};
+use report_text::{Text, find_lines};
+
+/// The line of a slice that was written.
+fn slice_line(heap: Heap, slice: &CheckedSlice<'_>) -> Result<String<Heap>, NoMemory>
+    ensures { IfOk result (λ text. string_bytes text ≡ slice_line slice.now) }
+{
+    let mut text = String::new(heap);
+    let key = Text(slice.key());
+    let digest = Spelled(slice.digest());
+    let bytes = slice.bytes().len();
+    writeln!(text, "slice {key} {digest}, {bytes} bytes")?;
+    Ok(text)
+}
+
+/// Writes the bytes of a slice to OUT, puts it in place, and then writes its line to the report.
+fn publish_slice<T: Target, P: Sink>(
+    heap: Heap,
+    slice: &CheckedSlice<'_>,
+    out: &mut Output<T::Draft, T>,
+    report: &mut P,
+) -> Result<Status, CommandFault>
+    ensures { Publishes (out_of (outs T.Draft.held T.Draft.failures T.placed T.failures out.old out.new))
+        (writer P.held P.failures report.old report.new) slice.now (slice_line slice.now) result }
+{
+    let text = slice_line(heap, slice)?;
+    let bytes = slice.bytes();
+    if let Err(fault) = push_all(&mut out.draft, bytes) {
+        return Err(CommandFault::Output(fault.written));
+    }
+    put_in_place(out, bytes.len() as u128)?;
+    publish_report(Status::Done, &text, report)
+}
+
+/// Publishes the slice that is wanted under a key, of an archive that holds what is there; or reports which answer, and
+/// leaves OUT as it is.
+pub(crate) fn publish_wanted<A: Archive, T: Target, P: Sink>(
+    heap: &Heap,
+    archive: &A,
+    key: &SliceKey,
+    digest: &Option<Digest>,
+    out: &mut Output<T::Draft, T>,
+    report: &mut P,
+) -> Result<Status, CommandFault>
+    requires { length (key_bytes key.now) ≡ 24 }
+    ensures { PublishesWanted (A.content archive.now) key.now digest.now
+        (outs T.Draft.held T.Draft.failures T.placed T.failures out.old out.new)
+        (writer P.held P.failures report.old report.new) result }
+{
+    match choose(heap.clone()?, archive, key, digest)? {
+        Choice::One(slice) => publish_slice(heap.clone()?, &slice, out, report),
+        Choice::Undecided(rows) => {
+            let text = find_lines(heap.clone()?, &rows)?;
+            publish_report(Status::Partial, &text, report)
+        }
+    }
+}
