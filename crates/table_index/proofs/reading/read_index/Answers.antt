@@ -8,7 +8,7 @@ use Rattle.table_index.specs.Text.{AreLaid, IsIndexText, PassTests, count_in, en
 use Rattle.table_index.specs.declared.ends.Ends.{Ends}
 use Rattle.table_index.specs.declared.entry.TableEntry.{TableEntry}
 use Rattle.table_index.specs.declared.fault.IndexFault.{IndexFault}
-use Rattle.table_index.proofs.ReadLemmas.{after_ok, flat, passed_on, refused_as}
+use Rattle.table_index.proofs.ReadLemmas.{after_ok, flat, memory_refused, passed_on, refused_as}
 use Rattle.table_index.proofs.Tests.{long_entries}
 use Rattle.table_index.proofs.Texts.{length_entries, tables_long, whole_text}
 use Rattle.table_index.proofs.reading.read_index.Goals as goal
@@ -37,7 +37,7 @@ is_index text ends entries fits are read =
     }
 
 pub returns-in_default : goal.returns-in_default
-returns-in_default g c = record { says = λ text known. inl (inr refl, inl refl); keeps = refl; counts = refl }
+returns-in_default g c = memory_refused _ _ _ _ 0 _ _ c.out_of_memory.ensures (λ text. inl (inr refl, inl refl))
 
 pub returns-in_err-ends : goal.returns-in_err-ends
 returns-in_err-ends g c =
