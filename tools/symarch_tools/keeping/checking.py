@@ -33,6 +33,7 @@ from .archive_file import INDEX, INDEX_SUM, ArchiveFile, is_same_but_for_retirem
 from .contents import ADMISSION, DIGEST, END, KEY, LENGTH, MAGIC, MAGICS, Content, Malformed, Moved
 from .contents import digest_in, record_size, records_in
 from .indexes import HEAD, TAIL, Index, Row, held_against, index_by, index_of, is_companion
+from .levels import strangers_beside
 from .losing import lost_lines
 from .program import Program
 from .screen import Failed, Screen, screen_of, shown
@@ -185,12 +186,15 @@ def carry_out(words: argparse.Namespace) -> int:
     for file in others:
         lines, its_lost = held(file, program, screen)
         more, lost = more + lines, lost.joined(its_lost)
-    content = archive.joined()
+    content, strangers = archive.joined(), [archive.beside(ending) for ending in strangers_beside(archive.path)]
+    more += [file_line("unknown", path) for path in strangers]
     lines = look_through(archive, same, screen) + more + lost_lines(lost.beyond(content))
     screen.show(lines)
     for file in archive.files:
         if f"unknown {shown(file.path)}" in lines:
             screen.line(advice(file))
+    for path in map(shown, strangers):
+        screen.line(f"{path}: give it another name; or, if it is a level, call `symarch index {path} {path}.idx`")
     told = "all is there that was known" if others else "all is as it was"
     counts = f"{len(content.held)} slices, {len(content.retired)} retirements"
     wrong = f"{len(lines)} changed, lost, damaged or unknown"

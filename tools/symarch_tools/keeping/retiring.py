@@ -37,7 +37,7 @@ from typing import Dict, Iterable, List, NamedTuple, Optional, Sequence, Tuple
 from .archive import Archive
 from .archive_file import write_synced
 from .builds import UNKNOWN, Lines, Named, field_shown
-from .contents import END, KEY, LENGTH, MAGICS, RETIREMENT, Content, words_of
+from .contents import KEY, Content, archive_of_retirements, words_of
 from .forms import app_of, arch_of, day_of, digest_of, other_form, uuid_of
 from .program import Program
 from .screen import Failed, Screen, screen_of, shown
@@ -103,8 +103,8 @@ def retire(
 ) -> None:
     """The retirements come in by an archive of their own, all or none of them."""
     with archive.room() as room:
-        path, records = os.path.join(room, b"retirements"), sorted(RETIREMENT + entry for entry in entries)
-        write_synced(path, [MAGICS[0], *records, END, len(records).to_bytes(LENGTH, "big")])
+        path = os.path.join(room, b"retirements")
+        write_synced(path, archive_of_retirements(entries))
         archive.put(room, program, Content(entries), lines, screen, more=path)
 
 
