@@ -1,15 +1,15 @@
 """An archive: ARCHIVE, its levels and ARCHIVE.today, which are asked as their join; what they have, and what is lost; and
 how more comes in, by the rules of `levels`."""
-import contextlib
 import os
 from typing import Callable, List, Optional, Sequence, Tuple
 
 from ..signals import signals
 from . import upgrading
-from .archive_file import INDEX, INDEX_SUM, NEXT_INDEX, ArchiveFile
+from .archive_file import ArchiveFile
 from .archive_file import size_of, write_synced
 from .builds import Builds
 from .contents import EMPTY, Content, archive_of_retirements, heads_in, join_of
+from .file_names import INDEX, INDEX_SUM, NEXT_INDEX
 from .indexes import Index, Row, held_against, index_by, index_in, index_of
 from .json_lines import line_of, path_members, record_members
 from .levels import Files, joined_by_fold

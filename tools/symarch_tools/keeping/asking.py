@@ -8,8 +8,9 @@ import time
 from typing import BinaryIO, Dict, Iterator, List, NamedTuple, Optional, Sequence, Tuple
 
 from .archive import Archive
-from .archive_file import INDEX, ArchiveFile
+from .archive_file import ArchiveFile
 from .contents import EMPTY, entry_in, join_of
+from .file_names import INDEX
 from .forms import HELP
 from .indexes import Index
 from .program import DESCRIPTORS, Program

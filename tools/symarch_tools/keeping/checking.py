@@ -26,14 +26,15 @@ Status:
   126  there is no program"""
 import argparse
 import os
-from typing import BinaryIO, Iterable, List, Set, Tuple
+from typing import BinaryIO, Iterable, List, Optional, Set, Tuple
 
 from .archive import Archive, changed_line, file_line
-from .archive_file import INDEX, INDEX_SUM, ArchiveFile, is_same_but_for_retirements
+from .archive_file import ArchiveFile, is_same_but_for_retirements
+from .changing import keep_changed, line_of_file, line_of_row
 from .contents import ADMISSION, DIGEST, END, KEY, LENGTH, MAGIC, MAGICS, Content, Malformed, Moved
 from .contents import digest_in, record_size, records_in
+from .file_names import INDEX, INDEX_SUM, strangers_beside
 from .indexes import HEAD, TAIL, Index, Row, held_against, index_by, index_of, is_companion
-from .levels import strangers_beside
 from .losing import lost_lines
 from .program import Program
 from .screen import Failed, Screen, screen_of, shown
@@ -58,8 +59,9 @@ class Findings:
         self.good: Set[bytes] = set()
         self.has_ends = False
 
-    def look_through(self, opened: BinaryIO, moved: Moved) -> None:
-        for row in self.rows:
+    def look_through(self, opened: BinaryIO, moved: Moved, rows: Optional[List[Row]] = None) -> None:
+        """Reads these rows, or all, and the ends."""
+        for row in self.rows if rows is None else rows:
             opened.seek(row.at)
             is_good = opened.read(len(row.head())) == row.head()
             if row.is_slice() and not self.has_good_slice(opened, row, moved) or not is_good:
@@ -163,16 +165,26 @@ def are_damaged_signers(archive: Archive) -> bool:
         return True
 
 
+def strangers_of(archive: Archive) -> List[bytes]:
+    """Archives that are called as levels and are none."""
+    paths = map(archive.beside, strangers_beside(archive.path))
+    return [path for path in paths if ArchiveFile(path, b"").magic() in MAGICS]
+
+
 def look_through(archive: Archive, files: List[ArchiveFile], screen: Screen) -> List[str]:
     """The lines of what changed in files, by their indexes. Other words may write meanwhile."""
-    found = [(open(file.path, "rb"), Findings(file.path, file.index)) for file in files if file.index]
+    found = [(file, file.index, open(file.path, "rb")) for file in files if file.index]
     lines: List[str] = []
+    kept = [line_of_file(*it) for it in found]
     archive.release_lock()
-    screen.begin("reading", sum(os.fstat(opened.fileno()).st_size for opened, _ in found))
-    for opened, findings in found:
+    screen.begin("reading", sum(os.fstat(opened.fileno()).st_size for _, _, opened in found))
+    for file, index, opened in found:
+        findings = Findings(file.path, index)
         with opened:
             findings.look_through(opened, screen.moved)
         lines += findings.lines()
+        kept += [line_of_row(file, row) for row in findings.changed]
+    keep_changed(archive.path, kept)
     return lines
 
 
@@ -186,7 +198,7 @@ def carry_out(words: argparse.Namespace) -> int:
     for file in others:
         lines, its_lost = held(file, program, screen)
         more, lost = more + lines, lost.joined(its_lost)
-    content, strangers = archive.joined(), [archive.beside(ending) for ending in strangers_beside(archive.path)]
+    content, strangers = archive.joined(), strangers_of(archive)
     more += [file_line("unknown", path) for path in strangers]
     lines = look_through(archive, same, screen) + more + lost_lines(lost.beyond(content))
     screen.show(lines)

@@ -1,69 +1,27 @@
 """The files of an archive: ARCHIVE, its levels ARCHIVE.1, ARCHIVE.2 and so on, and ARCHIVE.today; and which of them a
 fold joins.
 
-Each is at least twice as large as the one after it. What comes in goes into the last, ARCHIVE.today. A fold joins that
-with the files before it, as long as these are less than twice as large as what is joined so far; if the first one is
-not, ARCHIVE.today becomes a level after all others. So a byte is written again only when its file has doubled. Files of
-less than LEAST bytes are joined whatever the sizes are, so a small archive has no levels.
+Each is at least twice as large as the one after it, or nearly. What comes in goes into the last, ARCHIVE.today. A fold
+joins that with the files before it, as long as these are less than twice as large as what is joined so far; if the first
+one is not, ARCHIVE.today becomes a level after all others. So a byte is written again only when its file has grown by
+half or more. Files of less than LEAST bytes are joined whatever the sizes are, so a small archive has no levels.
 
-The join takes the place of the largest file of which it is made, by the steps of `Placing`. Then ARCHIVE.today is
-emptied, and the other files are removed, the last one first, each before its index and the sum of this. So a kill leaves
-each record in the files that had it, or in the join, or in both. The next word sees by the indexes that the files before
-a level, or before ARCHIVE.today, have all that it has, and goes on. Who opens the files from the last one to ARCHIVE
-finds each record, since a fold only moves them to files that stand before.
-
-A file is a level if an index or its sum stands beside it. Another file of such a name, as a copy that somebody made, is
-left alone, and so is one beside which a lock stands: an archive of its own."""
+The join takes the place of the largest file of which it is made, by the steps of `Placing`. Then the other levels are
+removed, each before its index and the sum of this, and ARCHIVE.today is emptied. So a kill leaves each record in the
+files that had it, or in the join, or in both. The next word sees by the indexes that the files before a level, or before
+ARCHIVE.today, have all that it has, and goes on. Who opens the files from the last one to ARCHIVE finds each record,
+since a fold moves them only to files that stand before."""
 import contextlib
 import os
-from typing import Dict, Iterable, List, Sequence, Set
+from typing import Dict, List, Sequence, Set
 
-from .archive_file import INDEX, INDEX_SUM, NEXT_INDEX, ArchiveFile
+from .archive_file import ArchiveFile
 from .contents import Content, is_within, join_of
+from .file_names import INDEX, INDEX_SUM, NEXT_INDEX, TODAY, level_ending, numbers_beside
 from .placing import Placing
 
-TODAY, LOCK = b".today", b".lock"
 # Files of fewer bytes are joined by each fold.
 LEAST = 64 << 20
-# No level has a greater number.
-MOST_LEVELS = 99
-
-
-def level_ending(number: int) -> bytes:
-    return b".%d" % number
-
-
-NUMBERS = {level_ending(number): number for number in range(1, MOST_LEVELS + 1)}
-# What makes a file a level if it stands beside it.
-MARKS = INDEX, NEXT_INDEX, INDEX_SUM
-
-
-def numbers_beside(path: bytes) -> List[int]:
-    """The numbers of the levels beside an archive, in their order."""
-    found = endings_beside(path)
-    has_mark = {number: not found.isdisjoint(ending + mark for mark in MARKS) for ending, number in NUMBERS.items()}
-    return [number for ending, number in NUMBERS.items() if has_mark[number] and ending + LOCK not in found]
-
-
-def strangers_beside(path: bytes) -> List[bytes]:
-    """The endings of files that are called as levels and are none, nor archives of their own."""
-    found, levels = endings_beside(path), numbers_beside(path)
-    others = (ending for ending, number in NUMBERS.items() if number not in levels and ending + LOCK not in found)
-    return [ending for ending in others if ending in found]
-
-
-def endings_beside(path: bytes) -> Set[bytes]:
-    """What stands after the path of an archive in those of the files beside it, if these may belong to levels."""
-    folder, name = os.path.split(path)
-    try:
-        return {entry[len(name) :] for entry in os.listdir(folder or b".") if entry.startswith(name)}
-    except PermissionError:
-        # Who may not list a folder may still look names up.
-        return {it for ending in NUMBERS for it in having(ending) if os.path.lexists(path + it)}
-
-
-def having(ending: bytes) -> List[bytes]:
-    return [ending, ending + LOCK, *(ending + mark for mark in MARKS)]
 
 
 def joined_by_fold(sizes: Sequence[int]) -> int:
@@ -76,7 +34,8 @@ def joined_by_fold(sizes: Sequence[int]) -> int:
 
 
 def are_alike(size: int, smaller: int) -> bool:
-    return size < max(2 * smaller, LEAST)
+    # The join of two that are equal is a few bytes short of twice as large, and is no larger than it should be.
+    return size < max(2 * smaller - smaller // 16, LEAST)
 
 
 class Files(Placing):

@@ -179,15 +179,15 @@ def in_folder(words: Sequence[Word], folder: Optional[bytes]) -> Dict[str, str]:
     return {os.fsdecode(word): shown(os.path.join(folder, os.fsencode(word))) for word in words[1:]}
 
 
-def give(descriptor: int, slices: Sequence[Slice], moved: Moved, retirements: Sequence[bytes] = ()) -> None:
-    """Writes the archive of retirements and slices, which are in the order of their records."""
-    write(descriptor, MAGICS[0] + b"".join(retirements))
+def give(descriptor: int, slices: Sequence[Slice], moved: Moved) -> None:
+    """Writes the archive of slices, which are in the order of their records."""
+    write(descriptor, MAGICS[0])
     for done, one in enumerate(slices):
         write(descriptor, one.head)
         for chunk in one.chunks():
             write(descriptor, chunk)
             moved(done)
-    write(descriptor, END + (len(retirements) + len(slices)).to_bytes(LENGTH, "big"))
+    write(descriptor, END + len(slices).to_bytes(LENGTH, "big"))
 
 
 def fault(command: str, said: str, status: int, slices: Sequence[Slice], names: Dict[str, str]) -> Exception:

@@ -35,10 +35,11 @@ import os
 from typing import Counter, Dict, List, NamedTuple, Sequence
 
 from .archive import Archive
-from .archive_file import INDEX_SUM, NEXT_INDEX, ArchiveFile
+from .archive_file import ArchiveFile
 from .builds import NEXT_BUILDS
 from .contents import DIGEST, KEY, RETIREMENT, Content, Malformed, digest_in, head_of, record_size, records_in
 from .exchanging import Asked
+from .file_names import INDEX_SUM, NEXT_INDEX
 from .indexes import HEAD, is_companion
 from .json_lines import Line, Members, path_members
 from .log import NEXT_LOG
