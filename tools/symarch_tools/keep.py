@@ -6,6 +6,7 @@ Examples:
   symarch-keep find builds.sym UUID               prints what it has of a UUID
   symarch-keep name builds.sym _copy_body         prints which builds have a symbol, and where
   symarch-keep list builds.sym                    prints its builds by name: app, version, build, day
+  symarch-keep get builds.sym UUID --to debug     makes the dSYM bundle of a UUID
   symarch-keep exchange builds.sym shared east    exchanges with the other sites over a folder
   symarch-keep check builds.sym                   finds each byte that changed on the disk
   symarch-keep fold builds.sym                    joins what came in lately into it, as at night
@@ -58,8 +59,8 @@ import os
 import sys
 from typing import Any, Dict, List, NoReturn, Optional, Sequence, Set
 
-from .keeping import adding, checking, exchanging, finding, folding, listing, naming, repairing, retiring, stating
-from .keeping import symbolicating
+from .keeping import adding, checking, exchanging, finding, folding, getting, listing, naming, repairing, retiring
+from .keeping import stating, symbolicating
 from .keeping.ordering import refuse_order
 from .keeping.progress import progress
 from .keeping.screen import Failed, Screen, shown, system_text
@@ -72,6 +73,7 @@ WORDS = {
     "symbolicate": symbolicating,
     "name": naming,
     "list": listing,
+    "get": getting,
     "fold": folding,
     "retire": retiring,
     "exchange": exchanging,
@@ -82,7 +84,7 @@ WORDS = {
 
 
 # Words that are asked print what they find; the others may be quiet.
-ASKING = ("find", "symbolicate", "name", "list")
+ASKING = ("find", "symbolicate", "name", "list", "get")
 # Words that may print JSON. Each has the keys of its last object, whose values are null if it fails.
 WITH_JSON = (adding, listing, stating, checking)
 QUIET = "print nothing if nothing is wrong, as cron mails what is printed"

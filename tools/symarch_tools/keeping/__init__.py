@@ -26,6 +26,10 @@
 - symbolicating     `symbolicate`
 - naming            `name`
 - listing           `list`
+- universal         universal files
+- wanted            what `get` makes of UUIDs
+- bundling          how it makes that in a folder
+- getting           `get`
 - adding            `add`
 - folding           `fold`
 - retiring          `retire`

@@ -13,7 +13,7 @@ from .contents import EMPTY, entry_in, join_of
 from .file_names import INDEX
 from .forms import HELP
 from .indexes import Index
-from .program import DESCRIPTORS, Program
+from .program import DESCRIPTORS, Moved, Program, not_moved
 from .screen import Failed, Screen, shown, system_text, write
 
 # How often a file is looked at again that a word of symarch-keep may just be replacing, and after how many seconds.
@@ -34,6 +34,8 @@ class Asked:
 
     def __init__(self, path: bytes, ends: contextlib.ExitStack) -> None:
         self.archive, self.ends, self.program = Archive(path, writes=False), ends, Program()
+        # The descriptors of the files in memory that have indexes.
+        self.in_memory: Dict[Index, int] = {}
         # A fold removes a file once one that stands before it has all of it, so who opens the last one first misses
         # nothing.
         files = [self.opened(self.archive.today)] if self.archive.today.size() > len(EMPTY) else []
@@ -73,9 +75,15 @@ class Asked:
     # ---- what the program is asked
 
     def answer(
-        self, command: str, words: Sequence[str], options: Sequence[str] = (), is_by_index: bool = True
+        self,
+        command: str,
+        words: Sequence[str],
+        options: Sequence[str] = (),
+        is_by_index: bool = True,
+        folder: Optional[bytes] = None,
+        moved: Moved = not_moved,
     ) -> Tuple[List[str], int]:
-        """The lines that the program prints, and its status."""
+        """The lines that the program prints, and its status. It runs in a folder, if there is one."""
         archives: List[str] = []
         indexes: List[str] = []
         names: Dict[str, str] = {}
@@ -87,19 +95,24 @@ class Asked:
                 names[indexes[-1]] = shown(one.file.beside(INDEX))
         more = [it for path in archives[1:] for it in ("--with", path)]
         more += [it for path in indexes for it in ("--index", path)]
-        return self.run([command, *more, *options, "--", archives[0], *words], names)
+        return self.run([command, *more, *options, "--", archives[0], *words], names, folder, moved)
 
     def laid(self, index: Index) -> int:
         """A file in memory that has an index."""
-        descriptor = os.memfd_create("index")
-        self.ends.callback(os.close, descriptor)
-        write(descriptor, index.text)
-        return descriptor
+        if index not in self.in_memory:
+            self.in_memory[index] = descriptor = os.memfd_create("index")
+            self.ends.callback(os.close, descriptor)
+            write(descriptor, index.text)
+        return self.in_memory[index]
 
-    def run(self, words: Sequence[str], names: Dict[str, str]) -> Tuple[List[str], int]:
+    def run(
+        self, words: Sequence[str], names: Dict[str, str], folder: Optional[bytes], moved: Moved
+    ) -> Tuple[List[str], int]:
         descriptors = [int(path.rpartition("/")[2]) for path in names]
         try:
-            printed, status = self.program.answer(words, open_files=descriptors, names=names)
+            printed, status = self.program.answer(
+                words, folder=folder, open_files=descriptors, moved=moved, names=names
+            )
         except Failed as failed:
             found = AT_ENTRY.fullmatch(failed.text)
             index = self.files[int(found[1])].its_index if found else None

@@ -55,9 +55,14 @@ def field(text: bytes) -> str:
     return "".join(chr(it) if 0x20 < it < 0x7F and it != 0x5C else f"\\x{it:02x}" for it in text)
 
 
+def bytes_of(text: str) -> bytes:
+    """What a field stands for."""
+    return text.encode().decode("unicode_escape").encode("latin-1")
+
+
 def field_shown(text: str) -> str:
     """What is printed of a field, from which its bytes can be told."""
-    return shown(text.encode().decode("unicode_escape").encode("latin-1"))
+    return shown(bytes_of(text))
 
 
 def rest_of(entry: bytes, build: Build) -> bytes:

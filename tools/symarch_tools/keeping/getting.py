@@ -1,0 +1,143 @@
+"""Makes dSYM bundles in FOLDER of what ARCHIVE and its other files have of each UUID, as a debugger takes them, with the
+very bytes that came in.
+
+For example, the dSYM of an image that a crash names, and what lldb is told on a Mac:
+
+  symarch-keep get builds.sym 4c4c4419-5555-3144-a1d2-4341c97782f0 --to debug
+  (lldb) target symbols add debug/spool.dSYM
+
+It makes FOLDER if that is not there, and in it
+
+  NAME.dSYM    Contents/Resources/DWARF/NAME, which has the slices of dSYMs, and Contents/Info.plist
+  NAME         the slices that are no companions, if there are such, beside it
+
+NAME is the first name that ARCHIVE.builds has of a slice, or else the UUID, as where a name has a / or more than 250
+bytes. Slices of several architectures go into one universal file: those of the UUID, and those of UUIDs that
+`symarch-keep list` prints with the same DAY, APP, VERSION, BUILD and NAME, if there is one UUID for each architecture.
+
+Each slice has a line, whose PATH is that of the file with its bytes, so that lldb on Linux takes it too:
+
+  got UUID ARCH DIGEST PATH
+  known UUID ARCH DIGEST PATH    it is there with these very bytes
+  conflict UUID ARCH DIGEST      others of this UUID and ARCH answer too, so none is written: --digest says which
+
+Of several images beside one dSYM none is written, which is said. What is at PATH with other bytes stays, and is said:
+give builds of one NAME a FOLDER each. Each file is written whole in a folder .symarch-keep-*.making in FOLDER, synced
+and then renamed; the next call removes what a kill leaves there. FOLDER needs room for the slices, and for the largest
+one twice.
+
+ARCHIVE is read by its indexes: only the slices that are written are read. One that changed since it came in is not
+written. An archive without an index is read whole. No lock is taken.
+
+Status:
+  0    all is there
+  1    nothing is held of a UUID, or of a --digest, or there is a conflict; the rest is there
+  2    something at PATH has other bytes, a slice changed, or something could not be read, vouched for, written or
+       printed; the rest is there
+  3    the words have another form
+  126  there is no program"""
+import argparse
+import functools
+import os
+import uuid
+from typing import List
+
+from . import asking
+from .archive_file import size_of
+from .asking import Asked, opened_archive
+from .bundling import Target, room_in
+from .forms import digest_of, uuid_of
+from .indexes import Row
+from .listing import held_by
+from .screen import Failed, Screen, screen_of, shown, system_text
+from .wanted import Undecided, Wishes
+
+USAGE = "symarch-keep get [--digest DIGEST] ARCHIVE UUID... --to FOLDER"
+ABOUT = "make dSYM bundles of it, for a debugger"
+# Whether `symarch extract` takes indexes.
+BY_INDEX = False
+
+
+def define(parser: argparse.ArgumentParser) -> None:
+    parser.add_argument("--to", metavar="FOLDER", required=True, help="where they are made")
+    parser.add_argument("--digest", metavar="DIGEST", action="append", default=[], help="which one of several slices")
+    asking.define(parser)
+    parser.add_argument("uuids", metavar="UUID", nargs="+")
+
+
+class Getting:
+    """What is got of an archive that is asked, into a folder."""
+
+    def __init__(self, asked: Asked, folder: bytes, screen: Screen) -> None:
+        self.asked, self.folder, self.screen = asked, folder, screen
+        self.lines: List[str] = []
+        # How many bytes are there.
+        self.done = 0
+
+    def get(self, wishes: Wishes) -> None:
+        targets = [Target(self.folder, wanted) for wanted in wishes.files()]
+        self.screen.begin("getting", sum(target.layout.size for target in targets))
+        for target in targets:
+            try:
+                word = "known" if target.is_there() else self.made(target)
+                self.lines += [f"{word} {row.words()} {shown(target.file)}" for row in target.wanted.rows]
+            except Failed as failed:
+                self.screen.fail(failed.text, failed.more)
+            except OSError as error:
+                self.screen.fail(system_text(error, target.path))
+            self.done += target.layout.size
+
+    def made(self, target: Target) -> str:
+        with room_in(self.folder) as room:
+            target.make(room, functools.partial(self.extract, target))
+        return "got"
+
+    def extract(self, target: Target, row: Row, path: bytes) -> None:
+        """Has the program write a slice as a file of a room."""
+        room, out = os.path.split(path)
+        name, arch, digest = row.words().split(" ")
+        words, options = [name, arch, os.fsdecode(out)], ["--digest", digest]
+
+        def written() -> int:
+            return self.done + sum(size_of(os.path.join(room, one)) for one in os.listdir(room))
+
+        try:
+            status = self.asked.answer(
+                "extract", words, options, BY_INDEX, room, lambda _: self.screen.progress(0, written)
+            )[1]
+        except Failed as failed:
+            failed.more = failed.more.replace(shown(path), shown(target.file))
+            raise
+        if status:
+            raise self.asked.changed(row.words())
+
+
+def say_rest(wishes: Wishes, screen: Screen) -> List[str]:
+    """Says what is not got, and returns the lines of conflicts."""
+    for one in wishes.absent():
+        screen.fault(f"nothing is held of {uuid.UUID(bytes=one)}")
+    for digest in sorted(wishes.unused()):
+        screen.fault(f"no slice of these UUIDs has the DIGEST {digest.hex()}")
+    for undecided in wishes.undecided:
+        told = "none of them is put beside its dSYM" if undecided.has_companion else "none of them is written"
+        screen.fault(f"{key_words(undecided)}: {len(undecided.rows)} slices answer, and {told}; --digest says which")
+    conflicts = [it for it in wishes.undecided if not it.has_companion]
+    return [f"conflict {row.words()}" for it in conflicts for row in it.rows]
+
+
+def key_words(undecided: Undecided) -> str:
+    return undecided.rows[0].words().rpartition(" ")[0]
+
+
+def carry_out(words: argparse.Namespace) -> int:
+    uuids, digests = [uuid_of(one).bytes for one in words.uuids], map(digest_of, words.digest)
+    screen = screen_of(words)
+    with opened_archive(os.fsencode(words.archive)) as asked:
+        asked.archive.say_damaged_builds(screen)
+        held = held_by(asked, screen)
+        wishes = Wishes(uuids, held, asked.archive.builds.of(held), digests)
+        getting = Getting(asked, os.fsencode(words.to), screen)
+        getting.get(wishes)
+    conflicts = say_rest(wishes, screen)
+    screen.show([*getting.lines, *conflicts])
+    return screen.status(1 if conflicts or wishes.absent() or wishes.unused() else 0)
