@@ -9,6 +9,7 @@ import shutil
 import stat
 import struct
 import subprocess
+import sys
 from typing import Any, Callable, Dict, Iterable, List, Optional, Sequence, Tuple
 
 from .support.cases import Without, is_done, powerless_over, same
@@ -19,8 +20,9 @@ from .support.made_images import slices_in
 from .support.program import TOP
 from .support.rooms import RoomCase, change, keep, levelled, levels_of, today_of
 
-from symarch_tools.keeping import universal
-from symarch_tools.keeping.indexes import Row
+sys.path.insert(0, str(TOP / "tools"))
+from symarch_tools.keeping import universal  # noqa: E402
+from symarch_tools.keeping.indexes import Row  # noqa: E402
 
 CRASH = TOP / "examples" / "crash"
 DSYM = 10
@@ -39,16 +41,18 @@ def uuid_word(made: bytes) -> str:
     return slice_words(made)[0]
 
 
-def universal_of(slices: Sequence[bytes]) -> bytes:
-    """The universal file of these slices, in the order of their architectures, each at a multiple of 16384."""
+def universal_of(slices: Sequence[bytes], entry: str = ">5I", magic: int = 0xCAFEBABE) -> bytes:
+    """The universal file of these slices, in the order of their architectures, each at a multiple of 4096, or of 16384
+    for arm64."""
     slices = sorted(slices, key=lambda made: key_of(made)[16:])
-    table, body = struct.pack(">II", 0xCAFEBABE, len(slices)), b""
+    table, whole = struct.pack(">II", magic, len(slices)), bytes(8 + struct.calcsize(entry) * len(slices))
     for made in slices:
-        body += bytes(-len(body) % PAGE)
         cpu = struct.unpack_from("<II", made, 4)
-        table += struct.pack(">5I", *cpu, PAGE + len(body), len(made), 14)
-        body += made
-    return table.ljust(PAGE, b"\0") + body
+        power = 14 if cpu[0] & 0xFF == 12 else 12
+        whole += bytes(-len(whole) % (1 << power))
+        table += struct.pack(entry, *cpu, len(whole), len(made), power, *([] if entry == ">5I" else [0]))
+        whole += made
+    return table + whole[len(table) :]
 
 
 def in_bundle(name: str) -> str:
@@ -129,6 +133,16 @@ class Bytes(GetCase):
         same("lines", self.get(image(1))[0], [self.got(image(1), "spool")])
         self.has({"spool": image(1)})
 
+    def test_universal_files(self) -> None:
+        """What `lipo` made comes out byte for byte."""
+        names = [f"spool-{number}{ending}" for number in (1, 2) for ending in ("", ".dSYM")]
+        self.room.add(*(CRASH / name for name in names))
+        wanted = {}
+        for name in names:
+            wanted[in_bundle(name) if name.endswith("M") else name] = (CRASH / name).read_bytes()
+        self.get(*(slices_in((CRASH / name).read_bytes())[0] for name in names))
+        self.has(wanted)
+
     def test_large_and_small(self) -> None:
         made = [companion(1), companion(2, more=os.urandom(5 << 20))]
         self.add("small", made[0])
@@ -208,8 +222,8 @@ class Universal(GetCase):
 
     def test_above_four_gibibytes(self) -> None:
         """An offset that takes more than 32 bits has a table of the other kind."""
-        sizes = [(1 << 32) - 1 - 2 * PAGE, PAGE, 5]
-        rows = [Row(b"\2" + key_of(image(1, (7, at))) + bytes(32), 1, 0, 33 + size) for at, size in enumerate(sizes)]
+        sizes = [(1 << 32) - 2 * PAGE, PAGE - 1, 5]
+        rows = [Row(b"\2" + key_of(image(1, (12, at))) + bytes(32), 1, 0, 33 + size) for at, size in enumerate(sizes)]
         narrow, wide = (universal.Layout(rows[:count]) for count in (2, 3))
         same("kinds", (narrow.is_wide, wide.is_wide), (False, True))
         same("places", [place.at for place in wide.places], [PAGE, (1 << 32) - PAGE, 1 << 32])
@@ -217,24 +231,20 @@ class Universal(GetCase):
 
 
 class Wide(GetCase):
-    """A universal file with entries of 64 bits, where a file of 20000 bytes is too large for others."""
+    """A universal file with entries of 64 bits, where 10000 bytes are too many for others."""
 
     def test_its_bytes(self) -> None:
         tool = self.folder / "wide-keep"
         tools = os.path.dirname(os.path.realpath(keep))
         lines = f"import sys\nsys.path.insert(0, {tools!r})\nfrom symarch_tools.keeping import universal\n"
-        lines += "universal.MOST_NARROW = 20000\nfrom symarch_tools.keep import main\nsys.exit(main())\n"
+        lines += "universal.MOST_NARROW = 10000\nfrom symarch_tools.keep import main\nsys.exit(main())\n"
         tool.write_text(f"#!/usr/bin/env -S python3 -BIS\n{lines}")
         tool.chmod(0o755)
         made = [companion(1, X86_64, bytes(9000)), companion(1, ARM64, b"arm")]
         self.add("Shop", *made)
         self.room.tool = str(tool)
         self.get(made[0])
-        table = struct.pack(">II", 0xCAFEBABF, 2)
-        for one, at in zip(made, (PAGE, 2 * PAGE)):
-            table += struct.pack(">IIQQII", *struct.unpack_from("<II", one, 4), at, len(one), 14, 0)
-        wanted = table.ljust(PAGE, b"\0") + made[0].ljust(PAGE, b"\0") + made[1]
-        self.has({in_bundle("Shop"): wanted})
+        self.has({in_bundle("Shop"): universal_of(made, ">IIQQII", 0xCAFEBABF)})
         same("again", self.get(made[0])[0], [self.got(one, in_bundle("Shop"), "known") for one in made])
         said, _ = self.room.call("add", self.folder / "other.sym", "out")
         same("lines of add", said, [line("added", one, f"out/{in_bundle('Shop')}") for one in made])
@@ -415,7 +425,7 @@ class Files(GetCase):
 
     def test_levels(self) -> None:
         self.room.tool = levelled(self.folder)
-        made = [companion(number, more=bytes(5000 >> number)) for number in range(4)]
+        made = [companion(number, more=bytes(size)) for number, size in enumerate((60000, 4000, 1000, 10))]
         for number, one in enumerate(made):
             self.add(f"it-{number}", one)
             if number < 3:
@@ -430,7 +440,7 @@ class Files(GetCase):
     def test_one_build_in_several(self) -> None:
         """A slice that stands in two of them is one."""
         made = [companion(1, ARM64), companion(1, X86_64)]
-        self.room.make_many(3, more=bytes(900))
+        self.room.make_many(3, more=bytes(900), first=10)
         self.room.add("many")
         self.add("Shop", made[0])
         self.room.call("fold", self.room.archive)
@@ -580,7 +590,7 @@ class Folder(GetCase):
     def test_a_file(self) -> None:
         self.out.write_bytes(b"mine")
         _, errors = self.get(companion(1), status=2)
-        self.assertIn("out", errors[0])
+        same("errors", errors, ["symarch-keep: out is no folder"])
         same("file", self.out.read_bytes(), b"mine")
 
     def test_without_rights(self) -> None:

@@ -8,7 +8,7 @@ import plistlib
 import re
 import shutil
 import tempfile
-from typing import Callable, Dict, Iterator
+from typing import Callable, Dict, Iterator, List
 
 from ..signals import signals
 from .archive_file import sync_folder, write_synced
@@ -138,8 +138,9 @@ def text_of(name: bytes) -> str:
 def room_in(folder: bytes) -> Iterator[bytes]:
     """A folder in this one, which is made if it is not there. It is locked as long as it is worked in, so that the next
     call removes it if this one is killed."""
+    if os.path.lexists(folder) and not os.path.isdir(folder):
+        raise Failed(f"{shown(folder)} is no folder", 2)
     os.makedirs(folder, exist_ok=True)
-    remove_left(folder)
     with contextlib.ExitStack() as ends:
         with signals.later():
             room = locked_room(folder, ends)
@@ -150,7 +151,11 @@ def locked_room(folder: bytes, ends: contextlib.ExitStack) -> bytes:
     """A new room. Another call may take one that is not locked yet for one that was left."""
     room, is_there = b"", False
     while not is_there:
-        room = tempfile.mkdtemp(ENDS, BEGINS, folder)
+        try:
+            room = tempfile.mkdtemp(ENDS, BEGINS, folder)
+        except OSError as error:
+            error.filename = folder
+            raise
         with contextlib.suppress(FileNotFoundError):
             lock = os.open(room, os.O_RDONLY)
             ends.callback(os.close, lock)
@@ -161,6 +166,17 @@ def locked_room(folder: bytes, ends: contextlib.ExitStack) -> bytes:
     return room
 
 
+@contextlib.contextmanager
+def part_of(room: bytes) -> Iterator[bytes]:
+    """A folder in a room, which is empty."""
+    part = os.path.join(room, b"part")
+    os.mkdir(part)
+    try:
+        yield part
+    finally:
+        removed(part)
+
+
 def removed(room: bytes) -> None:
     with signals.later():
         shutil.rmtree(room, ignore_errors=True)
@@ -168,10 +184,12 @@ def removed(room: bytes) -> None:
 
 def remove_left(folder: bytes) -> None:
     """Removes the rooms of calls that were killed."""
-    for name in os.listdir(folder):
-        if name.startswith(BEGINS) and name.endswith(ENDS):
-            with contextlib.suppress(OSError):
-                remove_unlocked(os.path.join(folder, name))
+    names: List[bytes] = []
+    with contextlib.suppress(OSError):
+        names = [name for name in os.listdir(folder) if name.startswith(BEGINS) and name.endswith(ENDS)]
+    for name in names:
+        with contextlib.suppress(OSError):
+            remove_unlocked(os.path.join(folder, name))
 
 
 def remove_unlocked(room: bytes) -> None:

@@ -37,19 +37,20 @@ Status:
   3    the words have another form
   126  there is no program"""
 import argparse
+import contextlib
 import functools
 import os
 import uuid
-from typing import List
+from typing import Dict, Iterator, List
 
 from . import asking
 from .archive_file import size_of
 from .asking import Asked, opened_archive
-from .bundling import Target, room_in
+from .bundling import Target, part_of, remove_left, room_in
 from .forms import digest_of, uuid_of
 from .indexes import Row
 from .listing import held_by
-from .screen import Failed, Screen, screen_of, shown, system_text
+from .screen import Failed, Screen, screen_of, shown
 from .wanted import Undecided, Wishes
 
 USAGE = "symarch-keep get [--digest DIGEST] ARCHIVE UUID... --to FOLDER"
@@ -70,27 +71,46 @@ class Getting:
 
     def __init__(self, asked: Asked, folder: bytes, screen: Screen) -> None:
         self.asked, self.folder, self.screen = asked, folder, screen
-        self.lines: List[str] = []
-        # How many bytes are there.
+        # What came of each, and how many bytes were written.
+        self.words: Dict[Target, str] = {}
         self.done = 0
 
     def get(self, wishes: Wishes) -> None:
         targets = [Target(self.folder, wanted) for wanted in wishes.files()]
         self.screen.begin("getting", sum(target.layout.size for target in targets))
+        remove_left(self.folder)
         for target in targets:
-            try:
-                word = "known" if target.is_there() else self.made(target)
-                self.lines += [f"{word} {row.words()} {shown(target.file)}" for row in target.wanted.rows]
-            except Failed as failed:
-                self.screen.fail(failed.text, failed.more)
-            except OSError as error:
-                self.screen.fail(system_text(error, target.path))
-            self.done += target.layout.size
+            with self.going_on(target):
+                self.words[target] = "known" if target.is_there() else "got"
+        absent = [target for target in targets if self.words.get(target) == "got"]
+        if absent:
+            with room_in(self.folder) as room:
+                for target in absent:
+                    self.make(target, room)
 
-    def made(self, target: Target) -> str:
-        with room_in(self.folder) as room:
-            target.make(room, functools.partial(self.extract, target))
-        return "got"
+    @contextlib.contextmanager
+    def going_on(self, target: Target) -> Iterator[None]:
+        """Says what keeps a file from being there, and goes on with the others."""
+        try:
+            yield
+            return
+        except Failed as failed:
+            self.screen.fail(failed.text, failed.more)
+        except OSError as error:
+            self.screen.fail(f"{shown(target.path)}: {error.strerror}")
+        self.words.pop(target, None)
+
+    def make(self, target: Target, room: bytes) -> None:
+        with self.going_on(target), part_of(room) as part:
+            target.make(part, functools.partial(self.extract, target))
+        self.done += target.layout.size
+
+    def lines(self) -> List[str]:
+        return [
+            f"{word} {row.words()} {shown(target.file)}"
+            for target, word in self.words.items()
+            for row in target.wanted.rows
+        ]
 
     def extract(self, target: Target, row: Row, path: bytes) -> None:
         """Has the program write a slice as a file of a room."""
@@ -139,5 +159,5 @@ def carry_out(words: argparse.Namespace) -> int:
         getting = Getting(asked, os.fsencode(words.to), screen)
         getting.get(wishes)
     conflicts = say_rest(wishes, screen)
-    screen.show([*getting.lines, *conflicts])
+    screen.show([*getting.lines(), *conflicts])
     return screen.status(1 if conflicts or wishes.absent() or wishes.unused() else 0)

@@ -13,10 +13,14 @@ NARROW, WIDE = bytes.fromhex("cafebabe"), bytes.fromhex("cafebabf")
 NARROW_ENTRY, WIDE_ENTRY = struct.Struct(">8s3I"), struct.Struct(">8sQQII")
 MOST_NARROW = 0xFFFFFFFF
 FAT_HEADER = struct.Struct(">4sI")
-# Slices stand at multiples of the pages of arm64, as `lipo` places them.
-ALIGNMENT = 14
+# Slices stand at multiples of the pages of their machines, by powers of two, as `lipo` places them.
+ALIGNMENT, ALIGNMENT_OF_ARM = 12, 14
+# mach/machine.h: the cputype of each ARM, but for the bits of its pointers.
+ARM, POINTERS = 12, 0xFF000000
 # Where cputype and cpusubtype stand in an image, whose numbers are little-endian, as in mach-o/loader.h.
 CPU, CPU_AT = struct.Struct("<II"), 4
+# Where the cputype stands in the entry of a slice.
+CPUTYPE_AT = 17
 
 
 class Place(NamedTuple):
@@ -29,6 +33,10 @@ class Place(NamedTuple):
     @property
     def end(self) -> int:
         return self.at + self.size
+
+    @property
+    def alignment(self) -> int:
+        return alignment_of(self.row)
 
 
 class Layout:
@@ -51,7 +59,7 @@ class Layout:
         end = FAT_HEADER.size + len(rows) * entry.size if len(rows) > 1 else 0
         places: List[Place] = []
         for row in rows:
-            places.append(Place(row, aligned(end), row.length - HEAD))
+            places.append(Place(row, aligned(end, alignment_of(row)), row.length - HEAD))
             end = places[-1].end
         return places
 
@@ -61,7 +69,7 @@ class Layout:
         made = FAT_HEADER.pack(WIDE if self.is_wide else NARROW, len(self.places))
         for place in self.places:
             cpu = struct.pack(">II", *CPU.unpack(bytes_at(file, place.at + CPU_AT, CPU.size)))
-            numbers = cpu, place.at, place.size, ALIGNMENT
+            numbers = cpu, place.at, place.size, place.alignment
             made += WIDE_ENTRY.pack(*numbers, 0) if self.is_wide else NARROW_ENTRY.pack(*numbers)
         return made
 
@@ -88,9 +96,14 @@ class Layout:
         return bytes_at(file, 0, len(table)) == table and all(are_zeros)
 
 
-def aligned(at: int) -> int:
-    """The first multiple of the alignment from there on."""
-    return -(-at >> ALIGNMENT) << ALIGNMENT
+def alignment_of(row: Row) -> int:
+    cputype = int.from_bytes(row.entry[CPUTYPE_AT : CPUTYPE_AT + 4], "big")
+    return ALIGNMENT_OF_ARM if cputype & ~POINTERS == ARM else ALIGNMENT
+
+
+def aligned(at: int, alignment: int) -> int:
+    """The first multiple of a power of two from there on."""
+    return -(-at >> alignment) << alignment
 
 
 def bytes_at(file: BinaryIO, at: int, size: int) -> bytes:
