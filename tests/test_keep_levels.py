@@ -172,19 +172,22 @@ class Asked(LevelCase):
 
     def setUp(self) -> None:
         super().setUp()
-        for names in (["spool-1", "spool-2"], ["spool-1.dSYM"], ["spool-2.dSYM"]):
-            self.room.add(*(CRASH / name for name in names))
-            self.days(1)
-            self.come(2, more=b"x" * 20)
+        # The images of the crash stand in ARCHIVE, and a dSYM of each in a level.
+        self.room.add(*(CRASH / name for name in ("spool-1", "spool-2")))
+        self.come(2, more=bytes(300_000))
+        self.fold("--all")
+        for number, name in enumerate(("spool-2.dSYM", "spool-1.dSYM")):
+            self.room.add(CRASH / name)
+            self.come(2, more=bytes(60_000 - 40_000 * number))
             self.fold()
         self.conflict = [image(7, more=b"a"), image(7, more=b"b")]
         for number, one in enumerate(self.conflict):
             self.room.file(f"conflict/{number}", one)
             self.room.add(f"conflict/{number}")
-            self.days(2)
+            self.days(20 - 15 * number)
         self.room.call("retire", self.room.archive, *slice_words(self.made[1]))
         self.room.call("retire", self.room.archive, *slice_words(self.conflict[1]))
-        self.assertGreater(len(levels_of(self.room.archive)), 1)
+        same("number of levels", len(levels_of(self.room.archive)), 4)
         self.one = Room(self.folder / "one")
         self.one.path.mkdir()
         for path in self.folder.glob("site.sym*"):
@@ -575,9 +578,11 @@ class Changed(LevelCase):
                 change(path, 20)
             checked, _ = self.room.call("check", self.room.archive, status=0 if is_lost and path == kept else 2)
             same("check", checked, [] if is_lost and path == kept else [f"damaged {path}"])
-            self.room.call("status", "--accept", self.room.archive)
+            # A sum that is damaged stays until its file is another one.
+            stays = path == kept and not is_lost
+            self.room.call("status", "--accept", self.room.archive, status=2 if stays else 0)
             self.has(self.wanted)
-            self.room.call("check", self.room.archive, status=2 if path == kept and not is_lost else 0)
+            self.room.call("check", self.room.archive, status=2 if stays else 0)
         change(index, 20)
         change(level, level.read_bytes().index(self.parts[2][0]) + 50)
         _, errors = self.fold(status=4)
