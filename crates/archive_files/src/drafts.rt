@@ -8,8 +8,8 @@ ghost use Rattle.archive_files.specs.Placing.{IsBeside, IsTested, draft_name, fo
 
 use crate::file_calls::FileCalls;
 use crate::losses::test_losses;
-use crate::sameness::test_sameness;
 use crate::replaceable::{Obstacle, OutFault, Replaces};
+use crate::sameness::test_sameness;
 use crate::ways::Access;
 use memory::NoMemory;
 use std::alloc::Global;

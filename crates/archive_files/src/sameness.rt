@@ -50,7 +50,11 @@ fn agrees<F: Files>(files: &F, draft: &str, target: &str) -> io::Result<bool> {
     if size != fs::metadata(files, draft)?.len() {
         return Ok(false);
     }
-    have_same(&mut fs::open(files, draft)?, &mut fs::open(files, target)?, size)
+    have_same(
+        &mut fs::open(files, draft)?,
+        &mut fs::open(files, target)?,
+        size,
+    )
 }
 
 /// Whether the first bytes of two files, so many, are the same.

@@ -254,7 +254,8 @@ const ANSWERS: &str = "Each address gets one line: the nearest symbol, or\n\
     Numbers are hexadecimal, also without 0x.";
 
 /// What `extract` does without a slice, and what its exit status 1 says.
-const UNDECIDED: &str = "The dSYM is written, if there is one for this UUID and ARCH, and otherwise the image.\n\
+const UNDECIDED: &str =
+    "The dSYM is written, if there is one for this UUID and ARCH, and otherwise the image.\n\
     The exit status is 1 if there is no such slice, or if several answer, which are then\n\
     printed as find does: repeat the command with --digest.";
 
@@ -312,9 +313,7 @@ const COMMANDS: &[Signature] = &[
         name: "extract",
         about: "Write a slice as a file, as it came in",
         more: Some(UNDECIDED),
-        arguments: &[
-            ARCHIVE, SLICE_UUID, ARCH, SLICE_OUT, WANTED_DIGEST, OTHER,
-        ],
+        arguments: &[ARCHIVE, SLICE_UUID, ARCH, SLICE_OUT, WANTED_DIGEST, OTHER],
     },
     Signature {
         name: "name",

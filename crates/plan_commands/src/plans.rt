@@ -186,11 +186,7 @@ fn extract<'l>(values: &'l [Values]) -> Option<Plan<'l>>
         return None;
     };
     match rest {
-        [
-            Texts(One(_)),
-            Digests(Perhaps(digest)),
-            Texts(Several(_)),
-        ] => Some(Plan::Extract {
+        [Texts(One(_)), Digests(Perhaps(digest)), Texts(Several(_))] => Some(Plan::Extract {
             key: key(uuid, arch),
             digest: *digest,
         }),

@@ -5,7 +5,7 @@ ghost use Rattle.sha2.specs.Sha256.{sha256};
 ghost use Rattle.archive_core.specs.Content.{IsLive};
 ghost use Rattle.archive_core.specs.Key.{key_bytes};
 ghost use Rattle.archive_core.specs.Record.{admission_record, lent_bytes};
-ghost use Rattle.archive_core.specs.Valid.{key_of};
+ghost use Rattle.archive_core.specs.Valid.{IsValid, key_of};
 ghost use Rattle.slice_extraction.specs.InnerChoice.{IsChoice};
 ghost use Rattle.slice_extraction.specs.Wanted.{slice_row};
 
@@ -55,22 +55,21 @@ fn answering<'a, A: Archive>(
 }
 
 /// The slice that a record admits, if it is one under the key that has the digest.
-fn slice_in<'a>(
-    held: Record<'a>,
-    key: &SliceKey,
-    digest: &Digest,
-) -> Option<CheckedSlice<'a>>
+fn slice_in<'a>(held: Record<'a>, key: &SliceKey, digest: &Digest) -> Option<CheckedSlice<'a>>
     requires { length (key_bytes key.now) ≡ 24 }
-    ensures found { IfSome result (λ slice. (lent_bytes held ≡ admission_record slice)
+    ensures found { IfSome result (λ slice. (lent_bytes held ≡ admission_record slice) × IsValid slice
         × (key_of slice ≡ key.now) × (sha256 slice ≡ digest.now.0)) }
     ensures none { IfNone result ((slice : List ℕ) → lent_bytes held ≡ admission_record slice
         → key_of slice ≡ key.now → sha256 slice ≡ digest.now.0 → ⊥) }
 {
-    match held {
-        Record::Admit(slice) if is_key(&slice.key(), key) && slice.digest() == *digest => {
-            Some(slice)
-        }
-        _ => None,
+    let Record::Admit(slice) = held else {
+        return None;
+    };
+    let found = slice.digest();
+    if is_key(&slice.key(), key) && found == *digest {
+        Some(slice)
+    } else {
+        None
     }
 }
 
