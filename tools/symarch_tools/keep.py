@@ -15,7 +15,7 @@ The program is the one that SYMARCH names; else the one that ./symarch built, or
 `symarch` in PATH. None is built here: if SYMARCH names the script ./symarch, the program that it built is called.
 
 What comes in goes into ARCHIVE.today, a small archive beside ARCHIVE, and `fold` joins it into ARCHIVE. What a site has
-is what both have together: `find`, `symbolicate`, `name` and `list` ask both, and so does `symbolicate-report`.
+is what both have together: `find`, `symbolicate`, `name`, `list` and `get` ask both, and so does `symbolicate-report`.
 
 A word that is called with --quiet, and ends with 0, prints nothing; one that ends otherwise prints what it would print
 without it. So cron, which mails what is printed, mails what is wrong.

@@ -1,5 +1,5 @@
-"""Makes dSYM bundles in FOLDER of what ARCHIVE and its other files have of each UUID, as a debugger takes them, with the
-very bytes that came in.
+"""Makes dSYM bundles in FOLDER, as a debugger takes them, of what ARCHIVE and the files beside it have of each UUID:
+with the very bytes that came in.
 
 For example, the dSYM of an image that a crash names, and what lldb is told on a Mac:
 

@@ -1,5 +1,5 @@
-"""Universal files, of mach-o/fat.h: where each slice stands, and whether a file is one of these slices. A single slice is
-a file of its own."""
+"""Universal files, of mach-o/fat.h: where each slice stands, and whether a file is one of these slices. A single slice
+is a file of its own."""
 import os
 import stat
 import struct

@@ -38,7 +38,7 @@ class Wishes:
     def __init__(
         self, uuids: Iterable[bytes], held: Mapping[bytes, Row], lines: Lines, digests: Iterable[bytes] = ()
     ) -> None:
-        self.uuids, self.lines, self.digests = list(dict.fromkeys(uuids)), lines, set(digests)
+        self.uuids, self.lines, self.digests = dict.fromkeys(uuids), lines, set(digests)
         self.of_keys: Dict[bytes, List[Row]] = {}
         for entry, row in sorted(held.items()):
             self.of_keys.setdefault(entry[:KEY], []).append(row)
