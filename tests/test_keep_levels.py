@@ -117,8 +117,8 @@ class Sizes(LevelCase):
         same("file after a second one", self.room.archive.stat().st_ino, before)
 
     def test_what_is_joined(self) -> None:
-        """The first level is ARCHIVE.today itself, and is not copied; ARCHIVE is joined once it is not twice as large as
-        what came."""
+        """The first level is ARCHIVE.today itself, and is not copied; ARCHIVE is joined once it is not twice as large
+        as what came."""
         self.come(8)
         number = today_of(self.room.archive).stat().st_ino
         self.fold()
@@ -240,7 +240,8 @@ class Asked(LevelCase):
         for name in ("images", "companions", "retirements", "conflicts"):
             same(name, came[0][name], came[1][name])
         sizes = [path.stat().st_size for path in self.files()]
-        same("bytes", [int(came[0][name]) for name in ("bytes", "levels", "today")], [sizes[0], sum(sizes[1:-1]), sizes[-1]])
+        bytes_said = [int(came[0][name]) for name in ("bytes", "levels", "today")]
+        same("bytes", bytes_said, [sizes[0], sum(sizes[1:-1]), sizes[-1]])
         same("waiting", int(came[0]["waiting"]), len(self.made[1]) + len(self.conflict[1]))
         same("names of one", sorted({"levels", "waiting"} & {*came[1]}), [])
 
@@ -270,8 +271,8 @@ class Asked(LevelCase):
 
 
 class Killed(LevelCase):
-    """A fold that is killed before each of its steps leaves each slice in one file or in several, and the next word goes
-    on."""
+    """A fold that is killed before each of its steps leaves each slice in one file or in several, and the next word
+    goes on."""
 
     seconds = 60
 
@@ -381,7 +382,8 @@ class Retired(LevelCase):
     def test_at_each_place(self) -> None:
         """Nothing finds them any more, and they leave with the next join of their files."""
         for one in self.going:
-            same("found", self.room.call("find", self.room.archive, slice_words(one)[0])[0], [f"x86_64 retired {slice_words(one)[2]}"])
+            uuid, arch, digest = slice_words(one)
+            same("found", self.room.call("find", self.room.archive, uuid)[0], [f"{arch} retired {digest}"])
             same("again", self.room.call("retire", self.room.archive, *slice_words(one))[0], [f"known {words_of(one)}"])
         same("there", self.there(), [True] * 4 + [False])
         same("waiting", self.waiting(), sum(map(len, self.going[:4])))

@@ -91,8 +91,8 @@ Where the report does not state the architecture of an image, it is the one of x
 which the archive has its UUID; where there are several, that of the report's processor.
 
 Several archives are asked as their join, as `symarch merge` writes it: each last name that begins as an archive is one.
-ARCHIVE.today and the levels ARCHIVE.1, ARCHIVE.2 and so on, if `symarch-keep` has such beside an archive, are asked too,
-and have to be archives.
+ARCHIVE.today and the levels ARCHIVE.1, ARCHIVE.2 and so on, if `symarch-keep` has such beside an archive, are asked
+too, and have to be archives.
 
 If an index stands beside an archive, as ARCHIVE.idx, the archive is read by it, and each name that is printed is one
 that the index vouches for:

@@ -1,5 +1,5 @@
-"""An archive: ARCHIVE, its levels and ARCHIVE.today, which are asked as their join; what they have, and what is lost; and
-how more comes in, by the rules of `levels`."""
+"""An archive: ARCHIVE, its levels and ARCHIVE.today, which are asked as their join; what they have, and what is lost;
+and how more comes in, by the rules of `levels`."""
 import os
 from typing import Callable, List, Optional, Sequence, Tuple
 

@@ -1,6 +1,7 @@
-"""Reads all of ARCHIVE and ARCHIVE.today, each record at the place that its index names, and holds it against the
-SHA-256 that the index has of it as it came in. So it finds each byte that changed, also those that leave an archive an
-archive. It changes nothing, so it may be called on a disk that is read-only.
+"""Reads all of ARCHIVE, its levels and ARCHIVE.today, each record at the place that its index names, and holds it
+against the SHA-256 that the index has of it as it came in. So it finds each byte that changed, also those that leave an
+archive an archive. It changes none of them, and may be called on a disk that is read-only. What changed it keeps in
+ARCHIVE.changed, if it may, so that `repair` need not look for it again.
 
   changed UUID ARCH DIGEST OFFSET FILE            the slice that had this SHA-256 has not, or its head has other bytes
   changed retired UUID ARCH DIGEST OFFSET FILE    the retirement has other bytes
@@ -11,8 +12,8 @@ archive. It changes nothing, so it may be called on a disk that is read-only.
                                                   `exchange` remembers of signers are not as symarch-keep wrote them
   unknown FILE                                    nothing says whether the file is as it was
 
-FILE is ARCHIVE, ARCHIVE.today or a file beside them, and OFFSET where in it the record stands, in bytes from the first.
-Something is lost if ARCHIVE was replaced, as by an older one. `symarch-keep repair` mends what changed, and
+FILE is ARCHIVE, a level, ARCHIVE.today or a file beside them, and OFFSET where in it the record stands, in bytes from
+the first. Something is lost if ARCHIVE was replaced, as by an older one. `symarch-keep repair` mends what changed, and
 `symarch-keep exchange` brings back what is lost. An index that is damaged is made anew by the next word that writes, if
 the file is as it was. Of names of builds it drops those that are damaged; `exchange` and `add` bring them back. A file
 is unknown before the first word that writes, and if its index is lost or damaged and the file is another one. While it

@@ -3,9 +3,10 @@ or a bucket that `rclone` or `aws s3 sync` mirrors. NAME is the name of this sit
 letters, digits, `-` and `_`.
 
 One call joins what others answered, asks anew if something changed, answers what others ask, and removes what is done
-with. What comes in goes into ARCHIVE.today, as by `add`, and what is asked and answered is of both. Call it at each
-site, at any time and as often as you like, as by cron: when each site was called three times after the last change, and
-FOLDER copied between, all have the same, and after `symarch-keep fold` the same bytes. Two at once wait for each other.
+with. What comes in goes into ARCHIVE.today, as by `add`, and what is asked and answered is of all levels. Call it at
+each site, at any time and as often as you like, as by cron: when each site was called three times after the last
+change, and FOLDER copied between, all have the same, and after `symarch-keep fold --all` the same bytes. Two at once
+wait for each other.
 
 FOLDER has the questions and the answers of all sites. Their names say from whom to whom, and carry the SHA-256 of their
 bytes, so a file that is not copied to its end is told, and passed over. No file is ever rewritten.
@@ -14,7 +15,7 @@ FOLDER also has the mark of each site: what ARCHIVE.site has beside the archive 
 another one's, nothing is done: choose another NAME. --take-name takes NAME for this site all the same, as after it lost
 its disk; the other one is refused from then on.
 
-A question is made of ARCHIVE.idx and ARCHIVE.today.idx, and ARCHIVE.asked has what this site asked with. If the site
+A question is made of the indexes, and ARCHIVE.asked has what this site asked with. If the site
 lacks something of that, as one that was restored from a backup, the call says so and asks anew; each answer that is
 there is joined before it is removed. ARCHIVE.lost has what is lost, and each call ends with 2 until all of it is back,
 or `symarch-keep status --accept` takes it as lost. A slice that changed is not sent. ARCHIVE is made if it does not
@@ -402,8 +403,8 @@ class Exchange:
             self.screen.moved(len(chunk))
 
     def make_answer(self, room: bytes, theirs: Content, lacking: Content) -> None:
-        """Makes the archive of what is lacking, of those files that have some of it. What the other site retires it does
-        not lack."""
+        """Makes the archive of what is lacking, of those files that have some of it. What the other site retires it
+        does not lack."""
         write_file(room, b"theirs", summary_with_retired(theirs))
         names, moved = [], watched(self.screen, room)
         for number, file in enumerate(self.archive.files):

@@ -2,15 +2,16 @@
 fold joins.
 
 Each is at least twice as large as the one after it, or nearly. What comes in goes into the last, ARCHIVE.today. A fold
-joins that with the files before it, as long as these are less than twice as large as what is joined so far; if the first
-one is not, ARCHIVE.today becomes a level after all others. So a byte is written again only when its file has grown by
-half or more. Files of less than LEAST bytes are joined whatever the sizes are, so a small archive has no levels.
+joins that with the files before it, as long as these are less than twice as large as what is joined so far; if the
+first one is not, ARCHIVE.today becomes a level after all others. So a byte is written again only when its file has
+grown by half or more. Files of less than LEAST bytes are joined whatever the sizes are, so a small archive has no
+levels.
 
 The join takes the place of the largest file of which it is made, by the steps of `Placing`. Then the other levels are
 removed, each before its index and the sum of this, and ARCHIVE.today is emptied. So a kill leaves each record in the
-files that had it, or in the join, or in both. The next word sees by the indexes that the files before a level, or before
-ARCHIVE.today, have all that it has, and goes on. Who opens the files from the last one to ARCHIVE finds each record,
-since a fold moves them only to files that stand before."""
+files that had it, or in the join, or in both. The next word sees by the indexes that the files before a level, or
+before ARCHIVE.today, have all that it has, and goes on. Who opens the files from the last one to ARCHIVE finds each
+record, since a fold moves them only to files that stand before."""
 import contextlib
 import os
 from typing import Dict, List, Sequence, Set

@@ -1,5 +1,6 @@
-"""Mends what changed in ARCHIVE and ARCHIVE.today, as `symarch-keep check` finds it: takes the good bytes of each
-changed slice out of the archive FROM, as another site has it. Both are then what they were, byte for byte.
+"""Mends what changed in ARCHIVE, its levels and ARCHIVE.today, as `symarch-keep check` finds it: takes the good bytes
+of each changed slice out of the archive FROM, as another site has it, or of its levels or FROM.today. Each file is then
+what it was, byte for byte. What `check` found last, and what else it read, is not read again, but as it is copied.
 
 FROM may also be an archive that you made of the dSYM by `symarch-keep add`. Of retirements, of heads, and of the first
 and last bytes the index of each has all, so FROM need not have them. FROM is only read, and what else it has is left
@@ -10,9 +11,9 @@ what could not be mended is printed with `changed`.
 
 Status:
   0    all is as it was
-  2    something is still changed, or some line could not be printed or kept, or one of two files not be mended
+  2    something is still changed, or some line could not be printed or kept, or one of several files not be mended
   3    the words have another form
-  4    something could not be read or written, or there is no ARCHIVE.idx: ARCHIVE and ARCHIVE.today are as they were
+  4    something could not be read or written, or there is no ARCHIVE.idx: each file is as it was
   126  there is no program"""
 import argparse
 import contextlib
@@ -141,7 +142,12 @@ def put(written: int, at: int, data: bytes) -> None:
 
 
 def replace(
-    archive: Archive, file: ArchiveFile, findings: Findings, places: Dict[Row, Place], lines: Sequence[str], screen: Screen
+    archive: Archive,
+    file: ArchiveFile,
+    findings: Findings,
+    places: Dict[Row, Place],
+    lines: Sequence[str],
+    screen: Screen,
 ) -> None:
     """Puts a copy of a file in its place, in which slices are those of some places, and all else is as its index has
     it. Nothing else is read for that."""

@@ -6,10 +6,10 @@ For example, what came in of an app before this year; the first line only prints
   symarch-keep retire --dry-run --app com.example.spool --before 2026-01-01 builds.sym
   symarch-keep retire --app com.example.spool --before 2026-01-01 builds.sym
 
-From then on nothing that is asked of ARCHIVE and ARCHIVE.today finds the slice. The retirement goes into ARCHIVE.today;
-the next `symarch-keep fold` takes the bytes of the slice out of ARCHIVE. It reaches each site by `exchange`, and the
-slice comes back at none. A slice that neither has is refused, since a word may be wrong; --before-it-comes retires it
-all the same, so that it never comes in.
+From then on nothing that is asked finds the slice. The retirement goes into ARCHIVE.today; the next `symarch-keep fold`
+that joins the file in which the slice stands takes its bytes out, or the first one after 30 days, or `fold --purge`. It
+reaches each site by `exchange`, and the slice comes back at none. A slice that is not there is refused, since a word
+may be wrong; --before-it-comes retires it all the same, so that it never comes in.
 
 The line that is printed, and kept in ARCHIVE.log with the date, is `retired UUID ARCH DIGEST`, or `known UUID ARCH
 DIGEST` if it was retired before; nothing is written then.
@@ -24,7 +24,7 @@ Call `exchange` before, so that this site knows the apps of the others.
 
 Status:
   0    the slices are retired
-  1    neither file has such a slice, and nothing was done
+  1    there is no such slice, and nothing was done
   2    they are retired, and some line could not be printed or kept
   3    the words have another form
   4    ARCHIVE could not be read or written, memory ran out, names of builds were damaged, or lines not be printed

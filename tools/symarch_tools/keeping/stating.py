@@ -1,6 +1,6 @@
-"""Prints what ARCHIVE and ARCHIVE.today have together, in numbers, and what is known of the sites with which they
-exchange. It reads the indexes, so it takes little time; `symarch-keep check` reads all. Of an archive that is not the
-one of its index it reads the heads of the slices, and few of their bytes.
+"""Prints what ARCHIVE, its levels and ARCHIVE.today have together, in numbers, and what is known of the sites with
+which they exchange. It reads the indexes, so it takes little time; `symarch-keep check` reads all. Of an archive that
+is not the one of its index it reads the heads of the slices, and few of their bytes.
 
   images N            slices that are no companions
   companions N        slices of dSYMs
@@ -27,7 +27,7 @@ Status:
   2    something is lost; an index, its sum, ARCHIVE.lost or names of builds are damaged; or some line could not be
        printed or kept
   3    the words have another form
-  4    ARCHIVE or ARCHIVE.today could not be read, or ARCHIVE.lost not be written
+  4    ARCHIVE, a level or ARCHIVE.today could not be read, or ARCHIVE.lost not be written
   126  there is no program"""
 import argparse
 import collections
