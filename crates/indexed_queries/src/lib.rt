@@ -34,3 +34,4 @@ pub use fronts::Front;
 pub use list::run_list_at;
 pub use summary::run_summary_at;
 pub use symbolicate::run_symbolicate_at;
+pub use together::read_fronts;

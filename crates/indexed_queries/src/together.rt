@@ -161,7 +161,7 @@ fn join_others<A: Archive + Drop, R: Source>(
 
 /// Reads what the archives have under the fronts, in the order of the words: the first by their indexes, at their
 /// places, and the others whole.
-pub(crate) fn read_fronts<A: Archive + Drop, I: Source, P: Placed, R: Source>(
+pub fn read_fronts<A: Archive + Drop, I: Source, P: Placed, R: Source>(
     heap: &Heap,
     fronts: &[Front],
     indexes: &mut [Result<I, CannotOpen>],

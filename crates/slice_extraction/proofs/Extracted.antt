@@ -6,16 +6,13 @@ use Rattle.sha2.specs.Sha256.{sha256}
 use Rattle.archive_core.specs.Content.{Operations, IsLive}
 use Rattle.archive_core.specs.Find.{AreAnswering}
 use Rattle.archive_core.specs.Key.{key_bytes}
-use Rattle.archive_core.specs.Part.{AreAlikeUnder, is_under}
+use Rattle.archive_core.specs.Part.{AreAlikeUnder}
 use Rattle.archive_core.specs.declared.keys.Digest.{Digest}
 use Rattle.archive_core.specs.declared.keys.SliceKey.{SliceKey}
 use Rattle.archive_core.proofs.Picked.{alike_back}
-use Rattle.archive_queries.specs.Together.{AreAlikeWhere}
-use Rattle.archive_queries.proofs.Parts.{together_tells}
 use Rattle.archive_queries.proofs.Sourced.{answers_alike}
-use Rattle.command_ends.specs.Archives.{AreRefused, AreUnfailed, HoldTogether}
 use Rattle.command_ends.specs.Ends.{Carries, EndsStreamed, IsStopped, Streamed}
-use Rattle.command_ends.specs.Inputs.{AreRead, IsRefusal, Reader}
+use Rattle.command_ends.specs.Inputs.{IsRefusal}
 use Rattle.command_ends.specs.Outputs.{Outs, Publishes, Reports, Takes, Writer, out_of}
 use Rattle.command_ends.specs.declared.faults.CommandFault.{CommandFault}
 use Rattle.command_ends.specs.declared.faults.CommandFault.TheVariants.{Input, Output, Report, OutOfMemory}
@@ -24,7 +21,7 @@ use Rattle.command_ends.specs.declared.outputs.Output.{Output as Out_value}
 use Rattle.command_ends.specs.declared.faults.Status.{Status}
 use Rattle.command_ends.specs.declared.faults.Why.{Why}
 use Rattle.slice_extraction.proofs.Held.{live_alike}
-use Rattle.slice_extraction.specs.Extract.{Extraction, Extracts, LacksSlice, extract}
+use Rattle.slice_extraction.specs.Extract.{Extraction, Extracts, Held, LacksSlice, extraction}
 use Rattle.slice_extraction.specs.InnerChoice.{PublishesWanted}
 use Rattle.slice_extraction.specs.Wanted.{AreUndecided, IsWanted, slice_line, slices_text}
 
@@ -60,15 +57,12 @@ took_nothing out same = (
   ap (λ (o : Out_value _ _). out.draft_failures o.draft) same,
 )
 
-module _ {R S D T : Type 0} (archive : Reader R) (others : List (Reader S)) (key : SliceKey) (digest : Option Digest) (out : Outs D T) (report : Writer) where
+module _ {D T : Type 0} (Holds : Held) (Refuses : Place → Why → Type 0) (Unfailed : Type 0) (key : SliceKey) (digest : Option Digest) (out : Outs D T) (report : Writer) where
   abbrev command : Extraction
-  command = extract archive others key digest (out_of out).draft
+  command = extraction Holds Refuses Unfailed key digest (out_of out).draft
 
-  abbrev Refusal : CommandFault → Type 0
-  Refusal fault = IsRefusal (AreRefused archive others) (AreUnfailed archive others) fault
-
-  stopped : (fault : CommandFault) → Refusal fault → out.new ≡ out.old → Takes report [] → ((n : ℕ) → fault ≡ Output n → n ≡ 0)
-      → IsStopped command.writes (out_of out) report fault
+  stopped : (fault : CommandFault) → IsRefusal Refuses Unfailed fault → out.new ≡ out.old → Takes report []
+      → ((n : ℕ) → fault ≡ Output n → n ≡ 0) → IsStopped command.writes (out_of out) report fault
   stopped fault r same t count = record {
     stops = (r, took_nothing out same);
     bytes = [];
@@ -79,27 +73,25 @@ module _ {R S D T : Type 0} (archive : Reader R) (others : List (Reader S)) (key
   }
 
   -- an archive is refused, or memory is wanting
-  pub refused_so : (fault : CommandFault) → Refusal fault → out.new ≡ out.old → Takes report [] → Extracts command out report (Err fault)
+  pub refused_so : (fault : CommandFault) → IsRefusal Refuses Unfailed fault → out.new ≡ out.old → Takes report []
+      → Extracts command out report (Err fault)
   refused_so (Input place why) r same t = inl (stopped (Input place why) r same t (λ n h. cc))
   refused_so (Output n) r same t = absurd r
   refused_so (Report n) r same t = absurd r
   refused_so OutOfMemory r same t = inl (inl (stopped OutOfMemory r same t (λ n h. cc)))
 
-  -- the archives are read, and what is wanted of the part of their join is published
-  pub wanted_so : (result : Result Status CommandFault) (picks : List ℕ → Bool) (kept : Operations)
-      → AreRead (HoldTogether archive others (AreAlikeWhere picks kept)) (AreUnfailed archive others)
-      → length (key_bytes key) ≤ 24 → ((r : List ℕ) → is_under (key_bytes key) r ≡ true → picks r ≡ true)
+  -- the archives are read, and what is wanted of what is kept of them is published
+  pub wanted_so : (result : Result Status CommandFault) (kept : Operations) → Unfailed
+      → ((IsTrue : Operations → Type 0) → ((o : Operations) → AreAlikeUnder (key_bytes key) kept o → IsTrue o) → Holds IsTrue)
       → PublishesWanted kept key digest out report result → Extracts command out report result
-  wanted_so result picks kept read short picked (inl given) =
-      published_so command out report result given.0 (slice_line given.0) read.unfailed
-      (together_tells archive others _ _ (λ o alike. wanted_alike kept o key (alike (key_bytes key) short picked) digest given.0 given.1) read.is, refl)
-      given.2
-  wanted_so result picks kept read short picked (inr (inl none)) = inr (record {
-    unfailed = read.unfailed;
+  wanted_so result kept unfailed held (inl given) =
+      published_so command out report result given.0 (slice_line given.0) unfailed
+      (held (λ o. IsWanted o key digest given.0) (λ o alike. wanted_alike kept o key alike digest given.0 given.1), refl) given.2
+  wanted_so result kept unfailed held (inr (inl none)) = inr (record {
+    unfailed = unfailed;
     text = slices_text none.0;
-    lacks = (none.0, together_tells archive others _ _ (λ o alike. undecided_alike kept o key (alike (key_bytes key) short picked) digest none.0 none.1) read.is, refl);
+    lacks = (none.0, held (λ o. AreUndecided o key digest none.0) (λ o alike. undecided_alike kept o key alike digest none.0 none.1), refl);
     kept = none.2;
     reported = none.3;
   })
-  wanted_so result picks kept read short picked (inr (inr wanting)) =
-      rw wanting.0 (refused_so OutOfMemory read.unfailed wanting.1 wanting.2)
+  wanted_so result kept unfailed held (inr (inr wanting)) = rw wanting.0 (refused_so OutOfMemory unfailed wanting.1 wanting.2)

@@ -1,10 +1,13 @@
 -- How `extract` ends, and what it makes of archives.
 use Rattle.std.specs.Prelude.{◌≡◌, ℕ, List, [], Option, Result, ◌⊎◌}
+use Rattle.archive_core.specs.Content.{Operations}
 use Rattle.archive_core.specs.declared.keys.Digest.{Digest}
 use Rattle.archive_core.specs.declared.keys.SliceKey.{SliceKey}
 use Rattle.command_ends.specs.declared.faults.CommandFault.{CommandFault}
+use Rattle.command_ends.specs.declared.faults.Place.{Place}
 use Rattle.command_ends.specs.declared.faults.Status.{Status}
 use Rattle.command_ends.specs.declared.faults.Status.TheVariants.{Partial}
+use Rattle.command_ends.specs.declared.faults.Why.{Why}
 use Rattle.command_ends.specs.Archives.{AreRefused, AreUnfailed, HoldTogether}
 use Rattle.command_ends.specs.Ends.{EndsStreamed, Streamed}
 use Rattle.command_ends.specs.Inputs.{IsRefusal, Reader}
@@ -31,26 +34,32 @@ abbrev pub Extracts : {D T : Type 0} → Extraction → Outs D T → Writer → 
 Extracts command out report result =
     EndsStreamed command.writes (out_of out) report result ⊎ LacksSlice command out report result
 
--- The slice is the one that is wanted in the join of the archives, and this is its line.
-abbrev pub MakesSlice : {R S : Type 0} → Reader R → List (Reader S) → SliceKey → Option Digest → List ℕ → List ℕ
-    → Type 0
-MakesSlice archive others key digest slice told =
-    HoldTogether archive others (λ o. IsWanted o key digest slice) × (told ≡ slice_line slice)
+-- what archives hold, as far as such a command asks: this is true of the join of their contents
+abbrev pub Held : Type 1
+Held = (Operations → Type 0) → Type 0
 
--- The join of the archives has no slice that is wanted, and this tells which answer.
-abbrev pub IsUndecided : {R S : Type 0} → Reader R → List (Reader S) → SliceKey → Option Digest → List ℕ → Type 0
-IsUndecided archive others key digest told =
-    (slices : List (List ℕ)) × HoldTogether archive others (λ o. AreUndecided o key digest slices)
-    × (told ≡ slices_text slices)
+-- what they hold has this slice, which is the one that is wanted, and this is its line
+abbrev pub MakesSlice : Held → SliceKey → Option Digest → List ℕ → List ℕ → Type 0
+MakesSlice Holds key digest slice told = Holds (λ o. IsWanted o key digest slice) × (told ≡ slice_line slice)
 
--- `extract`, over these archives: it is stopped before OUT is begun, by the first archive that is refused or for want
--- of memory
-abbrev pub extract : {R S : Type 0} → Reader R → List (Reader S) → SliceKey → Option Digest → Writer → Extraction
-extract archive others key digest draft = record {
+-- what they hold has no slice that is wanted, and this tells which answer
+abbrev pub MakesNone : Held → SliceKey → Option Digest → List ℕ → Type 0
+MakesNone Holds key digest told =
+    (slices : List (List ℕ)) × Holds (λ o. AreUndecided o key digest slices) × (told ≡ slices_text slices)
+
+-- `extract`, over archives that hold this, one of which is refused so, or no reader of which failed. It is stopped
+-- before OUT is begun, by an archive that is refused or for want of memory.
+abbrev pub extraction : Held → (Place → Why → Type 0) → Type 0 → SliceKey → Option Digest → Writer → Extraction
+extraction Holds Refuses Unfailed key digest draft = record {
   writes = record {
-    Makes = MakesSlice archive others key digest;
-    Stops = λ fault. IsRefusal (AreRefused archive others) (AreUnfailed archive others) fault × Takes draft [];
-    Unfailed = AreUnfailed archive others;
+    Makes = MakesSlice Holds key digest;
+    Stops = λ fault. IsRefusal Refuses Unfailed fault × Takes draft [];
+    Unfailed = Unfailed;
   };
-  Lacks = IsUndecided archive others key digest;
+  Lacks = MakesNone Holds key digest;
 }
+
+-- the same over archives that are read whole
+abbrev pub extract : {R S : Type 0} → Reader R → List (Reader S) → SliceKey → Option Digest → Writer → Extraction
+extract archive others key digest draft =
+    extraction (HoldTogether archive others) (AreRefused archive others) (AreUnfailed archive others) key digest draft
