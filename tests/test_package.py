@@ -493,10 +493,10 @@ class Words(PackageCase):
         for words in (["add", "a", "b"], ["repair", "a"], ["exchange", "a"], ["check"], ["fold"]):
             self.assertEqual(self.completed("symarch-keep", *words, ""), ["paths"], words)
         self.assertEqual(self.completed("symarch-keep", "exchange", "a", "b", ""), [])
-        for words in ([], ["--to"], ["a", "u", "--to"], ["--to", "f"]):
-            self.assertEqual(self.completed("symarch-keep", "get", *words, ""), ["paths"], words)
-        for words in (["a"], ["a", "u"], ["--digest"]):
-            self.assertEqual(self.completed("symarch-keep", "get", *words, ""), [], words)
+        for words in (["get"], ["get", "--to"], ["get", "a", "u", "--to"], ["get", "--to", "f"]):
+            self.assertEqual(self.completed("symarch-keep", *words, ""), ["paths"], words)
+        for words in (["get", "a"], ["get", "a", "u"], ["get", "--digest"]):
+            self.assertEqual(self.completed("symarch-keep", *words, ""), [], words)
         for words in (["--key"], ["a", "b", "c", "--key", "k", "--signers"]):
             self.assertEqual(self.completed("symarch-keep", "exchange", *words, ""), ["paths"], words)
         self.assertEqual(self.completed("symarch-keep", "exchange", "--most", ""), [])
