@@ -275,6 +275,17 @@ class Names(GetCase):
         self.has({**bundles, **{name: image(number) for number, name in enumerate(names)}})
         same("made", sorted(os.listdir(self.folder)), sorted([*before, "out", "site.sym", "site.sym.builds"]))
 
+    def test_names_of_files_beside_an_archive(self) -> None:
+        """In its folder none of them is made."""
+        endings = ("today", "1", "lock", "lost", "idx.next", "making-it", "log")
+        made = [image(number) for number in range(len(endings))]
+        self.room.archive.write_bytes(archive([*made, image(20)]))
+        lines = [f"2026-01-01 {slice_text(one)} ? ? ? site.sym.{it}" for one, it in zip(made, endings)]
+        self.room.file("site.sym.builds", names_of([*lines, f"2026-01-01 {slice_text(image(20))} ? ? ? site.2"]))
+        self.room.call("get", self.room.archive, *map(uuid_word, [*made, image(20)]), "--to", ".")
+        wanted = ["site.sym", "site.sym.builds", "site.2", *map(uuid_word, made)]
+        same("files", sorted(os.listdir(self.folder)), sorted(wanted))
+
     def test_names_of_all_characters(self) -> None:
         """Bytes that are no UTF-8, line ends, quotes and the longest one are those of a file."""
         names = [b"\xff\xfe x", b"a\nb", b"--to", b"'$(x)\"&<", "sch\u00f6n".encode(), b"n" * 250]

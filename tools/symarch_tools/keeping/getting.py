@@ -1,5 +1,5 @@
-"""Makes dSYM bundles in FOLDER, as a debugger takes them, of what ARCHIVE and the files beside it have of each UUID:
-with the very bytes that came in.
+"""Makes dSYM bundles in FOLDER, as a debugger takes them, of what ARCHIVE, its levels and ARCHIVE.today have of each
+UUID, with the very bytes that came in.
 
 For example, the dSYM of an image that a crash names, and what lldb is told on a Mac:
 
@@ -11,8 +11,10 @@ It makes FOLDER if that is not there, and in it
   NAME.dSYM    Contents/Resources/DWARF/NAME, which has the slices of dSYMs, and Contents/Info.plist
   NAME         the slices that are no companions, if there are such, beside it
 
-NAME is the first name that ARCHIVE.builds has of a slice, or else the UUID, as where a name has a / or more than 250
-bytes. Slices of several architectures go into one universal file: those of the UUID, and those of UUIDs that
+NAME is the first name that ARCHIVE.builds has of a slice. If there is none, or one that no file in FOLDER may have, as
+with a / or more than 250 bytes, or of a file beside an archive there, it is the UUID.
+
+Slices of several architectures go into one universal file: those of the UUID, and those of UUIDs that
 `symarch-keep list` prints with the same DAY, APP, VERSION, BUILD and NAME, if there is one UUID for each architecture.
 
 Each slice has a line, whose PATH is that of the file with its bytes, so that lldb on Linux takes it too:
@@ -23,11 +25,11 @@ Each slice has a line, whose PATH is that of the file with its bytes, so that ll
 
 Of several images beside one dSYM none is written, which is said. What is at PATH with other bytes stays, and is said:
 give builds of one NAME a FOLDER each. Each file is written whole in a folder .symarch-keep-*.making in FOLDER, synced
-and then renamed; the next call removes what a kill leaves there. FOLDER needs room for the slices, and for the largest
+and then renamed; the next call removes what a kill leaves of it. FOLDER needs room for the slices, and for the largest
 one twice.
 
-ARCHIVE is read by its indexes: only the slices that are written are read. One that changed since it came in is not
-written. An archive without an index is read whole. No lock is taken.
+They are read by their indexes, so that of slices only those are read that are written. One that changed since it came
+in is not written. An archive without an index is read whole. No lock is taken.
 
 Status:
   0    all is there
@@ -53,7 +55,7 @@ from .listing import held_by
 from .screen import Failed, Screen, screen_of, shown
 from .wanted import Undecided, Wishes
 
-USAGE = "symarch-keep get [--digest DIGEST] ARCHIVE UUID... --to FOLDER"
+USAGE = "symarch-keep get [--digest DIGEST]... ARCHIVE UUID... --to FOLDER"
 ABOUT = "make dSYM bundles of it, for a debugger"
 # Whether `symarch extract` takes indexes.
 BY_INDEX = False
@@ -151,12 +153,12 @@ def key_words(undecided: Undecided) -> str:
 
 def carry_out(words: argparse.Namespace) -> int:
     uuids, digests = [uuid_of(one).bytes for one in words.uuids], map(digest_of, words.digest)
-    screen = screen_of(words)
+    screen, folder = screen_of(words), os.fsencode(words.to)
     with opened_archive(os.fsencode(words.archive)) as asked:
         asked.archive.say_damaged_builds(screen)
         held = held_by(asked, screen)
-        wishes = Wishes(uuids, held, asked.archive.builds.of(held), digests)
-        getting = Getting(asked, os.fsencode(words.to), screen)
+        wishes = Wishes(uuids, held, asked.archive.builds.of(held), digests, folder)
+        getting = Getting(asked, folder, screen)
         getting.get(wishes)
     conflicts = say_rest(wishes, screen)
     screen.show([*getting.lines(), *conflicts])

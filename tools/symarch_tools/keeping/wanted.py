@@ -1,10 +1,12 @@
 """What `get` makes of UUIDs: which slices go into which file, and what that is called."""
+import os
 import uuid
 from typing import Dict, Iterable, List, Mapping, NamedTuple, Optional, Sequence, Set, Tuple
 
 from .builds import UNKNOWN, Build, Lines, Named, bytes_of, with_app
 from .contents import DIGEST, KEY
 from .indexes import Row
+from .ordering import is_archive
 
 UUID = 16
 BUNDLE = b".dSYM"
@@ -32,13 +34,19 @@ class Undecided(NamedTuple):
 
 
 class Wishes:
-    """What is made of UUIDs, of the slices that an archive has, whose lines of builds these are. Digests choose among
-    several slices."""
+    """What is made of UUIDs in a folder, of the slices that an archive has, whose lines of builds these are. Digests
+    choose among several slices."""
 
     def __init__(
-        self, uuids: Iterable[bytes], held: Mapping[bytes, Row], lines: Lines, digests: Iterable[bytes] = ()
+        self,
+        uuids: Iterable[bytes],
+        held: Mapping[bytes, Row],
+        lines: Lines,
+        digests: Iterable[bytes] = (),
+        folder: bytes = b"",
     ) -> None:
         self.uuids, self.lines, self.digests = dict.fromkeys(uuids), lines, set(digests)
+        self.folder = folder
         self.of_keys: Dict[bytes, List[Row]] = {}
         for entry, row in sorted(held.items()):
             self.of_keys.setdefault(entry[:KEY], []).append(row)
@@ -69,7 +77,7 @@ class Wishes:
     def keys_of(self, one: bytes) -> List[bytes]:
         """The keys of a UUID, and those of its build for other architectures, if the build has one of each."""
         own = [key for key in self.of_keys if key[:UUID] == one]
-        named = next((it for key in own for it in self.lines.of_keys[key] if has_name(it)), None)
+        named = next((it for key in own for it in self.lines.of_keys[key] if self.has_name(it)), None)
         every = sorted({*own, *(self.of_builds[named] if named else [])})
         return every if len({key[UUID:] for key in every}) == len(every) else own
 
@@ -100,7 +108,7 @@ class Wishes:
         rows = sorted(rows, key=lambda row: row.entry[1:][UUID:KEY])
         asked = sorted(rows, key=lambda row: row.entry[1:][:UUID] not in self.uuids)
         lines = [it for row in asked for it in self.lines_of(row)]
-        build = next((it.build for it in lines if has_name(it)), Build())
+        build = next((it.build for it in lines if self.has_name(it)), Build())
         name = bytes_of(build.name) if build != Build() else str(uuid.UUID(bytes=asked[0].entry[1:][:UUID])).encode()
         return Wanted(kind == COMPANION, tuple(rows), name, build)
 
@@ -110,11 +118,19 @@ class Wishes:
         return [*with_app(own), *own, *self.lines.of_keys[row.entry[1:][:KEY]]]
 
 
-def has_name(named: Named) -> bool:
-    return named.build.name != UNKNOWN and is_name(bytes_of(named.build.name))
+    def has_name(self, named: Named) -> bool:
+        name = bytes_of(named.build.name)
+        return named.build.name != UNKNOWN and is_name(name) and not is_beside_archive(self.folder, name)
 
 
 def is_name(name: bytes) -> bool:
     """Whether a file, and a bundle, may be called so, and stands in its folder then."""
     is_of_folder = b"/" not in name and b"\0" not in name and name not in (b".", b"..")
     return is_of_folder and len(name + BUNDLE) <= MOST_OF_NAME
+
+
+def is_beside_archive(folder: bytes, name: bytes) -> bool:
+    """Whether a file of this name may be taken for one that symarch-keep keeps beside an archive in a folder."""
+    parts = name.split(b".")
+    names = (b".".join(parts[:count]) for count in range(1, len(parts)))
+    return any(is_archive(os.fsdecode(os.path.join(folder, one))) for one in names)
