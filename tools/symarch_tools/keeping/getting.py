@@ -79,12 +79,13 @@ class Getting:
 
     def get(self, wishes: Wishes) -> None:
         targets = [Target(self.folder, wanted) for wanted in wishes.files()]
-        self.screen.begin("getting", sum(target.layout.size for target in targets))
         remove_left(self.folder)
+        self.screen.begin("reading")
         for target in targets:
             with self.going_on(target):
                 self.words[target] = "known" if target.is_there() else "got"
         absent = [target for target in targets if self.words.get(target) == "got"]
+        self.screen.begin("writing", sum(target.layout.size for target in absent))
         if absent:
             with room_in(self.folder) as room:
                 for target in absent:
