@@ -420,7 +420,10 @@ class Retired(LevelCase):
         self.has(self.wanted)
 
     def test_purge(self) -> None:
-        self.fold("--purge")
+        waiting = self.waiting()
+        _, errors = self.fold("--purge")
+        told = f"1 slices, 5 retirements came in; {waiting} retired bytes were taken out"
+        same("said", errors, [f"symarch-keep: {self.room.archive}: {told}"])
         same("there", (self.there(), self.waiting()), ([False] * 5, 0))
         self.has(self.wanted)
         self.assertGreater(len(levels_of(self.room.archive)), 0)
@@ -586,7 +589,7 @@ class Changed(LevelCase):
             self.has(self.wanted)
             self.room.call("check", self.room.archive, status=2 if stays else 0)
         change(index, 20)
-        change(level, level.read_bytes().index(self.parts[2][0]) + 50)
+        change(level, level.read_bytes().index(self.parts[2][0]) + 26)
         _, errors = self.fold(status=4)
         told = f"{index} is not as symarch-keep wrote it, and nothing says whether {level} is as it was"
         same("errors", errors, [f"symarch-keep: {told}; `symarch-keep check` says more; the archive is as it was"])
@@ -611,6 +614,13 @@ class Changed(LevelCase):
         self.room.call("check", self.room.archive)
         self.fold("--all")
         self.is_one(archive(self.made))
+
+    def test_a_level_is_no_archive_to_write_to(self) -> None:
+        level = levels_of(self.room.archive)[0]
+        _, errors = self.room.call("add", level, "from-0063", status=3)
+        same("errors", errors, [f"symarch-keep: {level} is a level of {self.room.archive}: name that"])
+        self.room.call("find", level, slice_words(self.parts[1][0])[0])
+        self.are_indexed()
 
     def test_an_archive_of_its_own(self) -> None:
         """One that is called as a level is, of which symarch-keep has a lock."""
@@ -651,6 +661,12 @@ class Exchanged(LevelCase):
         for site in sites:
             self.room.call("fold", "--all", site.archive)
         folded(sites, wanted)
+
+    def test_a_site_that_begins_with_nothing(self) -> None:
+        west = Site(self.room, "west")
+        west.exchange()
+        same("archive", west.archive.read_bytes(), EMPTY)
+        same("index", kept_index(west.archive), index_of(EMPTY))
 
     def test_a_new_site(self) -> None:
         """It gets all levels in one answer."""

@@ -9,7 +9,7 @@ from .archive_file import ArchiveFile
 from .archive_file import size_of, write_synced
 from .builds import Builds
 from .contents import EMPTY, Content, archive_of_retirements, heads_in, join_of
-from .file_names import INDEX, INDEX_SUM, NEXT_INDEX
+from .file_names import INDEX, INDEX_SUM, NEXT_INDEX, archive_of_level
 from .indexes import Index, Row, held_against, index_by, index_in, index_of
 from .json_lines import line_of, path_members, record_members
 from .levels import Files, joined_by_fold
@@ -38,6 +38,10 @@ class Archive(Files):
             os.stat(self.path)
         if os.path.isdir(self.path):
             raise Failed(f"{shown(path)} is a folder, and no archive")
+        whole = archive_of_level(self.path) if writes else None
+        if whole is not None:
+            # A lock beside it would make it an archive of its own.
+            raise Failed(f"{shown(path)} is a level of {shown(whole)}: name that", 3)
         for file in self.files:
             if not may_be_damaged and not file.begins_as_archive():
                 with open(file.path, "rb") as opened:
@@ -229,7 +233,7 @@ class Archive(Files):
         files = [*reversed(self.levels), self.main]
         sizes = [*[news.size()] * bool(len(news)), *(file.size() for file in files)]
         count = len(files) if is_whole else joined_by_fold(sizes) - bool(len(news))
-        if len(news) or count > 1:
+        if len(news) or count > 1 or not self.main.exists():
             self.join_all(room, program, files[:count], news, more, lines, screen)
         self.empty_today(room, screen)
 

@@ -205,7 +205,7 @@ def carry_out(words: argparse.Namespace) -> int:
     screen.show(lines)
     for file in archive.files:
         if f"unknown {shown(file.path)}" in lines:
-            screen.line(advice(file))
+            screen.line(advice(archive, file))
     for path in map(shown, strangers):
         screen.line(f"{path}: give it another name; or, if it is a level, call `symarch index {path} {path}.idx`")
     told = "all is there that was known" if others else "all is as it was"
@@ -218,9 +218,10 @@ def carry_out(words: argparse.Namespace) -> int:
     return screen.end(2 if lines else 0, dict(zip(KEYS, numbers)))
 
 
-def advice(file: ArchiveFile) -> str:
+def advice(archive: Archive, file: ArchiveFile) -> str:
     """What takes a file of which nothing is known as it stands."""
     if not file.doubt:
         return f"{shown(file.path)}: nothing is known of it; the next word that writes takes it as it stands"
-    index, kept = shown(file.beside(INDEX)), shown(file.beside(INDEX_SUM))
-    return f"{shown(file.path)}: to take it as it stands, remove {index} and {kept}, and call `symarch-keep fold`"
+    path, index, kept = map(shown, (file.path, file.beside(INDEX), file.beside(INDEX_SUM)))
+    call = f"symarch index {path} {index}" if file in archive.levels else "symarch-keep fold"
+    return f"{path}: to take it as it stands, remove {index} and {kept}, and call `{call}`"

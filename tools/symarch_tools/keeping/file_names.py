@@ -2,7 +2,7 @@
 Another file of such a name, as a copy that somebody made, is left alone, and so is one with a lock: an archive of its
 own."""
 import os
-from typing import List, Set
+from typing import List, Optional, Set
 
 TODAY, LOCK = b".today", b".lock"
 INDEX, NEXT_INDEX, INDEX_SUM = b".idx", b".idx.next", b".idx.sum"
@@ -24,6 +24,13 @@ def numbers_beside(path: bytes) -> List[int]:
     found = endings_beside(path)
     has_mark = {number: not found.isdisjoint(ending + mark for mark in MARKS) for ending, number in NUMBERS.items()}
     return [number for ending, number in NUMBERS.items() if has_mark[number] and ending + LOCK not in found]
+
+
+def archive_of_level(path: bytes) -> Optional[bytes]:
+    """The path of the archive of which a file is a level, if it is one."""
+    number = NUMBERS.get(b"." + path.rpartition(b".")[2])
+    whole = path.rpartition(b".")[0]
+    return whole if number and os.path.exists(whole) and number in numbers_beside(whole) else None
 
 
 def strangers_beside(path: bytes) -> List[bytes]:

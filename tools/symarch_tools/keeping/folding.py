@@ -47,8 +47,10 @@ def carry_out(words: argparse.Namespace) -> int:
     archive = Archive(os.fsencode(words.archive))
     archive.take_lock(screen)
     archive.content(program, screen)
-    came = archive.today.content
+    came, waited = archive.today.content, archive.bytes_waiting()
     with archive.room() as room:
         archive.fold(room, program, screen, words.all, words.purge)
-    screen.line(f"{shown(archive.path)}: {len(came.held)} slices, {len(came.retired)} retirements came in")
+    told = f"{len(came.held)} slices, {len(came.retired)} retirements came in"
+    gone = f"; {waited - archive.bytes_waiting()} retired bytes were taken out" if words.purge else ""
+    screen.line(f"{shown(archive.path)}: {told}{gone}")
     return screen.status()

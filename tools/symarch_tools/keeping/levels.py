@@ -79,6 +79,10 @@ class Files(Placing):
         found = {file.path: [entry for entry in sorted(retired) if entry in file.content.held] for file in self.files}
         return {path: entries for path, entries in found.items() if entries}
 
+    def bytes_waiting(self) -> int:
+        waiting = self.waiting()
+        return sum(file.content.held[entry] for file in self.files for entry in waiting.get(file.path, ()))
+
     def superfluous(self) -> List[ArchiveFile]:
         """The files of which those before them have all, the last one first: what a fold left that was killed."""
         found = []

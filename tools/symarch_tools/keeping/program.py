@@ -93,6 +93,7 @@ class Program:
             names = {f"{DESCRIPTORS}/{number}": shown(path) for number, path in zip(opened, paths)}
             pipes = Pipes(self.path, ends)
             read = [opened[0], *pipes.joined(opened[1:])]
+            names.update({f"{DESCRIPTORS}/{number}": " and ".join(map(shown, paths[1:])) for number in read[1:]})
             first, *others = [f"{DESCRIPTORS}/{number}" for number in read]
             words = ["merge", first, os.fsdecode(name), *(others or ["/dev/stdin"])]
             try:

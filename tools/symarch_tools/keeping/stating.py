@@ -90,9 +90,7 @@ def carry_out(words: argparse.Namespace) -> int:
 
 def numbers_of_levels(archive: Archive) -> Dict[str, int]:
     """How many bytes levels have, and retired slices that wait to be taken out, in any file."""
-    waiting = archive.waiting()
-    sizes = [file.content.held[entry] for file in archive.files for entry in waiting.get(file.path, ())]
-    return {"levels": sum(level.size() for level in archive.levels), "waiting": sum(sizes)}
+    return {"levels": sum(level.size() for level in archive.levels), "waiting": archive.bytes_waiting()}
 
 
 def site_members(note: str) -> Members:
