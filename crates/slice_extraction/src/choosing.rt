@@ -1,6 +1,6 @@
 //! The slice that is wanted under a key, among those that an archive holds.
 
-ghost use Rattle.std.specs.Prelude.{◌≡◌, ℕ, List, None, Some, IfNone, IfOk, IfSome, length, map};
+ghost use Rattle.std.specs.Prelude.{◌≡◌, ◌≢◌, ◌∷◌, [], ℕ, List, None, Some, IfNone, IfOk, IfSome, length, map};
 ghost use Rattle.sha2.specs.Sha256.{sha256};
 ghost use Rattle.archive_core.specs.Content.{IsLive};
 ghost use Rattle.archive_core.specs.Key.{key_bytes};
@@ -30,13 +30,25 @@ fn row(slice: &Slice) -> FindRow
 
 /// The rows of slices, in their order.
 fn rows_of(heap: Heap, slices: &[&Slice]) -> Result<Vec<FindRow, Heap>, NoMemory>
-    ensures { IfOk result (λ rows. rows.items ≡ map slice_row (map (λ slice. slice.now) slices.now)) }
+    ensures { IfOk result (λ rows. rows.items ≡ map (λ slice. slice_row slice.now) slices.now) }
 {
     let mut rows = Vec::new(heap);
     'slices: for slice in slices {
         rows.push(row(slice))?;
     }
     Ok(rows)
+}
+
+/// The only one of slices, if they are one.
+fn only<'s>(slices: &[&'s Slice]) -> Option<&'s Slice>
+    ensures one { IfSome result (λ slice. map (λ slice. slice.now) slices.now ≡ slice.now ∷ []) }
+    ensures other { IfNone result (length slices.now ≢ 1) }
+{
+    if slices.len() == 1 {
+        Some(slices[0])
+    } else {
+        None
+    }
 }
 
 /// The one slice that answers under a key, or the rows of all that do.
@@ -48,18 +60,18 @@ fn answering<'a, A: Archive>(
     ensures { IfOk result (λ choice. IsChoice (A.content archive.now) key.now None choice) }
 {
     let slices = archive.answering_slices(key)?;
-    match &slices[..] {
-        [slice] => Ok(Choice::One(slice.lend())),
-        _ => Ok(Choice::Undecided(rows_of(heap, &slices)?)),
+    match only(&slices) {
+        Some(slice) => Ok(Choice::One(slice.lend())),
+        None => Ok(Choice::Undecided(rows_of(heap, &slices)?)),
     }
 }
 
 /// The slice that a record admits, if it is one under the key that has the digest.
 fn slice_in<'a>(held: Record<'a>, key: &SliceKey, digest: &Digest) -> Option<CheckedSlice<'a>>
     requires { length (key_bytes key.now) ≡ 24 }
-    ensures found { IfSome result (λ slice. (lent_bytes held ≡ admission_record slice) × IsValid slice
+    ensures found { IfSome result (λ slice. (lent_bytes held.entry ≡ admission_record slice) × IsValid slice
         × (key_of slice ≡ key.now) × (sha256 slice ≡ digest.now.0)) }
-    ensures none { IfNone result ((slice : List ℕ) → lent_bytes held ≡ admission_record slice
+    ensures none { IfNone result ((slice : List ℕ) → lent_bytes held.entry ≡ admission_record slice
         → key_of slice ≡ key.now → sha256 slice ≡ digest.now.0 → ⊥) }
 {
     let Record::Admit(slice) = held else {
