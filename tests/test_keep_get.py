@@ -12,6 +12,7 @@ import subprocess
 import sys
 from typing import Any, Callable, Dict, Iterable, List, Optional, Sequence, Tuple
 
+from .support.case_slices import slices_of_cases
 from .support.cases import Without, is_done, powerless_over, same
 from .support.kills import status_where_killed
 from .support.made_dsyms import KEPT, SOURCES
@@ -118,6 +119,24 @@ class Bytes(GetCase):
             said, _ = self.room.call("get", *words)
             (path,) = [it.split(" ", 4)[4] for it in said if it.startswith(f"got {slice_text(one)} ")]
             self.assertIn(one, slices_in((self.folder / path).read_bytes()), path)
+
+    def test_slices_of_the_cases(self) -> None:
+        """Of each UUID, architecture and kind some, from the shortest to the longest."""
+        every = slices_of_cases()
+        chosen = {key: made[:: -(-len(made) // 6)][:5] + made[-1:] for key, made in every.items()}
+        for number, one in enumerate(sorted({one for made in chosen.values() for one in made})):
+            self.room.file(f"in/{number}", one)
+        self.room.add("in")
+        self.assertGreater(len(every), 15)
+        for turn in range(6):
+            made = [slices[min(turn, len(slices) - 1)] for slices in chosen.values()]
+            words = [it for one in made for it in ("--digest", slice_words(one)[2])]
+            names = sorted({uuid_word(one) for one in made})
+            said, _ = self.room.call("get", *words, self.room.archive, *names, "--to", f"out/{turn}")
+            paths = {it.rpartition(" ")[0]: it.rpartition(" ")[2] for it in said}
+            for one in made:
+                path = self.folder / paths[f"got {slice_text(one)}"]
+                self.assertIn(one, slices_in(path.read_bytes()))
 
     def test_a_dsym_and_its_image(self) -> None:
         """The dSYM is in a bundle, and the image beside it."""
@@ -472,6 +491,13 @@ class Files(GetCase):
         self.get(companion(1))
         self.has({in_bundle(uuid_word(image(1))): universal_of([companion(1), companion(1, ARM64)])})
         same("made", sorted(os.listdir(self.folder)), sorted([*before, "out"]))
+
+    def test_of_version_1(self) -> None:
+        """It has slices that are retired, which are not got."""
+        self.room.archive.write_bytes(archive([image(1), image(2)], [image(2)], b"MSYMARC1"))
+        _, errors = self.get(image(1), image(2), status=1)
+        same("errors", errors, [f"symarch-keep: nothing is held of {uuid_word(image(2))}"])
+        self.has({uuid_word(image(1)): image(1)})
 
 
 class Changed(GetCase):

@@ -54,9 +54,12 @@ class Layout:
     def is_universal(self) -> bool:
         return len(self.places) > 1
 
+    def front(self, count: int) -> int:
+        """How many bytes the header and so many entries have."""
+        return FAT_HEADER.size + count * (WIDE_ENTRY if self.is_wide else NARROW_ENTRY).size
+
     def placed(self, rows: Sequence[Row]) -> List[Place]:
-        entry = WIDE_ENTRY if self.is_wide else NARROW_ENTRY
-        end = FAT_HEADER.size + len(rows) * entry.size if len(rows) > 1 else 0
+        end = self.front(len(rows)) if len(rows) > 1 else 0
         places: List[Place] = []
         for row in rows:
             places.append(Place(row, aligned(end, alignment_of(row)), row.length - HEAD))
@@ -75,7 +78,7 @@ class Layout:
 
     def gaps(self) -> Iterator[Place]:
         """What stands between the table and the slices: zeros."""
-        end = len(FAT_HEADER.pack(b"", 0)) + len(self.places) * (WIDE_ENTRY if self.is_wide else NARROW_ENTRY).size
+        end = self.front(len(self.places))
         for place in self.places:
             yield place._replace(at=end, size=place.at - end)
             end = place.end

@@ -50,21 +50,23 @@ class Wishes:
         self.of_keys: Dict[bytes, List[Row]] = {}
         for entry, row in sorted(held.items()):
             self.of_keys.setdefault(entry[:KEY], []).append(row)
+        # The keys of each UUID, and of each build.
+        self.of_uuids: Dict[bytes, List[bytes]] = {}
         self.of_builds: Dict[Named, List[bytes]] = {}
         for key in self.of_keys:
+            self.of_uuids.setdefault(key[:UUID], []).append(key)
             for named in lines.of_keys[key]:
                 self.of_builds.setdefault(named, []).append(key)
         self.undecided: List[Undecided] = []
 
     def absent(self) -> List[bytes]:
         """The UUIDs of which nothing is there."""
-        there = {key[:UUID] for key in self.of_keys}
-        return [one for one in self.uuids if one not in there]
+        return [one for one in self.uuids if one not in self.of_uuids]
 
     def unused(self) -> Set[bytes]:
         """The digests that no slice of the UUIDs has."""
-        rows = (row for key, rows in self.of_keys.items() if key[:UUID] in self.uuids for row in rows)
-        return self.digests - {row.entry[-DIGEST:] for row in rows}
+        keys = (key for one in self.uuids for key in self.of_uuids.get(one, []))
+        return self.digests - {row.entry[-DIGEST:] for key in keys for row in self.of_keys[key]}
 
     # ---- which slices
 
@@ -76,7 +78,7 @@ class Wishes:
 
     def keys_of(self, one: bytes) -> List[bytes]:
         """The keys of a UUID, and those of its build for other architectures, if the build has one of each."""
-        own = [key for key in self.of_keys if key[:UUID] == one]
+        own = self.of_uuids.get(one, [])
         named = next((it for key in own for it in self.lines.of_keys[key] if self.has_name(it)), None)
         every = sorted({*own, *(self.of_builds[named] if named else [])})
         return every if len({key[UUID:] for key in every}) == len(every) else own
@@ -116,7 +118,6 @@ class Wishes:
         """What is known of a slice, and then of its UUID and architecture; first that which names an app."""
         own = sorted(self.lines.every.get(row.entry[1:], []))
         return [*with_app(own), *own, *self.lines.of_keys[row.entry[1:][:KEY]]]
-
 
     def has_name(self, named: Named) -> bool:
         name = bytes_of(named.build.name)
