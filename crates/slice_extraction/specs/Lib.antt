@@ -1,3 +1,4 @@
 pub mod Wanted
 pub mod Extract
+pub mod Indexed
 pub mod InnerChoice

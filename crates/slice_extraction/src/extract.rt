@@ -16,7 +16,7 @@ use command_ends::{CommandFault, Output, Status, Target};
 use memory::Heap;
 
 /// The bytes of a key.
-fn bytes_of(key: &SliceKey) -> [u8; 24]
+pub(crate) fn bytes_of(key: &SliceKey) -> [u8; 24]
     ensures bytes { result ≡ key_bytes key.now }
     ensures long { length (key_bytes key.now) ≡ 24 }
 {

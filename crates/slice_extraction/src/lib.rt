@@ -2,23 +2,27 @@
 //!
 //! - `choosing`: which slice is wanted under a key, among those that an archive holds;
 //! - `publishing`: the end of the command, OUT and the report;
-//! - `extract`: the command.
+//! - `extract`: the command; `indexed`: the same over archives that are asked by their indexes.
 //!
 //! # What is proved
 //!
-//! - [`run_extract`] puts in place at OUT, if it ends well, the bytes of the one slice that answers under the key in the
-//!   join of the archives, or of a held one with the digest of the words; and then its line is in the report. If there
-//!   is no such slice, or several answer, OUT is kept, and the report has a line for each that answers (`Extracts`).
-//! - An archive is refused before OUT is begun, the first of them in the order of the words.
+//! - [`run_extract`] and [`run_extract_at`] put in place at OUT, where they end `Done`, the bytes of the one slice that
+//!   answers under the key in the join of the archives, or of a held one with the digest of the words; and then its line
+//!   is in the report. Where there is no such slice, or several answer, OUT is as it was, and the report has a line for
+//!   each that answers (`Extracts`).
+//! - An index or an archive is refused before OUT is begun, the first of them in the order of the words.
 //!
 //! # Why it is so
 //!
 //! - A digest of the words finds a slice that does not answer too, as an image whose companion does.
 //! - The line of the slice is made before OUT is begun, so that nothing was written if memory is wanting for it.
+//! - The slice is whole and tested before OUT is begun, so that a pipe gets no byte of one that is refused.
 #![tactic(auto)]
 
 mod choosing;
 mod extract;
+mod indexed;
 mod publishing;
 
 pub use extract::run_extract;
+pub use indexed::run_extract_at;

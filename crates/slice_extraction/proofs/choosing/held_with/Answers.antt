@@ -15,7 +15,7 @@ returns-in-Some-clause-found g c =
     let lt : c.records.index < length (listing o) =
     omega (arith, length_listing nat_list_cmp_total bytes_same o, c.len-index-end.ensures.len) in (
       live_there o c.args.key.now c.in-Some.slice c.len-index-end.ensures.content found.1 found.2
-      (listed_there o c.records.index (admission_record c.in-Some.slice) lt (sym found.0 ∙ c.record_at.ensures)),
+          (listed_there o c.records.index (admission_record c.in-Some.slice) lt (sym found.0 ∙ c.record_at.ensures)),
       found.3,
     )
 
