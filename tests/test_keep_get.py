@@ -86,6 +86,10 @@ class GetCase(RoomCase):
     def got(self, made: bytes, name: str, word: str = "got") -> str:
         return line(word, made, f"out/{name}")
 
+    @staticmethod
+    def no_dsym(made: bytes) -> str:
+        return f"symarch-keep: {uuid_word(made)} has no dSYM"
+
     def has(self, files: Dict[str, bytes]) -> None:
         """Fails where the folder has other files, but for lists of bundles."""
         found = (path for path in self.out.rglob("*") if not path.is_dir() and path.name != "Info.plist")
@@ -149,7 +153,7 @@ class Bytes(GetCase):
 
     def test_an_image_alone(self) -> None:
         self.add("spool", image(1))
-        same("lines", self.get(image(1))[0], [self.got(image(1), "spool")])
+        same("lines", self.get(image(1)), ([self.got(image(1), "spool")], [self.no_dsym(image(1))]))
         self.has({"spool": image(1)})
 
     def test_universal_files(self) -> None:
@@ -349,6 +353,7 @@ class Several(GetCase):
 
     def refused(self, *rows: bytes, told: str) -> None:
         said, errors = self.get(rows[0], status=1)
+        errors = [it for it in errors if it != self.no_dsym(rows[0])]
         same("lines", said, sorted(f"conflict {slice_text(one)}" for one in rows))
         words = " ".join(slice_words(rows[0])[:2])
         same("errors", errors, [f"symarch-keep: {words}: {len(rows)} slices answer, and {told}; --digest says which"])
@@ -494,10 +499,10 @@ class Files(GetCase):
 
     def test_of_version_1(self) -> None:
         """It has slices that are retired, which are not got."""
-        self.room.archive.write_bytes(archive([image(1), image(2)], [image(2)], b"MSYMARC1"))
-        _, errors = self.get(image(1), image(2), status=1)
+        self.room.archive.write_bytes(archive([companion(1), image(2)], [image(2)], b"MSYMARC1"))
+        _, errors = self.get(companion(1), image(2), status=1)
         same("errors", errors, [f"symarch-keep: nothing is held of {uuid_word(image(2))}"])
-        self.has({uuid_word(image(1)): image(1)})
+        self.has({in_bundle(uuid_word(image(1))): companion(1)})
 
 
 class Changed(GetCase):

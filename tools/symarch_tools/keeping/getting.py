@@ -23,10 +23,10 @@ Each slice has a line, whose PATH is that of the file with its bytes, so that ll
   known UUID ARCH DIGEST PATH    it is there with these very bytes
   conflict UUID ARCH DIGEST      others of this UUID and ARCH answer too, so none is written: --digest says which
 
-Of several images beside one dSYM none is written, which is said. What is at PATH with other bytes stays, and is said:
-give builds of one NAME a FOLDER each. Each file is written whole in a folder .symarch-keep-*.making in FOLDER, synced
-and then renamed; the next call removes what a kill leaves of it. FOLDER needs room for the slices, and for the largest
-one twice.
+Of several images beside one dSYM none is written, which is said, as is a UUID without a dSYM. What is at PATH with
+other bytes stays, and is said: give builds of one NAME a FOLDER each. Each file is written whole in a folder
+.symarch-keep-*.making in FOLDER, synced and then renamed; the next call removes what a kill leaves of it. FOLDER needs
+room for the slices, and for the largest one twice.
 
 They are read by their indexes, so that of slices only those are read that are written. One that changed since it came
 in is not written. An archive without an index is read whole. No lock is taken.
@@ -139,6 +139,8 @@ def say_rest(wishes: Wishes, screen: Screen) -> List[str]:
     """Says what is not got, and returns the lines of conflicts."""
     for one in wishes.absent():
         screen.fault(f"nothing is held of {uuid.UUID(bytes=one)}")
+    for one in wishes.without_dsym():
+        screen.line(f"{uuid.UUID(bytes=one)} has no dSYM")
     for digest in sorted(wishes.unused()):
         screen.fault(f"no slice of these UUIDs has the DIGEST {digest.hex()}")
     for undecided in wishes.undecided:

@@ -63,6 +63,11 @@ class Wishes:
         """The UUIDs of which nothing is there."""
         return [one for one in self.uuids if one not in self.of_uuids]
 
+    def without_dsym(self) -> List[bytes]:
+        """The UUIDs of which images alone are there."""
+        held = [one for one in self.uuids if one in self.of_uuids]
+        return [one for one in held if not any(self.slices(key, COMPANION) for key in self.of_uuids[one])]
+
     def unused(self) -> Set[bytes]:
         """The digests that no slice of the UUIDs has."""
         keys = (key for one in self.uuids for key in self.of_uuids.get(one, []))
