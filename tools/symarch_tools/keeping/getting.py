@@ -42,7 +42,6 @@ import argparse
 import contextlib
 import functools
 import os
-import uuid
 from typing import Dict, Iterator, List
 
 from . import asking
@@ -53,7 +52,7 @@ from .forms import digest_of, uuid_of
 from .indexes import Row
 from .listing import held_by
 from .screen import Failed, Screen, screen_of, shown
-from .wanted import Undecided, Wishes
+from .wanted import Undecided, Wishes, near, text_of
 
 USAGE = "symarch-keep get [--digest DIGEST]... ARCHIVE UUID... --to FOLDER"
 ABOUT = "make dSYM bundles of it, for a debugger"
@@ -138,9 +137,9 @@ class Getting:
 def say_rest(wishes: Wishes, screen: Screen) -> List[str]:
     """Says what is not got, and returns the lines of conflicts."""
     for one in wishes.absent():
-        screen.fault(f"nothing is held of {uuid.UUID(bytes=one)}")
+        screen.fault(f"nothing is held of {text_of(one)}")
     for one in wishes.without_dsym():
-        screen.line(f"{uuid.UUID(bytes=one)} has no dSYM")
+        screen.line(f"{text_of(one)} has no dSYM")
     for digest in sorted(wishes.unused()):
         screen.fault(f"no slice of these UUIDs has the DIGEST {digest.hex()}")
     for undecided in wishes.undecided:
@@ -159,8 +158,8 @@ def carry_out(words: argparse.Namespace) -> int:
     screen, folder = screen_of(words), os.fsencode(words.to)
     with opened_archive(os.fsencode(words.archive)) as asked:
         asked.archive.say_damaged_builds(screen)
-        held = held_by(asked, screen)
-        wishes = Wishes(uuids, held, asked.archive.builds.of(held), digests, folder)
+        held, lines = near(uuids, held_by(asked, screen), asked.archive.builds)
+        wishes = Wishes(uuids, held, lines, digests, folder)
         getting = Getting(asked, folder, screen)
         getting.get(wishes)
     conflicts = say_rest(wishes, screen)

@@ -3,7 +3,7 @@ import os
 import uuid
 from typing import Dict, Iterable, List, Mapping, NamedTuple, Optional, Sequence, Set, Tuple
 
-from .builds import UNKNOWN, Build, Lines, Named, bytes_of, with_app
+from .builds import UNKNOWN, UUID_SIZE, Build, Builds, Lines, Named, bytes_of, with_app
 from .contents import DIGEST, KEY
 from .indexes import Row
 from .ordering import is_archive
@@ -31,6 +31,18 @@ class Undecided(NamedTuple):
 
     rows: List[Row]
     has_companion: bool
+
+
+def near(uuids: Iterable[bytes], held: Mapping[bytes, Row], builds: Builds) -> Tuple[Dict[bytes, Row], Lines]:
+    """Of what is held the slices of UUIDs and of their builds, with their lines."""
+    days = builds.near(text_of(one).encode() for one in uuids)
+    found = {uuid.UUID(rest[:UUID_SIZE].decode()).bytes for rest in days}.union(uuids)
+    rows = {entry: row for entry, row in held.items() if entry[:UUID] in found}
+    return rows, Lines(builds.of_slices(days), rows)
+
+
+def text_of(one: bytes) -> str:
+    return str(uuid.UUID(bytes=one))
 
 
 class Wishes:
@@ -116,7 +128,7 @@ class Wishes:
         asked = sorted(rows, key=lambda row: row.entry[1:][:UUID] not in self.uuids)
         lines = [it for row in asked for it in self.lines_of(row)]
         build = next((it.build for it in lines if self.has_name(it)), Build())
-        name = bytes_of(build.name) if build != Build() else str(uuid.UUID(bytes=asked[0].entry[1:][:UUID])).encode()
+        name = bytes_of(build.name) if build != Build() else text_of(asked[0].entry[1:][:UUID]).encode()
         return Wanted(kind == COMPANION, tuple(rows), name, build)
 
     def lines_of(self, row: Row) -> List[Named]:
