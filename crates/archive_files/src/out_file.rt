@@ -69,7 +69,6 @@ fn begun<F: Files>(
     files: &F,
     process: u32,
     path: &str,
-    replaces: Replaces,
     calls: &mut FileCalls,
 ) -> Result<OutState<F::File>, OutFault>
     ensures calls { calls.old.entries ≡ [] → IfOk result
@@ -78,7 +77,7 @@ fn begun<F: Files>(
     ensures begun { IfOk result (λ state. has_calls (stage_of state) ≡ true) }
     ensures refused { calls.old.entries ≡ [] → OnErr result (are_looks calls.new.entries ≡ true) }
 {
-    match way_to(alloc, files, path, replaces, calls)? {
+    match way_to(alloc, files, path, calls)? {
         Way::Through => {
             let file = match fs::create(files, path) {
                 Ok(file) => file,
@@ -101,7 +100,6 @@ fn first_state<F: Files>(
     files: &F,
     process: u32,
     path: &Option<String>,
-    replaces: Replaces,
     calls: &mut FileCalls,
 ) -> OutState<F::File>
     ensures calls { calls.old.entries ≡ []
@@ -112,7 +110,7 @@ fn first_state<F: Files>(
     let Some(path) = path else {
         return OutState::Refused(OutFault::NotCreated(None));
     };
-    match begun(alloc, files, process, path, replaces, calls) {
+    match begun(alloc, files, process, path, calls) {
         Ok(state) => state,
         Err(fault) => OutState::Refused(fault),
     }
@@ -124,7 +122,6 @@ fn begin<F: Files>(
     files: &F,
     process: u32,
     path: &Option<String>,
-    replaces: Replaces,
     state: &mut OutState<F::File>,
     calls: &mut FileCalls,
 )
@@ -138,7 +135,7 @@ fn begin<F: Files>(
     ensures same { stage_of state.old ≢ Untouched → state.new ≡ state.old }
 {
     if let OutState::Untouched = state {
-        *state = first_state(alloc, files, process, path, replaces, calls);
+        *state = first_state(alloc, files, process, path, calls);
     }
 }
 
@@ -382,7 +379,6 @@ impl<'a, F: Files> Sink for OutFile<'a, F> {
             self.files,
             self.process,
             &self.path,
-            self.replaces,
             &mut self.state,
             &mut self.calls,
         );

@@ -125,7 +125,6 @@ enum Note {
     SameFile,
     Foreign,
     Damaged,
-    Differs,
     Loses(u64),
     OldVersion,
     Stale,
@@ -138,7 +137,6 @@ impl Note {
         match obstacle {
             Obstacle::Foreign => Some(Note::Foreign),
             Obstacle::Damaged => Some(Note::Damaged),
-            Obstacle::Differs => Some(Note::Differs),
             Obstacle::Loses(lost) => Some(Note::Loses(lost)),
             Obstacle::Refused(_) => None,
         }
@@ -156,7 +154,6 @@ impl Display for Note {
             ),
             Note::Foreign => f.write_str("there, and neither empty nor one of symarch's files"),
             Note::Damaged => f.write_str("there, and an archive that is damaged"),
-            Note::Differs => f.write_str("there, and neither empty nor the same slice"),
             Note::Loses(1) => {
                 f.write_str("there, and has 1 record that the new archive neither has nor retires")
             }

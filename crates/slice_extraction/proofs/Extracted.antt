@@ -1,19 +1,17 @@
 -- How `extract` ends, from what its parts did.
-use Rattle.std.proofs.Common.{◌≡◌, ◌≤◌, ℕ, Bool, true, List, [], ◌∷◌, length, Option, Some, None, Result, Ok, Err, refl, sym, ap, subst, ◌∙◌, inl, inr}
+use Rattle.std.proofs.Common.{◌≡◌, ℕ, List, [], ◌∷◌, Option, Some, None, Result, Ok, Err, refl, sym, ap, subst, inl, inr}
 use Rattle.std.proofs.KnownBytes.{Appends-nil}
 use Rattle.std.specs.Io.KnownBytes.{Appends}
-use Rattle.sha2.specs.Sha256.{sha256}
-use Rattle.archive_core.specs.Content.{Operations, IsLive}
-use Rattle.archive_core.specs.Find.{AreAnswering}
+use Rattle.archive_core.specs.Content.{Operations}
 use Rattle.archive_core.specs.Key.{key_bytes}
 use Rattle.archive_core.specs.Part.{AreAlikeUnder}
 use Rattle.archive_core.specs.declared.keys.Digest.{Digest}
 use Rattle.archive_core.specs.declared.keys.SliceKey.{SliceKey}
 use Rattle.archive_core.proofs.Picked.{alike_back}
 use Rattle.archive_queries.proofs.Sourced.{answers_alike}
-use Rattle.command_ends.specs.Ends.{Carries, EndsStreamed, IsStopped, Streamed}
+use Rattle.command_ends.specs.Ends.{IsStopped}
 use Rattle.command_ends.specs.Inputs.{IsRefusal}
-use Rattle.command_ends.specs.Outputs.{Outs, Publishes, Reports, Takes, Writer, out_of}
+use Rattle.command_ends.specs.Outputs.{Outs, Publishes, Takes, Writer, out_of}
 use Rattle.command_ends.specs.declared.faults.CommandFault.{CommandFault}
 use Rattle.command_ends.specs.declared.faults.CommandFault.TheVariants.{Input, Output, Report, OutOfMemory}
 use Rattle.command_ends.specs.declared.faults.Place.{Place}
@@ -21,7 +19,7 @@ use Rattle.command_ends.specs.declared.outputs.Output.{Output as Out_value}
 use Rattle.command_ends.specs.declared.faults.Status.{Status}
 use Rattle.command_ends.specs.declared.faults.Why.{Why}
 use Rattle.slice_extraction.proofs.Held.{live_alike}
-use Rattle.slice_extraction.specs.Extract.{Extraction, Extracts, Held, LacksSlice, extraction}
+use Rattle.slice_extraction.specs.Extract.{Extraction, Extracts, Held, extraction}
 use Rattle.slice_extraction.specs.InnerChoice.{PublishesWanted}
 use Rattle.slice_extraction.specs.Wanted.{AreUndecided, IsWanted, slice_line, slices_text}
 
