@@ -588,6 +588,7 @@ class Changed(LevelCase):
             self.room.call("status", "--accept", self.room.archive, status=2 if stays else 0)
             self.has(self.wanted)
             self.room.call("check", self.room.archive, status=2 if stays else 0)
+        kept.write_bytes(good[1])
         change(index, 20)
         change(level, level.read_bytes().index(self.parts[2][0]) + 26)
         _, errors = self.fold(status=4)

@@ -83,9 +83,12 @@ class Content:
 
 def join_of(contents: Sequence[Content]) -> Content:
     """What some contents have together."""
-    retired: Set[bytes] = set().union(*(one.retired for one in contents))
-    held = {entry: length for one in contents for entry, length in one.held.items() if entry not in retired}
-    return Content(retired, held)
+    joined = Content(set().union(*(one.retired for one in contents)))
+    for one in contents:
+        joined.held.update(one.held)
+    for entry in joined.retired.intersection(joined.held):
+        del joined.held[entry]
+    return joined
 
 
 def is_within(content: Content, others: Sequence[Content]) -> bool:
