@@ -12,10 +12,11 @@ from typing import List
 from .support.cases import is_done, same
 from .support.made_images import archive
 from .support.outs import BEFORE, CANNOT_CREATE, CANNOT_REPLACE, COMMANDS, DAMAGED_FILES, INPUTS, MESSAGES, OTHER_FILES
-from .support.outs import OTHER_USER, OUT, OWN_FILES, SLICES, VERSION_1, WITH_ANOTHER, OutCase, mounted, need_root
-from .support.outs import state_of
+from .support.outs import OTHER_USER, OUT, OWN_FILES, RETIRED, SLICES, VERSION_1, WITH_ANOTHER, OutCase, mounted
+from .support.outs import need_root, state_of
 from .support.program import Word
-from .support.second_lines import DAMAGED, FOREIGN, MACHO, OF_AN_INPUT, losing, path_in, said_by, second_line
+from .support.second_lines import DAMAGED, FOREIGN, MACHO, OF_AN_INPUT, OTHER_SLICE, losing, path_in, said_by
+from .support.second_lines import second_line
 
 
 class WhatIsThere(OutCase):
@@ -44,6 +45,21 @@ class WhatIsThere(OutCase):
                 self.out.write_bytes(content)
                 self.keeps(words, CANNOT_REPLACE, FOREIGN)
         self.keeps(["admit", "one.sym", "one", "two"], CANNOT_REPLACE, FOREIGN, out="one")
+
+    def test_slices(self) -> None:
+        """A slice replaces an empty file and itself, and no other file, one of the program's own neither."""
+        words = ["extract", "both.sym", *RETIRED[:2], OUT]
+        for content in (None, b"", SLICES[1]):
+            self.out.unlink(missing_ok=True)
+            if content is not None:
+                self.out.write_bytes(content)
+            status, printed, told = self.run_program(words)
+            line = f"slice {' '.join(RETIRED)}, {len(SLICES[1])} bytes\n".encode()
+            same("extract", (status, printed, told, self.out.read_bytes()), (0, line, "", SLICES[1]))
+        others = [SLICES[1] + b"\0", SLICES[1][:-1], SLICES[1][:-1] + b"\xff", SLICES[2]]
+        for content in OWN_FILES[1:] + WITH_ANOTHER + DAMAGED_FILES + OTHER_FILES + others:
+            self.out.write_bytes(content)
+            self.keeps(words, CANNOT_REPLACE, OTHER_SLICE)
 
     def test_archives_above(self) -> None:
         """An archive replaces those below it: the same one, one with less, one of which it retires a slice, and one of

@@ -5,7 +5,7 @@ import os
 
 from .support.cases import powerless_over
 from .support.places import A_FOLDER, AN_ARCHIVE, EISDIR, ENOENT, ENOTDIR, FOREIGN, IMAGE, KEY, OF_AN_INPUT, ONE, UUID
-from .support.places import DIGEST, FRAMES, SCRIPT, WRITING, PlacesCase, said
+from .support.places import DIGEST, FRAMES, OTHER_SLICE, SCRIPT, WRITING, PlacesCase, said
 
 # The first bytes of files that `admit` takes in another place, or in no place.
 MACHO = ("cffaedfe", "cefaedfe", "feedfacf", "feedface")
@@ -248,8 +248,16 @@ class Outputs(PlacesCase):
 
     def test_another_file(self) -> None:
         self.file("picture", IMAGE)
-        self.refuses_out("picture", "cannot replace", f", {FOREIGN}", [it for it in WRITING if it != "new"])
+        others = [it for it in WRITING if it not in ("new", "extract")]
+        self.refuses_out("picture", "cannot replace", f", {FOREIGN}", others)
         self.has_bytes("picture", IMAGE)
+
+    def test_another_slice(self) -> None:
+        """A slice replaces nothing but itself, symarch's own files neither."""
+        for content in (IMAGE + b"\0", IMAGE[:-1], IMAGE[:-1] + b"\1", ONE, b"\0"):
+            self.file("there", content)
+            self.refuses_out("there", "cannot replace", f", {OTHER_SLICE}", ["extract"])
+            self.has_bytes("there", content)
 
     def test_an_archive_that_would_be_lost(self) -> None:
         self.file("kept.sym", ONE)

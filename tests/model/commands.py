@@ -7,7 +7,7 @@ from .contents import OLD_ARCHIVE, Content, Fault, MergeFault, Placed, Source, S
 from .contents import index_text, magic_fault, merge_streams, merged_by_definition, parts_at, read_archive, read_index
 from .contents import read_ops, read_summary, retirement, summary_text, test_length
 from .images import parts_of_file, sha
-from .lines import answer_lines, escaped, find_lines, find_rows, index_rows, key_text, name_lines
+from .lines import answer_lines, escaped, find_lines, find_rows, index_rows, key_text, name_lines, row_of
 from .parts import Store
 from .plans import ANY_NUMBER, Plan, takes
 from .worlds import World, read_frames, read_script
@@ -332,6 +332,22 @@ class Run:
         else:
             rows = find_rows(self.archive(plan.one["archive"], "archive 0"))
         return self.told(find_lines(rows, True))
+
+    @takes("archive uuid arch out", is_asking=True)
+    def run_extract(self, plan: Plan) -> int:
+        live = self.asked_of(plan, plan.key).live()
+        held = sorted(it for it in live if it[1:25] == plan.key)
+        if plan.wanted is not None:
+            found = [it for it in held if sha(it[33:]) == plan.wanted]
+        else:
+            found = [it for it in held if row_of(it)[1] == "dsym"] or held
+        if len(found) != 1:
+            self.tell(find_lines([row_of(it) for it in found], False))
+            return 1
+        content = found[0][33:]
+        self.write(content)
+        self.tell([f"slice {key_text(plan.key)} {sha(content).hex()}, {len(content)} bytes"])
+        return 0
 
     @takes("archive name", is_asking=True)
     def run_name(self, plan: Plan) -> int:

@@ -59,6 +59,7 @@ class Plan:
         self.command = words[0]
         self.taken = TAKEN[self.command]
         self.load: Optional[int] = None
+        self.wanted: Optional[bytes] = None
         self.lines = False
         self.more: List[str] = []
         self.indexes: List[str] = []
@@ -71,7 +72,7 @@ class Plan:
         self.addresses = [told(address_word(it)) for it in self.several.get("address", [])]
         self.files, self.archives = self.several.get("file", []), self.several.get("archives", [])
         inputs = [self.one[it] for it in ("in", "archive", "summary", "ops") if it in self.one]
-        if self.one.get("out") in [*inputs, *self.files, *self.indexes]:
+        if self.one.get("out") in [*inputs, *self.files, *self.more, *self.indexes]:
             raise Copy
 
     @property
@@ -105,6 +106,8 @@ class Plan:
     def take_option(self, name: str, value: str) -> None:
         if name == "--load" and self.command == "symbolicate" and self.load is None:
             self.load = told(address_word(value))
+        elif name == "--digest" and self.command == "extract" and self.wanted is None:
+            self.wanted = told(digest_word(value))
         elif name == "--with" and self.taken.is_asking:
             self.more.append(value)
         elif name == "--index" and len(self.indexes) < self.taken.indexes:

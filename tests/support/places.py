@@ -47,6 +47,7 @@ COMMANDS = [
     Command("summary empty.sym out", "summary: 0 entries, 17 bytes", out=EMPTY_SUM),
     Command("delta one.sym empty.sum out", "archive: 1 records, 106 bytes", out=ONE),
     Command("index one.sym out", "index: 1 entries, 91 bytes", out=index([IMAGE])),
+    Command(f"extract one.sym {KEY} out", f"slice {ROW}, 56 bytes", out=IMAGE),
     Command(f"find one.sym {UUID}", f"x86_64 image {DIGEST}"),
     Command("list one.sym", f"{KEY} image {DIGEST}"),
     Command(f"symbolicate one.sym {KEY} 0", "0x0000000000000000 -", 1),
@@ -74,6 +75,7 @@ READING = {
     "summary": "summary {} out",
     "index": "index {} out",
     "delta": "delta {} empty.sum out",
+    "extract": f"extract {{}} {KEY} out",
 }
 # The commands that write a file, with the place of OUT.
 WRITING = {
@@ -87,6 +89,7 @@ WRITING = {
     "summary": "summary one.sym {}",
     "index": "index one.sym {}",
     "delta": "delta one.sym empty.sum {}",
+    "extract": f"extract one.sym {KEY} {{}}",
 }
 # The places of the FILEs of `merge`, by their numbers in a fault.
 MERGED = {"archive 1": "merge empty.sym out {}", "archive 2": "merge empty.sym out empty.sym {}"}
@@ -103,6 +106,7 @@ AN_ARCHIVE = "an archive, which `merge` takes"
 AN_OLD_ARCHIVE = "an archive of version 1, which `migrate` takes"
 OF_AN_INPUT = "the file of an input"
 FOREIGN = "there, and neither empty nor one of symarch's files"
+OTHER_SLICE = "there, and neither empty nor the same slice"
 
 
 class PlacesCase(ProgramCase):

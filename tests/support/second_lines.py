@@ -12,10 +12,11 @@ ARCHIVE = ", an archive, which `merge` takes"
 # What is at OUT that a command does not replace.
 FOREIGN = ", there, and neither empty nor one of symarch's files"
 DAMAGED = ", there, and an archive that is damaged"
+OTHER_SLICE = ", there, and neither empty nor the same slice"
 # Which word an input is that is not the first one, and OUT that is not the second one. FILEs begin after OUT, and an
 # INDEX stands after its option.
 PLACES = {"frames": {"archive": 2}, "delta": {"summary": 2}, "apply": {"ops": 3}}
-OUT_PLACES = {"new": 1, "delta": 3}
+OUT_PLACES = {"new": 1, "delta": 3, "extract": 4}
 
 
 def said_by(number: int) -> str:

@@ -7,7 +7,7 @@ use Rattle.std.proofs.lemmas.Grind.{not_there}
 use Rattle.std.proofs.lemmas.List.Folds.{concat-append}
 use Rattle.std.specs.List.{concat}
 use Rattle.archive_files.specs.FileCalls.{FileCall, Creates, Opens, Writes, Syncs, Renames, SyncsFolder, Removes}
-use Rattle.archive_files.specs.FileCalls.{Covers, FindsFile, FindsNoArchive, FindsNoLink, FindsNothing, FindsOther, Leads, Loses}
+use Rattle.archive_files.specs.FileCalls.{Agrees, Covers, FindsFile, FindsNoArchive, FindsNoLink, FindsNothing, FindsOther, Leads, Loses}
 use Rattle.archive_files.specs.FileCalls.{are_looks, bytes_in, drafting, placing, writing}
 use Rattle.archive_files.specs.OutFiles.{IsSoFar, Stage, Untouched, Through, Drafted, Refused, Removed, Settled}
 use Rattle.archive_files.specs.OutFiles.{WritesTo, draft_account, has_calls, is_drafted, is_settled, takes_bytes}
@@ -16,7 +16,7 @@ use Rattle.archive_files.specs.declared.out_file.OutState.TheVariants as state
 use Rattle.archive_files.specs.Placing.{HandsOn, IsBeside, IsDrafted, IsPlaced, IsTargetOf, IsTested, IsWritable}
 use Rattle.archive_files.specs.Placing.{IsWrittenThrough, account, folder_of, number_of, place, took_nothing}
 use Rattle.archive_files.specs.declared.replaceable.Replaces.{Replaces}
-use Rattle.archive_files.specs.declared.replaceable.Replaces.TheVariants.{OwnFiles, ArchivesBelow}
+use Rattle.archive_files.specs.declared.replaceable.Replaces.TheVariants.{OwnFiles, ArchivesBelow, SameBytes}
 
 -- the bytes of some calls and of others behind them
 pub bytes_append : (xs ys : List FileCall) → bytes_in (xs ++ ys) ≡ bytes_in xs ++ bytes_in ys
@@ -29,6 +29,7 @@ bytes_append (Leads p q ∷ xs) ys = bytes_append xs ys
 bytes_append (FindsNoArchive p ∷ xs) ys = bytes_append xs ys
 bytes_append (Covers p q ∷ xs) ys = bytes_append xs ys
 bytes_append (Loses p q ∷ xs) ys = bytes_append xs ys
+bytes_append (Agrees p q ∷ xs) ys = bytes_append xs ys
 bytes_append (Creates p ∷ xs) ys = bytes_append xs ys
 bytes_append (Opens p ∷ xs) ys = bytes_append xs ys
 bytes_append (Writes b ∷ xs) ys = ap (λ t. b ++ t) (bytes_append xs ys) ∙ sym (append_assoc b (bytes_in xs) (bytes_in ys))
@@ -52,6 +53,7 @@ looks_bytes (Leads p q ∷ looks) are = looks_bytes looks are
 looks_bytes (FindsNoArchive p ∷ looks) are = looks_bytes looks are
 looks_bytes (Covers p q ∷ looks) are = looks_bytes looks are
 looks_bytes (Loses p q ∷ looks) are = looks_bytes looks are
+looks_bytes (Agrees p q ∷ looks) are = looks_bytes looks are
 looks_bytes (Creates p ∷ looks) are = cc
 looks_bytes (Opens p ∷ looks) are = cc
 looks_bytes (Writes b ∷ looks) are = cc
@@ -166,6 +168,7 @@ pub tested_looks : (replaces : Replaces) (draft target : List ℕ) (tests : List
 tested_looks OwnFiles draft target tests is = ap are_looks is
 tested_looks ArchivesBelow draft target tests (inl none) = ap are_looks none
 tested_looks ArchivesBelow draft target tests (inr covers) = ap are_looks covers
+tested_looks SameBytes draft target tests is = ap are_looks is
 
 -- and so is what was drafted and put in place
 pub hands_on_draft : (path : Option (List ℕ)) (replaces : Replaces) (draft target : List ℕ) (calls new : List FileCall)

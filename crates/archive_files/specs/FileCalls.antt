@@ -5,7 +5,7 @@ use Rattle.std.specs.declared.fs.attrs.Metadata.{Metadata}
 
 -- A call. The system says what a path leads to: a regular file, something else, or nothing; that the path itself is no
 -- link; which path it leads to; or that what is there is no archive. A draft is compared with an archive, of which it
--- has or covers each record, or not. A file is created that was not there, or what is there is opened and emptied; it
+-- has or covers each record, or not; or with what is there, which is nothing, or empty, or has the same bytes. A file is created that was not there, or what is there is opened and emptied; it
 -- takes bytes, which are synced to the disk; it is renamed, and the folder synced; or it is removed.
 pub data FileCall : Type 0 where
   FindsFile : (path : List ℕ) → FileCall
@@ -16,6 +16,7 @@ pub data FileCall : Type 0 where
   FindsNoArchive : (path : List ℕ) → FileCall
   Covers : (draft : List ℕ) → (target : List ℕ) → FileCall
   Loses : (draft : List ℕ) → (target : List ℕ) → FileCall
+  Agrees : (draft : List ℕ) → (target : List ℕ) → FileCall
   Creates : (path : List ℕ) → FileCall
   Opens : (path : List ℕ) → FileCall
   Writes : (bytes : List ℕ) → FileCall
@@ -41,7 +42,8 @@ call_of (number ∷ []) path other =
     else if number == 11 then Leads path other
     else if number == 12 then FindsNoArchive path
     else if number == 13 then Covers path other
-    else Loses path other
+    else if number == 14 then Loses path other
+    else Agrees path other
 call_of _ path other = Removes path
 
 -- the bytes of the calls that write
@@ -68,6 +70,7 @@ is_look (Leads path target) = true
 is_look (FindsNoArchive path) = true
 is_look (Covers draft target) = true
 is_look (Loses draft target) = true
+is_look (Agrees draft target) = true
 is_look (Creates path) = false
 is_look (Opens path) = false
 is_look (Writes bytes) = false

@@ -4,11 +4,11 @@ use Rattle.std.specs.Prelude.{All, Contains, codes, if◌then◌else◌, length,
 use Rattle.std.specs.Fmt.{decimal}
 use Rattle.std.specs.List.{concat}
 use Rattle.std.specs.Path.{path_parent, path_with_file_name}
-use Rattle.archive_files.specs.FileCalls.{Covers, FileCall, FindsFile, FindsNoArchive, FindsNoLink, FindsNothing}
+use Rattle.archive_files.specs.FileCalls.{Agrees, Covers, FileCall, FindsFile, FindsNoArchive, FindsNoLink, FindsNothing}
 use Rattle.archive_files.specs.FileCalls.{FindsOther, Leads, Removes, Syncs, are_looks, bytes_in, drafting, placing}
 use Rattle.archive_files.specs.FileCalls.{writing}
 use Rattle.archive_files.specs.declared.replaceable.Replaces.{Replaces}
-use Rattle.archive_files.specs.declared.replaceable.Replaces.TheVariants.{OwnFiles, ArchivesBelow}
+use Rattle.archive_files.specs.declared.replaceable.Replaces.TheVariants.{OwnFiles, ArchivesBelow, SameBytes}
 
 -- ---- paths
 
@@ -63,10 +63,11 @@ abbrev pub IsWritable : List ℕ → List FileCall → Type 0
 IsWritable path looks = (looks ≡ FindsOther path ∷ []) ⊎ ((looks ≡ []) × IsDescriptor path)
 
 -- The draft may take the place of what is at the target: each of symarch's own files may be replaced; or else what is
--- there is no archive, or one of which the draft has or covers each record.
+-- there is no archive, or one of which the draft has or covers each record; or it has no other bytes than the draft.
 abbrev pub IsTested : Replaces → List ℕ → List ℕ → List FileCall → Type 0
 IsTested OwnFiles draft target tests = tests ≡ []
 IsTested ArchivesBelow draft target tests = (tests ≡ FindsNoArchive target ∷ []) ⊎ (tests ≡ Covers draft target ∷ [])
+IsTested SameBytes draft target tests = tests ≡ Agrees draft target ∷ []
 
 -- Pieces of the text went to a draft beside the target of a path, and the draft, which may replace what is there, was
 -- put in its place.
@@ -147,6 +148,7 @@ place (Some path) = suc (length path) ∷ path
 abbrev pub number_of : Replaces → ℕ
 number_of OwnFiles = 0
 number_of ArchivesBelow = 1
+number_of SameBytes = 2
 
 -- What is known of OUT: its path, which files may be replaced there, and the bytes that were written for it. A text
 -- that it takes stands behind what was known, so that the path and the rule stay with it.

@@ -9,6 +9,7 @@ ghost use Rattle.archive_files.specs.Placing.{IsBeside, IsTested, draft_name, fo
 use crate::file_calls::FileCalls;
 use crate::losses::test_losses;
 use crate::replaceable::{Obstacle, OutFault, Replaces};
+use crate::sameness::test_sameness;
 use crate::ways::Access;
 use memory::NoMemory;
 use std::alloc::Global;
@@ -174,5 +175,6 @@ fn test_place<F: Files>(
     match replaces {
         Replaces::OwnFiles => Ok(()),
         Replaces::ArchivesBelow => test_losses(alloc, files, &draft.path, &draft.target, calls),
+        Replaces::SameBytes => test_sameness(files, &draft.path, &draft.target, calls),
     }
 }

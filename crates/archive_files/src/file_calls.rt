@@ -5,7 +5,7 @@ ghost use Rattle.std.specs.Prelude.{◌≡◌, List, [], ◌∷◌, ◌++◌};
 ghost use Rattle.std.specs.Borrow.{ftrue};
 ghost use Rattle.archive_files.specs.FileCalls.{FileCall, Creates, Opens, Removes, Renames, Syncs, SyncsFolder, Writes};
 ghost use Rattle.archive_files.specs.FileCalls.{FindsNoArchive, FindsNoLink, FindsNothing, Leads, compared, found};
-ghost use Rattle.archive_files.specs.FileCalls.{call_of};
+ghost use Rattle.archive_files.specs.FileCalls.{Agrees, call_of};
 
 use std::fs::Metadata;
 use std::marker::{Model, PhantomData};
@@ -134,5 +134,12 @@ impl FileCalls {
         } else {
             self.note(&[14], draft.as_bytes(), target.as_bytes());
         }
+    }
+
+    /// What is at a path has no other bytes than a draft.
+    pub fn agrees(&mut self, draft: &str, target: &str)
+        ensures { self.new.entries ≡ self.old.entries ++ Agrees draft.now target.now ∷ [] }
+    {
+        self.note(&[15], draft.as_bytes(), target.as_bytes());
     }
 }

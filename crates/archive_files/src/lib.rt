@@ -9,7 +9,7 @@
 //! - `identities`: which file a path names;
 //! - `descriptors`: the paths of descriptors; `ways`: how OUT is written, by what its path leads to;
 //! - `replaceable`: which file at OUT's path may be replaced;
-//! - `losses`: what would be lost of an archive in its place;
+//! - `losses`: what would be lost of an archive in its place; `sameness`: whether it has the same bytes;
 //! - `drafts`: a file beside OUT, which is renamed when it is whole;
 //! - `placed`: an output that is in place;
 //! - `out_file`: OUT before it is in place;
@@ -22,8 +22,8 @@
 //!   could not be. The bytes that a push is given are written (`WritesBegun`). What was called for it is known at each
 //!   state (`FileCalls`): a file was created beside a target, under a name that is not the target's, and took these
 //!   bytes; and nothing was called if it neither took a byte nor failed.
-//! - [`OutPath`] has nothing, or the whole text by the calls of `IsPlaced`: created, written, compared with an archive
-//!   at the target, if no other is replaced, synced, renamed over the target, and the target's folder synced, in this
+//! - [`OutPath`] has nothing, or the whole text by the calls of `IsPlaced`: created, written, compared with what
+//!   is at the target, if not each of symarch's own files is replaced, synced, renamed over the target, and the target's folder synced, in this
 //!   order; or opened and written. A draft that is not put in place is removed (`IsRemoved`).
 //! - The target is OUT's path, or what the system said that a link there leads to (`IsTargetOf`); and only what it said
 //!   is no regular file, or a descriptor, is written through (`IsWritable`).
@@ -59,7 +59,8 @@
 //! - An archive gives way only to one above it, by the order of contents and not by a number of records. The test is a
 //!   merge of both that writes nowhere (`lost_operations`), made over the whole draft; no command has a case of its
 //!   own. A damaged archive is not replaced: nobody can say what it has. `delta`, `summary` and `index` replace each of
-//!   symarch's own files, since what they write is made anew.
+//!   symarch's own files, since what they write is made anew. A slice gives way to itself alone (`SameBytes`): so of a
+//!   file at OUT nothing is read before the draft is whole, and then both, piece by piece.
 //! - Between the test and the renaming another program may put an archive at OUT, which is then lost: the system has no
 //!   call that renames over one file and no other.
 //! - A link that leads to nothing is refused, since `canonicalize` cannot say where it leads. Hard links keep the old
@@ -92,6 +93,7 @@ mod out_path;
 mod placed;
 mod placed_file;
 mod replaceable;
+mod sameness;
 mod system_disk;
 mod system_files;
 mod ways;

@@ -69,6 +69,7 @@ fn begun<F: Files>(
     files: &F,
     process: u32,
     path: &str,
+    replaces: Replaces,
     calls: &mut FileCalls,
 ) -> Result<OutState<F::File>, OutFault>
     ensures calls { calls.old.entries ≡ [] → IfOk result
@@ -77,7 +78,7 @@ fn begun<F: Files>(
     ensures begun { IfOk result (λ state. has_calls (stage_of state) ≡ true) }
     ensures refused { calls.old.entries ≡ [] → OnErr result (are_looks calls.new.entries ≡ true) }
 {
-    match way_to(alloc, files, path, calls)? {
+    match way_to(alloc, files, path, replaces, calls)? {
         Way::Through => {
             let file = match fs::create(files, path) {
                 Ok(file) => file,
@@ -100,6 +101,7 @@ fn first_state<F: Files>(
     files: &F,
     process: u32,
     path: &Option<String>,
+    replaces: Replaces,
     calls: &mut FileCalls,
 ) -> OutState<F::File>
     ensures calls { calls.old.entries ≡ []
@@ -110,7 +112,7 @@ fn first_state<F: Files>(
     let Some(path) = path else {
         return OutState::Refused(OutFault::NotCreated(None));
     };
-    match begun(alloc, files, process, path, calls) {
+    match begun(alloc, files, process, path, replaces, calls) {
         Ok(state) => state,
         Err(fault) => OutState::Refused(fault),
     }
@@ -122,6 +124,7 @@ fn begin<F: Files>(
     files: &F,
     process: u32,
     path: &Option<String>,
+    replaces: Replaces,
     state: &mut OutState<F::File>,
     calls: &mut FileCalls,
 )
@@ -135,7 +138,7 @@ fn begin<F: Files>(
     ensures same { stage_of state.old ≢ Untouched → state.new ≡ state.old }
 {
     if let OutState::Untouched = state {
-        *state = first_state(alloc, files, process, path, calls);
+        *state = first_state(alloc, files, process, path, replaces, calls);
     }
 }
 
@@ -379,6 +382,7 @@ impl<'a, F: Files> Sink for OutFile<'a, F> {
             self.files,
             self.process,
             &self.path,
+            self.replaces,
             &mut self.state,
             &mut self.calls,
         );

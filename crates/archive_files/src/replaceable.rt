@@ -42,17 +42,21 @@ pub enum Obstacle {
     Loses(u64),
     /// It begins as an archive does, and cannot be read to its end.
     Damaged,
+    /// It has other bytes than the new one, which takes the place of none but its own.
+    Differs,
     /// It was not read or not renamed, with what the system said, if it said something.
     Refused(Option<io::Error>),
 }
 
-/// Which of symarch's own files a command replaces.
+/// Which files a command replaces beside empty ones.
 #[derive(Clone, Copy, Debug, PartialEq, Eq)]
 pub enum Replaces {
-    /// Each of them: what it writes is a message to another site, or an index.
+    /// Each of symarch's own: what it writes is a message to another site, or an index.
     OwnFiles,
-    /// Each but an archive that has a record which the new one neither has nor covers.
+    /// Each of symarch's own but an archive that has a record which the new one neither has nor covers.
     ArchivesBelow,
+    /// Those that have the very bytes of the new one: what it writes is a slice.
+    SameBytes,
 }
 
 /// Whether a file is one of symarch's own, told by what it begins with.

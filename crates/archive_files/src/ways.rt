@@ -8,7 +8,7 @@ ghost use Rattle.archive_files.specs.Placing.{IsTargetOf};
 
 use crate::descriptors::is_descriptor;
 use crate::file_calls::FileCalls;
-use crate::replaceable::{Obstacle, OutFault, is_own};
+use crate::replaceable::{Obstacle, OutFault, Replaces, is_own};
 use std::alloc::Global;
 use std::fs::{self, Metadata, OpenOptions};
 use std::io::{self, ErrorKind};
@@ -94,7 +94,7 @@ fn led_to<F: Files>(
     Ok(target)
 }
 
-/// How OUT is written that has this path.
+/// How OUT is written that has this path, where a command replaces these files.
 ///
 /// What is no regular file is written to, and so is a descriptor, which others may hold. A symbolic link is followed;
 /// one that leads to nothing is refused.
@@ -102,6 +102,7 @@ pub fn way_to<F: Files>(
     alloc: Global,
     files: &F,
     path: &str,
+    replaces: Replaces,
     calls: &mut FileCalls,
 ) -> Result<Way, OutFault>
     ensures way { calls.old.entries ≡ [] → IfOk result (λ way. IsWayTo path.now way calls.new.entries) }
@@ -111,7 +112,9 @@ pub fn way_to<F: Files>(
         return Ok(Way::Through);
     }
     match metadata_of(files, path, calls) {
-        Ok(metadata) if metadata.is_file() => replaced(alloc, files, path, &metadata, calls),
+        Ok(metadata) if metadata.is_file() => {
+            replaced(alloc, files, path, replaces, &metadata, calls)
+        }
         Ok(_) => Ok(Way::Through),
         Err(error) if error.kind() == ErrorKind::NotFound => {
             absent(alloc, files, path, error, calls)
@@ -140,11 +143,12 @@ fn absent<F: Files>(
     Ok(Way::Beside(String::from_str(alloc, path)?, None))
 }
 
-/// The way to a regular file, which has to be one that may be written and is replaced.
+/// The way to a regular file, which has to be one that may be written and is replaced, as far as its first bytes tell.
 fn replaced<F: Files>(
     alloc: Global,
     files: &F,
     path: &str,
+    replaces: Replaces,
     metadata: &Metadata,
     calls: &mut FileCalls,
 ) -> Result<Way, OutFault>
@@ -157,7 +161,8 @@ fn replaced<F: Files>(
         Ok(file) => file,
         Err(error) => return Err(OutFault::NotCreated(Some(error))),
     };
-    if metadata.len() > 0 && !is_own(&mut file) {
+    let is_foreign = metadata.len() > 0 && replaces != Replaces::SameBytes && !is_own(&mut file);
+    if is_foreign {
         return Err(OutFault::NotReplaced(Obstacle::Foreign));
     }
     let target = target_of(alloc, files, path, calls)?;

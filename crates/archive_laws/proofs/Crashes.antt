@@ -7,11 +7,11 @@ use Rattle.std.proofs.lemmas.List.{append-nil, take_all}
 use Rattle.std.proofs.lemmas.Slice.Eq.{bytes_eq-Decides}
 use Rattle.archive_files.specs.FileCalls.{FileCall, Creates, Opens, Writes, Syncs, Renames, SyncsFolder, Removes}
 use Rattle.archive_files.specs.FileCalls.{FindsFile, FindsOther, FindsNothing, FindsNoLink, Leads, FindsNoArchive}
-use Rattle.archive_files.specs.FileCalls.{Covers, Loses, are_looks, drafting, is_look, placing, writing}
+use Rattle.archive_files.specs.FileCalls.{Agrees, Covers, Loses, are_looks, drafting, is_look, placing, writing}
 use Rattle.archive_files.specs.Placing.{IsDescriptor, IsDraftRemoved, IsDrafted, IsReplaced, IsTargetOf, IsTested}
 use Rattle.archive_files.specs.Placing.{IsWritable, IsWrittenThrough, folder_of}
 use Rattle.archive_files.specs.declared.replaceable.Replaces.{Replaces}
-use Rattle.archive_files.specs.declared.replaceable.Replaces.TheVariants.{OwnFiles, ArchivesBelow}
+use Rattle.archive_files.specs.declared.replaceable.Replaces.TheVariants.{OwnFiles, ArchivesBelow, SameBytes}
 use Rattle.archive_laws.specs.Crashes.{DraftState, MayBeAt, Old, New, Torn, Touched, behind, no_draft, replay}
 
 -- Where it was renamed it has the whole text, and that is on the disk; the target itself was not touched.
@@ -38,6 +38,7 @@ asks target d (FindsNoLink p) look = refl
 asks target d (Leads p q) look = refl
 asks target d (FindsNoArchive p) look = refl
 asks target d (Covers p q) look = refl
+asks target d (Agrees p q) look = refl
 asks target d (Loses p q) look = refl
 asks target d (Creates p) look = cc
 asks target d (Opens p) look = cc
@@ -176,6 +177,7 @@ tests_ask : (replaces : Replaces) (draft target : List ℕ) (tests : List FileCa
 tests_ask OwnFiles draft target tests is = ap are_looks is
 tests_ask ArchivesBelow draft target tests (inl none) = ap are_looks none
 tests_ask ArchivesBelow draft target tests (inr covers) = ap are_looks covers
+tests_ask SameBytes draft target tests is = ap are_looks is
 
 -- the calls from the first that does more than ask
 flat : (looks drafted tests rest calls : List FileCall) → calls ≡ looks ++ drafted ++ tests ++ rest

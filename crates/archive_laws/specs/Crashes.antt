@@ -4,7 +4,7 @@ use Rattle.std.specs.Prelude.{◌≡◌, ℕ, Bool, true, false, ◌||◌, List,
 use Rattle.std.specs.Str.{bytes_eq}
 use Rattle.archive_files.specs.FileCalls.{FileCall, Creates, Opens, Writes, Syncs, Renames, SyncsFolder, Removes}
 use Rattle.archive_files.specs.FileCalls.{FindsFile, FindsOther, FindsNothing, FindsNoLink, Leads, FindsNoArchive}
-use Rattle.archive_files.specs.FileCalls.{Covers, Loses}
+use Rattle.archive_files.specs.FileCalls.{Agrees, Covers, Loses}
 
 -- The draft behind some calls: its bytes, whether they are on the disk, whether it was renamed to the target, whether
 -- that is on the disk, and whether a call was made at the target itself.
@@ -28,6 +28,7 @@ behind target d (FindsNoLink path) = d
 behind target d (Leads path to) = d
 behind target d (FindsNoArchive path) = d
 behind target d (Covers draft to) = d
+behind target d (Agrees draft to) = d
 behind target d (Loses draft to) = d
 behind target d (Creates path) = record d { bytes = []; synced = false; touched = d.touched || bytes_eq path target }
 behind target d (Opens path) = record d { touched = d.touched || bytes_eq path target }

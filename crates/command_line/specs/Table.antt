@@ -74,6 +74,10 @@ find_command = signature (codes "find") (archive_path ∷ uuid_word ∷ other_pa
 abbrev pub list_command : Signature
 list_command = signature (codes "list") (archive_path ∷ index_path ∷ [])
 
+abbrev pub extract_command : Signature
+extract_command = signature (codes "extract") (archive_path ∷ uuid_word ∷ arch_word ∷ out_path
+    ∷ argument (codes "DIGEST") (Perhaps (codes "digest")) (roles.Says forms.Digest) ∷ other_paths ∷ [])
+
 abbrev pub name_command : Signature
 name_command = signature (codes "name")
     (archive_path ∷ argument (codes "NAME") Once (roles.Says forms.Plain) ∷ other_paths ∷ [])
@@ -104,7 +108,7 @@ rehearse_command = signature (codes "rehearse") (argument (codes "SCRIPT") Once 
 abbrev pub commands : List Signature
 commands =
     new_command ∷ admit_command ∷ retire_command ∷ merge_command ∷ migrate_command ∷ apply_command
-    ∷ find_command ∷ list_command ∷ name_command ∷ symbolicate_command ∷ frames_command
+    ∷ find_command ∷ list_command ∷ extract_command ∷ name_command ∷ symbolicate_command ∷ frames_command
     ∷ summary_command ∷ index_command ∷ delta_command ∷ rehearse_command ∷ []
 
 -- the command of this name, if there is one

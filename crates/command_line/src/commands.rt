@@ -132,6 +132,11 @@ const INDEX_OUT: Argument = Argument {
     ..OUT
 };
 
+const SLICE_OUT: Argument = Argument {
+    help: "The slice to write; only an empty file or the same slice at this path is replaced",
+    ..OUT
+};
+
 const IMAGES: Argument = Argument {
     name: "FILE",
     help: "The Mach-O files to add; in a dSYM bundle, the file in Contents/Resources/DWARF",
@@ -204,6 +209,12 @@ const DIGEST: Argument = Argument {
     role: Role::Says(Form::Digest),
 };
 
+const WANTED_DIGEST: Argument = Argument {
+    help: "Which slice, by its SHA-256, as find prints it",
+    count: Count::Perhaps("digest"),
+    ..DIGEST
+};
+
 const SYMBOL_NAME: Argument = Argument {
     name: "NAME",
     help: "The whole name of a symbol; put -- before a name that starts with -",
@@ -241,6 +252,12 @@ const ANSWERS: &str = "Each address gets one line: the nearest symbol, or\n\
     four spaces and NAME at PATH:LINE:COLUMN, with ? for what is unknown.\n\
     The exit status is 1 if any answer is not exactly one symbol.\n\
     Numbers are hexadecimal, also without 0x.";
+
+/// What `extract` does without a slice, and what its exit status 1 says.
+const UNDECIDED: &str =
+    "The dSYM is written, if there is one for this UUID and ARCH, and otherwise the image.\n\
+    The exit status is 1 if there is no such slice, or if several answer, which are then\n\
+    printed as find does: repeat the command with --digest.";
 
 /// The commands, in the order in which help lists them.
 const COMMANDS: &[Signature] = &[
@@ -291,6 +308,12 @@ const COMMANDS: &[Signature] = &[
         about: "List everything in an archive",
         more: None,
         arguments: &[ARCHIVE, INDEX],
+    },
+    Signature {
+        name: "extract",
+        about: "Write a slice as a file, as it came in",
+        more: Some(UNDECIDED),
+        arguments: &[ARCHIVE, SLICE_UUID, ARCH, SLICE_OUT, WANTED_DIGEST, OTHER],
     },
     Signature {
         name: "name",

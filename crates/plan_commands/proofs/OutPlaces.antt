@@ -15,7 +15,7 @@ use Rattle.archive_files.specs.OutFiles.{Stage}
 use Rattle.archive_files.specs.OutFiles.{draft_account, has_calls, is_settled, placed_account, placing_calls}
 use Rattle.archive_files.specs.Placing.{IsPath, IsPlaced, IsRemoved, account, number_of, place, took_nothing}
 use Rattle.archive_files.specs.declared.replaceable.Replaces.{Replaces}
-use Rattle.archive_files.specs.declared.replaceable.Replaces.TheVariants.{OwnFiles, ArchivesBelow}
+use Rattle.archive_files.specs.declared.replaceable.Replaces.TheVariants.{OwnFiles, ArchivesBelow, SameBytes}
 use Rattle.archive_files.specs.declared.placed.Placed.{Placed}
 
 -- what is known tells the path
@@ -34,6 +34,11 @@ same_rule OwnFiles OwnFiles same = refl
 same_rule OwnFiles ArchivesBelow same = grind (arith, same)
 same_rule ArchivesBelow OwnFiles same = grind (arith, same)
 same_rule ArchivesBelow ArchivesBelow same = refl
+same_rule SameBytes SameBytes same = refl
+same_rule OwnFiles SameBytes same = grind (arith, same)
+same_rule ArchivesBelow SameBytes same = grind (arith, same)
+same_rule SameBytes OwnFiles same = grind (arith, same)
+same_rule SameBytes ArchivesBelow same = grind (arith, same)
 
 -- what took a text has the path and the rule that were there, and the text
 known : (p q : Option (List ℕ)) (r s : Replaces) (bytes text : List ℕ) → account q s bytes ≡ account p r [] ++ text

@@ -23,7 +23,9 @@ use Rattle.archive_files.specs.declared.at_turn.Unopened.{Unopened}
 use Rattle.archive_files.specs.declared.at_turn.Unopened.TheVariants as unopened
 use Rattle.command_ends.specs.declared.faults.Why.TheVariants.{CannotOpen as NotOpened}
 use Rattle.plan_commands.specs.Disks.{Carried, Tells, fault_at, unopened_of}
-use Rattle.plan_commands.specs.Plans.{Deed, EndsDeed, EndsQuery, answers, changes, deed_of, empties, none, streams}
+use Rattle.plan_commands.specs.Plans.{Deed, EndsDeed, EndsQuery, answers, changes, deed_of, empties, extracts, none}
+use Rattle.plan_commands.specs.Plans.{streams}
+use Rattle.slice_extraction.specs.Extract.{Extraction, Extracts, LacksSlice}
 use Rattle.plan_commands.specs.Numbers.{number_at}
 use Rattle.plan_commands.specs.Files.{IsNotPut, IsOutcome}
 use Rattle.plan_commands.specs.declared.plans.Plan.{Plan}
@@ -108,6 +110,21 @@ streamed command out report (Err OutOfMemory) e = elim e [
   | inr c ↦ published out report c.1.text c.1.told (Err OutOfMemory) c.1.published
 ]
 
+-- ---- what is extracted
+
+lacking : {D T : Type 0} (command : Extraction) (out : Outs D T) (report : Writer) (r : Result Status CommandFault)
+    → LacksSlice command out report r → IsOutcome out r
+lacking command out report (Ok status) e = inr e.kept
+lacking command out report (Err (Input at why)) e = absurd e.reported
+lacking command out report (Err (Output m)) e = absurd e.reported
+lacking command out report (Err (Report m)) e = inr e.kept
+lacking command out report (Err OutOfMemory) e = absurd e.reported
+
+extracted : {D T : Type 0} (command : Extraction) (out : Outs D T) (report : Writer) (r : Result Status CommandFault)
+    → Extracts command out report r → IsOutcome out r
+extracted command out report r (inl written) = streamed command.writes out report r written
+extracted command out report r (inr lacks) = lacking command out report r lacks
+
 -- ---- every plan
 
 done : {D T : Type 0} (deed : Deed) (out : Outs D T) (report : Writer) (r : Result Status CommandFault)
@@ -115,6 +132,7 @@ done : {D T : Type 0} (deed : Deed) (out : Outs D T) (report : Writer) (r : Resu
 done empties out report r e = published out report (written set.empty) (report_of set.empty []) r e
 done (changes command) out report r e = ended command out report r e
 done (streams command) out report r e = streamed command out report r e
+done (extracts command) out report r e = extracted command out report r e
 done (answers query) out report r e = queried query out report r e
 done none out report r e = absurd e
 

@@ -10,8 +10,8 @@ use Rattle.command_line.specs.Arguments.{perhaps, reads, several, text, texts, u
 use Rattle.command_line.specs.Lines.{Line, inputs_of_kind}
 use Rattle.command_line.specs.declared.commands.Kind.{Kind}
 use Rattle.command_line.specs.declared.commands.Kind.TheVariants as kinds
-use Rattle.command_line.specs.Table.{admit_command, apply_command, delta_command, find_command, frames_command}
-use Rattle.command_line.specs.Table.{index_command, list_command, merge_command, migrate_command, name_command}
+use Rattle.command_line.specs.Table.{admit_command, apply_command, delta_command, extract_command, find_command}
+use Rattle.command_line.specs.Table.{frames_command, index_command, list_command, merge_command, migrate_command, name_command}
 use Rattle.command_line.specs.Table.{Signature, arguments_named, new_command}
 use Rattle.command_line.specs.Table.{rehearse_command, retire_command, summary_command, symbolicate_command}
 use Rattle.archive_core.specs.declared.keys.ArchKey.{ArchKey}
@@ -20,7 +20,7 @@ use Rattle.archive_records.specs.Text.{written}
 use Rattle.command_ends.specs.declared.faults.CommandFault.{CommandFault}
 use Rattle.command_ends.specs.declared.faults.Status.{Status}
 use Rattle.archive_files.specs.declared.replaceable.Replaces.{Replaces}
-use Rattle.archive_files.specs.declared.replaceable.Replaces.TheVariants.{OwnFiles, ArchivesBelow}
+use Rattle.archive_files.specs.declared.replaceable.Replaces.TheVariants.{OwnFiles, ArchivesBelow, SameBytes}
 use Rattle.archive_updates.specs.Admit.{admit_as_it_comes}
 use Rattle.archive_updates.specs.Apply.{apply_as_it_comes}
 use Rattle.archive_updates.specs.Delta.{delta_as_it_comes}
@@ -38,6 +38,7 @@ use Rattle.rehearse.specs.Rehearse.{rehearse}
 use Rattle.archive_updates.specs.Retire.{retire_as_it_comes}
 use Rattle.archive_updates.specs.Summary.{summary}
 use Rattle.index_updates.specs.Index.{index}
+use Rattle.slice_extraction.specs.Extract.{Extraction, Extracts, extract}
 use Rattle.plan_commands.specs.declared.plans.Plan.{Plan}
 use Rattle.plan_commands.specs.declared.plans.Plan.TheVariants as plan
 
@@ -64,6 +65,7 @@ command_of plan.Migrate = migrate_command
 command_of plan.Apply = apply_command
 command_of (plan.Find _ _) = find_command
 command_of plan.List = list_command
+command_of (plan.Extract _ _) = extract_command
 command_of (plan.Name _) = name_command
 command_of (plan.Symbolicate _ _ _ _ _) = symbolicate_command
 command_of (plan.Frames _ _) = frames_command
@@ -79,6 +81,9 @@ HasValues (plan.Retire key digest) line =
     × Has line (codes "DIGEST") (digests (one digest))
 HasValues (plan.Find uuid others) line =
     Has line (codes "UUID") (uuids (one uuid)) × (count_of kinds.Archive line ≡ suc others)
+HasValues (plan.Extract key digest) line =
+    Has line (codes "UUID") (uuids (one key.uuid)) × Has line (codes "ARCH") (archs (one key.arch))
+    × Has line (codes "DIGEST") (digests (perhaps digest))
 HasValues (plan.Name name) line = Has line (codes "NAME") (text name.now)
 HasValues (plan.Symbolicate key load lines others addresses) line =
     Has line (codes "UUID") (uuids (one key.uuid)) × Has line (codes "ARCH") (archs (one key.arch))
@@ -110,11 +115,13 @@ least_inputs (plan.Symbolicate _ _ _ others _) = suc others
 least_inputs (plan.Frames _ indexes) = suc (suc indexes)
 least_inputs asked = least_of (command_of asked).arguments
 
--- which files the OUT of a plan replaces: a message or an index each of symarch's own, an archive those below it
+-- which files the OUT of a plan replaces: a message or an index each of symarch's own, a slice its own, and an archive
+-- those below it
 abbrev pub replaces_of : Plan → Replaces
 replaces_of plan.Summary = OwnFiles
 replaces_of plan.Index = OwnFiles
 replaces_of plan.Delta = OwnFiles
+replaces_of (plan.Extract _ _) = SameBytes
 replaces_of _ = ArchivesBelow
 
 -- the key that a line names
@@ -122,11 +129,12 @@ abbrev pub key_of : List ℕ → ArchKey → SliceKey
 key_of uuid arch = record { uuid = uuid; arch = arch }
 
 -- what the command of a plan is, over inputs: it writes the empty archive, it writes OUT, it writes OUT while it reads,
--- or it reports; and it is none where inputs are wanting
+-- it writes a slice, if there is one, or it reports; and it is none where inputs are wanting
 pub data Deed : Type 1 where
   empties : Deed
   changes : Command → Deed
   streams : Streamed → Deed
+  extracts : Extraction → Deed
   answers : Query → Deed
   none : Deed
 
@@ -143,6 +151,8 @@ deed_of plan.Apply (input ∷ ops ∷ _) _ out = streams (apply_as_it_comes inpu
 deed_of (plan.Find uuid others) inputs places out =
     answers (find_of (take (suc others) inputs) (take (suc others) places) (drop (suc others) inputs) uuid)
 deed_of plan.List (archive ∷ indexes) (place ∷ _) out = answers (list_of archive place indexes)
+deed_of (plan.Extract key digest) (archive ∷ others) _ out =
+    extracts (extract archive others key digest (out_of out).draft)
 deed_of (plan.Name sought) (archive ∷ others) _ out = answers (name archive others sought.now)
 deed_of (plan.Symbolicate key load lines others addresses) inputs places out =
     answers (symbolicate_of (take (suc others) inputs) (take (suc others) places) (drop (suc others) inputs) key load
@@ -166,6 +176,7 @@ EndsDeed empties out report result =
     Publishes (out_of out) report (written set.empty) (report_of set.empty []) result
 EndsDeed (changes command) out report result = Ends command (out_of out) report result
 EndsDeed (streams command) out report result = EndsStreamed command (out_of out) report result
+EndsDeed (extracts command) out report result = Extracts command out report result
 EndsDeed (answers query) out report result = EndsQuery query out report result
 EndsDeed none out report result = ⊥
 

@@ -125,6 +125,7 @@ enum Note {
     SameFile,
     Foreign,
     Damaged,
+    Differs,
     Loses(u64),
     OldVersion,
     Stale,
@@ -137,6 +138,7 @@ impl Note {
         match obstacle {
             Obstacle::Foreign => Some(Note::Foreign),
             Obstacle::Damaged => Some(Note::Damaged),
+            Obstacle::Differs => Some(Note::Differs),
             Obstacle::Loses(lost) => Some(Note::Loses(lost)),
             Obstacle::Refused(_) => None,
         }
@@ -154,6 +156,7 @@ impl Display for Note {
             ),
             Note::Foreign => f.write_str("there, and neither empty nor one of symarch's files"),
             Note::Damaged => f.write_str("there, and an archive that is damaged"),
+            Note::Differs => f.write_str("there, and neither empty nor the same slice"),
             Note::Loses(1) => {
                 f.write_str("there, and has 1 record that the new archive neither has nor retires")
             }

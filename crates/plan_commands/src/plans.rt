@@ -7,8 +7,8 @@ ghost use Rattle.command_line.specs.Arguments.{are_values_of};
 ghost use Rattle.command_line.specs.LineView.{line_view};
 ghost use Rattle.command_line.specs.ValuesView.{values_view};
 ghost use Rattle.command_line.specs.Lines.{line_with};
-ghost use Rattle.command_line.specs.Table.{find_command, frames_command, name_command, retire_command};
-ghost use Rattle.command_line.specs.Table.{symbolicate_command};
+ghost use Rattle.command_line.specs.Table.{extract_command, find_command, frames_command, name_command};
+ghost use Rattle.command_line.specs.Table.{retire_command, symbolicate_command};
 ghost use Rattle.plan_commands.specs.Plans.{Executes, IsPlanOf, Notes, key_of, least_inputs};
 
 use crate::asking::{self, Input, first_and_rest};
@@ -25,6 +25,7 @@ use index_updates::run_index;
 use memory::Heap;
 use placed_bytes::Placed;
 use rehearse::run_rehearse;
+use slice_extraction::run_extract;
 use uuid::Uuid;
 
 /// What a line asks for: its command, with the values that it is carried out with. The paths of its inputs stay in the
@@ -53,6 +54,11 @@ pub enum Plan<'l> {
     },
     /// To tell all that the archive has.
     List,
+    /// To write the slice that answers under a key, or one that has the digest.
+    Extract {
+        key: SliceKey,
+        digest: Option<Digest>,
+    },
     /// To tell where symbols of a name stand. The name is the word itself.
     Name {
         name: &'l str,
@@ -96,13 +102,14 @@ impl<'l> Plan<'l> {
         }
     }
 
-    /// Which files its OUT replaces: a message to another site or an index each of symarch's own, an archive those
-    /// below it.
+    /// Which files its OUT replaces: a message to another site or an index each of symarch's own, a slice its own, an
+    /// archive those below it.
     pub fn replaces(&self) -> Replaces
         ensures { result ≡ replaces_of self.now }
     {
         match self {
             Plan::Summary | Plan::Index | Plan::Delta => Replaces::OwnFiles,
+            Plan::Extract { .. } => Replaces::SameBytes,
             _ => Replaces::ArchivesBelow,
         }
     }
@@ -122,6 +129,7 @@ fn plan_in<'l>(line: &'l Line) -> Option<Plan<'l>>
         "apply" => Some(Plan::Apply),
         "find" => find(values),
         "list" => Some(Plan::List),
+        "extract" => extract(values),
         "name" => name(values),
         "symbolicate" => symbolicate(values),
         "frames" => frames(values),
@@ -165,6 +173,22 @@ fn find<'l>(values: &'l [Values]) -> Option<Plan<'l>>
         ] => Some(Plan::Find {
             uuid: *uuid,
             others: others.len(),
+        }),
+        _ => None,
+    }
+}
+
+fn extract<'l>(values: &'l [Values]) -> Option<Plan<'l>>
+    requires { are_values_of extract_command.arguments (map values_view values.now) ≡ true }
+    ensures { IsSomeAnd result (λ plan. IsPlanOf plan (line_with extract_command (map values_view values.now))) }
+{
+    let [Texts(One(_)), Uuids(One(uuid)), Archs(One(arch)), rest @ ..] = values else {
+        return None;
+    };
+    match rest {
+        [Texts(One(_)), Digests(Perhaps(digest)), Texts(Several(_))] => Some(Plan::Extract {
+            key: key(uuid, arch),
+            digest: *digest,
         }),
         _ => None,
     }
@@ -268,6 +292,10 @@ pub fn execute<A: Archive + Drop, L: Archive + Drop, S: Source + Placed, T: Targ
         Plan::List => {
             let (archive, indexes) = first_and_rest(inputs);
             asking::list(heap, archive, indexes, report)
+        }
+        Plan::Extract { key, digest } => {
+            let (archive, others) = first_and_rest(inputs);
+            run_extract::<A, _, _, _>(heap, archive, others, key, digest, out, report)
         }
         Plan::Name { name } => {
             let (archive, others) = first_and_rest(inputs);

@@ -14,3 +14,7 @@ returns-in-Symbolicate-clause-ends g c = rw c.in-Symbolicate.is (c.symbolicate.e
 pub returns-in-Frames-clause-ends : goal.returns-in-Frames-clause-ends
 returns-in-Frames-clause-ends g c =
     rw (c.in-Frames.is, c.first_and_rest-crash.ensures.parts) (c.frames.ensures, refl)
+
+pub returns-in-Extract-clause-ends : goal.returns-in-Extract-clause-ends
+returns-in-Extract-clause-ends g c =
+    rw (c.in-Extract.is, c.first_and_rest-archive.ensures.parts) c.run_extract.ensures
