@@ -333,7 +333,7 @@ class Run:
             rows = find_rows(self.archive(plan.one["archive"], "archive 0"))
         return self.told(find_lines(rows, True))
 
-    @takes("archive uuid arch out", is_asking=True)
+    @takes("archive uuid arch out", is_asking=True, indexes=ANY_NUMBER)
     def run_extract(self, plan: Plan) -> int:
         live = self.asked_of(plan, plan.key).live()
         held = sorted(it for it in live if it[1:25] == plan.key)

@@ -6,7 +6,7 @@ use Rattle.command_line.specs.Arguments.{archs, digests, flag, numbers, one, per
 use Rattle.command_line.specs.Lines.{Line, error_kinds, is_in_order, line_of, line_with}
 use Rattle.command_line.specs.Table.{admit_command, apply_command, delta_command, find_command, frames_command}
 use Rattle.command_line.specs.Table.{index_command, list_command, merge_command, migrate_command, name_command}
-use Rattle.command_line.specs.Table.{new_command}
+use Rattle.command_line.specs.Table.{extract_command, new_command}
 use Rattle.command_line.specs.Table.{rehearse_command, retire_command, summary_command, symbolicate_command}
 
 -- words behind the program's name, and a line
@@ -65,6 +65,11 @@ samples =
     ∷ texts (several (codes "i" ∷ [])) ∷ []))
     ∷ sample (codes "list" ∷ codes "a" ∷ codes "--index" ∷ codes "i" ∷ [])
     (line_with list_command (text (codes "a") ∷ texts (perhaps (Some (codes "i"))) ∷ []))
+    ∷ sample (codes "extract" ∷ codes "a" ∷ uuid_text ∷ codes "--digest" ∷ digest_text ∷ codes "arm64e" ∷ codes "o"
+    ∷ codes "--index=i" ∷ [])
+    (line_with extract_command (text (codes "a") ∷ uuids (one uuid_bytes) ∷ archs (one (arch_key 0x0100_000c 2))
+    ∷ text (codes "o") ∷ digests (perhaps (Some (record { 0 = digest_bytes }))) ∷ texts (several [])
+    ∷ texts (several (codes "i" ∷ [])) ∷ []))
     ∷ sample (codes "name" ∷ codes "a" ∷ codes "--" ∷ codes "-n" ∷ [])
     (line_with name_command (text (codes "a") ∷ text (codes "-n") ∷ texts (several []) ∷ []))
     ∷ sample (codes "symbolicate" ∷ codes "a" ∷ uuid_text ∷ codes "x86_64h" ∷ codes "10" ∷ codes "--load=0xfF"

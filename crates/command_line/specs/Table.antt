@@ -76,7 +76,7 @@ list_command = signature (codes "list") (archive_path ∷ index_path ∷ [])
 
 abbrev pub extract_command : Signature
 extract_command = signature (codes "extract") (archive_path ∷ uuid_word ∷ arch_word ∷ out_path
-    ∷ argument (codes "DIGEST") (Perhaps (codes "digest")) (roles.Says forms.Digest) ∷ other_paths ∷ [])
+    ∷ argument (codes "DIGEST") (Perhaps (codes "digest")) (roles.Says forms.Digest) ∷ other_paths ∷ index_paths ∷ [])
 
 abbrev pub name_command : Signature
 name_command = signature (codes "name")

@@ -313,7 +313,15 @@ const COMMANDS: &[Signature] = &[
         name: "extract",
         about: "Write a slice as a file, as it came in",
         more: Some(UNDECIDED),
-        arguments: &[ARCHIVE, SLICE_UUID, ARCH, SLICE_OUT, WANTED_DIGEST, OTHER],
+        arguments: &[
+            ARCHIVE,
+            SLICE_UUID,
+            ARCH,
+            SLICE_OUT,
+            WANTED_DIGEST,
+            OTHER,
+            INDEXES,
+        ],
     },
     Signature {
         name: "name",

@@ -127,6 +127,8 @@ enough asked line is listed = by_plan asked is (least line.name line.values list
         → least_inputs asked ≤ length (inputs_of line)
     by_plan (plan.Find uuid others) is some =
         rw (← is.1.1) (few_of_kind kinds.Archive (arguments_named line.name) line.values)
+    by_plan (plan.Extract key digest others) is some =
+        rw (← is.1.3) (few_of_kind kinds.Archive (arguments_named line.name) line.values)
     by_plan (plan.Symbolicate key load lines others addresses) is some =
         rw (← is.1.5) (few_of_kind kinds.Archive (arguments_named line.name) line.values)
     by_plan (plan.Frames lines indexes) is some =

@@ -9,4 +9,5 @@ pub mod Reasons
 pub mod Numbers
 pub mod Numbered
 pub mod Counted
+pub mod Extracted
 mod Asked

@@ -1,5 +1,6 @@
 -- Queries of archives, the first of which are read by their indexes, and the others whole, and what `name` notes.
 use Rattle.std.specs.Prelude.{◌≡◌, ℕ, List, [], ◌∷◌, ◌++◌, Bool, true, false, nat_lt, length, take, drop, Option, Some, None}
+use Rattle.archive_core.specs.declared.keys.Digest.{Digest}
 use Rattle.archive_core.specs.declared.keys.SliceKey.{SliceKey}
 use Rattle.command_ends.specs.declared.faults.CommandFault.{CommandFault}
 use Rattle.command_ends.specs.declared.faults.CommandFault.TheVariants.{Input}
@@ -8,6 +9,7 @@ use Rattle.command_ends.specs.declared.faults.Why.TheVariants.{NoArchive}
 use Rattle.command_ends.specs.Archives.{HoldTogether}
 use Rattle.command_ends.specs.Ends.{Query}
 use Rattle.command_ends.specs.Inputs.{Reader}
+use Rattle.command_ends.specs.Outputs.{Takes, Writer}
 use Rattle.archive_queries.specs.Find.{find}
 use Rattle.archive_queries.specs.Frames.{frames}
 use Rattle.archive_queries.specs.List.{list}
@@ -19,6 +21,8 @@ use Rattle.indexed_queries.specs.Find.{find_at, find_together}
 use Rattle.indexed_queries.specs.Frames.{frames_at}
 use Rattle.indexed_queries.specs.List.{list_at}
 use Rattle.indexed_queries.specs.Symbolicate.{symbolicate_at}
+use Rattle.slice_extraction.specs.Extract.{Extraction, extract}
+use Rattle.slice_extraction.specs.Indexed.{extract_at}
 
 -- the fault of the index of this number, which has no archive
 abbrev pub no_archive : ℕ → CommandFault
@@ -66,6 +70,29 @@ frames_of lines crash (archive ∷ others) places [] = frames lines crash archiv
 frames_of lines crash archives places indexes =
     unless_more (nat_lt (length archives) (length indexes)) (length archives)
     (frames_at lines crash indexes (take (length indexes) places) (drop (length indexes) archives))
+
+-- the same of a command that writes a slice
+abbrev pub extra_extraction : ℕ → Writer → Extraction
+extra_extraction number draft = record {
+  writes = record {
+    Makes = λ text told. ⊥;
+    Stops = λ fault. (fault ≡ no_archive number) × Takes draft [];
+    Unfailed = ⊥;
+  };
+  Lacks = λ told. ⊥;
+}
+
+abbrev pub unless_extra : Bool → ℕ → Writer → Extraction → Extraction
+unless_extra true archives draft command = extra_extraction archives draft
+unless_extra false archives draft command = command
+
+-- `extract`, over archives and indexes as those of `find`
+abbrev pub extract_of : {S : Type 0} → List (Reader S) → List (Reader S) → List (Reader S) → SliceKey → Option Digest
+    → Writer → Extraction
+extract_of (archive ∷ others) places [] key digest draft = extract archive others key digest draft
+extract_of archives places indexes key digest draft =
+    unless_extra (nat_lt (length archives) (length indexes)) (length archives) draft
+    (extract_at indexes (take (length indexes) places) (drop (length indexes) archives) key digest draft)
 
 -- the name that a symbol has with a `_` before it alone, as it is noted
 abbrev pub underscored_in : Note → Option (List ℕ)

@@ -26,7 +26,7 @@ use Rattle.archive_updates.specs.Apply.{apply_as_it_comes}
 use Rattle.archive_updates.specs.Delta.{delta_as_it_comes}
 use Rattle.command_ends.specs.Ends.{Command, Ends, EndsReport, EndsStreamed, Query, Streamed}
 use Rattle.indexed_queries.specs.Summary.{summary_at}
-use Rattle.plan_commands.specs.Asking.{NotesUnderscored, find_of, frames_of, list_of, symbolicate_of}
+use Rattle.plan_commands.specs.Asking.{NotesUnderscored, extract_of, find_of, frames_of, list_of, symbolicate_of}
 use Rattle.command_ends.specs.Inputs.{Reader}
 use Rattle.archive_updates.specs.MergeStreams.{merge_as_it_comes}
 use Rattle.archive_updates.specs.Migrate.{migrate_as_it_comes}
@@ -38,7 +38,7 @@ use Rattle.rehearse.specs.Rehearse.{rehearse}
 use Rattle.archive_updates.specs.Retire.{retire_as_it_comes}
 use Rattle.archive_updates.specs.Summary.{summary}
 use Rattle.index_updates.specs.Index.{index}
-use Rattle.slice_extraction.specs.Extract.{Extraction, Extracts, extract}
+use Rattle.slice_extraction.specs.Extract.{Extraction, Extracts}
 use Rattle.plan_commands.specs.declared.plans.Plan.{Plan}
 use Rattle.plan_commands.specs.declared.plans.Plan.TheVariants as plan
 
@@ -65,7 +65,7 @@ command_of plan.Migrate = migrate_command
 command_of plan.Apply = apply_command
 command_of (plan.Find _ _) = find_command
 command_of plan.List = list_command
-command_of (plan.Extract _ _) = extract_command
+command_of (plan.Extract _ _ _) = extract_command
 command_of (plan.Name _) = name_command
 command_of (plan.Symbolicate _ _ _ _ _) = symbolicate_command
 command_of (plan.Frames _ _) = frames_command
@@ -81,9 +81,9 @@ HasValues (plan.Retire key digest) line =
     × Has line (codes "DIGEST") (digests (one digest))
 HasValues (plan.Find uuid others) line =
     Has line (codes "UUID") (uuids (one uuid)) × (count_of kinds.Archive line ≡ suc others)
-HasValues (plan.Extract key digest) line =
+HasValues (plan.Extract key digest others) line =
     Has line (codes "UUID") (uuids (one key.uuid)) × Has line (codes "ARCH") (archs (one key.arch))
-    × Has line (codes "DIGEST") (digests (perhaps digest))
+    × Has line (codes "DIGEST") (digests (perhaps digest)) × (count_of kinds.Archive line ≡ suc others)
 HasValues (plan.Name name) line = Has line (codes "NAME") (text name.now)
 HasValues (plan.Symbolicate key load lines others addresses) line =
     Has line (codes "UUID") (uuids (one key.uuid)) × Has line (codes "ARCH") (archs (one key.arch))
@@ -111,6 +111,7 @@ least_of (a ∷ rest) = if reads a.role && has_to_stand a.count then suc (least_
 -- the fewest inputs that a line of a plan has
 abbrev pub least_inputs : Plan → ℕ
 least_inputs (plan.Find _ others) = suc others
+least_inputs (plan.Extract _ _ others) = suc others
 least_inputs (plan.Symbolicate _ _ _ others _) = suc others
 least_inputs (plan.Frames _ indexes) = suc (suc indexes)
 least_inputs asked = least_of (command_of asked).arguments
@@ -121,7 +122,7 @@ abbrev pub replaces_of : Plan → Replaces
 replaces_of plan.Summary = OwnFiles
 replaces_of plan.Index = OwnFiles
 replaces_of plan.Delta = OwnFiles
-replaces_of (plan.Extract _ _) = SameBytes
+replaces_of (plan.Extract _ _ _) = SameBytes
 replaces_of _ = ArchivesBelow
 
 -- the key that a line names
@@ -151,8 +152,9 @@ deed_of plan.Apply (input ∷ ops ∷ _) _ out = streams (apply_as_it_comes inpu
 deed_of (plan.Find uuid others) inputs places out =
     answers (find_of (take (suc others) inputs) (take (suc others) places) (drop (suc others) inputs) uuid)
 deed_of plan.List (archive ∷ indexes) (place ∷ _) out = answers (list_of archive place indexes)
-deed_of (plan.Extract key digest) (archive ∷ others) _ out =
-    extracts (extract archive others key digest (out_of out).draft)
+deed_of (plan.Extract key digest others) inputs places out =
+    extracts (extract_of (take (suc others) inputs) (take (suc others) places) (drop (suc others) inputs) key digest
+    (out_of out).draft)
 deed_of (plan.Name sought) (archive ∷ others) _ out = answers (name archive others sought.now)
 deed_of (plan.Symbolicate key load lines others addresses) inputs places out =
     answers (symbolicate_of (take (suc others) inputs) (take (suc others) places) (drop (suc others) inputs) key load

@@ -4,21 +4,23 @@ ghost use Rattle.std.specs.Prelude.{◌≡◌, ◌<◌, ◌≤◌, ◌∷◌, If
 ghost use Rattle.std.specs.Borrow.{Array, LendsBoth, sem};
 ghost use Rattle.command_ends.specs.Ends.{EndsReport};
 ghost use Rattle.command_ends.specs.Inputs.{reader, readers};
-ghost use Rattle.command_ends.specs.Outputs.{writer};
+ghost use Rattle.command_ends.specs.Outputs.{out_of, outs, writer};
 ghost use Rattle.archive_queries.specs.Name.{name as name_of};
 ghost use Rattle.plan_commands.specs.Asking.{AddsUnderscored, NotesUnderscored};
-ghost use Rattle.plan_commands.specs.Asking.{find_of, frames_of, list_of, no_archive, symbolicate_of};
+ghost use Rattle.plan_commands.specs.Asking.{extract_of, find_of, frames_of, list_of, no_archive, symbolicate_of};
+ghost use Rattle.slice_extraction.specs.Extract.{Extracts};
 
-use archive_core::{Archive, SliceKey};
+use archive_core::{Archive, Digest, SliceKey};
 use archive_queries::{answer_name, run_find, run_frames, run_list, run_symbolicate};
 use archive_updates::Note;
 use byte_device::{CannotOpen, Sink, Source};
-use command_ends::{CommandFault, Place, Status, Why, publish_report};
+use command_ends::{CommandFault, Output, Place, Status, Target, Why, publish_report};
 use indexed_queries::{
     run_find_at, run_find_together, run_frames_at, run_list_at, run_symbolicate_at,
 };
 use memory::{Heap, NoMemory};
 use placed_bytes::Placed;
+use slice_extraction::{run_extract, run_extract_at};
 use uuid::Uuid;
 
 /// An input of a command, if it could be opened.
@@ -189,4 +191,31 @@ pub fn frames<A: Archive + Drop, S: Source + Placed, P: Sink>(
     test_indexes(archives.len(), indexes.len())?;
     let (archives, others) = archives.split_at_mut(indexes.len());
     run_frames_at::<A, _, _, _, _, _>(heap, lines, crash, indexes, archives, others, report)
+}
+
+/// `extract` over archives, the first of which are read by these indexes.
+pub fn extract<A: Archive + Drop, S: Source + Placed, T: Target, P: Sink>(
+    heap: Heap,
+    archives: &mut [Input<S>],
+    indexes: &mut [Input<S>],
+    key: &SliceKey,
+    digest: &Option<Digest>,
+    out: &mut Output<T::Draft, T>,
+    report: &mut P,
+) -> Result<Status, CommandFault>
+    requires { 0 < length archives.old }
+    ensures { let known = outs T.Draft.held T.Draft.failures T.placed T.failures out.old out.new in
+        Extracts (extract_of
+        (readers ⟦<S as Source>⟧.left ⟦<S as Source>⟧.failures archives.old archives.new)
+        (readers ⟦<S as Placed>⟧.whole ⟦<S as Placed>⟧.failures archives.old archives.new)
+        (readers ⟦<S as Source>⟧.left ⟦<S as Source>⟧.failures indexes.old indexes.new) key.now digest.now
+        (out_of known).draft) known (writer P.held P.failures report.old report.new) result }
+{
+    if indexes.is_empty() {
+        let (archive, others) = first_and_rest(archives);
+        return run_extract::<A, _, _, _>(heap, archive, others, key, digest, out, report);
+    }
+    test_indexes(archives.len(), indexes.len())?;
+    let (archives, others) = archives.split_at_mut(indexes.len());
+    run_extract_at::<A, _, _, _, _, _>(heap, indexes, archives, others, key, digest, out, report)
 }

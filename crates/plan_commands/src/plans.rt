@@ -25,7 +25,6 @@ use index_updates::run_index;
 use memory::Heap;
 use placed_bytes::Placed;
 use rehearse::run_rehearse;
-use slice_extraction::run_extract;
 use uuid::Uuid;
 
 /// What a line asks for: its command, with the values that it is carried out with. The paths of its inputs stay in the
@@ -58,6 +57,7 @@ pub enum Plan<'l> {
     Extract {
         key: SliceKey,
         digest: Option<Digest>,
+        others: usize,
     },
     /// To tell where symbols of a name stand. The name is the word itself.
     Name {
@@ -186,9 +186,15 @@ fn extract<'l>(values: &'l [Values]) -> Option<Plan<'l>>
         return None;
     };
     match rest {
-        [Texts(One(_)), Digests(Perhaps(digest)), Texts(Several(_))] => Some(Plan::Extract {
+        [
+            Texts(One(_)),
+            Digests(Perhaps(digest)),
+            Texts(Several(others)),
+            Texts(Several(_)),
+        ] => Some(Plan::Extract {
             key: key(uuid, arch),
             digest: *digest,
+            others: others.len(),
         }),
         _ => None,
     }
@@ -293,10 +299,11 @@ pub fn execute<A: Archive + Drop, L: Archive + Drop, S: Source + Placed, T: Targ
             let (archive, indexes) = first_and_rest(inputs);
             asking::list(heap, archive, indexes, report)
         }
-        Plan::Extract { key, digest } => {
-            let (archive, others) = first_and_rest(inputs);
-            run_extract::<A, _, _, _>(heap, archive, others, key, digest, out, report)
-        }
+        Plan::Extract {
+            key,
+            digest,
+            others,
+        } => updates::extract::<A, _, _, _>(heap, inputs, *others, key, digest, out, report),
         Plan::Name { name } => {
             let (archive, others) = first_and_rest(inputs);
             asking::name(heap, archive, others, name.as_bytes(), notes, report)

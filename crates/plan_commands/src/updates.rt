@@ -1,13 +1,15 @@
 //! Commands that write OUT, over the inputs of a line, which stand in the order of its words.
 
-ghost use Rattle.std.specs.Prelude.{◌≤◌, OnOk, length};
+ghost use Rattle.std.specs.Prelude.{◌<◌, ◌≤◌, OnOk, drop, length, suc, take};
 ghost use Rattle.command_ends.specs.Inputs.{readers};
-ghost use Rattle.command_ends.specs.Outputs.{outs, writer};
+ghost use Rattle.command_ends.specs.Outputs.{out_of, outs, writer};
+ghost use Rattle.plan_commands.specs.Asking.{extract_of};
 ghost use Rattle.plan_commands.specs.Plans.{Executes, Notes};
+ghost use Rattle.slice_extraction.specs.Extract.{Extracts};
 ghost use Rattle.plan_commands.specs.declared.plans.Plan.TheVariants.{Admit, Apply, Delta, Merge, Summary};
 
-use crate::asking::{Input, first_and_rest};
-use archive_core::Archive;
+use crate::asking::{self, Input, first_and_rest};
+use archive_core::{Archive, Digest, SliceKey};
 use archive_updates::{Note, run_admit, run_apply, run_delta, run_merge, run_summary};
 use byte_device::{Sink, Source};
 use command_ends::{CommandFault, Output, Status, Target};
@@ -110,4 +112,25 @@ pub fn delta<S: Source + Placed, T: Target, P: Sink>(
 {
     let (archive, summary) = first_and_rest(inputs);
     run_delta(heap, archive, first_and_rest(summary).0, out, report)
+}
+
+/// `extract` over an archive, so many others, and the indexes of the first of them.
+pub fn extract<A: Archive + Drop, S: Source + Placed, T: Target, P: Sink>(
+    heap: Heap,
+    inputs: &mut [Input<S>],
+    others: usize,
+    key: &SliceKey,
+    digest: &Option<Digest>,
+    out: &mut Output<T::Draft, T>,
+    report: &mut P,
+) -> Result<Status, CommandFault>
+    requires { others < length inputs.old }
+    ensures { let read = readers ⟦<S as Source>⟧.left ⟦<S as Source>⟧.failures inputs.old inputs.new in
+        let placed = readers ⟦<S as Placed>⟧.whole ⟦<S as Placed>⟧.failures inputs.old inputs.new in
+        let known = outs T.Draft.held T.Draft.failures T.placed T.failures out.old out.new in
+        Extracts (extract_of (take (suc others) read) (take (suc others) placed) (drop (suc others) read) key.now
+        digest.now (out_of known).draft) known (writer P.held P.failures report.old report.new) result }
+{
+    let (archives, indexes) = inputs.split_at_mut(others + 1);
+    asking::extract::<A, _, _, _>(heap, archives, indexes, key, digest, out, report)
 }

@@ -16,5 +16,4 @@ returns-in-Frames-clause-ends g c =
     rw (c.in-Frames.is, c.first_and_rest-crash.ensures.parts) (c.frames.ensures, refl)
 
 pub returns-in-Extract-clause-ends : goal.returns-in-Extract-clause-ends
-returns-in-Extract-clause-ends g c =
-    rw (c.in-Extract.is, c.first_and_rest-archive.ensures.parts) c.run_extract.ensures
+returns-in-Extract-clause-ends g c = rw c.in-Extract.is c.extract.ensures
