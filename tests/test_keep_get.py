@@ -526,6 +526,14 @@ class Changed(GetCase):
         same("lines", said, [self.got(self.made[number], in_bundle(f"it-{number}")) for number in (0, 2)])
         self.has({in_bundle(f"it-{number}"): self.made[number] for number in (0, 2)})
 
+    def test_another_slice(self) -> None:
+        """What is not asked for is not read."""
+        change(self.room.archive, self.room.archive.read_bytes().index(self.made[1]))
+        for _ in range(2):
+            self.get(self.made[0], self.made[2])
+            self.has({in_bundle(f"it-{number}"): self.made[number] for number in (0, 2)})
+            self.add("lately", image(7))
+
     def test_an_index(self) -> None:
         change(pathlib.Path(f"{self.room.archive}.idx"), 20)
         _, errors = self.get(*self.made, status=2)

@@ -56,8 +56,6 @@ from .wanted import Undecided, Wishes, near, text_of
 
 USAGE = "symarch-keep get [--digest DIGEST]... ARCHIVE UUID... --to FOLDER"
 ABOUT = "make dSYM bundles of it, for a debugger"
-# Whether `symarch extract` takes indexes.
-BY_INDEX = False
 
 
 def define(parser: argparse.ArgumentParser) -> None:
@@ -125,7 +123,7 @@ class Getting:
 
         try:
             status = self.asked.answer(
-                "extract", words, options, BY_INDEX, room, lambda _: self.screen.progress(0, written)
+                "extract", words, options, folder=room, moved=lambda _: self.screen.progress(0, written)
             )[1]
         except Failed as failed:
             failed.more = failed.more.replace(shown(path), shown(target.file))
