@@ -635,6 +635,50 @@ class Changed(LevelCase):
         same("check", self.room.call("check", self.room.archive)[0], [])
 
 
+class Restored(LevelCase):
+    """The lines of docs/OPERATING.md bring back levels."""
+
+    seconds = 15
+
+    def lines(self, number: int) -> str:
+        """The lines of one of its blocks on backups, but for an exchange."""
+        text = (TOP / "docs" / "OPERATING.md").read_text(encoding="utf-8")
+        found = re.search(r"^## Backup and restore\n.*?```sh\n(.*?)```.*?```sh\n(.*?)```", text, re.M | re.S)
+        assert found
+        lines = found[number].replace("builds.sym", "site.sym").splitlines()
+        return "\n".join(line for line in lines if "exchange" not in line)
+
+    def carry_out(self, number: int) -> None:
+        came = call(["sh", "-c", self.lines(number)], cwd=self.folder)
+        same(f"status: {came.errors.decode()}", came.status, 0)
+
+    def test_after_folds(self) -> None:
+        """Whatever levels there are since, what was there then is there again, and what is lost is named."""
+        self.days(16, 7, 3)
+        self.come(1)
+        before, wanted = list(self.made), archive(self.made)
+        self.carry_out(1)
+        for words in ([], ["--all"]):
+            later = self.come(5)
+            self.fold(*words)
+            self.carry_out(2)
+            came = bytes_of(self.room.archive)
+            same("what is there again", [one for one in before if one not in came], [])
+            lost = [one for one in later if one not in came]
+            checked, _ = self.room.call("check", self.room.archive, status=None)
+            same("lost", checked, sorted(f"lost {words_of(one)}" for one in lost))
+            self.room.call("status", "--accept", self.room.archive, status=2 if lost else 0)
+            self.are_indexed()
+            self.made = before + [one for one in later if one in came]
+        for path in self.folder.glob("site.sym*"):
+            path.unlink()
+        pathlib.Path(f"{self.room.archive}.lock").touch()
+        self.carry_out(2)
+        same("all files were lost", bytes_of(self.room.archive), wanted)
+        self.are_indexed()
+        same("check", self.room.call("check", self.room.archive)[0], [])
+
+
 class Exchanged(LevelCase):
     """Sites with levels exchange, and have the same bytes by `fold --all`."""
 
