@@ -658,9 +658,9 @@ class Restored(LevelCase):
         self.come(1)
         before, wanted = list(self.made), archive(self.made)
         self.carry_out(1)
-        for words in ([], ["--all"]):
+        for is_whole in (False, True):
             later = self.come(5)
-            self.fold(*words)
+            self.fold(*["--all"] * is_whole)
             self.carry_out(2)
             came = bytes_of(self.room.archive)
             same("what is there again", [one for one in before if one not in came], [])
