@@ -331,7 +331,6 @@ class Killed(LevelCase):
         for one in going:
             self.room.call("retire", self.room.archive, *slice_words(one))
         self.tried("--purge")
-        self.assertNotIn(b"".join(self.texts()).find(going[0]), range(1 << 30))
         same("what was taken out", [one in b"".join(self.texts()) for one in going], [False] * 3)
 
     def test_by_an_add(self) -> None:
