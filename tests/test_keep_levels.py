@@ -274,6 +274,7 @@ class Killed(LevelCase):
     """A fold that is killed before each of its steps leaves each slice in one file or in several, and the next word
     goes on."""
 
+    is_side_by_side = True
     seconds = 60
 
     def tried(self, *words: str) -> None:
