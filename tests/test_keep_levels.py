@@ -274,6 +274,7 @@ class Killed(LevelCase):
     """A fold that is killed before each of its steps leaves each slice in one file or in several, and the next word
     goes on."""
 
+    is_side_by_side = True
     seconds = 60
 
     def tried(self, *words: str) -> None:
@@ -331,7 +332,6 @@ class Killed(LevelCase):
         for one in going:
             self.room.call("retire", self.room.archive, *slice_words(one))
         self.tried("--purge")
-        self.assertNotIn(b"".join(self.texts()).find(going[0]), range(1 << 30))
         same("what was taken out", [one in b"".join(self.texts()) for one in going], [False] * 3)
 
     def test_by_an_add(self) -> None:
@@ -632,6 +632,50 @@ class Changed(LevelCase):
         self.fold("--all")
         same("archive", self.room.archive.read_bytes(), archive(self.made))
         same("the other one", pathlib.Path(f"{self.room.archive}.1").read_bytes(), text)
+        same("check", self.room.call("check", self.room.archive)[0], [])
+
+
+class Restored(LevelCase):
+    """The lines of docs/OPERATING.md bring back levels."""
+
+    seconds = 15
+
+    def lines(self, number: int) -> str:
+        """The lines of one of its blocks on backups, but for an exchange."""
+        text = (TOP / "docs" / "OPERATING.md").read_text(encoding="utf-8")
+        found = re.search(r"^## Backup and restore\n.*?```sh\n(.*?)```.*?```sh\n(.*?)```", text, re.M | re.S)
+        assert found
+        lines = found[number].replace("builds.sym", "site.sym").splitlines()
+        return "\n".join(line for line in lines if "exchange" not in line)
+
+    def carry_out(self, number: int) -> None:
+        came = call(["sh", "-c", self.lines(number)], cwd=self.folder)
+        same(f"status: {came.errors.decode()}", came.status, 0)
+
+    def test_after_folds(self) -> None:
+        """Whatever levels there are since, what was there then is there again, and what is lost is named."""
+        self.days(16, 7, 3)
+        self.come(1)
+        before, wanted = list(self.made), archive(self.made)
+        self.carry_out(1)
+        for is_whole in (False, True):
+            later = self.come(5)
+            self.fold(*["--all"] * is_whole)
+            self.carry_out(2)
+            came = bytes_of(self.room.archive)
+            same("what is there again", [one for one in before if one not in came], [])
+            lost = [one for one in later if one not in came]
+            checked, _ = self.room.call("check", self.room.archive, status=None)
+            same("lost", checked, sorted(f"lost {words_of(one)}" for one in lost))
+            self.room.call("status", "--accept", self.room.archive, status=2 if lost else 0)
+            self.are_indexed()
+            self.made = before + [one for one in later if one in came]
+        for path in self.folder.glob("site.sym*"):
+            path.unlink()
+        pathlib.Path(f"{self.room.archive}.lock").touch()
+        self.carry_out(2)
+        same("all files were lost", bytes_of(self.room.archive), wanted)
+        self.are_indexed()
         same("check", self.room.call("check", self.room.archive)[0], [])
 
 

@@ -30,7 +30,7 @@ def archive_of_level(path: bytes) -> Optional[bytes]:
     """The path of the archive of which a file is a level, if it is one."""
     number = NUMBERS.get(b"." + path.rpartition(b".")[2])
     whole = path.rpartition(b".")[0]
-    return whole if number and os.path.exists(whole) and number in numbers_beside(whole) else None
+    return whole if number and os.path.isfile(whole) and number in numbers_beside(whole) else None
 
 
 def strangers_beside(path: bytes) -> List[bytes]:
@@ -48,6 +48,9 @@ def endings_beside(path: bytes) -> Set[bytes]:
     except PermissionError:
         # Who may not list a folder may still look names up.
         return {it for ending in NUMBERS for it in having(ending) if os.path.lexists(path + it)}
+    except (FileNotFoundError, NotADirectoryError):
+        # Who opens the archive says that.
+        return set()
 
 
 def having(ending: bytes) -> List[bytes]:
