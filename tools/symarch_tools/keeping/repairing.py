@@ -18,6 +18,7 @@ Status:
 import argparse
 import contextlib
 import functools
+import hashlib
 import os
 from typing import Dict, Iterable, List, NamedTuple, Optional, Sequence
 
@@ -45,10 +46,11 @@ def define(parser: argparse.ArgumentParser) -> None:
 
 
 class Place(NamedTuple):
-    """Where a slice stands in which archive."""
+    """Where a slice stands in which archive, and its digest, if that is known."""
 
     path: bytes
     at: int
+    digest: bytes = b""
 
 
 def files_of(other: bytes) -> List[bytes]:
@@ -77,7 +79,7 @@ def found_in_one(path: bytes, wanted: Dict[bytes, int], screen: Screen) -> Dict[
                 if head in heads:
                     length = record_size(head) - len(head)
                     entry = head[1 : 1 + KEY] + digest_in(file, at, length, screen.moved)
-                    found.update({entry: Place(path, at)} if wanted.get(entry) == length else {})
+                    found.update({entry: Place(path, at, entry[KEY:])} if wanted.get(entry) == length else {})
         except Malformed as fault:
             screen.line(f"{shown(path)}: {fault}; what stands before that is looked through")
     return found
@@ -109,10 +111,13 @@ def put_slice(written: int, row: Row, place: Place) -> None:
     with open(place.path, "rb") as file:
         file.seek(place.at)
         os.lseek(written, row.at + HEAD, os.SEEK_SET)
-        left = row.length - HEAD
+        left, digest = row.length - HEAD, hashlib.sha256()
         while left > 0 and (chunk := file.read(min(left, CHUNK))):
             write(written, chunk)
+            digest.update(chunk)
             left -= len(chunk)
+    if place.digest not in (b"", digest.digest()):
+        raise Failed(f"{shown(place.path)}: changed while it was read")
 
 
 def in_order(
@@ -127,13 +132,13 @@ def in_order(
         own = {row: Place(path, row.at + HEAD) for row in rows}
         bad = set(findings.changed) - {row for row in rows if row.entry in findings.good}
         places = [found.get(row.entry[1:], own[row]) if row in bad else own[row] for row in rows]
-        slices = sorted((slice_at(*place, rows[0]) for place in places), key=functools.cmp_to_key(compared))
-        taken.update({row: Place(one.path, one.offset) for row, one in zip(rows, slices)})
+        slices = {slice_at(place, rows[0]): place for place in places}
+        taken.update(zip(rows, (slices[one] for one in sorted(slices, key=functools.cmp_to_key(compared)))))
     return taken
 
 
-def slice_at(path: bytes, at: int, row: Row) -> Slice:
-    return Slice(path, None, at, row.length - HEAD, size_of(path), row.entry[1 : 1 + KEY])
+def slice_at(place: Place, row: Row) -> Slice:
+    return Slice(place.path, None, place.at, row.length - HEAD, size_of(place.path), row.entry[1 : 1 + KEY])
 
 
 def put(written: int, at: int, data: bytes) -> None:
