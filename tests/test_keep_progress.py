@@ -10,6 +10,7 @@ from typing import Any, Dict, List, Optional, Tuple
 from unittest import mock
 
 from .support.cases import same
+from .support.made_images import image, slice_words
 from .support.program import TOP
 from .support.rooms import RoomCase, change
 from .support.sites import Site
@@ -76,11 +77,13 @@ class Shown(TerminalCase):
         line = rf"(?m)^writing, [\d.]+ [kM]B of 1 MB, {LEFT}$"
         self.is_shown(line, "fold", self.room.archive, environment=slow)
         self.is_shown(rf"(?m)^reading, [\d.]+ [kM]B of 1 MB, {LEFT}$", "check", self.room.archive)
+        names = [slice_words(image(number))[0] for number in range(3)]
+        line = rf"(?m)^writing, \d+ kB of 300 kB, {LEFT}$"
+        self.is_shown(line, "get", self.room.archive, *names, "--to", "out", environment=slow)
         good = self.room.path / "good.sym"
         good.write_bytes(self.room.archive.read_bytes())
         change(self.room.archive, 500_000)
-        line = rf"(?m)^writing: \d+ of 11 slices, .*, {LEFT}$"
-        self.is_shown(line, "repair", self.room.archive, good, environment=slow)
+        self.is_shown(rf"(?m)^writing, 1 MB of 1 MB, {LEFT}$", "repair", self.room.archive, good)
 
     def test_exchange(self) -> None:
         self.room.make_many(10, more=bytes(100_000))

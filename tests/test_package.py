@@ -466,7 +466,7 @@ class Words(PackageCase):
 
     def test_completion_after_an_index(self) -> None:
         """A path, for each command that takes one; and after it the next word of the command."""
-        for word in ("find", "list", "summary", "symbolicate", "frames"):
+        for word in ("find", "list", "summary", "symbolicate", "frames", "extract"):
             self.assertEqual(self.completed("symarch", word, "--index", ""), ["paths"], word)
         architectures = ["x86_64", "x86_64h", "arm64", "arm64e"]
         self.assertEqual(self.completed("symarch", "symbolicate", "--index", "i", "a", "u", ""), architectures)
@@ -487,12 +487,16 @@ class Words(PackageCase):
         text = self.made.tree()[f"{ZSH['tar']}/_symarch-keep"].decode()
         self.assertEqual(text.count(f":ARCH:({' '.join(architectures)})'"), 2)
         zsh = self.made.tree()[f"{ZSH['tar']}/_symarch"].decode()
-        self.assertEqual(re.findall(r"--index\[[^]]*\]:INDEX:(\S+?)'", zsh), ["_files"] * 5)
+        self.assertEqual(re.findall(r"--index\[[^]]*\]:INDEX:(\S+?)'", zsh), ["_files"] * 6)
 
     def test_completion_of_places_of_tools(self) -> None:
         for words in (["add", "a", "b"], ["repair", "a"], ["exchange", "a"], ["check"], ["fold"]):
             self.assertEqual(self.completed("symarch-keep", *words, ""), ["paths"], words)
         self.assertEqual(self.completed("symarch-keep", "exchange", "a", "b", ""), [])
+        for words in (["get"], ["get", "--to"], ["get", "a", "u", "--to"], ["get", "--to", "f"]):
+            self.assertEqual(self.completed("symarch-keep", *words, ""), ["paths"], words)
+        for words in (["get", "a"], ["get", "a", "u"], ["get", "--digest"]):
+            self.assertEqual(self.completed("symarch-keep", *words, ""), [], words)
         for words in (["--key"], ["a", "b", "c", "--key", "k", "--signers"]):
             self.assertEqual(self.completed("symarch-keep", "exchange", *words, ""), ["paths"], words)
         self.assertEqual(self.completed("symarch-keep", "exchange", "--most", ""), [])

@@ -24,7 +24,7 @@ def tool(name: str) -> str:
     versions.sort(key=lambda path: int(path.name.rsplit("-", 1)[1]))
     found = shutil.which(name) or (str(versions[-1]) if versions else None)
     if found is None:
-        raise Without(f"no {name}: apt-get install clang lld llvm")
+        raise Without(f"no {name}: apt-get install clang lld lldb llvm")
     return found
 
 

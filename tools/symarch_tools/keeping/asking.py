@@ -1,5 +1,5 @@
-"""What the words that ask have alike: ARCHIVE and ARCHIVE.today are opened, and are asked as their join, each by its
-index. They take no lock, so they never wait for a word that writes."""
+"""What the words that ask have alike: ARCHIVE, its levels and ARCHIVE.today are opened, and are asked as their join,
+each by its index. They take no lock, so they never wait for a word that writes."""
 import argparse
 import contextlib
 import os
@@ -8,11 +8,12 @@ import time
 from typing import BinaryIO, Dict, Iterator, List, NamedTuple, Optional, Sequence, Tuple
 
 from .archive import Archive
-from .archive_file import INDEX, ArchiveFile
-from .contents import EMPTY, Content, entry_in
+from .archive_file import ArchiveFile
+from .contents import EMPTY, entry_in, join_of
+from .file_names import INDEX
 from .forms import HELP
 from .indexes import Index
-from .program import DESCRIPTORS, Program
+from .program import DESCRIPTORS, Moved, Program, not_moved
 from .screen import Failed, Screen, shown, system_text, write
 
 # How often a file is looked at again that a word of symarch-keep may just be replacing, and after how many seconds.
@@ -33,8 +34,15 @@ class Asked:
 
     def __init__(self, path: bytes, ends: contextlib.ExitStack) -> None:
         self.archive, self.ends, self.program = Archive(path, writes=False), ends, Program()
-        # A fold empties ARCHIVE.today once ARCHIVE has all of it, so who opens that first misses nothing.
+        # The descriptors of the files in memory that have indexes.
+        self.in_memory: Dict[Index, int] = {}
+        # A fold removes a file once one that stands before it has all of it, so who opens the last one first misses
+        # nothing.
         files = [self.opened(self.archive.today)] if self.archive.today.size() > len(EMPTY) else []
+        self.archive.find_levels()
+        for level in reversed(self.archive.levels):
+            with contextlib.suppress(FileNotFoundError):
+                files.append(self.opened(level))
         files.append(self.opened(self.archive.main))
         # The first index is that of the first archive, and so on.
         self.files = sorted(files, key=lambda it: it.its_index is None)
@@ -67,9 +75,15 @@ class Asked:
     # ---- what the program is asked
 
     def answer(
-        self, command: str, words: Sequence[str], options: Sequence[str] = (), is_by_index: bool = True
+        self,
+        command: str,
+        words: Sequence[str],
+        options: Sequence[str] = (),
+        is_by_index: bool = True,
+        folder: Optional[bytes] = None,
+        moved: Moved = not_moved,
     ) -> Tuple[List[str], int]:
-        """The lines that the program prints, and its status."""
+        """The lines that the program prints, and its status. It runs in a folder, if there is one."""
         archives: List[str] = []
         indexes: List[str] = []
         names: Dict[str, str] = {}
@@ -81,19 +95,24 @@ class Asked:
                 names[indexes[-1]] = shown(one.file.beside(INDEX))
         more = [it for path in archives[1:] for it in ("--with", path)]
         more += [it for path in indexes for it in ("--index", path)]
-        return self.run([command, *more, *options, "--", archives[0], *words], names)
+        return self.run([command, *more, *options, "--", archives[0], *words], names, folder, moved)
 
     def laid(self, index: Index) -> int:
         """A file in memory that has an index."""
-        descriptor = os.memfd_create("index")
-        self.ends.callback(os.close, descriptor)
-        write(descriptor, index.text)
-        return descriptor
+        if index not in self.in_memory:
+            self.in_memory[index] = descriptor = os.memfd_create("index")
+            self.ends.callback(os.close, descriptor)
+            write(descriptor, index.text)
+        return self.in_memory[index]
 
-    def run(self, words: Sequence[str], names: Dict[str, str]) -> Tuple[List[str], int]:
+    def run(
+        self, words: Sequence[str], names: Dict[str, str], folder: Optional[bytes], moved: Moved
+    ) -> Tuple[List[str], int]:
         descriptors = [int(path.rpartition("/")[2]) for path in names]
         try:
-            printed, status = self.program.answer(words, open_files=descriptors, names=names)
+            printed, status = self.program.answer(
+                words, folder=folder, open_files=descriptors, moved=moved, names=names
+            )
         except Failed as failed:
             found = AT_ENTRY.fullmatch(failed.text)
             index = self.files[int(found[1])].its_index if found else None
@@ -112,9 +131,7 @@ class Asked:
         said."""
         if not all(one.its_index for one in self.files):
             return list(lines)
-        content = Content()
-        for one in self.files:
-            content = content.joined(one.its_index.content() if one.its_index else Content())
+        content = join_of([one.its_index.content() for one in self.files if one.its_index])
         is_held = {line: entry_in(*line.split(" ")[:3]) in content.held for line in lines}
         for key in dict.fromkeys(" ".join(line.split(" ")[:2]) for line in lines if not is_held[line]):
             screen.fail(self.changed(key).text)

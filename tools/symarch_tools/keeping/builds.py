@@ -23,7 +23,7 @@ MOST_OF_FIELD, MOST_OF_LINE = 255, 4236
 FIELD = rb"(?:[!-\[\]-~]|\\x(?:[0189a-f][0-9a-f]|20|5c|7f)){1,%d}" % MOST_OF_FIELD
 UUID, ARCH, DIGEST = rb"[0-9a-f]{8}(?:-[0-9a-f]{4}){3}-[0-9a-f]{12}", rb"[a-z0-9_:/]{1,21}", rb"[0-9a-f]{64}"
 LINE = re.compile(rb"([0-9a-f]{16}) (([0-9-]{10}) (%b (%b) %b(?: %b){4}))" % (UUID, ARCH, DIGEST, FIELD))
-SUM, DAY = 16, 10
+SUM, DAY, UUID_SIZE = 16, 10, 36
 # Where in a line the day stands, and what follows it.
 DAY_AT, REST_AT = SUM + 1, SUM + DAY + 2
 FRAME = FIRST.encode(), LAST.encode()
@@ -55,9 +55,14 @@ def field(text: bytes) -> str:
     return "".join(chr(it) if 0x20 < it < 0x7F and it != 0x5C else f"\\x{it:02x}" for it in text)
 
 
+def bytes_of(text: str) -> bytes:
+    """What a field stands for."""
+    return text.encode().decode("unicode_escape").encode("latin-1")
+
+
 def field_shown(text: str) -> str:
     """What is printed of a field, from which its bytes can be told."""
-    return shown(text.encode().decode("unicode_escape").encode("latin-1"))
+    return shown(bytes_of(text))
 
 
 def rest_of(entry: bytes, build: Build) -> bytes:
@@ -188,13 +193,20 @@ class Builds:
 
     # ---- of slices
 
-    def of_slices(self) -> Dict[bytes, List[Named]]:
-        """The lines of each slice."""
+    def of_slices(self, days: Optional[Days] = None) -> Dict[bytes, List[Named]]:
+        """The lines of each slice, or those of some days."""
         found: Dict[bytes, List[Named]] = {}
-        for rest, day in self.known.items():
+        for rest, day in (self.known if days is None else days).items():
             uuid, arch, digest, *words = rest.decode().split(" ")
             found.setdefault(entry_in(uuid, arch, digest), []).append(Named(day.decode(), Build(*words)))
         return found
+
+    def near(self, uuids: Iterable[bytes]) -> Days:
+        """The lines of UUIDs, as they stand in lines, and of those of which one says what a line of these does."""
+        asked = set(uuids)
+        builds = {rest.split(b" ", 3)[3] for rest in self.known if rest[:UUID_SIZE] in asked}
+        asked |= {rest[:UUID_SIZE] for rest in self.known if rest.split(b" ", 3)[3] in builds}
+        return {rest: day for rest, day in self.known.items() if rest[:UUID_SIZE] in asked}
 
     def of(self, held: Iterable[bytes]) -> "Lines":
         return Lines(self.of_slices(), held)
