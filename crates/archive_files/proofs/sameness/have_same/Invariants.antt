@@ -1,3 +1,4 @@
+use Rattle.std.proofs.Common.{ℕ}
 use Rattle.archive_files.proofs.sameness.have_same.Given as goal
 
 abbrev pub decreases-pieces : goal.decreases-pieces
