@@ -1,0 +1,110 @@
+-- The front of an index, one table after another.
+use Rattle.std.proofs.Common.{◌≡◌, ℕ, ◌+◌, ◌<◌, ◌≤◌, List, [], ◌∷◌, ◌++◌, length, map, take, Option, Some, None, refl, sym, ap, ◌∙◌, subst, inl, inr, arith, append_assoc, length-append}
+use Rattle.std.specs.Prelude.{Err, Ok}
+use Rattle.std.specs.List.{AllZip, concat, flat_map}
+use Rattle.std.specs.Io.KnownBytes.{Appends, Consumes}
+use Rattle.std.proofs.lemmas.List.{append-nil, map-append, take_all}
+use Rattle.std.proofs.lemmas.List.Concat.{flat_map-append}
+use Rattle.std.proofs.lemmas.List.Elements.{AllZip-push}
+use Rattle.byte_device.specs.Writes.{IsPut, StopsPut, WritesFirst}
+use Rattle.byte_device.specs.declared.writing.WriteFault.{WriteFault}
+use Rattle.byte_device.proofs.Gains.{puts_along, puts_then}
+use Rattle.checked_pages.specs.Pages.{stored}
+use Rattle.archive_records.specs.Kind.{magic}
+use Rattle.archive_records.specs.Reader.{HasRead, Passes, Position}
+use Rattle.archive_records.specs.declared.format.Format.TheVariants.{Archive}
+use Rattle.archive_records.proofs.Steps.{HasRead-grows, taken_more}
+use Rattle.archive_index.specs.Text.{index_magic}
+use Rattle.indexed_tables.specs.Content.{IsTableOf, table_entries, tables_text}
+use Rattle.table_index.specs.Entry.{entry_bytes}
+use Rattle.indexed_tables.specs.Content.{table_entry}
+use Rattle.table_index.specs.declared.entry.TableEntry.{TableEntry}
+use Rattle.indexed_tables.specs.InnerMaking.{AreTabled, HasBegun, HasPut, front_of}
+
+-- one record and its table more
+pub entries_push : (offset at : ℕ) (rs ts : List (List ℕ)) (r t : List ℕ) → AllZip IsTableOf rs ts
+    → table_entries offset at (rs ++ r ∷ []) (ts ++ t ∷ []) ≡ table_entries offset at rs ts ++ table_entry (offset + length (concat rs)) (at + length (tables_text ts)) r t ∷ []
+entries_push offset at [] [] r t each =
+    let o : offset ≡ offset + 0 = omega arith in
+    let a : at ≡ at + 0 = omega arith in
+    λ i. table_entry (o i) (a i) r t ∷ []
+entries_push offset at [] (u ∷ ts) r t each = absurd each
+entries_push offset at (x ∷ rs) [] r t each = absurd each
+entries_push offset at (x ∷ rs) (u ∷ ts) r t each =
+    let o : offset + length x + length (concat rs) ≡ offset + length (concat (x ∷ rs)) = omega (arith, length-append x (concat rs)) in
+    let a : at + length (stored u) + length (tables_text ts) ≡ at + length (tables_text (u ∷ ts)) = omega (arith, length-append (stored u) (tables_text ts)) in
+    ap (λ (es : List (List ℕ)). table_entry offset at x u ∷ es)
+    (entries_push (offset + length x) (at + length (stored u)) rs ts r t each.1
+    ∙ (λ i. table_entries (offset + length x) (at + length (stored u)) rs ts ++ table_entry (o i) (a i) r t ∷ []))
+
+-- the front with one table more
+pub front_push : (tables : List (List ℕ)) (t : List ℕ) → front_of tables ++ stored t ≡ front_of (tables ++ t ∷ [])
+front_push tables t =
+    append_assoc index_magic (tables_text tables) (stored t)
+    ∙ ap (λ (x : List ℕ). index_magic ++ x) (sym (flat_map-append stored tables (t ∷ []) ∙ ap (λ (x : List ℕ). tables_text tables ++ x) (append-nil (stored t))))
+
+pub front_long : (tables : List (List ℕ)) → length (front_of tables) ≡ 8 + length (tables_text tables)
+front_long tables = length-append index_magic (tables_text tables)
+
+-- the entry and the table of one record more
+pub tabled_more : (records tables : List (List ℕ)) (before after : List TableEntry) (e : TableEntry) (r t : List ℕ) (offset done : ℕ) → AreTabled records tables before → after ≡ before ++ e ∷ [] → IsTableOf r t → offset ≡ 8 + length (concat records) → done ≡ 8 + length (tables_text tables)
+    → entry_bytes e ≡ table_entry offset done r t → AreTabled (records ++ r ∷ []) (tables ++ t ∷ []) after
+tabled_more records tables before after e r t offset done are grown table o d is = record {
+  each = AllZip-push IsTableOf records tables r t are.each table;
+  entries_are =
+      ap (map entry_bytes) grown ∙ map-append entry_bytes before (e ∷ [])
+      ∙ (λ i. are.entries_are i ++ (is ∙ (λ j. table_entry (o j) (d j) r t)) i ∷ [])
+      ∙ sym (entries_push 8 8 records tables r t are.each);
+}
+
+-- one record more was read, and its table written
+pub put_more : {W : Type 0} (a b c : Option (List ℕ)) (held : W → Option (List ℕ)) (failures : W → ℕ) (old mid new : W) (entries more : List TableEntry) (e : TableEntry) (before after : Position) (done end : ℕ) (t : List ℕ)
+    → HasPut a b held failures old mid entries before done → Passes b c before after → more ≡ entries ++ e ∷ [] → IsTableOf after.last t → entry_bytes e ≡ table_entry before.offset done after.last t → IsPut held failures mid new done (stored t) end
+    → HasPut a c held failures old new more after end
+put_more a b c held failures old mid new entries more e before after done end t h passes grown table is put = record {
+  records = h.records ++ after.last ∷ [];
+  tables = h.tables ++ t ∷ [];
+  read = HasRead-grows Archive a b c h.records before after h.read passes;
+  tabled = tabled_more h.records h.tables entries more e after.last t before.offset done h.tabled grown table h.read.offset_is (h.put.size_is ∙ front_long h.tables) is;
+  put = subst (λ (x : List ℕ). IsPut held failures old new 0 x end) (front_push h.tables t) (puts_then held failures (λ (n : ℕ). n) old mid new 0 done (front_of h.tables) (stored t) (Ok end) h.put put);
+}
+
+-- ---- a beginning of the index
+
+-- all of the front was written, and bytes after the records were read
+pub begun_all : {W : Type 0} (a b c : Option (List ℕ)) (held : W → Option (List ℕ)) (failures : W → ℕ) (old new : W) (entries : List TableEntry) (position : Position) (done : ℕ) (rest : List ℕ)
+    → HasPut a b held failures old new entries position done → Consumes b c rest → HasBegun a c held old new done
+begun_all a b c held failures old new entries position done rest h more =
+    let all : done ≡ length (front_of h.tables) = omega (arith, h.put.size_is) in
+    record {
+      records = h.records;
+      tables = h.tables;
+      rest = rest;
+      taken = taken_more a b c magic (concat h.records) rest h.read.taken more;
+      ordered = h.read.ordered;
+      apart = h.read.apart;
+      each = h.tabled.each;
+      within = omega (arith, all);
+      gained = subst (Appends (held old) (held new)) (sym (take_all done (front_of h.tables) (omega (arith, all)))) h.put.gained;
+    }
+
+-- one record more was read, and the writer failed in its table
+pub begun_in : {W : Type 0} (a b c : Option (List ℕ)) (held : W → Option (List ℕ)) (failures : W → ℕ) (old mid new : W) (entries : List TableEntry) (before after : Position) (done : ℕ) (t : List ℕ) (fault : WriteFault)
+    → HasPut a b held failures old mid entries before done → Passes b c before after → IsTableOf after.last t → StopsPut held failures mid new done (stored t) fault.written
+    → HasBegun a c held old new fault.written
+begun_in a b c held failures old mid new entries before after done t fault h passes table stops =
+    let read = HasRead-grows Archive a b c h.records before after h.read passes in
+    let first : StopsPut held failures old new 0 (front_of h.tables ++ stored t) fault.written = puts_then held failures (λ (n : ℕ). n) old mid new 0 done (front_of h.tables) (stored t) (Err fault) h.put stops in
+    let whole = front_push h.tables t in
+    let count : fault.written ≡ first.some = omega (arith, first.written_is) in
+    record {
+      records = h.records ++ after.last ∷ [];
+      tables = h.tables ++ t ∷ [];
+      rest = [];
+      taken = subst (Consumes a c) (ap (λ (x : List ℕ). magic ++ x) (sym (append-nil (concat (h.records ++ after.last ∷ []))))) read.taken;
+      ordered = read.ordered;
+      apart = read.apart;
+      each = AllZip-push IsTableOf h.records h.tables after.last t h.tabled.each table;
+      within = omega (arith, count, first.first.within, ap length whole);
+      gained = subst (Appends (held old) (held new)) (λ i. take (sym count i) (whole i)) first.first.gained;
+    }

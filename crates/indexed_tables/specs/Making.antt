@@ -1,0 +1,68 @@
+-- What comes of making the index of an archive as it comes.
+use Rattle.std.specs.Prelude.{◌≡◌, ◌≤◌, ◌^◌, ℕ, List, length, Option, Some, IfSome, ◌⊎◌, Result, Ok, Err}
+use Rattle.std.specs.FinSet as set
+use Rattle.std.specs.Io.KnownBytes.{Appends, Consumes}
+use Rattle.byte_device.specs.Devices.{FailedIn, Stream}
+use Rattle.byte_device.specs.Writes.{WritesFirst}
+use Rattle.byte_device.specs.declared.writing.WriteFault.{WriteFault}
+use Rattle.archive_core.specs.Content.{Operations, IsContent}
+use Rattle.archive_records.specs.Reading.{IsReadWhole}
+use Rattle.archive_records.specs.Text.{written}
+use Rattle.archive_records.specs.Writing.{IsWrittenWhole}
+use Rattle.archive_records.specs.declared.kind.TextKind.TheVariants.{Archive}
+use Rattle.archive_records.specs.declared.writing.Sizes.{Sizes}
+use Rattle.archive_index.specs.Reading.{RefusesToIndex}
+use Rattle.archive_index.specs.declared.fault.IndexingFault.{IndexingFault}
+use Rattle.archive_index.specs.declared.fault.IndexingFault.TheVariants.{Archive as Archive_fault, OldArchive, TooLong}
+use Rattle.indexed_tables.specs.Content.{IsIndexOf}
+use Rattle.indexed_tables.specs.declared.fault.MakingFault.{MakingFault}
+use Rattle.indexed_tables.specs.declared.fault.MakingFault.TheVariants.{Archive as Refused, Write}
+
+-- The whole input is the text of one content, in version 2, and its index was written, with these sizes.
+pub record IsMade {R W : Type 0} (input : Stream R) (out : Stream W) (sizes : Sizes) : Type 0 where
+  pub content : Operations
+  pub whole : IsReadWhole Archive content input.bytes input.failures input.old input.new
+  pub text : IfSome (input.bytes input.old) (λ text. text ≡ written content)
+  pub index : List ℕ
+  pub is_index : IsIndexOf content index
+  pub put : IsWrittenWhole out.bytes out.failures out.old out.new (set.len content) index sizes
+
+-- If the input is the text of a content, the writer has exactly the first n bytes of its index, and fewer than all.
+abbrev pub HasFirst : {R W : Type 0} → Stream R → Stream W → ℕ → Type 0
+HasFirst input out n = (o : Operations) (index : List ℕ) → IsContent o → input.bytes input.old ≡ Some (written o)
+    → IsIndexOf o index → WritesFirst (out.bytes out.old) (out.bytes out.new) index n
+
+-- so many bytes stand before the record, or before its table, as eight bytes do not count
+abbrev pub IsTooLong : {R W : Type 0} → Stream R → Stream W → Type 0
+IsTooLong input out = (bytes : List ℕ) × (2 ^ 64 ≤ length bytes)
+    × (Consumes (input.bytes input.old) (input.bytes input.new) bytes
+    ⊎ Appends (out.bytes out.old) (out.bytes out.new) bytes)
+
+-- Why no index is made of an archive: as none without tables is made, or a table would stand too far.
+abbrev pub RefusesToMake : {R W : Type 0} → Stream R → Stream W → IndexingFault → Type 0
+RefusesToMake input out (Archive_fault fault) =
+    RefusesToIndex input.bytes input.failures input.old input.new (Archive_fault fault)
+RefusesToMake input out OldArchive = RefusesToIndex input.bytes input.failures input.old input.new OldArchive
+RefusesToMake input out TooLong = IsTooLong input out × (input.failures input.new ≡ input.failures input.old)
+
+-- The archive is refused, or has no index. The writer has the first bytes of one, and did not fail.
+pub record IsRefused {R W : Type 0} (input : Stream R) (out : Stream W) (fault : IndexingFault) : Type 0 where
+  pub refused : RefusesToMake input out fault
+  pub unfailed : out.failures out.new ≡ out.failures out.old
+  pub count : ℕ
+  pub first : HasFirst input out count
+
+-- The writer failed, after it had taken so many first bytes of the index. The reader did not.
+pub record IsStopped {R W : Type 0} (input : Stream R) (out : Stream W) (fault : WriteFault) : Type 0 where
+  pub unfailed : input.failures input.new ≡ input.failures input.old
+  pub failed : FailedIn (out.failures out.old) (out.failures out.new)
+  pub bytes : List ℕ
+  pub took : Appends (out.bytes out.old) (out.bytes out.new) bytes
+  pub count : fault.written ≡ length bytes
+  pub first : HasFirst input out fault.written
+
+-- What came of making the index of an archive.
+abbrev pub Makes : {R W : Type 0} → Stream R → Stream W → Result Sizes MakingFault → Type 0
+Makes input out (Ok sizes) = IsMade input out sizes
+Makes input out (Err (Refused fault)) = IsRefused input out fault
+Makes input out (Err (Write fault)) = IsStopped input out fault

@@ -1,0 +1,60 @@
+//! The entries of an index in byte order, and its end record.
+
+ghost use Rattle.std.specs.Prelude.{◌≡◌, ◌∷◌, ◌++◌, ◌<◌, ◌^◌, IfOk, length, map};
+ghost use Rattle.std.specs.FinSet as set;
+ghost use Rattle.std.specs.Int.{w64, to_be_bytes};
+ghost use Rattle.std.specs.List.{concat};
+ghost use Rattle.join_core.specs.Listing.{listing};
+ghost use Rattle.byte_device.specs.Writes.{Puts};
+ghost use Rattle.table_index.specs.Entry.{entry_bytes};
+ghost use Rattle.table_index.specs.Text.{end_of};
+
+use archive_records::{Sizes, end_bytes};
+use byte_device::{Sink, WriteFault, put};
+use memory::Heap;
+use sha2::{Digest, Sha256};
+use table_index::TableEntry;
+
+/// The entries in ascending byte order.
+pub(crate) fn sorted(entries: Vec<TableEntry, Heap>) -> Vec<TableEntry, Heap>
+    ensures { map entry_bytes result.items ≡ listing (set.from_list (map entry_bytes entries.items)) }
+{
+    let mut entries = entries;
+    entries.sort_unstable_by(|a, b| a.compare(b));
+    entries.dedup_by(|a, b| a.compare(b).is_eq());
+    entries
+}
+
+/// The end record of so many entries, whose bytes have this SHA-256.
+fn end_record(count: u64, digest: &[u8; 32]) -> [u8; 41]
+    ensures { result ≡ 3 ∷ (to_be_bytes w64 count ++ digest.now) }
+{
+    let mut bytes = [0; 41];
+    bytes[..9].copy_from_slice(&end_bytes(count));
+    bytes[9..].copy_from_slice(digest);
+    bytes
+}
+
+/// Writes the entries in their order and the end record after the first `done` bytes of an index, and says how many
+/// entries and bytes there are then.
+pub(crate) fn put_entries<W: Sink>(
+    entries: &[TableEntry],
+    w: &mut W,
+    done: u128,
+) -> Result<Sizes, WriteFault>
+    requires { done < 2 ^ 80 }
+    ensures puts { Puts W.held W.failures (λ sizes. sizes.bytes) w.old w.new done
+        (concat (map entry_bytes entries.now) ++ end_of (map entry_bytes entries.now)) result }
+    ensures records { IfOk result (λ sizes. sizes.records ≡ length entries.now) }
+{
+    let mut hasher = Sha256::new();
+    let mut done = done;
+    'putting: for entry in entries {
+        let bytes = entry.bytes();
+        hasher.update(&bytes);
+        done = put(w, done, &bytes)?;
+    }
+    let records = entries.len() as u64;
+    let bytes = put(w, done, &end_record(records, &hasher.finalize()))?;
+    Ok(Sizes { records, bytes })
+}

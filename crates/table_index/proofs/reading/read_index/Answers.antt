@@ -1,0 +1,65 @@
+use Rattle.std.proofs.Common.{◌≡◌, ◌∙◌, ◌+◌, ◌-◌, ◌*◌, ◌^◌, ◌<◌, List, ℕ, [], Err, Ok, ap, sym, inl, inr, refl, subst, arith, length, map, take, drop}
+use Rattle.std.specs.List.{concat}
+use Rattle.std.proofs.lemmas.Result.{err_from_is_err_and}
+use Rattle.table_index.specs.Entry.{entry_bytes}
+use Rattle.table_index.specs.Fault.{IsIndexFault}
+use Rattle.table_index.specs.InnerReading.{AreEndsOf, AreReadOf, FailsBehindEnds, FailsInEnds}
+use Rattle.table_index.specs.Text.{AreLaid, IsIndexText, PassTests, count_in, entries_in, start_in}
+use Rattle.table_index.specs.declared.ends.Ends.{Ends}
+use Rattle.table_index.specs.declared.entry.TableEntry.{TableEntry}
+use Rattle.table_index.specs.declared.fault.IndexFault.{IndexFault}
+use Rattle.table_index.proofs.ReadLemmas.{after_ok, flat, passed_on, refused_as}
+use Rattle.table_index.proofs.Tests.{long_entries}
+use Rattle.table_index.proofs.Texts.{length_entries, tables_long, whole_text}
+use Rattle.table_index.proofs.reading.read_index.Goals as goal
+
+in_ends : (text : List ℕ) (f : IndexFault) → FailsInEnds text f → IsIndexFault text f
+in_ends text f (inl front) = inl front
+in_ends text f (inr end) = inr (inl end)
+
+behind_ends : (text : List ℕ) (f : IndexFault) → FailsBehindEnds text f → IsIndexFault text f
+behind_ends text f fault = inr (inr fault)
+
+-- the text is the index with these entries
+is_index : (text : List ℕ) (ends : Ends) (entries : List TableEntry) → ends.start + 122 * ends.count + 41 < 2 ^ 64 → AreEndsOf text ends → AreReadOf text entries → IsIndexText text (map entry_bytes entries)
+is_index text ends entries fits are read =
+    let xs = map entry_bytes entries in
+    let each : length (concat xs) ≡ 122 * length xs = long_entries (start_in text) [] xs read.tested.pass in
+    let long : length (concat xs) ≡ 122 * count_in text = ap length read.tested.whole ∙ length_entries text ends are in
+    let count : length xs ≡ count_in text = omega (arith, each, long) in
+    let start = tables_long text ends are in
+    record {
+      tables = take (start_in text - 8) (drop 8 text);
+      whole = whole_text text ends are xs read.tested.whole count read.digest.same;
+      few = omega (arith, count, are.count_is, fits);
+      pass = subst (λ (n : ℕ). PassTests n [] xs) (sym start) read.tested.pass;
+      laid = subst (λ (n : ℕ). AreLaid n xs) (sym start) read.laid;
+    }
+
+pub returns-in_default : goal.returns-in_default
+returns-in_default g c = record { says = λ text known. inl (inr refl, inl refl); keeps = refl; counts = refl }
+
+pub returns-in_err-ends : goal.returns-in_err-ends
+returns-in_err-ends g c =
+    let p = err_from_is_err_and c.from_residual.result c.from_residual.ensures.1 in
+    passed_on _ _ _ _ _ _ _ _ _ _ _ c.in_err-ends.was (p.1 ∙ ap Err p.2) (λ text known refused. refused_as FailsInEnds IsIndexFault text _ (in_ends text _) refused) c.read_ends.ensures.read
+
+pub returns-in_err-entries : goal.returns-in_err-entries
+returns-in_err-entries g c =
+    let p = err_from_is_err_and c.from_residual-in_err-entries.result c.from_residual-in_err-entries.ensures.1 in
+    let ends = c.in_ok-ends.ensures.read in
+    passed_on _ _ _ _ _ _ _ _ _ _ _ c.in_err-entries.was (p.1 ∙ ap Err p.2)
+    (λ text known refused. refused_as FailsBehindEnds IsIndexFault text _ (behind_ends text _) (flat FailsBehindEnds text _ refused (λ under. under (ends.says text known))))
+    (after_ok _ _ _ _ _ _ _ _ ends.keeps ends.counts c.read_entries.ensures.read)
+
+pub returns : goal.returns
+returns g c =
+    let ends = c.in_ok-ends.ensures.read in
+    let read = after_ok _ _ _ _ _ _ _ _ ends.keeps ends.counts c.in_ok-entries.ensures.read in
+    record {
+      says = λ text known.
+          let are = ends.says text known in
+          rw c.of_entries.ensures (is_index text c.in_ok-ends.ends c.in_ok-entries.entries.items c.in_ok-ends.ensures.fits are (read.says text known are));
+      keeps = read.keeps;
+      counts = read.counts;
+    }
