@@ -10,5 +10,6 @@ pub mod Summarised
 pub mod Entries
 pub mod Steps
 pub mod Made
+pub mod Versions
 pub mod Read
 pub mod Blamed

@@ -1,5 +1,5 @@
--- An archive of which an index is made, record by record: the words of the inner functions. No contract of a public one
--- has them.
+-- An archive of which an index is made, record by record: the words of the inner functions. Of the public ones
+-- `begin_archive` alone has them.
 use Rattle.std.specs.Prelude.{◌≡◌, ◌≢◌, ℕ, ◌^◌, ◌≤◌, ◌<◌, List, [], length, map, Option, Result, Ok, Err}
 use Rattle.std.specs.Io.KnownBytes.{Consumes}
 use Rattle.archive_records.specs.Kind.{magic, old_magic}

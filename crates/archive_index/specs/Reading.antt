@@ -1,5 +1,5 @@
 -- What comes of making an index of an archive, and of reading one.
-use Rattle.std.specs.Prelude.{◌≡◌, ◌≢◌, ℕ, ◌^◌, ◌≤◌, List, length, Option, IfSome, Result, Ok, Err}
+use Rattle.std.specs.Prelude.{◌≡◌, ◌≢◌, ℕ, ◌^◌, ◌≤◌, List, length, take, Option, IfSome, Result, Ok, Err}
 use Rattle.std.specs.Io.KnownBytes.{Consumes, IsAtEnd}
 use Rattle.byte_device.specs.Devices.{FailedIn}
 use Rattle.archive_core.specs.Content.{Operations, IsContent}
@@ -34,6 +34,12 @@ RefusesToIndex left failures old new OldArchive =
 RefusesToIndex left failures old new TooLong =
     ((bytes : List ℕ) × Consumes (left old) (left new) bytes × (2 ^ 64 ≤ length bytes))
     × (failures new ≡ failures old)
+
+-- What begins as an archive of version 1 is refused as that, whatever follows, but for faults of the machine.
+abbrev pub TellsVersion : Option (List ℕ) → IndexingFault → Type 0
+TellsVersion left (Archive_fault fault) = IfSome left (λ text. take 8 text ≡ old_magic → IsOfMachine fault.kind)
+TellsVersion left OldArchive = Unit {0}
+TellsVersion left TooLong = IfSome left (λ text. take 8 text ≢ old_magic)
 
 -- What came of making an index of an archive.
 abbrev pub Indexes : {R : Type 0} → (R → Option (List ℕ)) → (R → ℕ) → R → R → Result Entries IndexingFault → Type 0

@@ -7,7 +7,7 @@
 //! - `entry`: [`PlacedEntry`], what a record is and where it stands;
 //! - `index`: [`Index`], the entries of a content;
 //! - `fault`: why no index is made or read, and why no record is read by it;
-//! - `making`: [`index_archive`]; `writing`: [`write_index`]; `reading`: [`read_index`];
+//! - `making`: [`index_archive`], and [`begin_archive`], of its first bytes; `writing`: [`write_index`]; `reading`: [`read_index`];
 //! - [`laws`]: what an index tells of the content that it was made of.
 //!
 //! # Why it is so
@@ -28,6 +28,6 @@ mod writing;
 pub use entry::{ENTRY_LEN, PlacedEntry};
 pub use fault::{IndexFault, IndexFaultKind, IndexingFault, PlaceFault};
 pub use index::Index;
-pub use making::index_archive;
+pub use making::{begin_archive, index_archive};
 pub use reading::read_index;
 pub use writing::write_index;

@@ -7,7 +7,7 @@ ghost use Rattle.archive_records.specs.declared.format.Format.TheVariants.{Archi
 ghost use Rattle.archive_records.specs.Reader.{HasRead};
 ghost use Rattle.archive_index.specs.InnerMaking.{BlamesIndexing, HasStoppedIndexing};
 ghost use Rattle.archive_index.specs.InnerMaking.{IsPlacedText, MagicTested, PlacesAll};
-ghost use Rattle.archive_index.specs.Reading.{Indexes};
+ghost use Rattle.archive_index.specs.Reading.{Indexes, TellsVersion};
 
 use crate::entry::PlacedEntry;
 use crate::fault::IndexingFault;
@@ -64,10 +64,16 @@ fn test_magic(came: &[u8]) -> Result<(), IndexingFault>
     }
 }
 
-/// Reads the magic of an archive of version 2, with a reader of what follows.
-fn begin<R: Source>(heap: Heap, r: &mut R) -> Result<RecordReader, IndexingFault>
+/// Reads the magic of an archive of version 2, and gives a reader of what follows. No more than eight bytes are taken.
+///
+/// # Errors
+///
+/// `OldArchive` of an archive of version 1, whatever follows its magic; else those of `RecordReader::begin`, and
+/// `OutOfMemory` at offset 8 once the magic was read.
+pub fn begin_archive<R: Source>(heap: Heap, r: &mut R) -> Result<RecordReader, IndexingFault>
     ensures read { IfOk result (λ reader. HasRead Archive (R.left r.old) (R.left r.new) [] reader) }
     ensures stopped { IfErr result (λ fault. HasStoppedIndexing (R.left r.old) (R.left r.new) fault) }
+    ensures version { IfErr result (TellsVersion (R.left r.old)) }
     ensures unfailed { OnOk result (R.failures r.new ≡ R.failures r.old) }
     ensures blames { IfErr result (λ fault. BlamesIndexing R.left R.failures r.old r.new fault) }
 {
@@ -133,7 +139,7 @@ fn read_entries<R: Source>(
     let Ok(kept) = heap.clone() else {
         return Err(IndexingFault::Archive(RecordFault::out_of_memory(0)));
     };
-    let mut reader = begin(heap, r)?;
+    let mut reader = begin_archive(heap, r)?;
     let entries = take_entries(kept, &mut reader, r)?;
     Ok((entries, reader))
 }

@@ -2,7 +2,7 @@ use Rattle.std.proofs.Common.{◌≡◌, take, subst}
 use Rattle.std.specs.Io.KnownBytes.{Consumes}
 use Rattle.archive_records.specs.Kind.{magic}
 use Rattle.archive_index.proofs.Made.{begun, magic_is, wanted}
-use Rattle.archive_index.proofs.making.begin.Goals as goal
+use Rattle.archive_index.proofs.making.begin_archive.Goals as goal
 
 pub returns-in-Ok-begin-clause-read : goal.returns-in-Ok-begin-clause-read
 returns-in-Ok-begin-clause-read g c =
