@@ -24,7 +24,7 @@ use Rattle.archive_index.specs.Entry.{placed_entry, length_in, offset_in}
 use Rattle.archive_index.specs.Index.{index, placed_entries, lengths_of}
 use Rattle.archive_index.proofs.Placed.{length_is, offset_is}
 
-abbrev is_same : List ℕ → List ℕ → Bool
+abbrev pub is_same : List ℕ → List ℕ → Bool
 is_same = eq_by_cmp order
 
 any_put : (q k : List ℕ) (xs : List (List ℕ)) → list_any (is_same q) (put order k xs) ≡ (is_same q k || list_any (is_same q) xs)
@@ -35,11 +35,11 @@ any_put q k (x ∷ xs) = elim (order k x) as (λ r. order k x ≡ r → list_any
   | Greater ↦ λ _. grind (arith, any_put q k xs)
 ] refl
 
-any_ascending_of : (q : List ℕ) (ks : List (List ℕ)) → list_any (is_same q) (ascending_of order ks) ≡ list_any (is_same q) ks
+pub any_ascending_of : (q : List ℕ) (ks : List (List ℕ)) → list_any (is_same q) (ascending_of order ks) ≡ list_any (is_same q) ks
 any_ascending_of q [] = refl
 any_ascending_of q (k ∷ ks) = any_put q k (ascending_of order ks) ∙ ap (λ b. is_same q k || b) (any_ascending_of q ks)
 
-listing_of : (xs : List (List ℕ)) → listing (set.from_list {R = order} xs) ≡ ascending_of order xs
+pub listing_of : (xs : List (List ℕ)) → listing (set.from_list {R = order} xs) ≡ ascending_of order xs
 listing_of xs = one_listing nat_list_cmp_total bytes_same (set.from_list xs) (ascending_of order xs) (record {
   ascending = ascending_ascending_of nat_list_cmp_total xs;
   same = same_set nat_list_cmp_total bytes_same (set.from_list xs) (set.from_list (ascending_of order xs)) (λ q.
@@ -58,7 +58,7 @@ sum_put f k (x ∷ xs) none = elim (order k x) as (λ r. order k x ≡ r → sum
 ] refl
 
 -- keys of which none comes twice
-abbrev AreApart : List (List ℕ) → Type 0
+abbrev pub AreApart : List (List ℕ) → Type 0
 AreApart [] = Unit {0}
 AreApart (x ∷ xs) = (list_any (is_same x) xs ≡ false) × AreApart xs
 

@@ -4,30 +4,25 @@ use Rattle.std.specs.Prelude.{Ok}
 use Rattle.std.specs.Int.{w64, from_be_bytes}
 use Rattle.std.specs.List.{AllByRecursion, AllZip, Contains, concat, list_any}
 use Rattle.std.specs.List.Sorted.{IsPermutation, IsStrictlySortedBy}
-use Rattle.std.specs.Ordering.{eq_by_cmp, is_eq, is_lt, match_ordering, nat_cmp}
-use Rattle.std.specs.declared.cmp.Ordering.{Ordering}
-use Rattle.std.specs.declared.cmp.Ordering.TheVariants.{Less, Equal, Greater}
-use Rattle.std.specs.Cmp.{alike_right}
+use Rattle.std.specs.Ordering.{is_lt, nat_cmp}
+use Rattle.std.specs.declared.cmp.Ordering.TheVariants.{Less}
 use Rattle.std.specs.Cmp.Lexicographic.{nat_list_cmp_total, slice_cmp}
 use Rattle.std.specs.FinSet as set
-use Rattle.std.specs.FinSet.{contains-from_list, same_set}
 use Rattle.std.specs.Str.{bytes_eq}
-use Rattle.std.proofs.Math.Bool.{or_self_left}
 use Rattle.std.proofs.lemmas.Bool.{cases_Bool, le-leb}
 use Rattle.std.proofs.lemmas.List.{drop_at}
 use Rattle.std.proofs.lemmas.List.Elements.{All-contains, All-from_recursion, recursion_from_All}
-use Rattle.std.proofs.lemmas.List.Sorted.{IsPermutation-cons, IsPermutation-middle, IsPermutation-refl, IsPermutation-sym, IsPermutation-trans}
+use Rattle.std.proofs.lemmas.List.Sorted.{IsPermutation-sym}
 use Rattle.std.proofs.lemmas.Slice.Eq.{bytes_eq-Decides}
 use Rattle.sha2.specs.Sha256.{sha256}
 use Rattle.sha2.proofs.Facts256.{length-sha256}
-use Rattle.join_core.specs.Listing.{ascending_of, listing, put}
-use Rattle.join_core.proofs.Listing.{ascending_ascending_of, listed, one_listing}
+use Rattle.join_core.specs.Listing.{ascending_of, listing}
+use Rattle.join_core.proofs.Listing.{listed}
 use Rattle.checked_pages.specs.Pages.{page_digests, pages_in, stored}
 use Rattle.checked_pages.proofs.PageLemmas.{length-digests}
 use Rattle.table_index.specs.Entry.{zeros}
 use Rattle.archive_core.specs.Content.{IsContent, Operations, is_admission}
 use Rattle.archive_core.specs.Record.{IsRecord}
-use Rattle.archive_core.proofs.Taken.{tied_is}
 use Rattle.archive_records.specs.Layout.{largest_slice}
 use Rattle.archive_records.specs.Text.{InOrder, written}
 use Rattle.archive_records.specs.declared.format.Format.TheVariants.{Archive}
@@ -36,24 +31,16 @@ use Rattle.archive_records.proofs.Contents.{InOrder-listing, along, containing, 
 use Rattle.archive_index.specs.Text.{index_magic}
 use Rattle.archive_index.specs.Entry.{IsPlacedEntry, has_kind, has_length, has_tag, length_in, offset_in, placed_entry}
 use Rattle.archive_index.proofs.Placed.{entry_long, is_placed, length_is, offset_is, tag_is}
-use Rattle.archive_index.proofs.Sums.{nonempty, text_length}
-use Rattle.indexed_tables.specs.Content.{IsIndexOf, IsTableOf, entries_of, table_entries, tables_text}
+use Rattle.archive_index.proofs.Sums.{AreApart as AreDistinct, any_ascending_of, is_same, listing_of, nonempty, text_length}
+use Rattle.indexed_tables.specs.Content.{IsIndexOf, IsTableOf, claim_of, entries_of, table_entries, table_entry, tables_text}
 use Rattle.table_index.specs.Entry.{claim_at, claim_bytes, claim_in, has_claim, no_claim, stored_size}
-use Rattle.indexed_tables.specs.Content.{claim_of, table_entry}
 use Rattle.table_index.specs.Text.{AreLaid, FollowOn, IsIndexText, PassTests, end_of, index_text, test_entry}
 use Rattle.table_index.proofs.Entries.{byte_kept, claim_read, long_with, number_kept}
-use Rattle.table_index.proofs.PlaceLemmas.{follows, some_length}
 use Rattle.table_index.proofs.Tests.{long_entries}
+use Rattle.indexed_tables.proofs.Apart.{apart, moved, near_all}
+use Rattle.indexed_tables.proofs.Contents.{claim_admitted, claim_retired, stored_long}
 
 -- ---- the claim of a table
-
-claim_admitted : (at : ℕ) (r t : List ℕ) → is_admission r ≡ true → claim_of at r t ≡ claim_at at t
-unfolding claim_of
-claim_admitted at r t h = ap (λ b. cond b (claim_at at t) no_claim) h
-
-claim_retired : (at : ℕ) (r t : List ℕ) → is_admission r ≡ false → claim_of at r t ≡ no_claim
-unfolding claim_of
-claim_retired at r t h = ap (λ b. cond b (claim_at at t) no_claim) h
 
 no_root : length (zeros 32) ≡ 32
 unfolding zeros
@@ -64,9 +51,6 @@ root_long at r t = elim (cases_Bool (is_admission r)) [
   | inl h ↦ ap (λ c. length c.root) (claim_admitted at r t h) ∙ length-sha256 (page_digests t)
   | inr h ↦ ap (λ c. length c.root) (claim_retired at r t h) ∙ no_root
 ]
-
-stored_long : (t : List ℕ) → length (stored t) ≡ 32 * pages_in (length t) + length t
-stored_long t = omega (arith, length-append (page_digests t) t, length-digests (pages_in (length t)) 0 t)
 
 -- as many bytes are stored as the claim says
 claimed : (at : ℕ) (r t : List ℕ) → IsTableOf r t → stored_size (claim_of at r t) ≡ length (stored t)
@@ -206,61 +190,6 @@ follow_entries low offset at (r ∷ rs) (t ∷ ts) a each of fits =
 
 -- ---- entries in byte order
 
-abbrev is_same : List ℕ → List ℕ → Bool
-is_same = eq_by_cmp order
-
--- keys of which none comes twice
-abbrev AreDistinct : List (List ℕ) → Type 0
-AreDistinct [] = Unit {0}
-AreDistinct (x ∷ xs) = (list_any (is_same x) xs ≡ false) × AreDistinct xs
-
-any_put : (q k : List ℕ) (xs : List (List ℕ)) → list_any (is_same q) (put order k xs) ≡ (is_same q k || list_any (is_same q) xs)
-any_put q k [] = refl
-any_put q k (x ∷ xs) = elim (order k x) as (λ r. order k x ≡ r → list_any (is_same q) (match_ordering r (k ∷ x ∷ xs) (x ∷ xs) (x ∷ put order k xs)) ≡ (is_same q k || (is_same q x || list_any (is_same q) xs))) [
-  | Less ↦ λ _. refl
-  | Equal ↦ λ e. cc (alike_right nat_list_cmp_total k x q e, or_self_left (is_same q x) (list_any (is_same q) xs))
-  | Greater ↦ λ _. grind (arith, any_put q k xs)
-] refl
-
-any_ascending_of : (q : List ℕ) (ks : List (List ℕ)) → list_any (is_same q) (ascending_of order ks) ≡ list_any (is_same q) ks
-any_ascending_of q [] = refl
-any_ascending_of q (k ∷ ks) = any_put q k (ascending_of order ks) ∙ ap (λ b. is_same q k || b) (any_ascending_of q ks)
-
-listing_of : (xs : List (List ℕ)) → listing (set.from_list {R = order} xs) ≡ ascending_of order xs
-listing_of xs = one_listing nat_list_cmp_total bytes_same (set.from_list xs) (ascending_of order xs) (record {
-  ascending = ascending_ascending_of nat_list_cmp_total xs;
-  same = same_set nat_list_cmp_total bytes_same (set.from_list xs) (set.from_list (ascending_of order xs)) (λ q.
-      contains-from_list nat_list_cmp_total xs q ∙ sym (any_ascending_of q xs) ∙ sym (contains-from_list nat_list_cmp_total (ascending_of order xs) q));
-})
-
--- a key that is not there is put among the others
-put_moves : (k : List ℕ) (xs : List (List ℕ)) → list_any (is_same k) xs ≡ false → IsPermutation (k ∷ xs) (put order k xs)
-put_moves k [] none = IsPermutation-refl (k ∷ [])
-put_moves k (x ∷ xs) none = elim (order k x) as (λ r. order k x ≡ r → IsPermutation (k ∷ x ∷ xs) (match_ordering r (k ∷ x ∷ xs) (x ∷ xs) (x ∷ put order k xs))) [
-  | Less ↦ λ _. IsPermutation-refl (k ∷ x ∷ xs)
-  | Equal ↦ λ e. absurd (cc (none, ap (λ r. is_eq r || list_any (is_same k) xs) e))
-  | Greater ↦ λ e.
-      let rest : IsPermutation (k ∷ xs) (put order k xs) = put_moves k xs (sym (ap (λ r. is_eq r || list_any (is_same k) xs) e) ∙ none) in
-      IsPermutation-trans (k ∷ x ∷ xs) (x ∷ k ∷ xs) (x ∷ put order k xs) (IsPermutation-middle (k ∷ []) x xs) (IsPermutation-cons x (k ∷ xs) (put order k xs) rest)
-] refl
-
-moved : (xs : List (List ℕ)) → AreDistinct xs → IsPermutation xs (ascending_of order xs)
-moved [] a = IsPermutation-refl []
-moved (x ∷ xs) a =
-    IsPermutation-trans (x ∷ xs) (x ∷ ascending_of order xs) (put order x (ascending_of order xs)) (IsPermutation-cons x xs (ascending_of order xs) (moved xs a.1))
-    (put_moves x (ascending_of order xs) (any_ascending_of x xs ∙ a.0))
-
--- entries that follow one another are distinct
-distinct : (offset at end : ℕ) (xs : List (List ℕ)) → FollowOn offset at end xs → AllByRecursion (λ z. 0 < length_in z) xs → AreDistinct xs
-distinct offset at end [] follow some = tt
-distinct offset at end (x ∷ xs) follow some = (
-  elim (cases_Bool (list_any (is_same x) xs)) [
-    | inl t ↦ absurd (omega (arith, follow.0, some.0, follows (offset + length_in x) (at + stored_size (claim_in x)) end xs x follow.2 (containing xs x t)))
-    | inr f ↦ f
-  ],
-  distinct (offset + length_in x) (at + stored_size (claim_in x)) end xs follow.2 some.1,
-)
-
 -- sound entries that are strictly sorted pass their tests
 pass_sorted : (end : ℕ) (low : List ℕ) (xs : List (List ℕ)) → AllByRecursion (IsSound end) xs → AllByRecursion (λ y. order low y ≡ Less) xs → IsStrictlySortedBy order xs → PassTests end low xs
 unfolding IsStrictlySortedBy
@@ -274,9 +203,6 @@ above_empty end (b ∷ bs) s = refl
 along_list : (P Q : List ℕ → Type 0) → ((x : List ℕ) → P x → Q x) → (xs : List (List ℕ)) → AllByRecursion P xs → AllByRecursion Q xs
 along_list P Q f [] h = tt
 along_list P Q f (x ∷ xs) h = (f x h.0, along_list P Q f xs h.1)
-
-length_some : (end : ℕ) (x : List ℕ) → IsSound end x → 0 < length_in x
-length_some end x s = some_length (is_admission x) (length_in x) s.length_is
 
 -- ---- the index of a content
 
@@ -296,8 +222,7 @@ accepted o text index content short fits =
     let of : 8 + length (concat rs) < 2 ^ 64 = omega (arith, text_length o, short) in
     let sound : AllByRecursion (IsSound end) es = sound_entries [] 8 8 end rs ts ordered index.each of room (omega arith) in
     let follow : FollowOn 8 8 end es = follow_entries [] 8 8 rs ts ordered index.each of room in
-    let some : AllByRecursion (λ z. 0 < length_in z) es = along_list (IsSound end) (λ z. 0 < length_in z) (length_some end) es sound in
-    let apart : AreDistinct es = distinct 8 8 end es follow some in
+    let distinct : AreDistinct es = apart [] 8 8 rs ts ordered (near_all [] 8 rs ordered of) in
     let each : AllByRecursion (IsSound end) entries = along (IsSound end) entries (λ q h.
     All-contains (IsSound end) es q (All-from_recursion (IsSound end) es sound) (containing es q (sym (any_ascending_of q es) ∙ ap (λ (xs : List (List ℕ)). list_any (is_same q) xs) (sym (listing_of es)) ∙ h))) in
     let sorted : IsStrictlySortedBy order entries = (listed nat_list_cmp_total bytes_same (set.from_list es)).ascending in
@@ -309,7 +234,7 @@ accepted o text index content short fits =
       pass = pass;
       laid = record {
         order = es;
-        permuted = subst (λ (xs : List (List ℕ)). IsPermutation xs es) (sym (listing_of es)) (IsPermutation-sym es (ascending_of order es) (moved es apart));
+        permuted = subst (λ (xs : List (List ℕ)). IsPermutation xs es) (sym (listing_of es)) (IsPermutation-sym es (ascending_of order es) (moved es distinct));
         follow = follow;
       };
     }

@@ -25,9 +25,8 @@ use Rattle.archive_index.specs.Entry.{placed_entry}
 use Rattle.archive_index.specs.Text.{index_magic}
 use Rattle.archive_index.proofs.Placed.{entry_front, entry_long}
 use Rattle.indexed_tables.specs.Asked.{IsToldBy}
-use Rattle.indexed_tables.specs.Content.{HasTable, IsIndexOf, IsIndexOfRecords, IsTableOf, entries_of, table_entries, tables_text}
+use Rattle.indexed_tables.specs.Content.{HasTable, IsIndexOf, IsTableOf, claim_of, entries_of, table_entries, table_entry, tables_text}
 use Rattle.table_index.specs.Entry.{claim_at, claim_bytes, claim_in, no_claim}
-use Rattle.indexed_tables.specs.Content.{claim_of, table_entry}
 use Rattle.table_index.specs.Text.{end_of, index_text}
 use Rattle.table_index.proofs.Entries.{claim_read}
 
@@ -59,10 +58,23 @@ same_tables (r ∷ rs) [] us a b = absurd a
 same_tables (r ∷ rs) (t ∷ ts) [] a b = absurd b
 same_tables (r ∷ rs) (t ∷ ts) (u ∷ us) a b = cc (same_table r t u a.0 b.0, same_tables rs ts us a.1 b.1)
 
-pub one_of_records : (records : List (List ℕ)) (text other : List ℕ) → IsIndexOfRecords records text → IsIndexOfRecords records other → text ≡ other
-one_of_records records text other a b =
-    let same = same_tables records a.tables b.tables a.each b.each in
-    a.text_is ∙ (λ i. index_text (tables_text (same i)) (entries_of records (same i))) ∙ sym b.text_is
+pub one_of_content : (o : Operations) (text other : List ℕ) → IsIndexOf o text → IsIndexOf o other → text ≡ other
+one_of_content o text other a b =
+    let same = same_tables (listing o) a.tables b.tables a.each b.each in
+    a.text_is ∙ (λ i. index_text (tables_text (same i)) (entries_of (listing o) (same i))) ∙ sym b.text_is
+
+-- ---- the claim of a table
+
+pub claim_admitted : (at : ℕ) (r t : List ℕ) → is_admission r ≡ true → claim_of at r t ≡ claim_at at t
+unfolding claim_of
+claim_admitted at r t h = ap (λ b. cond b (claim_at at t) no_claim) h
+
+pub claim_retired : (at : ℕ) (r t : List ℕ) → is_admission r ≡ false → claim_of at r t ≡ no_claim
+unfolding claim_of
+claim_retired at r t h = ap (λ b. cond b (claim_at at t) no_claim) h
+
+pub stored_long : (t : List ℕ) → length (stored t) ≡ 32 * pages_in (length t) + length t
+stored_long t = omega (arith, length-append (page_digests t) t, length-digests (pages_in (length t)) 0 t)
 
 -- ---- where a table is stored
 
@@ -124,10 +136,6 @@ stored_among before after table rest =
       bytes = rw whole (ap (take (length (stored table))) (drop_at front (stored table ++ behind) (8 + length (tables_text before)) long) ∙ take_at (stored table) behind (length (stored table)) refl);
     }
 
-claim_admitted : (at : ℕ) (r table : List ℕ) → is_admission r ≡ true → claim_of at r table ≡ claim_at at table
-unfolding claim_of
-claim_admitted at r table h = ap (λ b. cond b (claim_at at table) no_claim) h
-
 pub entry_claim : (place at : ℕ) (r table : List ℕ) → IsRecord r → is_admission r ≡ true → at < 2 ^ 64 → length table < 2 ^ 64 → claim_in (table_entry place at r table) ≡ claim_at at table
 unfolding table_entry
 entry_claim place at r table is admitted fits small =
@@ -169,9 +177,8 @@ module _ (o : Operations) (text : List ℕ) (index : IsIndexOf o text) (content 
       let at : ℕ = 8 + length (tables_text p.before) in
       let e : List ℕ = table_entry p.place at r p.table in
       let is : IsRecord r = content.records r there in
-      let long : length (stored p.table) ≡ 32 * pages_in (length p.table) + length p.table = omega (arith, length-append (page_digests p.table) p.table, length-digests (pages_in (length p.table)) 0 p.table) in
       let fits : at < 2 ^ 64 = omega (arith, stored_there.within, short) in
-      let small : length p.table < 2 ^ 64 = omega (arith, stored_there.within, short, long) in
+      let small : length p.table < 2 ^ 64 = omega (arith, stored_there.within, short, stored_long p.table) in
       let all : List (List ℕ) = table_entries 8 8 (listing o) index.tables in
       record {
         e = e;

@@ -2,7 +2,7 @@
 use Rattle.std.proofs.Common.{◌≡◌, ℕ, ◌+◌, ◌<◌, ◌≤◌, List, [], ◌∷◌, ◌++◌, length, take, Option, Some, None, refl, sym, ap, ◌∙◌, subst, inl, inr, arith, append_assoc, length-append}
 use Rattle.std.specs.List.{AllZip, concat, flat_map}
 use Rattle.std.specs.Io.KnownBytes.{Appends, Consumes}
-use Rattle.std.proofs.lemmas.List.{take-append-le}
+use Rattle.std.proofs.lemmas.List.{append-nil, take-append-le, take_at}
 use Rattle.std.proofs.lemmas.List.Concat.{flat_map-append}
 use Rattle.join_core.specs.Listing.{listing}
 use Rattle.byte_device.specs.Writes.{WritesFirst}
@@ -15,11 +15,12 @@ use Rattle.archive_records.proofs.Contents.{InOrder-listing, written_text}
 use Rattle.archive_records.proofs.Ends.{end-is_end}
 use Rattle.archive_records.proofs.Longest.{Before, behind_magic, end-stops, longest}
 use Rattle.archive_index.specs.Text.{index_magic}
-use Rattle.indexed_tables.specs.Content.{IsIndexOf, IsTableOf, entries_of, tables_text}
+use Rattle.indexed_tables.specs.Content.{IsIndexOf, IsTableOf, entries_of, front_of, tables_text}
+use Rattle.indexed_tables.specs.Making.{IsTooFar}
 use Rattle.table_index.specs.Text.{end_of, index_text}
 use Rattle.indexed_tables.proofs.Contents.{same_table}
 use Rattle.table_index.proofs.Texts.{end_long}
-use Rattle.indexed_tables.specs.InnerMaking.{HasBegun, IsBegun, front_of}
+use Rattle.indexed_tables.specs.InnerMaking.{HasBegun, IsBegun}
 
 -- records that were read of the text of a content begin its records
 records_begin : (o : Operations) (records : List (List ℕ)) (rest : List ℕ) (b : Option (List ℕ)) → IsContent o → InOrder Archive [] records → AreApart Archive records → Consumes (Some (written o)) b (magic ++ (concat records ++ rest))
@@ -65,18 +66,34 @@ front_begins o index records tables more is begins each =
       some = omega (arith, length-append (tables_text all.0) behind, length-append (concat entries) (end_of entries), end_long entries);
     }
 
-pub first_of : {W : Type 0} (a b : Option (List ℕ)) (held : W → Option (List ℕ)) (old new : W) (n : ℕ) (o : Operations) (index : List ℕ) → IsBegun a b held old new n → IsContent o → a ≡ Some (written o) → IsIndexOf o index → WritesFirst (held old) (held new) index n
-first_of a b held old new n o index (inl nothing) content known is =
+-- what was begun
+pub first_of : (a b c d : Option (List ℕ)) (n : ℕ) (o : Operations) (index : List ℕ) → IsBegun a b c d n → IsContent o → a ≡ Some (written o) → IsIndexOf o index → WritesFirst c d index n
+first_of a b c d n o index (inl nothing) content known is =
     let front = front_begins o index [] [] (listing o) is refl tt in
     record {
       within = omega (arith, nothing.0, ap length front.whole, length-append (front_of []) front.more, front.some);
-      gained = subst (λ (k : ℕ). Appends (held old) (held new) (take k index)) (sym nothing.0) nothing.1;
+      gained = subst (λ (k : ℕ). Appends c d (take k index)) (sym nothing.0) nothing.1;
     }
-first_of a b held old new n o index (inr begun) content known is =
+first_of a b c d n o index (inr begun) content known is =
     let there = records_begin o begun.records begun.rest b content begun.ordered begun.apart (subst (λ x. Consumes x b (magic ++ (concat begun.records ++ begun.rest))) known begun.taken) in
     let front = front_begins o index begun.records begun.tables there.0 is there.1 begun.each in
     let same : take n index ≡ take n (front_of begun.tables) = ap (take n) front.whole ∙ take-append-le n (front_of begun.tables) front.more begun.within in
     record {
       within = omega (arith, begun.within, ap length front.whole, length-append (front_of begun.tables) front.more, front.some);
-      gained = subst (Appends (held old) (held new)) (sym same) begun.gained;
+      gained = subst (Appends c d) (sym same) begun.gained;
+    }
+
+-- what was written before a record that stands too far
+pub first_of_far : (a b c d : Option (List ℕ)) (far : IsTooFar a b c d) (o : Operations) (index : List ℕ) → IsContent o → a ≡ Some (written o) → IsIndexOf o index → WritesFirst c d index (length (front_of far.tables))
+first_of_far a b c d far o index content known is =
+    let records : List (List ℕ) = far.records ++ far.next ∷ [] in
+    let none : concat records ≡ concat records ++ [] = sym (append-nil (concat records)) in
+    let taken : Consumes (Some (written o)) b (magic ++ (concat records ++ [])) = subst (λ x. Consumes x b (magic ++ (concat records ++ []))) known (subst (λ (t : List ℕ). Consumes a b (magic ++ t)) none far.taken) in
+    let there = records_begin o records [] b content far.ordered far.apart taken in
+    let begins : listing o ≡ far.records ++ (far.next ∷ there.0) = there.1 ∙ append_assoc far.records (far.next ∷ []) there.0 in
+    let front = front_begins o index far.records far.tables (far.next ∷ there.0) is begins far.each in
+    let same : take (length (front_of far.tables)) index ≡ front_of far.tables = ap (take (length (front_of far.tables))) front.whole ∙ take_at (front_of far.tables) front.more (length (front_of far.tables)) refl in
+    record {
+      within = omega (arith, ap length front.whole, length-append (front_of far.tables) front.more, front.some);
+      gained = subst (Appends c d) (sym same) far.gained;
     }

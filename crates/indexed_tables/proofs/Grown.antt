@@ -6,20 +6,20 @@ use Rattle.std.specs.Io.KnownBytes.{Appends, Consumes}
 use Rattle.std.proofs.lemmas.List.{append-nil, map-append, take_all}
 use Rattle.std.proofs.lemmas.List.Concat.{flat_map-append}
 use Rattle.std.proofs.lemmas.List.Elements.{AllZip-push}
-use Rattle.byte_device.specs.Writes.{IsPut, StopsPut, WritesFirst}
-use Rattle.byte_device.specs.declared.writing.WriteFault.{WriteFault}
-use Rattle.byte_device.proofs.Gains.{puts_along, puts_then}
+use Rattle.byte_device.specs.Writes.{IsPut, StopsPut}
+use Rattle.byte_device.proofs.Gains.{puts_then}
 use Rattle.checked_pages.specs.Pages.{stored}
 use Rattle.archive_records.specs.Kind.{magic}
-use Rattle.archive_records.specs.Reader.{HasRead, Passes, Position}
+use Rattle.archive_records.specs.Reader.{Finishes, HasRead, Passes, Position, Stopped}
+use Rattle.archive_records.specs.declared.fault.RecordFault.{RecordFault}
 use Rattle.archive_records.specs.declared.format.Format.TheVariants.{Archive}
-use Rattle.archive_records.proofs.Steps.{HasRead-grows, taken_more}
+use Rattle.archive_records.proofs.Steps.{HasRead-grows, HasReadAll-grows}
 use Rattle.archive_index.specs.Text.{index_magic}
-use Rattle.indexed_tables.specs.Content.{IsTableOf, table_entries, tables_text}
+use Rattle.indexed_tables.specs.Content.{IsTableOf, front_of, table_entries, table_entry, tables_text}
 use Rattle.table_index.specs.Entry.{entry_bytes}
-use Rattle.indexed_tables.specs.Content.{table_entry}
 use Rattle.table_index.specs.declared.entry.TableEntry.{TableEntry}
-use Rattle.indexed_tables.specs.InnerMaking.{AreTabled, HasBegun, HasPut, front_of}
+use Rattle.indexed_tables.specs.InnerMaking.{AreTabled, HasBegun, HasPut, HasPutAll}
+use Rattle.indexed_tables.proofs.Apart.{near_push}
 
 -- one record and its table more
 pub entries_push : (offset at : ℕ) (rs ts : List (List ℕ)) (r t : List ℕ) → AllZip IsTableOf rs ts
@@ -47,9 +47,10 @@ pub front_long : (tables : List (List ℕ)) → length (front_of tables) ≡ 8 +
 front_long tables = length-append index_magic (tables_text tables)
 
 -- the entry and the table of one record more
-pub tabled_more : (records tables : List (List ℕ)) (before after : List TableEntry) (e : TableEntry) (r t : List ℕ) (offset done : ℕ) → AreTabled records tables before → after ≡ before ++ e ∷ [] → IsTableOf r t → offset ≡ 8 + length (concat records) → done ≡ 8 + length (tables_text tables)
+pub tabled_more : (records tables : List (List ℕ)) (before after : List TableEntry) (e : TableEntry) (r t : List ℕ) (offset done : ℕ) → AreTabled records tables before → after ≡ before ++ e ∷ [] → IsTableOf r t → offset ≡ 8 + length (concat records) → offset < 2 ^ 64 → done ≡ 8 + length (tables_text tables)
     → entry_bytes e ≡ table_entry offset done r t → AreTabled (records ++ r ∷ []) (tables ++ t ∷ []) after
-tabled_more records tables before after e r t offset done are grown table o d is = record {
+tabled_more records tables before after e r t offset done are grown table o near d is = record {
+  near = near_push 8 records r are.near (omega (arith, o, near));
   each = AllZip-push IsTableOf records tables r t are.each table;
   entries_are =
       ap (map entry_bytes) grown ∙ map-append entry_bytes before (e ∷ [])
@@ -57,54 +58,79 @@ tabled_more records tables before after e r t offset done are grown table o d is
       ∙ sym (entries_push 8 8 records tables r t are.each);
 }
 
--- one record more was read, and its table written
-pub put_more : {W : Type 0} (a b c : Option (List ℕ)) (held : W → Option (List ℕ)) (failures : W → ℕ) (old mid new : W) (entries more : List TableEntry) (e : TableEntry) (before after : Position) (done end : ℕ) (t : List ℕ)
-    → HasPut a b held failures old mid entries before done → Passes b c before after → more ≡ entries ++ e ∷ [] → IsTableOf after.last t → entry_bytes e ≡ table_entry before.offset done after.last t → IsPut held failures mid new done (stored t) end
-    → HasPut a c held failures old new more after end
-put_more a b c held failures old mid new entries more e before after done end t h passes grown table is put = record {
-  records = h.records ++ after.last ∷ [];
-  tables = h.tables ++ t ∷ [];
-  read = HasRead-grows Archive a b c h.records before after h.read passes;
-  tabled = tabled_more h.records h.tables entries more e after.last t before.offset done h.tabled grown table h.read.offset_is (h.put.size_is ∙ front_long h.tables) is;
-  put = subst (λ (x : List ℕ). IsPut held failures old new 0 x end) (front_push h.tables t) (puts_then held failures (λ (n : ℕ). n) old mid new 0 done (front_of h.tables) (stored t) (Ok end) h.put put);
+-- nothing was read behind the magic, and nothing written behind it
+pub put_none : {W : Type 0} (a b : Option (List ℕ)) (held : W → Option (List ℕ)) (failures : W → ℕ) (old new : W) (position : Position) (done : ℕ) → HasRead Archive a b [] position → IsPut held failures old new 0 (front_of []) done → HasPut a b held failures old new [] position done
+put_none a b held failures old new position done read put = record { records = []; tables = []; read = read; tabled = record { near = tt; each = tt; entries_are = refl }; put = put }
+
+module _ {W : Type 0} (a b c : Option (List ℕ)) (held : W → Option (List ℕ)) (failures : W → ℕ) (old mid new : W) (entries : List TableEntry) (before after : Position) (done : ℕ) (h : HasPut a b held failures old mid entries before done) where
+  -- the front of the index, with the table of one record more
+  front_then : (t : List ℕ) (end : ℕ) → IsPut held failures mid new done (stored t) end → IsPut held failures old new 0 (front_of (h.tables ++ t ∷ [])) end
+  front_then t end put = subst (λ (x : List ℕ). IsPut held failures old new 0 x end) (front_push h.tables t) (puts_then held failures (λ (n : ℕ). n) old mid new 0 done (front_of h.tables) (stored t) (Ok end) h.put put)
+
+  -- one record more was read, and its table written
+  pub put_more : (more : List TableEntry) (e : TableEntry) (t : List ℕ) (end : ℕ) → Passes b c before after → before.offset < 2 ^ 64 → more ≡ entries ++ e ∷ [] → IsTableOf after.last t → entry_bytes e ≡ table_entry before.offset done after.last t → IsPut held failures mid new done (stored t) end
+      → HasPut a c held failures old new more after end
+  put_more more e t end passes near grown table is put = record {
+    records = h.records ++ after.last ∷ [];
+    tables = h.tables ++ t ∷ [];
+    read = HasRead-grows Archive a b c h.records before after h.read passes;
+    tabled = tabled_more h.records h.tables entries more e after.last t before.offset done h.tabled grown table h.read.offset_is near (omega (arith, h.put.size_is, front_long h.tables)) is;
+    put = front_then t end put;
+  }
+
+  -- the end record was read
+  pub put_all : Finishes b c before after → HasPutAll a c held failures old mid entries after done
+  put_all ends = record { records = h.records; tables = h.tables; read = HasReadAll-grows Archive a b c h.records before after h.read ends; tabled = h.tabled; put = h.put }
+
+  -- ---- a beginning of the index
+
+  -- one record more was read, and its table written, whose entry was not kept
+  pub begun_next : (t : List ℕ) (end : ℕ) → Passes b c before after → IsTableOf after.last t → IsPut held failures mid new done (stored t) end → HasBegun a c (held old) (held new) end
+  begun_next t end passes table put =
+      let read = HasRead-grows Archive a b c h.records before after h.read passes in
+      let all = front_then t end put in
+      record {
+        records = h.records ++ after.last ∷ [];
+        tables = h.tables ++ t ∷ [];
+        rest = [];
+        taken = subst (Consumes a c) (ap (λ (x : List ℕ). magic ++ x) (sym (append-nil (concat (h.records ++ after.last ∷ []))))) read.taken;
+        ordered = read.ordered;
+        apart = read.apart;
+        each = AllZip-push IsTableOf h.records h.tables after.last t h.tabled.each table;
+        within = omega (arith, all.size_is);
+        gained = subst (Appends (held old) (held new)) (sym (take_all end (front_of (h.tables ++ t ∷ [])) (omega (arith, all.size_is)))) all.gained;
+      }
+
+  -- the writer failed in it
+  pub begun_in : (t : List ℕ) (written : ℕ) → Passes b c before after → IsTableOf after.last t → StopsPut held failures mid new done (stored t) written → HasBegun a c (held old) (held new) written
+  begun_in t written passes table stops =
+      let read = HasRead-grows Archive a b c h.records before after h.read passes in
+      let first : StopsPut held failures old new 0 (front_of h.tables ++ stored t) written = puts_then held failures (λ (n : ℕ). n) old mid new 0 done (front_of h.tables) (stored t) (Err (record { written = written })) h.put stops in
+      let whole = front_push h.tables t in
+      let count : written ≡ first.some = omega (arith, first.written_is) in
+      record {
+        records = h.records ++ after.last ∷ [];
+        tables = h.tables ++ t ∷ [];
+        rest = [];
+        taken = subst (Consumes a c) (ap (λ (x : List ℕ). magic ++ x) (sym (append-nil (concat (h.records ++ after.last ∷ []))))) read.taken;
+        ordered = read.ordered;
+        apart = read.apart;
+        each = AllZip-push IsTableOf h.records h.tables after.last t h.tabled.each table;
+        within = omega (arith, count, first.first.within, ap length whole);
+        gained = subst (Appends (held old) (held new)) (λ i. take (sym count i) (whole i)) first.first.gained;
+      }
+
+-- reading stopped after some records, whose tables were written
+pub begun_where : {W : Type 0} (a c : Option (List ℕ)) (held : W → Option (List ℕ)) (failures : W → ℕ) (old new : W) (records tables : List (List ℕ)) (done : ℕ) (fault : RecordFault) → Stopped Archive a c records fault → AllZip IsTableOf records tables → IsPut held failures old new 0 (front_of tables) done
+    → HasBegun a c (held old) (held new) done
+begun_where a c held failures old new records tables done fault stopped each put = record {
+  records = records;
+  tables = tables;
+  rest = stopped.rest;
+  taken = stopped.taken;
+  ordered = stopped.ordered;
+  apart = stopped.apart;
+  each = each;
+  within = omega (arith, put.size_is);
+  gained = subst (Appends (held old) (held new)) (sym (take_all done (front_of tables) (omega (arith, put.size_is)))) put.gained;
 }
-
--- ---- a beginning of the index
-
--- all of the front was written, and bytes after the records were read
-pub begun_all : {W : Type 0} (a b c : Option (List ℕ)) (held : W → Option (List ℕ)) (failures : W → ℕ) (old new : W) (entries : List TableEntry) (position : Position) (done : ℕ) (rest : List ℕ)
-    → HasPut a b held failures old new entries position done → Consumes b c rest → HasBegun a c held old new done
-begun_all a b c held failures old new entries position done rest h more =
-    let all : done ≡ length (front_of h.tables) = omega (arith, h.put.size_is) in
-    record {
-      records = h.records;
-      tables = h.tables;
-      rest = rest;
-      taken = taken_more a b c magic (concat h.records) rest h.read.taken more;
-      ordered = h.read.ordered;
-      apart = h.read.apart;
-      each = h.tabled.each;
-      within = omega (arith, all);
-      gained = subst (Appends (held old) (held new)) (sym (take_all done (front_of h.tables) (omega (arith, all)))) h.put.gained;
-    }
-
--- one record more was read, and the writer failed in its table
-pub begun_in : {W : Type 0} (a b c : Option (List ℕ)) (held : W → Option (List ℕ)) (failures : W → ℕ) (old mid new : W) (entries : List TableEntry) (before after : Position) (done : ℕ) (t : List ℕ) (fault : WriteFault)
-    → HasPut a b held failures old mid entries before done → Passes b c before after → IsTableOf after.last t → StopsPut held failures mid new done (stored t) fault.written
-    → HasBegun a c held old new fault.written
-begun_in a b c held failures old mid new entries before after done t fault h passes table stops =
-    let read = HasRead-grows Archive a b c h.records before after h.read passes in
-    let first : StopsPut held failures old new 0 (front_of h.tables ++ stored t) fault.written = puts_then held failures (λ (n : ℕ). n) old mid new 0 done (front_of h.tables) (stored t) (Err fault) h.put stops in
-    let whole = front_push h.tables t in
-    let count : fault.written ≡ first.some = omega (arith, first.written_is) in
-    record {
-      records = h.records ++ after.last ∷ [];
-      tables = h.tables ++ t ∷ [];
-      rest = [];
-      taken = subst (Consumes a c) (ap (λ (x : List ℕ). magic ++ x) (sym (append-nil (concat (h.records ++ after.last ∷ []))))) read.taken;
-      ordered = read.ordered;
-      apart = read.apart;
-      each = AllZip-push IsTableOf h.records h.tables after.last t h.tabled.each table;
-      within = omega (arith, count, first.first.within, ap length whole);
-      gained = subst (Appends (held old) (held new)) (λ i. take (sym count i) (whole i)) first.first.gained;
-    }

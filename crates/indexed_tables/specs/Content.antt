@@ -1,8 +1,7 @@
 -- The index of a content.
-use Rattle.std.specs.Prelude.{◌≡◌, ◌+◌, ◌-◌, ℕ, true, false, List, [], ◌∷◌, length, take, drop, flat_map, Contains, ◌++◌, if◌then◌else◌}
+use Rattle.std.specs.Prelude.{◌≡◌, ◌+◌, ◌-◌, ℕ, true, false, List, [], ◌∷◌, length, take, drop, flat_map, Contains, ◌++◌}
+use Rattle.std.specs.Prelude.{if◌then◌else◌}
 use Rattle.std.specs.List.{AllZip}
-use Rattle.std.specs.Ordering.{nat_cmp}
-use Rattle.std.specs.Cmp.Lexicographic.{slice_cmp}
 use Rattle.std.specs.FinSet as set
 use Rattle.join_core.specs.Listing.{listing}
 use Rattle.checked_pages.specs.Pages.{AreStored, Claim, stored}
@@ -10,6 +9,7 @@ use Rattle.symbol_tables.specs.Table.{IsTableText}
 use Rattle.archive_core.specs.Content.{Operations, is_admission}
 use Rattle.archive_core.specs.Summary.{Entries, entry}
 use Rattle.archive_index.specs.Entry.{placed_entry}
+use Rattle.archive_index.specs.Text.{index_magic}
 use Rattle.table_index.specs.Entry.{claim_at, claim_bytes, claim_in, no_claim}
 use Rattle.table_index.specs.Text.{index_text}
 
@@ -42,15 +42,15 @@ entries_of records tables =
 abbrev pub tables_text : List (List ℕ) → List ℕ
 tables_text tables = flat_map stored tables
 
--- The text is the index of these records: of their tables and their entries.
-pub record IsIndexOfRecords (records : List (List ℕ)) (text : List ℕ) : Type 0 where
-  pub tables : List (List ℕ)
-  pub each : AllZip IsTableOf records tables
-  pub text_is : text ≡ index_text (tables_text tables) (entries_of records tables)
+-- what an index with these tables begins with
+abbrev pub front_of : List (List ℕ) → List ℕ
+front_of tables = index_magic ++ tables_text tables
 
--- the text is the index of a content
-abbrev pub IsIndexOf : Operations → List ℕ → Type 0
-IsIndexOf o text = IsIndexOfRecords (listing o) text
+-- The text is the index of a content: of the tables of its records, in the order of these, and of their entries.
+pub record IsIndexOf (o : Operations) (text : List ℕ) : Type 0 where
+  pub tables : List (List ℕ)
+  pub each : AllZip IsTableOf (listing o) tables
+  pub text_is : text ≡ index_text (tables_text tables) (entries_of (listing o) tables)
 
 -- An entry among these is that of a record, and the table of its slice is stored in the text where the entry says.
 pub record HasTable (text : List ℕ) (entries : List (List ℕ)) (r : List ℕ) : Type 0 where

@@ -1,5 +1,5 @@
 -- An index that is made, record by record: the words of the inner functions. No contract of a public one has them.
-use Rattle.std.specs.Prelude.{◌≡◌, ◌≤◌, ◌^◌, ℕ, List, [], ◌++◌, ◌⊎◌, length, map, take, Option}
+use Rattle.std.specs.Prelude.{◌≡◌, ◌<◌, ◌≤◌, ◌+◌, ◌^◌, ℕ, List, [], ◌∷◌, ◌++◌, ◌⊎◌, length, map, take, Option}
 use Rattle.std.specs.List.{AllZip, concat}
 use Rattle.std.specs.Io.KnownBytes.{Appends, Consumes}
 use Rattle.byte_device.specs.Writes.{IsPut, StopsPut}
@@ -12,11 +12,12 @@ use Rattle.archive_records.specs.declared.format.Format.TheVariants.{Archive}
 use Rattle.archive_records.specs.declared.fault.RecordFaultKind.TheVariants.{OutOfMemory as Wanted}
 use Rattle.archive_records.specs.declared.kind.TextKind.TheVariants.{Archive as Archive_text}
 use Rattle.archive_index.specs.InnerMaking.{BlamesIndexing}
-use Rattle.archive_index.specs.Text.{index_magic}
+use Rattle.archive_index.specs.Reading.{TellsVersion}
 use Rattle.archive_index.specs.declared.fault.IndexingFault.TheVariants.{Archive as Archive_fault, OldArchive, TooLong}
-use Rattle.indexed_tables.specs.Content.{IsTableOf, table_entries, tables_text}
 use Rattle.table_index.specs.Entry.{entry_bytes}
 use Rattle.table_index.specs.declared.entry.TableEntry.{TableEntry}
+use Rattle.indexed_tables.specs.Content.{IsTableOf, front_of, table_entries}
+use Rattle.indexed_tables.specs.Making.{IsTooFar}
 use Rattle.indexed_tables.specs.declared.fault.MakingFault.{MakingFault}
 use Rattle.indexed_tables.specs.declared.fault.MakingFault.TheVariants.{Archive as Refused, Write as Wrote}
 use Rattle.indexed_tables.specs.declared.fault.TableFault.{TableFault}
@@ -30,12 +31,14 @@ StopsTable held failures old new done IsTable OutOfMemory =
 StopsTable held failures old new done IsTable (Write fault) = (table : List ℕ) × IsTable table
     × StopsPut held failures old new done (stored table) fault.written
 
--- what an index begins with that has these tables
-abbrev pub front_of : List (List ℕ) → List ℕ
-front_of tables = index_magic ++ tables_text tables
+-- each record begins below 2^64, the first one here
+abbrev pub AreNear : ℕ → List (List ℕ) → Type 0
+AreNear offset [] = Unit {0}
+AreNear offset (r ∷ rs) = (offset < 2 ^ 64) × AreNear (offset + length r) rs
 
 -- these are the tables of the records, and their entries
 pub record AreTabled (records tables : List (List ℕ)) (entries : List TableEntry) : Type 0 where
+  pub near : AreNear 8 records
   pub each : AllZip IsTableOf records tables
   pub entries_are : map entry_bytes entries ≡ table_entries 8 8 records tables
 
@@ -59,21 +62,21 @@ pub record HasPutAll {W : Type 0} (a b : Option (List ℕ)) (held : W → Option
 
 -- The magic of an archive, these records and what came after them were read, and of the front of its index with these
 -- tables the first n bytes were written.
-pub record HasBegun {W : Type 0} (a b : Option (List ℕ)) (held : W → Option (List ℕ)) (old new : W) (n : ℕ)
-    : Type 0 where
+pub record HasBegun (left_old left_new held_old held_new : Option (List ℕ)) (n : ℕ) : Type 0 where
   pub records : List (List ℕ)
   pub tables : List (List ℕ)
   pub rest : List ℕ
-  pub taken : Consumes a b (magic ++ (concat records ++ rest))
+  pub taken : Consumes left_old left_new (magic ++ (concat records ++ rest))
   pub ordered : InOrder Archive [] records
   pub apart : AreApart Archive records
   pub each : AllZip IsTableOf records tables
   pub within : n ≤ length (front_of tables)
-  pub gained : Appends (held old) (held new) (take n (front_of tables))
+  pub gained : Appends held_old held_new (take n (front_of tables))
 
 -- the same, or nothing was written yet
-abbrev pub IsBegun : {W : Type 0} → Option (List ℕ) → Option (List ℕ) → (W → Option (List ℕ)) → W → W → ℕ → Type 0
-IsBegun a b held old new n = ((n ≡ 0) × Appends (held old) (held new) []) ⊎ HasBegun a b held old new n
+abbrev pub IsBegun : Option (List ℕ) → Option (List ℕ) → Option (List ℕ) → Option (List ℕ) → ℕ → Type 0
+IsBegun left_old left_new held_old held_new n =
+    ((n ≡ 0) × Appends held_old held_new []) ⊎ HasBegun left_old left_new held_old held_new n
 
 -- why the table of a record was not written, which stands so many bytes after the archive's beginning
 abbrev pub StopsRecord : {W : Type 0} → (W → Option (List ℕ)) → (W → ℕ) → W → W → ℕ → ℕ → List ℕ → MakingFault → Type 0
@@ -90,16 +93,20 @@ StopsRecord held failures old new before done r (Wrote fault) = (table : List �
 abbrev pub HasStoppedMaking : {W : Type 0} → Option (List ℕ) → Option (List ℕ) → (W → Option (List ℕ)) → (W → ℕ) → W
     → W → MakingFault → Type 0
 HasStoppedMaking a b held failures old new (Refused (Archive_fault fault)) =
-    HasStopped Archive_text a b fault × (failures new ≡ failures old) × ((n : ℕ) × IsBegun a b held old new n)
+    HasStopped Archive_text a b fault × (failures new ≡ failures old) × ((n : ℕ) × IsBegun a b (held old) (held new) n)
 HasStoppedMaking a b held failures old new (Refused OldArchive) =
-    Consumes a b old_magic × (failures new ≡ failures old) × ((n : ℕ) × IsBegun a b held old new n)
+    Consumes a b old_magic × (failures new ≡ failures old) × ((n : ℕ) × IsBegun a b (held old) (held new) n)
 HasStoppedMaking a b held failures old new (Refused TooLong) =
-    ((bytes : List ℕ) × (2 ^ 64 ≤ length bytes) × (Consumes a b bytes ⊎ Appends (held old) (held new) bytes))
-    × (failures new ≡ failures old) × ((n : ℕ) × IsBegun a b held old new n)
+    IsTooFar a b (held old) (held new) × (failures new ≡ failures old)
 HasStoppedMaking a b held failures old new (Wrote fault) =
-    FailedIn (failures old) (failures new) × IsBegun a b held old new fault.written
+    FailedIn (failures old) (failures new) × IsBegun a b (held old) (held new) fault.written
 
 -- what a fault says of the reader
 abbrev pub BlamesMaking : {R : Type 0} → (R → Option (List ℕ)) → (R → ℕ) → R → R → MakingFault → Type 0
 BlamesMaking left failures old new (Refused fault) = BlamesIndexing left failures old new fault
 BlamesMaking left failures old new (Wrote fault) = failures new ≡ failures old
+
+-- what begins as an archive of version 1 is refused as that
+abbrev pub TellsVersionMaking : Option (List ℕ) → MakingFault → Type 0
+TellsVersionMaking left (Refused fault) = TellsVersion left fault
+TellsVersionMaking left (Wrote fault) = Unit {0}

@@ -1,20 +1,23 @@
 -- What comes of making the index of an archive as it comes.
-use Rattle.std.specs.Prelude.{◌≡◌, ◌≤◌, ◌^◌, ℕ, List, length, Option, Some, IfSome, ◌⊎◌, Result, Ok, Err}
+use Rattle.std.specs.Prelude.{◌≡◌, ◌≤◌, ◌^◌, ℕ, List, [], ◌∷◌, ◌++◌, ◌⊎◌, length, Option, Some, IfSome, Result, Ok, Err}
+use Rattle.std.specs.List.{AllZip, concat}
 use Rattle.std.specs.FinSet as set
 use Rattle.std.specs.Io.KnownBytes.{Appends, Consumes}
 use Rattle.byte_device.specs.Devices.{FailedIn, Stream}
 use Rattle.byte_device.specs.Writes.{WritesFirst}
 use Rattle.byte_device.specs.declared.writing.WriteFault.{WriteFault}
 use Rattle.archive_core.specs.Content.{Operations, IsContent}
+use Rattle.archive_records.specs.Kind.{magic}
 use Rattle.archive_records.specs.Reading.{IsReadWhole}
-use Rattle.archive_records.specs.Text.{written}
+use Rattle.archive_records.specs.Text.{AreApart, InOrder, written}
 use Rattle.archive_records.specs.Writing.{IsWrittenWhole}
+use Rattle.archive_records.specs.declared.format.Format.TheVariants.{Archive as Archive_format}
 use Rattle.archive_records.specs.declared.kind.TextKind.TheVariants.{Archive}
 use Rattle.archive_records.specs.declared.writing.Sizes.{Sizes}
-use Rattle.archive_index.specs.Reading.{RefusesToIndex}
+use Rattle.archive_index.specs.Reading.{RefusesToIndex, TellsVersion}
 use Rattle.archive_index.specs.declared.fault.IndexingFault.{IndexingFault}
-use Rattle.archive_index.specs.declared.fault.IndexingFault.TheVariants.{Archive as Archive_fault, OldArchive, TooLong}
-use Rattle.indexed_tables.specs.Content.{IsIndexOf}
+use Rattle.archive_index.specs.declared.fault.IndexingFault.TheVariants.{TooLong}
+use Rattle.indexed_tables.specs.Content.{IsIndexOf, IsTableOf, front_of}
 use Rattle.indexed_tables.specs.declared.fault.MakingFault.{MakingFault}
 use Rattle.indexed_tables.specs.declared.fault.MakingFault.TheVariants.{Archive as Refused, Write}
 
@@ -32,22 +35,30 @@ abbrev pub HasFirst : {R W : Type 0} → Stream R → Stream W → ℕ → Type 
 HasFirst input out n = (o : Operations) (index : List ℕ) → IsContent o → input.bytes input.old ≡ Some (written o)
     → IsIndexOf o index → WritesFirst (out.bytes out.old) (out.bytes out.new) index n
 
--- so many bytes stand before the record, or before its table, as eight bytes do not count
-abbrev pub IsTooLong : {R W : Type 0} → Stream R → Stream W → Type 0
-IsTooLong input out = (bytes : List ℕ) × (2 ^ 64 ≤ length bytes)
-    × (Consumes (input.bytes input.old) (input.bytes input.new) bytes
-    ⊎ Appends (out.bytes out.old) (out.bytes out.new) bytes)
+-- Of an input that stood so before and so after, the magic, these records and one record more were taken; the writer
+-- gained the front of their index. Before that one record stand more bytes than eight bytes count, or before its table.
+pub record IsTooFar (left_old left_new held_old held_new : Option (List ℕ)) : Type 0 where
+  pub records : List (List ℕ)
+  pub next : List ℕ
+  pub tables : List (List ℕ)
+  pub taken : Consumes left_old left_new (magic ++ concat (records ++ next ∷ []))
+  pub ordered : InOrder Archive_format [] (records ++ next ∷ [])
+  pub apart : AreApart Archive_format (records ++ next ∷ [])
+  pub each : AllZip IsTableOf records tables
+  pub gained : Appends held_old held_new (front_of tables)
+  pub far : (2 ^ 64 ≤ length (magic ++ concat records)) ⊎ (2 ^ 64 ≤ length (front_of tables))
 
--- Why no index is made of an archive: as none without tables is made, or a table would stand too far.
+-- Why no index is made of an archive: as none without tables is made, or a record or a table would stand too far.
 abbrev pub RefusesToMake : {R W : Type 0} → Stream R → Stream W → IndexingFault → Type 0
-RefusesToMake input out (Archive_fault fault) =
-    RefusesToIndex input.bytes input.failures input.old input.new (Archive_fault fault)
-RefusesToMake input out OldArchive = RefusesToIndex input.bytes input.failures input.old input.new OldArchive
-RefusesToMake input out TooLong = IsTooLong input out × (input.failures input.new ≡ input.failures input.old)
+RefusesToMake input out TooLong =
+    IsTooFar (input.bytes input.old) (input.bytes input.new) (out.bytes out.old) (out.bytes out.new)
+    × (input.failures input.new ≡ input.failures input.old)
+RefusesToMake input out fault = RefusesToIndex input.bytes input.failures input.old input.new fault
 
 -- The archive is refused, or has no index. The writer has the first bytes of one, and did not fail.
 pub record IsRefused {R W : Type 0} (input : Stream R) (out : Stream W) (fault : IndexingFault) : Type 0 where
   pub refused : RefusesToMake input out fault
+  pub version : TellsVersion (input.bytes input.old) fault
   pub unfailed : out.failures out.new ≡ out.failures out.old
   pub count : ℕ
   pub first : HasFirst input out count

@@ -1,6 +1,5 @@
 //! The tables of an archive's slices in its index: made as the archive comes, and asked.
 //!
-//! - `beginning`: the magic of the archive;
 //! - `tables`: the table of a record, made and written; `records`: those of all records, one after another;
 //! - `entries`: the entries in byte order, and the end record; `making`: [`index_into`];
 //! - `asking`: [`nearest_at`], the nearest symbol of an address by the table of an entry;
@@ -14,7 +13,6 @@
 #![tactic(auto)]
 
 mod asking;
-mod beginning;
 mod entries;
 mod fault;
 pub mod laws;

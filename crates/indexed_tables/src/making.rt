@@ -4,14 +4,13 @@ ghost use Rattle.std.specs.Prelude.{◌≡◌, ◌<◌, ◌^◌, IfErr, IfOk, On
 ghost use Rattle.std.specs.Io.KnownBytes.{IsAtEnd};
 ghost use Rattle.byte_device.specs.Devices.{stream};
 ghost use Rattle.archive_records.specs.Reader.{Position};
-ghost use Rattle.indexed_tables.specs.InnerMaking.{BlamesMaking, HasPutAll, HasStoppedMaking};
+ghost use Rattle.indexed_tables.specs.InnerMaking.{BlamesMaking, HasPutAll, HasStoppedMaking, TellsVersionMaking};
 ghost use Rattle.indexed_tables.specs.Making.{Makes};
 
-use crate::beginning::begin;
 use crate::entries::{put_entries, sorted};
 use crate::fault::MakingFault;
 use crate::records::put_tables;
-use archive_index::IndexingFault;
+use archive_index::{IndexingFault, begin_archive};
 use archive_records::{RecordFault, Sizes};
 use byte_device::{Sink, Source, put};
 use memory::Heap;
@@ -29,13 +28,14 @@ fn put_front<R: Source, W: Sink>(
     ensures at_end { OnOk result (IsAtEnd (R.left r.new)) }
     ensures unfailed { OnOk result (R.failures r.new ≡ R.failures r.old) }
     ensures stopped { IfErr result (HasStoppedMaking (R.left r.old) (R.left r.new) W.held W.failures w.old w.new) }
+    ensures version { IfErr result (TellsVersionMaking (R.left r.old)) }
     ensures blames { IfErr result (BlamesMaking R.left R.failures r.old r.new) }
     ensures short { IfOk result (λ put. put.1 < 2 ^ 80) }
 {
     let Ok(own) = heap.clone() else {
         return Err(MakingFault::Archive(IndexingFault::Archive(RecordFault::out_of_memory(0))));
     };
-    let mut reader = match begin(own, r) {
+    let mut reader = match begin_archive(own, r) {
         Ok(reader) => reader,
         Err(fault) => return Err(MakingFault::Archive(fault)),
     };

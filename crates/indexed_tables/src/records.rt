@@ -7,10 +7,9 @@ ghost use Rattle.archive_core.specs.Record.{IsRecord};
 ghost use Rattle.archive_records.specs.Reader.{HasRead};
 ghost use Rattle.archive_records.specs.declared.format.Format.TheVariants.{Archive};
 ghost use Rattle.archive_index.specs.declared.fault.IndexingFault.TheVariants.{Archive as Archive_fault};
-ghost use Rattle.indexed_tables.specs.Content.{IsTableOf};
 ghost use Rattle.table_index.specs.Entry.{entry_bytes};
-ghost use Rattle.indexed_tables.specs.Content.{table_entry};
-ghost use Rattle.indexed_tables.specs.InnerMaking.{BlamesMaking, HasPutAll, HasStoppedMaking, StopsRecord, front_of};
+ghost use Rattle.indexed_tables.specs.Content.{IsTableOf, front_of, table_entry};
+ghost use Rattle.indexed_tables.specs.InnerMaking.{BlamesMaking, HasPutAll, HasStoppedMaking, StopsRecord};
 ghost use Rattle.indexed_tables.specs.declared.fault.MakingFault.TheVariants.{Archive as Refused};
 
 use crate::fault::{MakingFault, TableFault};
@@ -31,7 +30,7 @@ fn refused(fault: RecordFault) -> MakingFault
 /// Writes the table of the last record after the first `done` bytes of an index. `before` bytes of the archive stand
 /// before the record. It gives its entry, and how many bytes the index has then.
 fn put_record<W: Sink>(
-    heap: Heap,
+    heap: &Heap,
     reader: &RecordReader,
     before: u128,
     w: &mut W,
@@ -92,10 +91,7 @@ pub(crate) fn put_tables<R: Source, W: Sink>(
             Ok(NextRecord::Item(_)) => {}
             Err(fault) => return Err(refused(fault)),
         }
-        let Ok(own) = heap.clone() else {
-            return Err(refused(RecordFault::out_of_memory(before)));
-        };
-        let (entry, end) = put_record(own, reader, before, w, done)?;
+        let (entry, end) = put_record(&heap, reader, before, w, done)?;
         if let Err(_) = entries.push(entry) {
             return Err(refused(RecordFault::out_of_memory(before)));
         }

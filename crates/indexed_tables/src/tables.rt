@@ -2,28 +2,41 @@
 
 ghost use Rattle.std.specs.Prelude.{◌≡◌, ◌<◌, ◌^◌, ℕ, List, IfOk, IfErr};
 ghost use Rattle.byte_device.specs.Writes.{IsPut};
-ghost use Rattle.checked_pages.specs.Pages.{stored};
+ghost use Rattle.checked_pages.specs.Pages.{page_digests, stored};
 ghost use Rattle.checked_pages.specs.Views.{claim_view};
 ghost use Rattle.symbol_tables.specs.Table.{IsTableText};
 ghost use Rattle.archive_core.specs.Record.{IsOperation, lent_bytes, operation_lent};
 ghost use Rattle.archive_core.specs.Valid.{IsValid};
-ghost use Rattle.indexed_tables.specs.Content.{IsTableOf};
 ghost use Rattle.table_index.specs.Entry.{claim_at};
-ghost use Rattle.indexed_tables.specs.Content.{claim_of};
+ghost use Rattle.indexed_tables.specs.Content.{IsTableOf, claim_of};
 ghost use Rattle.indexed_tables.specs.InnerMaking.{StopsTable};
 
 use crate::fault::TableFault;
 use archive_core::{CheckedSlice, Record};
 use byte_device::Sink;
 use checked_pages::Claim;
-use memory::Heap;
+use memory::{Heap, NoMemory};
 use symbol_tables::TableText;
 use table_index::no_claim;
+
+/// The table of a slice, and its page digests.
+fn table_of<'a>(
+    heap: &Heap,
+    slice: &CheckedSlice<'a>,
+) -> Result<(TableText<'a>, Vec<u8, Heap>), NoMemory>
+    requires { IsValid slice.now }
+    ensures table { IfOk result (λ made. IsTableText slice.now made.0) }
+    ensures digests { IfOk result (λ made. made.1.items ≡ page_digests made.0) }
+{
+    let table = TableText::new(heap.clone()?, &slice.image())?;
+    let digests = table.page_digests(heap.clone()?)?;
+    Ok((table, digests))
+}
 
 /// Writes the table of a slice after the first `done` bytes of an index, as it is stored. It gives its claim, and how
 /// many bytes there are then.
 fn put_slice_table<W: Sink>(
-    heap: Heap,
+    heap: &Heap,
     slice: &CheckedSlice<'_>,
     w: &mut W,
     done: u64,
@@ -35,13 +48,7 @@ fn put_slice_table<W: Sink>(
         × IsPut W.held W.failures w.old w.new done (stored table) put.1) }
     ensures stopped { IfErr result (StopsTable W.held W.failures w.old w.new done (IsTableText slice.now)) }
 {
-    let Ok(own) = heap.clone() else {
-        return Err(TableFault::OutOfMemory);
-    };
-    let Ok(table) = TableText::new(own, &slice.image()) else {
-        return Err(TableFault::OutOfMemory);
-    };
-    let Ok(digests) = table.page_digests(heap) else {
+    let Ok((table, digests)) = table_of(heap, slice) else {
         return Err(TableFault::OutOfMemory);
     };
     match table.write(&digests, w, u128::from(done)) {
@@ -52,7 +59,7 @@ fn put_slice_table<W: Sink>(
 
 /// Writes the table of a record, if it is an admission.
 pub(crate) fn put_table<W: Sink>(
-    heap: Heap,
+    heap: &Heap,
     item: &Record<'_>,
     w: &mut W,
     done: u64,
