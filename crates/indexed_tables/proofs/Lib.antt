@@ -4,5 +4,7 @@ pub mod Accepted
 pub mod AnyBytes
 pub mod First
 pub mod Grown
+pub mod Sorted
+pub mod Tables
 pub mod Stopped
 pub mod Made

@@ -1,9 +1,10 @@
 //! The entries of an index in byte order, and its end record.
 
-ghost use Rattle.std.specs.Prelude.{◌≡◌, ◌∷◌, ◌++◌, ◌<◌, ◌^◌, IfOk, length, map};
+ghost use Rattle.std.specs.Prelude.{◌≡◌, ◌∷◌, ◌++◌, ◌<◌, ◌≤◌, ◌^◌, IfOk, length, map};
 ghost use Rattle.std.specs.FinSet as set;
 ghost use Rattle.std.specs.Int.{w64, to_be_bytes};
 ghost use Rattle.std.specs.List.{concat};
+ghost use Rattle.sha2.specs.Sha256.{sha256};
 ghost use Rattle.join_core.specs.Listing.{listing};
 ghost use Rattle.byte_device.specs.Writes.{Puts};
 ghost use Rattle.table_index.specs.Entry.{entry_bytes};
@@ -35,6 +36,30 @@ fn end_record(count: u64, digest: &[u8; 32]) -> [u8; 41]
     bytes
 }
 
+/// The SHA-256 of the bytes of entries.
+fn digest_of(entries: &[TableEntry]) -> [u8; 32]
+    ensures { result ≡ sha256 (concat (map entry_bytes entries.now)) }
+{
+    let mut hasher = Sha256::new();
+    'hashing: for entry in entries {
+        hasher.update(&entry.bytes());
+    }
+    hasher.finalize()
+}
+
+/// Writes the entries in their order after the first `done` bytes of an index.
+fn put_each<W: Sink>(entries: &[TableEntry], w: &mut W, done: u128) -> Result<u128, WriteFault>
+    requires { done < 2 ^ 80 }
+    ensures puts { Puts W.held W.failures (λ n. n) w.old w.new done (concat (map entry_bytes entries.now)) result }
+    ensures short { IfOk result (λ n. n ≤ 2 ^ 98) }
+{
+    let mut done = done;
+    'putting: for entry in entries {
+        done = put(w, done, &entry.bytes())?;
+    }
+    Ok(done)
+}
+
 /// Writes the entries in their order and the end record after the first `done` bytes of an index, and says how many
 /// entries and bytes there are then.
 pub(crate) fn put_entries<W: Sink>(
@@ -47,14 +72,8 @@ pub(crate) fn put_entries<W: Sink>(
         (concat (map entry_bytes entries.now) ++ end_of (map entry_bytes entries.now)) result }
     ensures records { IfOk result (λ sizes. sizes.records ≡ length entries.now) }
 {
-    let mut hasher = Sha256::new();
-    let mut done = done;
-    'putting: for entry in entries {
-        let bytes = entry.bytes();
-        hasher.update(&bytes);
-        done = put(w, done, &bytes)?;
-    }
+    let between = put_each(entries, w, done)?;
     let records = entries.len() as u64;
-    let bytes = put(w, done, &end_record(records, &hasher.finalize()))?;
+    let bytes = put(w, between, &end_record(records, &digest_of(entries)))?;
     Ok(Sizes { records, bytes })
 }
