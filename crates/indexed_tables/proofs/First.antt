@@ -1,5 +1,5 @@
 -- What was written so far is a beginning of the index of the content whose text the input is.
-use Rattle.std.proofs.Common.{◌≡◌, ℕ, ◌+◌, ◌<◌, ◌≤◌, List, [], ◌∷◌, ◌++◌, length, take, Option, Some, None, refl, sym, ap, ◌∙◌, subst, inl, inr, arith, append_assoc, length-append}
+use Rattle.std.proofs.Common.{◌≡◌, ℕ, ◌+◌, ◌<◌, ◌≤◌, List, [], ◌∷◌, ◌++◌, length, take, Option, Some, None, refl, sym, ap, ◌∙◌, ◌⊎◌, ◌^◌, subst, inl, inr, arith, append_assoc, length-append}
 use Rattle.std.specs.List.{AllZip, concat, flat_map}
 use Rattle.std.specs.Io.KnownBytes.{Appends, Consumes}
 use Rattle.std.proofs.lemmas.List.{append-nil, take-append-le, take_at}
@@ -13,6 +13,7 @@ use Rattle.archive_records.specs.Text.{AreApart, InOrder, end_record, written}
 use Rattle.archive_records.specs.declared.format.Format.TheVariants.{Archive}
 use Rattle.archive_records.proofs.Contents.{InOrder-listing, written_text}
 use Rattle.archive_records.proofs.Ends.{end-is_end}
+use Rattle.archive_records.proofs.Puts.{concat-push}
 use Rattle.archive_records.proofs.Longest.{Before, behind_magic, end-stops, longest}
 use Rattle.archive_index.specs.Text.{index_magic}
 use Rattle.indexed_tables.specs.Content.{IsIndexOf, IsTableOf, entries_of, front_of, tables_text}
@@ -83,17 +84,44 @@ first_of a b c d n o index (inr begun) content known is =
       gained = subst (Appends c d) (sym same) begun.gained;
     }
 
--- what was written before a record that stands too far
-pub first_of_far : (a b c d : Option (List ℕ)) (far : IsTooFar a b c d) (o : Operations) (index : List ℕ) → IsContent o → a ≡ Some (written o) → IsIndexOf o index → WritesFirst c d index (length (front_of far.tables))
-first_of_far a b c d far o index content known is =
-    let records : List (List ℕ) = far.records ++ far.next ∷ [] in
-    let none : concat records ≡ concat records ++ [] = sym (append-nil (concat records)) in
-    let taken : Consumes (Some (written o)) b (magic ++ (concat records ++ [])) = subst (λ x. Consumes x b (magic ++ (concat records ++ []))) known (subst (λ (t : List ℕ). Consumes a b (magic ++ t)) none far.taken) in
-    let there = records_begin o records [] b content far.ordered far.apart taken in
-    let begins : listing o ≡ far.records ++ (far.next ∷ there.0) = there.1 ∙ append_assoc far.records (far.next ∷ []) there.0 in
-    let front = front_begins o index far.records far.tables (far.next ∷ there.0) is begins far.each in
-    let same : take (length (front_of far.tables)) index ≡ front_of far.tables = ap (take (length (front_of far.tables))) front.whole ∙ take_at (front_of far.tables) front.more (length (front_of far.tables)) refl in
-    record {
-      within = omega (arith, ap length front.whole, length-append (front_of far.tables) front.more, front.some);
-      gained = subst (Appends c d) (sym same) far.gained;
-    }
+-- what was taken is no longer than the text
+n_before : (text : List ℕ) (b : Option (List ℕ)) (records : List (List ℕ)) (next : List ℕ) → Consumes (Some text) b (magic ++ (concat (records ++ next ∷ []) ++ [])) → 2 ^ 64 ≤ length (magic ++ concat records) → 2 ^ 64 ≤ length text
+n_before text None records next taken n = absurd taken
+n_before text (Some left) records next taken n =
+    let all : List ℕ = concat (records ++ next ∷ []) in
+    omega (arith, n, ap length taken, length-append (magic ++ (all ++ [])) left, length-append magic (all ++ []), length-append all [], ap length (concat-push records next), length-append (concat records) next, length-append magic (concat records))
+
+-- the records that were taken, and the front that was written, before a record that stands too far
+module _ (a b c d : Option (List ℕ)) (far : IsTooFar a b c d) (o : Operations) (index : List ℕ) (content : IsContent o) (known : a ≡ Some (written o)) (is : IsIndexOf o index) where
+  taken_far : Consumes (Some (written o)) b (magic ++ (concat (far.records ++ far.next ∷ []) ++ []))
+  taken_far =
+      let none : concat (far.records ++ far.next ∷ []) ≡ concat (far.records ++ far.next ∷ []) ++ [] = sym (append-nil (concat (far.records ++ far.next ∷ []))) in
+      subst (λ x. Consumes x b (magic ++ (concat (far.records ++ far.next ∷ []) ++ []))) known (subst (λ (t : List ℕ). Consumes a b (magic ++ t)) none far.taken)
+
+  front_far : IsFrontOf (front_of far.tables) index
+  front_far =
+      let there = records_begin o (far.records ++ far.next ∷ []) [] b content far.ordered far.apart taken_far in
+      front_begins o index far.records far.tables (far.next ∷ there.0) is (there.1 ∙ append_assoc far.records (far.next ∷ []) there.0) far.each
+
+  -- what was written
+  pub first_of_far : WritesFirst c d index (length (front_of far.tables))
+  first_of_far =
+      let front = front_far in
+      let same : take (length (front_of far.tables)) index ≡ front_of far.tables = ap (take (length (front_of far.tables))) front.whole ∙ take_at (front_of far.tables) front.more (length (front_of far.tables)) refl in
+      record {
+        within = omega (arith, ap length front.whole, length-append (front_of far.tables) front.more, front.some);
+        gained = subst (Appends c d) (sym same) far.gained;
+      }
+
+  -- so the archive or its index is too long
+  pub long_far : (2 ^ 64 ≤ length (written o)) ⊎ (2 ^ 64 ≤ length index)
+  long_far = elim far.far [
+    | inl n ↦ inl (n_before (written o) b far.records far.next taken_far n)
+    | inr n ↦ inr (let front = front_far in omega (arith, n, ap length front.whole, length-append (front_of far.tables) front.more))
+  ]
+
+pub not_far : (o : Operations) (index : List ℕ) (left held_old held_new : Option (List ℕ)) → IsContent o → IsIndexOf o index → length (written o) < 2 ^ 64 → length index < 2 ^ 64 → IsTooFar (Some (written o)) left held_old held_new → ⊥
+not_far o index left held_old held_new content is short fits far = elim (long_far (Some (written o)) left held_old held_new far o index content refl is) [
+  | inl n ↦ omega (arith, n, short)
+  | inr n ↦ omega (arith, n, fits)
+]

@@ -14,8 +14,11 @@ use Rattle.archive_core.specs.Record.{admission_record, retirement_record}
 use Rattle.archive_core.specs.Valid.{IsValid}
 use Rattle.archive_core.specs.declared.keys.SliceKey.{SliceKey}
 use Rattle.archive_core.proofs.Entries.{slice_of}
-use Rattle.table_index.specs.Entry.{claim_at, no_claim}
-use Rattle.indexed_tables.specs.Content.{IsTableOf, claim_of}
+use Rattle.archive_index.specs.Entry.{placed_bytes, placed_entry}
+use Rattle.archive_index.specs.declared.entry.PlacedEntry.{PlacedEntry}
+use Rattle.table_index.specs.Entry.{claim_at, claim_bytes, entry_bytes, no_claim}
+use Rattle.table_index.specs.declared.entry.TableEntry.{TableEntry}
+use Rattle.indexed_tables.specs.Content.{IsTableOf, claim_of, table_entry}
 use Rattle.indexed_tables.specs.InnerMaking.{StopsTable}
 use Rattle.indexed_tables.specs.declared.fault.TableFault.{TableFault}
 use Rattle.indexed_tables.specs.declared.fault.TableFault.TheVariants.{OutOfMemory, Write}
@@ -73,3 +76,10 @@ put_retired held failures w done key digest r c is none = (
   none ∙ sym (claim_retired done r [] (ap is_admission (sym is))),
   record { size_is = omega (arith, ap length stored_none); gained = subst (Appends (held w) (held w)) (sym stored_none) (Appends-none (held w)); unfailed = refl },
 )
+
+-- ---- the entry of a record
+
+pub entry_made : (placed : PlacedEntry) (claim : ClaimFields) (offset at before done : ℕ) (r table : List ℕ) → placed_bytes placed ≡ placed_entry offset r → claim_view claim ≡ claim_of at r table → offset ≡ before → at ≡ done
+    → entry_bytes (record { placed = placed; claim = claim }) ≡ table_entry before done r table
+unfolding entry_bytes table_entry
+entry_made placed claim offset at before done r table p c o a = (λ i. p i ++ claim_bytes (c i)) ∙ (λ i. placed_entry (o i) r ++ claim_bytes (claim_of (a i) r table))

@@ -1,6 +1,6 @@
 //! What an index tells of the content that it was made of. Each law is the contract of a function that does nothing.
 
-ghost use Rattle.std.specs.Prelude.{◌≡◌, ◌<◌, ◌^◌, ℕ, List, Option, drop, length, true};
+ghost use Rattle.std.specs.Prelude.{◌≡◌, ◌<◌, ◌^◌, ℕ, List, Option, Some, drop, length, true};
 ghost use Rattle.std.specs.List.{concat};
 ghost use Rattle.sha2.specs.Sha256.{sha256};
 ghost use Rattle.std.specs.FinSet as set;
@@ -14,6 +14,7 @@ ghost use Rattle.archive_core.specs.Content.{Operations, IsContent, is_admission
 ghost use Rattle.archive_records.specs.Text.{written};
 ghost use Rattle.indexed_tables.specs.Asked.{DigestsTell, IsToldBy};
 ghost use Rattle.indexed_tables.specs.Content.{EndAlike, HasTable, IsIndexOf, entries_of};
+ghost use Rattle.indexed_tables.specs.Making.{IsTooFar};
 ghost use Rattle.table_index.specs.Entry.{claim_in};
 ghost use Rattle.table_index.specs.Text.{IsIndexText};
 
@@ -27,6 +28,14 @@ pub fn accepted()
     ensures { (o : Operations) (text : List ℕ) → (index : IsIndexOf o text) → IsContent o
         → length (written o) < 2 ^ 64 → length text < 2 ^ 64
         → IsIndexText text (entries_of (listing o) index.tables) }
+{}
+
+/// An archive of less than 2^64 bytes, whose index has less than 2^64 bytes too, has no record and no table that stands too
+/// far.
+pub fn never_too_long()
+    ensures { (o : Operations) (index : List ℕ) (left held_old held_new : Option (List ℕ)) → IsContent o
+        → IsIndexOf o index → length (written o) < 2 ^ 64 → length index < 2 ^ 64
+        → IsTooFar (Some (written o)) left held_old held_new → ⊥ }
 {}
 
 /// The index of a content has an entry for each of its slices, and the table of the slice stands where the entry says.

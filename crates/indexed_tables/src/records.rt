@@ -44,7 +44,10 @@ fn put_record<W: Sink>(
         × IsPut W.held W.failures w.old w.new done (stored table) put.1) }
     ensures stopped { IfErr result (StopsRecord W.held W.failures w.old w.new before done reader.now.last) }
 {
-    let (Ok(offset), Ok(at)) = (u64::try_from(before), u64::try_from(done)) else {
+    let Ok(offset) = u64::try_from(before) else {
+        return Err(MakingFault::Archive(IndexingFault::TooLong));
+    };
+    let Ok(at) = u64::try_from(done) else {
         return Err(MakingFault::Archive(IndexingFault::TooLong));
     };
     let item = reader.record();
