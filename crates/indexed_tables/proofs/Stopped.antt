@@ -8,11 +8,13 @@ use Rattle.byte_device.specs.Writes.{IsPut, StopsPut}
 use Rattle.byte_device.proofs.Known.{Appends-none, Appends-then, Consumes-none}
 use Rattle.checked_pages.specs.Pages.{stored}
 use Rattle.archive_records.specs.Kind.{magic}
+use Rattle.archive_records.specs.Reading.{Blames}
 use Rattle.archive_records.specs.Reader.{HasRead, HasReadAll, HasStopped, Passes, Position, Stopped, StopsAt}
 use Rattle.archive_records.specs.declared.fault.RecordFault.{RecordFault}
 use Rattle.archive_records.specs.declared.fault.RecordFaultKind.TheVariants.{OutOfMemory}
 use Rattle.archive_records.specs.declared.format.Format.TheVariants.{Archive}
 use Rattle.archive_records.specs.declared.kind.TextKind.TheVariants.{Archive as Archive_text}
+use Rattle.archive_records.proofs.FaultKinds.{memory_blames}
 use Rattle.archive_records.proofs.Steps.{HasRead-grows, Stopped-fails, Stopped-unkept}
 use Rattle.archive_index.specs.Text.{index_magic}
 use Rattle.archive_index.specs.InnerMaking.{BlamesIndexing, HasStoppedIndexing}
@@ -125,3 +127,10 @@ none_stopped a b held failures w TooLong stopped short = absurd (short refl)
 pub making_behind : {R : Type 0} (left : R → Option (List ℕ)) (failures : R → ℕ) (old mid new : R) → failures mid ≡ failures old → (fault : MakingFault) → BlamesMaking left failures mid new fault → BlamesMaking left failures old new fault
 making_behind left failures old mid new same (Refused fault) blames = indexing_behind left failures old mid new same fault blames
 making_behind left failures old mid new same (Wrote fault) kept = kept ∙ same
+
+-- where a record's table is not written, the reader did not fail
+pub record_blames : {R W : Type 0} (left : R → Option (List ℕ)) (failures : R → ℕ) (old new : R) (held : W → Option (List ℕ)) (writes : W → ℕ) (start end : W) (before done : ℕ) (r : List ℕ) (fault : MakingFault) → failures new ≡ failures old → StopsRecord held writes start end before done r fault → BlamesMaking left failures old new fault
+record_blames left failures old new held writes start end before done r (Refused TooLong) same stops = same
+record_blames left failures old new held writes start end before done r (Refused OldArchive) same stops = absurd stops
+record_blames left failures old new held writes start end before done r (Refused (Archive_fault fault)) same stops = subst (λ f. Blames left failures old new f.kind) (sym stops.2) (memory_blames left failures old new same)
+record_blames left failures old new held writes start end before done r (Wrote fault) same stops = same
