@@ -5,3 +5,4 @@ pub mod ReadLemmas
 pub mod EndLemmas
 pub mod Faults
 pub mod PlaceLemmas
+pub mod Decided

@@ -60,7 +60,7 @@ follows offset at end (x ∷ xs) z follow c = elim (cons_cases x z xs c) [
 ]
 
 first_least : (y z : List ℕ) (ys : List (List ℕ)) → IsNonDecreasingBy offset_in (y ∷ ys) → Contains (y ∷ ys) z → offset_in y ≤ offset_in z
-first_least y z ys up c = omega (arith, up 0 c.0 [] (omega arith) c.1, ap offset_in c.2)
+first_least y z ys up c = omega (arith, up 0 c.0 z (omega arith) c.1, ap offset_in c.2)
 
 -- entries that follow one another are the one list of them that is sorted by offsets
 pub one_order : (offset at end : ℕ) (xs ys : List (List ℕ)) → FollowOn offset at end xs → ((z : List ℕ) → Contains xs z → 0 < length_in z) → IsNonDecreasingBy offset_in ys → AreAlike xs ys → xs ≡ ys

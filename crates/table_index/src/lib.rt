@@ -8,7 +8,7 @@
 //!
 //! - `entry`: [`TableEntry`], what a record is, where it stands, and where its table is stored;
 //! - `index`: [`TableIndex`], the entries of an index that was read;
-//! - `fault`: why bytes are no index, and why a table is not read;
+//! - `fault`: why bytes are no index;
 //! - `ends`: the magic and the end record; `testing`: the tests of an entry; `places`: whether records and tables
 //!   follow one another; `reading`: [`read_index`];
 //! - [`laws`]: a text is the index with one list of entries, or has one fault.

@@ -1,4 +1,4 @@
-use Rattle.std.proofs.Common.{◌∙◌, refl, sym, arith, ap}
+use Rattle.std.proofs.Common.{◌≤◌, ◌∙◌, refl, sym, arith, ap}
 use Rattle.table_index.proofs.EndLemmas.{asked, front_passes, magic_fails, room_fails}
 use Rattle.table_index.proofs.ends.test_front.Goals as goal
 
@@ -9,11 +9,11 @@ returns-then-not-begins-clause-tested c = λ text size front. record {
 }
 
 pub returns-then-not-has_room-clause-tested : goal.returns-then-not-has_room-clause-tested
-returns-then-not-has_room-clause-tested c = λ text size front. record {
-  fails = room_fails text (sym (asked text c.args.front.now c.args.size size front c.requires) ∙ sym c.if-not-begins.ensures) (omega (arith, size, c.if-not-has_room.ensures));
+returns-then-not-has_room-clause-tested c = λ text size front. let short : 49 ≤ c.args.size → ⊥ = λ room. cc (c.if-not-has_room.ensures.1 room) in record {
+  fails = room_fails text (sym (asked text c.args.front.now c.args.size size front c.requires) ∙ sym c.if-not-begins.ensures) (omega (arith, size, short));
   offset_is = omega (arith, size, c.saturating_sub.ensures);
 }
 
 pub returns-clause-tested : goal.returns-clause-tested
 returns-clause-tested c = λ text size front.
-    front_passes text (sym (asked text c.args.front.now c.args.size size front c.requires) ∙ sym c.if-not-begins.ensures) (omega (arith, size, c.if-not-has_room.ensures))
+    front_passes text (sym (asked text c.args.front.now c.args.size size front c.requires) ∙ sym c.if-not-begins.ensures) (omega (arith, size))

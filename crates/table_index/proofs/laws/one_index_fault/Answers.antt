@@ -1,5 +1,9 @@
+use Rattle.table_index.proofs.Decided.{decided}
 use Rattle.table_index.proofs.Faults.{no_fault, one_fault, one_list}
 use Rattle.table_index.proofs.laws.one_index_fault.Goals as goal
+
+pub returns-clause-either : goal.returns-clause-either
+returns-clause-either c = decided
 
 pub returns-clause-one : goal.returns-clause-one
 returns-clause-one c = one_fault

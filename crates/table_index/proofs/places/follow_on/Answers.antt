@@ -32,13 +32,13 @@ following-preserved c =
     let here = c.if-not-follows.ensures.0 cc in
     record {
       offset_fits = omega (arith, c.following.invariant.offset_fits, c.from-offset.ensures);
-      at_fits = omega (arith, c.following.invariant.at_fits, c.stored_size.ensures.fits);
+      at_fits = omega (arith, c.following.invariant.at_fits, c.stored_size-at.ensures.fits);
       left = one_more c.following.offset c.following.at c.args.end i xs (entry_bytes e) (FollowOn 8 8 c.args.end xs) lt is c.following.invariant.left _ _ here.0 here.1
-          (omega (arith, c.from-offset.ensures, fields.length_is)) (omega (arith, c.stored_size.ensures.is, ap stored_size fields.claim_is));
+          (omega (arith, c.from-offset.ensures, fields.length_is)) (omega (arith, c.stored_size-at.ensures.is, ap stored_size fields.claim_is));
     }
 
 pub returns : goal.returns
 returns c =
     let xs = map entry_bytes c.args.order.now in
     let all = all_followed c.following.offset c.following.at c.args.end c.following.entry-index xs (FollowOn 8 8 c.args.end xs) (omega (arith, c.following-test.false, length-map c.args.order.now entry_bytes)) c.following.invariant.left in
-    (λ h. all.0 (eqb-true _ _ h), λ p. eq-eqb _ _ (all.1 p))
+    (λ h. all.0 (eqb-true c.following.at c.from.result h ∙ c.from.ensures), λ p. eq-eqb c.following.at c.from.result (all.1 p ∙ sym c.from.ensures))

@@ -8,11 +8,11 @@ use Rattle.table_index.specs.declared.ends.Ends.{Ends}
 use Rattle.table_index.specs.declared.entry.TableEntry.{TableEntry}
 use Rattle.table_index.specs.declared.fault.IndexFault.{IndexFault}
 use Rattle.table_index.specs.declared.fault.IndexFaultKind.TheVariants.{OutOfMemory}
-use Rattle.table_index.proofs.ReadLemmas.{passed_on, refused_as, tested, flat}
+use Rattle.table_index.proofs.ReadLemmas.{memory_refused, passed_on, refused_as, tested, flat}
 use Rattle.table_index.proofs.reading.read_entries.Goals as goal
 
 pub returns-in_default-clause-read : goal.returns-in_default-clause-read
-returns-in_default-clause-read g c = record { says = λ text known. inr (λ are. inl (inr refl, inr (inr are.start_is))); keeps = refl; counts = refl }
+returns-in_default-clause-read g c = memory_refused _ _ _ _ c.args.ends.now.start _ _ c.out_of_memory.ensures (λ text. inr (λ are. inl (inr refl, inr (inr are.start_is))))
 
 pub returns-in_err-bytes-clause-read : goal.returns-in_err-bytes-clause-read
 returns-in_err-bytes-clause-read g c =

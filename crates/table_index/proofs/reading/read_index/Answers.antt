@@ -8,9 +8,8 @@ use Rattle.table_index.specs.Text.{AreLaid, IsIndexText, PassTests, count_in, en
 use Rattle.table_index.specs.declared.ends.Ends.{Ends}
 use Rattle.table_index.specs.declared.entry.TableEntry.{TableEntry}
 use Rattle.table_index.specs.declared.fault.IndexFault.{IndexFault}
-use Rattle.table_index.proofs.ReadLemmas.{after_ok, flat, passed_on, refused_as}
-use Rattle.table_index.proofs.Tests.{long_entries}
-use Rattle.table_index.proofs.Texts.{length_entries, tables_long, whole_text}
+use Rattle.table_index.proofs.Decided.{index_of}
+use Rattle.table_index.proofs.ReadLemmas.{after_ok, flat, memory_refused, passed_on, refused_as}
 use Rattle.table_index.proofs.reading.read_index.Goals as goal
 
 in_ends : (text : List ℕ) (f : IndexFault) → FailsInEnds text f → IsIndexFault text f
@@ -20,24 +19,8 @@ in_ends text f (inr end) = inr (inl end)
 behind_ends : (text : List ℕ) (f : IndexFault) → FailsBehindEnds text f → IsIndexFault text f
 behind_ends text f fault = inr (inr fault)
 
--- the text is the index with these entries
-is_index : (text : List ℕ) (ends : Ends) (entries : List TableEntry) → ends.start + 122 * ends.count + 41 < 2 ^ 64 → AreEndsOf text ends → AreReadOf text entries → IsIndexText text (map entry_bytes entries)
-is_index text ends entries fits are read =
-    let xs = map entry_bytes entries in
-    let each : length (concat xs) ≡ 122 * length xs = long_entries (start_in text) [] xs read.tested.pass in
-    let long : length (concat xs) ≡ 122 * count_in text = ap length read.tested.whole ∙ length_entries text ends are in
-    let count : length xs ≡ count_in text = omega (arith, each, long) in
-    let start = tables_long text ends are in
-    record {
-      tables = take (start_in text - 8) (drop 8 text);
-      whole = whole_text text ends are xs read.tested.whole count read.digest.same;
-      few = omega (arith, count, are.count_is, fits);
-      pass = subst (λ (n : ℕ). PassTests n [] xs) (sym start) read.tested.pass;
-      laid = subst (λ (n : ℕ). AreLaid n xs) (sym start) read.laid;
-    }
-
 pub returns-in_default : goal.returns-in_default
-returns-in_default g c = record { says = λ text known. inl (inr refl, inl refl); keeps = refl; counts = refl }
+returns-in_default g c = memory_refused _ _ _ _ 0 _ _ c.out_of_memory.ensures (λ text. inl (inr refl, inl refl))
 
 pub returns-in_err-ends : goal.returns-in_err-ends
 returns-in_err-ends g c =
@@ -59,7 +42,8 @@ returns g c =
     record {
       says = λ text known.
           let are = ends.says text known in
-          rw c.of_entries.ensures (is_index text c.in_ok-ends.ends c.in_ok-entries.entries.items c.in_ok-ends.ensures.fits are (read.says text known are));
+          let of = read.says text known are in
+          rw c.of_entries.ensures (index_of text c.in_ok-ends.ends (map entry_bytes c.in_ok-entries.entries.items) are (omega (arith, c.in_ok-ends.ensures.fits)) of.digest of.tested.whole of.tested.pass of.laid);
       keeps = read.keeps;
       counts = read.counts;
     }

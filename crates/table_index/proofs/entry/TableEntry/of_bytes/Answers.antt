@@ -1,5 +1,13 @@
+use Rattle.std.proofs.Common.{sym, arith}
+use Rattle.std.proofs.lemmas.List.{length-take-le}
 use Rattle.table_index.proofs.Entries.{entry_of_parts, fields_of, kind_front, tag_front}
 use Rattle.table_index.proofs.entry.TableEntry.of_bytes.Goals as goal
+
+pub slice_bounds-placed_in-end : goal.slice_bounds-placed_in-end
+slice_bounds-placed_in-end c = sym (length-take-le 74 c.args.bytes.now (omega (arith, c.requires.long)))
+
+pub placed_in-requires-clause-long : goal.placed_in-requires-clause-long
+placed_in-requires-clause-long c = length-take-le 74 c.args.bytes.now (omega (arith, c.requires.long))
 
 pub placed_in-requires-clause-tag : goal.placed_in-requires-clause-tag
 placed_in-requires-clause-tag c = tag_front c.args.bytes.now c.requires.tag
