@@ -132,8 +132,10 @@ stored_among before after table rest =
     record {
       size = refl;
       root = refl;
-      within = rw whole (omega (arith, long, length-append front (stored table ++ behind), length-append (stored table) behind));
-      bytes = rw whole (ap (take (length (stored table))) (drop_at front (stored table ++ behind) (8 + length (tables_text before)) long) ∙ take_at (stored table) behind (length (stored table)) refl);
+      within = omega (arith, ap length whole, long, length-append front (stored table ++ behind), length-append (stored table) behind);
+      bytes =
+          ap (λ (t : List ℕ). take (length (stored table)) (drop (8 + length (tables_text before)) t)) whole
+          ∙ ap (take (length (stored table))) (drop_at front (stored table ++ behind) (8 + length (tables_text before)) long) ∙ take_at (stored table) behind (length (stored table)) refl;
     }
 
 pub entry_claim : (place at : ℕ) (r table : List ℕ) → IsRecord r → is_admission r ≡ true → at < 2 ^ 64 → length table < 2 ^ 64 → claim_in (table_entry place at r table) ≡ claim_at at table

@@ -5,6 +5,6 @@ pub mod AnyBytes
 pub mod First
 pub mod Grown
 pub mod Sorted
-pub mod Tables
+pub mod TableLemmas
 pub mod Stopped
 pub mod Made

@@ -6,6 +6,7 @@ ghost use Rattle.std.specs.Int.{w64, to_be_bytes};
 ghost use Rattle.std.specs.List.{concat};
 ghost use Rattle.sha2.specs.Sha256.{sha256};
 ghost use Rattle.join_core.specs.Listing.{listing};
+ghost use Rattle.archive_core.specs.Summary.{Entries};
 ghost use Rattle.byte_device.specs.Writes.{Puts};
 ghost use Rattle.table_index.specs.Entry.{entry_bytes};
 ghost use Rattle.table_index.specs.Text.{end_of};
@@ -18,7 +19,8 @@ use table_index::TableEntry;
 
 /// The entries in ascending byte order.
 pub(crate) fn sorted(entries: Vec<TableEntry, Heap>) -> Vec<TableEntry, Heap>
-    ensures { map entry_bytes result.items ≡ listing (set.from_list (map entry_bytes entries.items)) }
+    ensures { let all : Entries = set.from_list (map entry_bytes entries.items) in
+        map entry_bytes result.items ≡ listing all }
 {
     let mut entries = entries;
     entries.sort_unstable_by(|a, b| a.compare(b));
