@@ -141,12 +141,12 @@ follow_or_not offset at end [] = cases_eq at end
 follow_or_not offset at end (x ∷ xs) = elim (cases_eq (offset_in x) offset) [
   | inr other ↦ inr (λ f. other f.0)
   | inl here ↦ elim (same_if (is_admission x) (claim_in x).offset at) [
-      | inr other ↦ inr (λ f. other f.1)
-      | inl there ↦ elim (follow_or_not (offset + length_in x) (at + stored_size (claim_in x)) end xs) [
-          | inr other ↦ inr (λ f. other f.2)
-          | inl rest ↦ inl (here, there, rest)
-        ]
+    | inr other ↦ inr (λ f. other f.1)
+    | inl there ↦ elim (follow_or_not (offset + length_in x) (at + stored_size (claim_in x)) end xs) [
+      | inr other ↦ inr (λ f. other f.2)
+      | inl rest ↦ inl (here, there, rest)
     ]
+  ]
 ]
 
 -- ---- a text
@@ -166,12 +166,15 @@ by_digest : (text : List ℕ) → HasEnds text → (HasDigest text → IsDecided
 by_digest text ends rest = elim (cases_Bool (bytes_eq (sha256 (entries_in text)) (digest_in text))) [
   | inl t ↦ rest (record { ends = ends; same = (bytes_eq-Decides (sha256 (entries_in text)) (digest_in text)).0 t })
   | inr f ↦
-      inr (record { kind = BadDigest; offset = start_in text }, inr (inr (inl (record {
-        ends = ends;
-        kind_is = refl;
-        offset_is = refl;
-        other = λ same. cc (f, (bytes_eq-Decides (sha256 (entries_in text)) (digest_in text)).1 same);
-      }))))
+      inr (
+        record { kind = BadDigest; offset = start_in text },
+        inr (inr (inl (record {
+          ends = ends;
+          kind_is = refl;
+          offset_is = refl;
+          other = λ same. cc (f, (bytes_eq-Decides (sha256 (entries_in text)) (digest_in text)).1 same);
+        }))),
+      )
 ]
 
 number_fits : (bs : List ℕ) → IsBytes bs → from_be_bytes w64 bs < 2 ^ 64
@@ -203,26 +206,32 @@ module _ (text : List ℕ) (bytes : IsBytes text) (digest : HasDigest text) wher
             let laid : AreLaid (start_in text) p.entries = record { order = s.order; permuted = s.moved; follow = follow } in
             inl (p.entries, index_of text ends p.entries are (number_fits number number_bytes) digest (sym p.whole) p.pass laid)
         | inr other ↦
-            inr (record { kind = BadPlace; offset = start_in text }, inr (inr (inr (inr (record {
-              digest = digest;
-              entries = p.entries;
-              whole = p.whole;
-              pass = p.pass;
-              unlaid = λ laid. other (follow_sorted (start_in text) p.entries s.order p.pass s.moved s.up laid);
-              kind_is = refl;
-              offset_is = refl;
-            })))))
+            inr (
+              record { kind = BadPlace; offset = start_in text },
+              inr (inr (inr (inr (record {
+                digest = digest;
+                entries = p.entries;
+                whole = p.whole;
+                pass = p.pass;
+                unlaid = λ laid. other (follow_sorted (start_in text) p.entries s.order p.pass s.moved s.up laid);
+                kind_is = refl;
+                offset_is = refl;
+              })))),
+            )
       ]
 
   by_entries : IsDecided text
   by_entries = elim (parse (start_in text) (count_in text) [] (entries_in text) (length_entries text ends are)) [
     | inl p ↦ by_places p
     | inr s ↦
-        inr (record { kind = s.kind; offset = start_in text + length (concat s.before) }, inr (inr (inr (inl (record {
-          digest = digest;
-          before = s.before;
-          after = record { pass = s.pass; rest = s.rest; whole = s.whole; long = s.long; fails = s.fails; offset_is = refl };
-        })))))
+        inr (
+          record { kind = s.kind; offset = start_in text + length (concat s.before) },
+          inr (inr (inr (inl (record {
+            digest = digest;
+            before = s.before;
+            after = record { pass = s.pass; rest = s.rest; whole = s.whole; long = s.long; fails = s.fails; offset_is = refl };
+          })))),
+        )
   ]
 
 pub decided : (text : List ℕ) → IsBytes text → IsDecided text

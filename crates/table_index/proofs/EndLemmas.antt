@@ -1,16 +1,15 @@
 -- The ends of a text as they are read.
-use Rattle.std.proofs.Common.{◌≡◌, ◌≢◌, ℕ, ◌+◌, ◌-◌, ◌*◌, ◌<◌, ◌≤◌, true, false, not, cond, eqb, ltb, List, [], ◌++◌, length, min, take, drop, get_or, refl, sym, ap, ◌∙◌, subst, inl, inr, arith, length-drop, length-take}
-use Rattle.std.specs.Prelude.{◌⊎◌, Option, Some, IfSome, Ok, Err}
+use Rattle.std.proofs.Common.{◌≡◌, ◌≢◌, ℕ, ◌+◌, ◌-◌, ◌*◌, ◌<◌, ◌≤◌, true, false, eqb, List, length, min, take, drop, get_or, refl, sym, ap, ◌∙◌, subst, inl, inr, arith}
+use Rattle.std.specs.Prelude.{Option, Some, IfSome, Ok, Err}
 use Rattle.std.specs.Int.{w64, to_be_bytes, from_be_bytes}
 use Rattle.std.specs.Str.{bytes_eq}
-use Rattle.std.proofs.lemmas.Bool.{cases_lt, eq-eqb, le-ltb, lt-ltb, ne_eqb}
+use Rattle.std.proofs.lemmas.Bool.{cases_lt, le-ltb, lt-ltb, ne_eqb}
 use Rattle.std.proofs.lemmas.List.{drop-drop, get_or-drop, take_all}
-use Rattle.std.proofs.lemmas.Slice.Eq.{bytes_eq-Decides}
 use Rattle.archive_index.specs.Text.{index_magic}
-use Rattle.table_index.specs.Fault.{HasEnds, IsPartOffset, test_end, test_front}
+use Rattle.table_index.specs.Fault.{IsPartOffset, test_end, test_front}
 use Rattle.table_index.specs.InnerReading.{AreEndsOf, IsUnread}
 use Rattle.table_index.specs.Reading.{IsRefused}
-use Rattle.table_index.specs.Text.{count_in, digest_in, start_in}
+use Rattle.table_index.specs.Text.{count_in, digest_in}
 use Rattle.table_index.specs.declared.ends.Ends.{Ends}
 use Rattle.table_index.specs.declared.fault.IndexFault.{IndexFault}
 use Rattle.table_index.specs.declared.fault.IndexFaultKind.TheVariants.{BadMagic, Truncated, BadCount}

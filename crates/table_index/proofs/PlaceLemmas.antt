@@ -1,5 +1,5 @@
 -- Entries whose records follow one another, in the order of their offsets.
-use Rattle.std.proofs.Common.{◌≡◌, ℕ, ◌+◌, ◌<◌, ◌≤◌, Bool, true, false, cond, ◌&&◌, ◌↔◌, eqb, suc, List, [], ◌∷◌, length, map, drop, get_or, refl, sym, ap, ◌∙◌, subst, inl, inr, arith, nat_le}
+use Rattle.std.proofs.Common.{◌≡◌, ℕ, ◌+◌, ◌<◌, ◌≤◌, Bool, true, cond, ◌&&◌, ◌↔◌, eqb, suc, List, [], ◌∷◌, length, map, drop, get_or, refl, sym, ap, ◌∙◌, subst, inl, inr, arith, nat_le}
 use Rattle.std.specs.Prelude.{All, Contains}
 use Rattle.std.specs.List.{sum_by}
 use Rattle.std.specs.List.Sorted.{IsNonDecreasingBy, IsPermutation}
@@ -16,8 +16,7 @@ use Rattle.std.proofs.lemmas.Slice.Eq.{bytes_eq-Decides}
 use Rattle.archive_core.specs.Content.{is_admission}
 use Rattle.archive_records.specs.Layout.{largest_slice}
 use Rattle.archive_records.proofs.Ascending.{cons_cases, here, later}
-use Rattle.archive_index.specs.Entry.{has_length, length_in, offset_in}
-use Rattle.checked_pages.specs.Pages.{Claim}
+use Rattle.archive_index.specs.Entry.{length_in, offset_in}
 use Rattle.checked_pages.specs.Views.{claim_view}
 use Rattle.table_index.specs.Entry.{HasItsFields, claim_in, entry_bytes, stored_size}
 use Rattle.table_index.specs.declared.entry.TableEntry.{TableEntry}

@@ -49,11 +49,6 @@ after_ok whole failures old mid new r A B same unfailed h = record {
   counts = subst (λ n. MatchResult r (λ _. failures new ≡ n) (λ f. Blames n (failures new) f.kind)) unfailed h.counts;
 }
 
--- a part of the text was not read, though there is as much
-pub unread : (B : List ℕ → IndexFault → Type 0) (text : List ℕ) (f : IndexFault) → IsPartOffset text f.offset → (IsOfMachine f.kind ⊎ ⊥) → IsRefused B text f
-unread B text f part (inl machine) = inl (machine, part)
-unread B text f part (inr none) = absurd none
-
 -- a refusal under a premise that holds
 pub flat : {P : Type 0} (B : List ℕ → IndexFault → Type 0) (text : List ℕ) (f : IndexFault) → ((IsOfMachine f.kind × IsPartOffset text f.offset) ⊎ P) → (P → IsRefused B text f) → IsRefused B text f
 flat B text f (inl machine) to = inl machine

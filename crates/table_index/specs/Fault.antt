@@ -1,5 +1,5 @@
 -- The one fault of a text that is no index.
-use Rattle.std.specs.Prelude.{◌≡◌, ◌≢◌, ℕ, ◌+◌, ◌-◌, ◌*◌, ◌<◌, ◌≤◌, ◌⊎◌, ◌==◌, not, List, [], ◌++◌, length, take}
+use Rattle.std.specs.Prelude.{◌≡◌, ◌≢◌, ℕ, ◌+◌, ◌-◌, ◌*◌, ◌≤◌, ◌⊎◌, ◌==◌, not, List, [], ◌++◌, length, take}
 use Rattle.std.specs.Prelude.{slice_index, if◌then◌else◌, min, nat_lt, Result, Ok, Err}
 use Rattle.std.specs.List.{concat}
 use Rattle.std.specs.Str.{bytes_eq}

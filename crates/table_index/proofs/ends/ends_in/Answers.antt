@@ -1,4 +1,4 @@
-use Rattle.std.proofs.Common.{◌≡◌, ◌+◌, ◌*◌, ◌≤◌, ◌∙◌, get_or, refl, sym, ap, arith}
+use Rattle.std.proofs.Common.{◌+◌, ◌*◌, ◌≤◌, refl, arith}
 use Rattle.table_index.proofs.EndLemmas.{are_ends, count_fails, tag_fails}
 use Rattle.table_index.proofs.ends.ends_in.Goals as goal
 

@@ -1,4 +1,4 @@
-use Rattle.std.proofs.Common.{◌∙◌, Err, ap, sym, inl, inr, refl}
+use Rattle.std.proofs.Common.{◌∙◌, Err, ap, inl, inr, refl}
 use Rattle.std.proofs.lemmas.Result.{err_from_is_err_and}
 use Rattle.table_index.specs.Fault.{FailsAtEnd, FailsInFront}
 use Rattle.table_index.specs.InnerReading.{FailsInEnds}

@@ -1,4 +1,4 @@
-use Rattle.std.proofs.Common.{◌≤◌, ◌∙◌, refl, sym, arith, ap}
+use Rattle.std.proofs.Common.{◌≤◌, ◌∙◌, refl, sym, arith}
 use Rattle.table_index.proofs.EndLemmas.{asked, front_passes, magic_fails, room_fails}
 use Rattle.table_index.proofs.ends.test_front.Goals as goal
 

@@ -1,8 +1,7 @@
-use Rattle.std.proofs.Common.{◌≡◌, ◌∙◌, List, ap, map, rules, sym, subst}
+use Rattle.std.proofs.Common.{◌≡◌, List, ap, map, rules, sym, subst}
 use Rattle.std.specs.Prelude.{All}
 use Rattle.std.specs.List.Sorted.{IsNonDecreasingBy, IsPermutation}
 use Rattle.std.proofs.lemmas.List.Sorted.{All-permutation, IsNonDecreasingBy-from_sort_by_key, IsPermutation-map}
-use Rattle.archive_index.specs.Entry.{offset_in}
 use Rattle.table_index.specs.Entry.{HasItsFields, entry_bytes}
 use Rattle.table_index.specs.Text.{FollowOn}
 use Rattle.table_index.specs.declared.entry.TableEntry.{TableEntry}

@@ -1,8 +1,7 @@
-use Rattle.std.proofs.Common.{◌≡◌, ◌<◌, ℕ, length, map, get_or, ap, sym, ◌∙◌, arith, false}
+use Rattle.std.proofs.Common.{◌<◌, length, map, ap, sym, ◌∙◌, arith}
 use Rattle.std.proofs.Math.ListN.{length-map}
 use Rattle.std.proofs.lemmas.Bool.{eq-eqb, eqb-true}
-use Rattle.archive_index.specs.Entry.{length_in}
-use Rattle.table_index.specs.Entry.{HasItsFields, claim_in, entry_bytes, stored_size}
+use Rattle.table_index.specs.Entry.{entry_bytes, stored_size}
 use Rattle.table_index.specs.Text.{FollowOn}
 use Rattle.table_index.proofs.PlaceLemmas.{all_followed, bytes_at, fields_at, not_here, one_more}
 use Rattle.table_index.proofs.places.follow_on.Goals as goal

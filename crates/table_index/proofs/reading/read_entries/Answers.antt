@@ -1,7 +1,7 @@
 use Rattle.std.proofs.Common.{◌≡◌, ◌∙◌, List, ℕ, Err, Ok, ap, sym, inl, inr, refl, subst}
 use Rattle.std.specs.Prelude.{◌⊎◌, IfErr, IfOk, MatchResult, Result}
 use Rattle.std.proofs.lemmas.Result.{err_from_is_err_and}
-use Rattle.table_index.specs.Fault.{FailsDigest, FailsInEntries, FailsInPlaces, IsOfMachine, IsPartOffset}
+use Rattle.table_index.specs.Fault.{FailsDigest, FailsInEntries, FailsInPlaces}
 use Rattle.table_index.specs.InnerReading.{AreEndsOf, AreEntriesOf, AreReadOf, FailsBehindEnds}
 use Rattle.table_index.specs.Reading.{IsRefused}
 use Rattle.table_index.specs.declared.ends.Ends.{Ends}

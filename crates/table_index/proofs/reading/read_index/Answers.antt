@@ -1,12 +1,8 @@
-use Rattle.std.proofs.Common.{◌≡◌, ◌∙◌, ◌+◌, ◌-◌, ◌*◌, ◌^◌, ◌<◌, List, ℕ, [], Err, Ok, ap, sym, inl, inr, refl, subst, arith, length, map, take, drop}
-use Rattle.std.specs.List.{concat}
+use Rattle.std.proofs.Common.{◌∙◌, List, ℕ, Err, ap, inl, inr, refl, arith, map}
 use Rattle.std.proofs.lemmas.Result.{err_from_is_err_and}
 use Rattle.table_index.specs.Entry.{entry_bytes}
 use Rattle.table_index.specs.Fault.{IsIndexFault}
-use Rattle.table_index.specs.InnerReading.{AreEndsOf, AreReadOf, FailsBehindEnds, FailsInEnds}
-use Rattle.table_index.specs.Text.{AreLaid, IsIndexText, PassTests, count_in, entries_in, start_in}
-use Rattle.table_index.specs.declared.ends.Ends.{Ends}
-use Rattle.table_index.specs.declared.entry.TableEntry.{TableEntry}
+use Rattle.table_index.specs.InnerReading.{FailsBehindEnds, FailsInEnds}
 use Rattle.table_index.specs.declared.fault.IndexFault.{IndexFault}
 use Rattle.table_index.proofs.Decided.{index_of}
 use Rattle.table_index.proofs.ReadLemmas.{after_ok, flat, memory_refused, passed_on, refused_as}

@@ -1,9 +1,9 @@
-use Rattle.std.proofs.Common.{◌≡◌, ◌∙◌, ℕ, List, [], ap, sym, subst, inl, inr, refl, false, true, map}
+use Rattle.std.proofs.Common.{ℕ, List, sym, subst, inl, inr, refl, map}
 use Rattle.archive_records.proofs.Blamed.{failed}
 use Rattle.table_index.specs.Entry.{entry_bytes}
 use Rattle.table_index.specs.Fault.{FailsAfter}
-use Rattle.table_index.specs.InnerReading.{AreEndsOf, AreEntriesOf, AreReadOf, AreTested}
-use Rattle.table_index.specs.Text.{AreLaid, PassTests, entries_in, start_in}
+use Rattle.table_index.specs.InnerReading.{AreEndsOf, AreEntriesOf, AreTested}
+use Rattle.table_index.specs.Text.{AreLaid, entries_in, start_in}
 use Rattle.table_index.specs.declared.ends.Ends.{Ends}
 use Rattle.table_index.specs.declared.entry.TableEntry.{TableEntry}
 use Rattle.table_index.proofs.reading.test_entries.Goals as goal
