@@ -1,5 +1,5 @@
 -- An archive of version 1 is told by its first eight bytes.
-use Rattle.std.proofs.Common.{◌≡◌, ◌≢◌, ℕ, ◌<◌, ◌≤◌, List, [], ◌++◌, length, take, Option, Some, None, Err, refl, sym, ap, ◌∙◌, inl, inr, arith, length-take, length-append}
+use Rattle.std.proofs.Common.{◌≡◌, ◌≢◌, ℕ, ◌<◌, ◌≤◌, List, [], ◌++◌, length, get_or, take, Option, Some, None, Err, refl, sym, ap, ◌∙◌, inl, inr, arith, length-take, length-append}
 use Rattle.std.specs.Prelude.{IfSome}
 use Rattle.std.specs.Io.KnownBytes.{Consumes, IsAtEnd}
 use Rattle.std.proofs.lemmas.List.{append-nil, take-append-le, take-take}
@@ -48,10 +48,20 @@ tells_version (Some text) (Some left) came (Archive_fault fault) taken ends test
 pub newer : (a b : Option (List ℕ)) (rest : List ℕ) → Consumes a b (magic ++ rest) → IfSome a (λ text. take 8 text ≢ old_magic)
 newer None b rest taken = tt
 newer (Some text) None rest taken = absurd taken
-newer (Some text) (Some left) rest taken = λ old. absurd (cc (old, ap (take 8) taken))
+newer (Some text) (Some left) rest taken = λ old.
+    let digit : ℕ = get_or (take 8 text) 7 0 in
+    let one : digit ≡ 0x31 = ap (λ (t : List ℕ). get_or t 7 0) old in
+    let two : digit ≡ 0x32 = ap (λ (t : List ℕ). get_or (take 8 t) 7 0) taken in
+    omega (arith, one, two)
 
 pub newer_version : (a b : Option (List ℕ)) (rest : List ℕ) (fault : IndexingFault) → Consumes a b (magic ++ rest) → TellsVersion a fault
 newer_version a b rest OldArchive taken = tt
 newer_version a b rest TooLong taken = newer a b rest taken
 newer_version None b rest (Archive_fault fault) taken = tt
 newer_version (Some text) b rest (Archive_fault fault) taken = λ old. absurd (newer (Some text) b rest taken old)
+
+-- no test of the magic says that something stands too far
+pub never_long : (came : List ℕ) (fault : IndexingFault) → MagicTested came (Err fault) → fault ≢ TooLong
+never_long came OldArchive tested = λ e. absurd (cc)
+never_long came TooLong tested = absurd tested
+never_long came (Archive_fault fault) tested = λ e. absurd (cc)

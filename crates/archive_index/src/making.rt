@@ -1,10 +1,11 @@
 //! The index of an archive, made record by record.
 
-ghost use Rattle.std.specs.Prelude.{◌≡◌, ◌<◌, ◌≤◌, ℕ, List, Option, [], length, take, IfOk, IfErr, OnOk, OnErr};
+ghost use Rattle.std.specs.Prelude.{◌≡◌, ◌≢◌, ◌<◌, ◌≤◌, ℕ, List, Option, [], length, take, IfOk, IfErr, OnOk, OnErr};
 ghost use Rattle.std.specs.Io.KnownBytes.{Consumes, IsAtEnd};
 ghost use Rattle.byte_device.specs.Devices.{FailedIn};
 ghost use Rattle.archive_records.specs.declared.format.Format.TheVariants.{Archive};
 ghost use Rattle.archive_records.specs.Reader.{HasRead};
+ghost use Rattle.archive_index.specs.declared.fault.IndexingFault.TheVariants.{TooLong};
 ghost use Rattle.archive_index.specs.InnerMaking.{BlamesIndexing, HasStoppedIndexing};
 ghost use Rattle.archive_index.specs.InnerMaking.{IsPlacedText, MagicTested, PlacesAll};
 ghost use Rattle.archive_index.specs.Reading.{Indexes, TellsVersion};
@@ -74,6 +75,7 @@ pub fn begin_archive<R: Source>(heap: Heap, r: &mut R) -> Result<RecordReader, I
     ensures read { IfOk result (λ reader. HasRead Archive (R.left r.old) (R.left r.new) [] reader) }
     ensures stopped { IfErr result (λ fault. HasStoppedIndexing (R.left r.old) (R.left r.new) fault) }
     ensures version { IfErr result (TellsVersion (R.left r.old)) }
+    ensures near { IfErr result (λ fault. fault ≢ TooLong) }
     ensures unfailed { OnOk result (R.failures r.new ≡ R.failures r.old) }
     ensures blames { IfErr result (λ fault. BlamesIndexing R.left R.failures r.old r.new fault) }
 {

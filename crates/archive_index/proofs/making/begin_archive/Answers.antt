@@ -1,7 +1,9 @@
-use Rattle.std.proofs.Common.{◌≡◌, take, subst}
+use Rattle.std.proofs.Common.{◌≡◌, ◌<◌, arith, length, length-take, take, subst}
 use Rattle.std.specs.Io.KnownBytes.{Consumes}
 use Rattle.archive_records.specs.Kind.{magic}
+use Rattle.archive_records.proofs.Blamed.{failed}
 use Rattle.archive_index.proofs.Made.{begun, magic_is, wanted}
+use Rattle.archive_index.proofs.Versions.{never_long, tells_version}
 use Rattle.archive_index.proofs.making.begin_archive.Goals as goal
 
 pub returns-in-Ok-begin-clause-read : goal.returns-in-Ok-begin-clause-read
@@ -15,3 +17,14 @@ pub returns-in-Err-begin-clause-stopped : goal.returns-in-Err-begin-clause-stopp
 returns-in-Err-begin-clause-stopped g c =
     let is : take c.in-Ok.came c.take_magic.new.magic ≡ magic = c.in_ok-test_magic.ensures in
     rw c.out_of_memory.ensures (wanted (g.R.Source.left c.args.r.now) (g.R.Source.left c.take_magic.new.r) (subst (Consumes (g.R.Source.left c.args.r.now) (g.R.Source.left c.take_magic.new.r)) is c.in-Ok.ensures.taken))
+
+pub returns-in_err-test_magic-clause-version : goal.returns-in_err-test_magic-clause-version
+returns-in_err-test_magic-clause-version g c =
+    let came = take c.in-Ok.came c.take_magic.new.magic in
+    let some : length came < 8 → c.in-Ok.came < 8 = λ short. omega (arith, short, length-take c.in-Ok.came c.take_magic.new.magic, c.take_magic.ensures.long) in
+    rw (failed c.from_residual.result c.in_err-test_magic.field-0.0 c.from_residual.ensures.1)
+    (tells_version (g.R.Source.left c.args.r.now) (g.R.Source.left c.take_magic.new.r) came c.in_err-test_magic.field-0.0 c.in-Ok.ensures.taken (λ short. c.in-Ok.ensures.at_end (some short)) c.in_err-test_magic.ensures)
+
+pub returns-in_err-test_magic-clause-near : goal.returns-in_err-test_magic-clause-near
+returns-in_err-test_magic-clause-near g c =
+    rw (failed c.from_residual.result c.in_err-test_magic.field-0.0 c.from_residual.ensures.1) (never_long (take c.in-Ok.came c.take_magic.new.magic) c.in_err-test_magic.field-0.0 c.in_err-test_magic.ensures)
