@@ -93,12 +93,12 @@ set_records a b entries p = listing_ascending nat_list_cmp_total bytes_same p.re
 pub are_entries : (a b : Option (List ℕ)) (entries : List PlacedEntry) → IsPlacedText a b entries → AllByRecursion IsPlacedEntry (map placed_bytes entries)
 are_entries a b entries p = subst (AllByRecursion IsPlacedEntry) (sym p.placed) (are_placed [] 8 p.records p.ordered)
 
-taken_whole : (a b : Option (List ℕ)) (x : List ℕ) → Consumes a b x → IsAtEnd b → IfSome a (λ t. t ≡ x)
+pub taken_whole : (a b : Option (List ℕ)) (x : List ℕ) → Consumes a b x → IsAtEnd b → IfSome a (λ t. t ≡ x)
 taken_whole None b x taken end = tt
 taken_whole (Some t) None x taken end = absurd taken
 taken_whole (Some t) (Some ys) x taken end = taken ∙ ap (λ (r : List ℕ). x ++ r) end ∙ append-nil x
 
-text_along : (a : Option (List ℕ)) (x y : List ℕ) → x ≡ y → IfSome a (λ t. t ≡ x) → IfSome a (λ t. t ≡ y)
+pub text_along : (a : Option (List ℕ)) (x y : List ℕ) → x ≡ y → IfSome a (λ t. t ≡ x) → IfSome a (λ t. t ≡ y)
 text_along None x y e h = tt
 text_along (Some t) x y e h = h ∙ e
 

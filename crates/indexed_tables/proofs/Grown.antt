@@ -1,5 +1,5 @@
 -- The front of an index, one table after another.
-use Rattle.std.proofs.Common.{◌≡◌, ℕ, ◌+◌, ◌<◌, ◌≤◌, List, [], ◌∷◌, ◌++◌, length, map, take, Option, Some, None, refl, sym, ap, ◌∙◌, subst, inl, inr, arith, append_assoc, length-append}
+use Rattle.std.proofs.Common.{◌≡◌, ℕ, ◌+◌, ◌^◌, ◌<◌, ◌≤◌, List, [], ◌∷◌, ◌++◌, length, map, take, Option, Some, None, refl, sym, ap, ◌∙◌, subst, inl, inr, arith, append_assoc, length-append}
 use Rattle.std.specs.Prelude.{Err, Ok}
 use Rattle.std.specs.List.{AllZip, concat, flat_map}
 use Rattle.std.specs.Io.KnownBytes.{Appends, Consumes}
@@ -8,9 +8,11 @@ use Rattle.std.proofs.lemmas.List.Concat.{flat_map-append}
 use Rattle.std.proofs.lemmas.List.Elements.{AllZip-push}
 use Rattle.byte_device.specs.Writes.{IsPut, StopsPut}
 use Rattle.byte_device.proofs.Gains.{puts_then}
+use Rattle.byte_device.proofs.Known.{Consumes-then}
 use Rattle.checked_pages.specs.Pages.{stored}
 use Rattle.archive_records.specs.Kind.{magic}
-use Rattle.archive_records.specs.Reader.{Finishes, HasRead, Passes, Position, Stopped}
+use Rattle.archive_records.specs.Reader.{Finishes, HasRead, HasReadAll, Passes, Position, Stopped}
+use Rattle.archive_records.specs.Text.{text_of}
 use Rattle.archive_records.specs.declared.fault.RecordFault.{RecordFault}
 use Rattle.archive_records.specs.declared.format.Format.TheVariants.{Archive}
 use Rattle.archive_records.proofs.Steps.{HasRead-grows, HasReadAll-grows}
@@ -119,6 +121,24 @@ module _ {W : Type 0} (a b c : Option (List ℕ)) (held : W → Option (List ℕ
         within = omega (arith, count, first.first.within, ap length whole);
         gained = subst (Appends (held old) (held new)) (λ i. take (sym count i) (whole i)) first.first.gained;
       }
+
+-- nothing stands behind the end record
+pub put_end : {W : Type 0} (a b c : Option (List ℕ)) (held : W → Option (List ℕ)) (failures : W → ℕ) (old new : W) (entries : List TableEntry) (position : Position) (done : ℕ) → HasPutAll a b held failures old new entries position done → Consumes b c [] → HasPutAll a c held failures old new entries position done
+put_end a b c held failures old new entries position done h none = record {
+  records = h.records;
+  tables = h.tables;
+  read = record {
+    taken = subst (Consumes a c) (append-nil (text_of Archive h.records)) (Consumes-then a b c (text_of Archive h.records) [] h.read.taken none);
+    ordered = h.read.ordered;
+    apart = h.read.apart;
+    few = h.read.few;
+    ended = tt;
+    offset_is = h.read.offset_is;
+    retired_are = h.read.retired_are;
+  };
+  tabled = h.tabled;
+  put = h.put;
+}
 
 -- reading stopped after some records, whose tables were written
 pub begun_where : {W : Type 0} (a c : Option (List ℕ)) (held : W → Option (List ℕ)) (failures : W → ℕ) (old new : W) (records tables : List (List ℕ)) (done : ℕ) (fault : RecordFault) → Stopped Archive a c records fault → AllZip IsTableOf records tables → IsPut held failures old new 0 (front_of tables) done

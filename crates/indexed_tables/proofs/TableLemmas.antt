@@ -68,13 +68,13 @@ stored_none = refl
 retired_table : (key : SliceKey) (digest : List ℕ) → IsTableOf (retirement_record key digest) []
 retired_table key digest = record { admitted = λ h. absurd (cc); retired = λ _. refl }
 
-pub put_retired : {W : Type 0} (held : W → Option (List ℕ)) (failures : W → ℕ) (w : W) (done : ℕ) (key : SliceKey) (digest r : List ℕ) (c : ClaimFields) → retirement_record key digest ≡ r → claim_view c ≡ no_claim
-    → (table : List ℕ) × IsTableOf r table × (claim_view c ≡ claim_of done r table) × IsPut held failures w w done (stored table) done
-put_retired held failures w done key digest r c is none = (
+pub put_retired : {W : Type 0} (held : W → Option (List ℕ)) (failures : W → ℕ) (w : W) (done : ℕ) (key : SliceKey) (digest r : List ℕ) (c : ClaimFields) (end : ℕ) → retirement_record key digest ≡ r → claim_view c ≡ no_claim → end ≡ done
+    → (table : List ℕ) × IsTableOf r table × (claim_view c ≡ claim_of done r table) × IsPut held failures w w done (stored table) end
+put_retired held failures w done key digest r c end is none same = (
   [],
   subst (λ s. IsTableOf s []) is (retired_table key digest),
   none ∙ sym (claim_retired done r [] (ap is_admission (sym is))),
-  record { size_is = omega (arith, ap length stored_none); gained = subst (Appends (held w) (held w)) (sym stored_none) (Appends-none (held w)); unfailed = refl },
+  record { size_is = omega (arith, same, ap length stored_none); gained = subst (Appends (held w) (held w)) (sym stored_none) (Appends-none (held w)); unfailed = refl },
 )
 
 -- ---- the entry of a record

@@ -32,3 +32,6 @@ pub taking-smaller : goal.taking-smaller
 taking-smaller g c =
     let step = rw c.in-Ok-Item.field-0-is at c.in-Ok-Item.ensures in
     omega (arith, step.0.count_is, step.0.few)
+
+pub taking-preserved : goal.taking-preserved
+taking-preserved g c = ?

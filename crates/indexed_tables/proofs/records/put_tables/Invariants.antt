@@ -2,7 +2,8 @@ use Rattle.std.proofs.Common.{◌≡◌, ◌-◌, ◌<◌, ◌^◌, List, ℕ, O
 use Rattle.byte_device.specs.Writes.{IsPut}
 use Rattle.archive_records.specs.Reader.{HasRead}
 use Rattle.archive_records.specs.declared.format.Format.TheVariants.{Archive}
-use Rattle.indexed_tables.specs.InnerMaking.{HasPut, front_of}
+use Rattle.indexed_tables.specs.Content.{front_of}
+use Rattle.indexed_tables.specs.InnerMaking.{HasPut}
 use Rattle.indexed_tables.proofs.records.put_tables.Given as goal
 
 abbrev pub invariant-taking : goal.invariant-taking
