@@ -18,6 +18,6 @@ returns-in-Ok-put_table-clause-put g c =
     (
       p.0,
       subst (λ (r : List ℕ). IsTableOf r p.0) bytes p.1,
-      entry_made c.of_record-placed.result c.in-Ok-put_table.claim c.in-Ok.offset at c.args.before c.args.done last p.0 placed claim c.in-Ok.ensures c.in-Ok-try_from.ensures,
-      subst (λ (n : ℕ). IsPut g.W.Sink.held g.W.Sink.failures c.args.w.now c.put_table.new.w n (stored p.0) c.in-Ok-put_table.done) c.in-Ok-try_from.ensures p.3,
+      entry_made c.of_record-placed.result c.in-Ok-put_table.claim c.in-Ok.offset at c.args.before c.args.done last p.0 placed claim c.in-Ok.ensures.1 c.in-Ok-try_from.ensures.1,
+      subst (λ (n : ℕ). IsPut g.W.Sink.held g.W.Sink.failures c.args.w.now c.put_table.new.w n (stored p.0) c.in-Ok-put_table.done) c.in-Ok-try_from.ensures.1 p.3,
     )
