@@ -51,8 +51,7 @@ module _ {W : Type 0} (a b c : Option (List ℕ)) (held : W → Option (List ℕ
   too_far : Passes b c before after → Appends (held mid) (held new) [] → failures new ≡ failures mid → (2 ^ 64 ≤ before.offset) ⊎ (2 ^ 64 ≤ done) → HasStoppedMaking a c held failures old new (Refused TooLong)
   too_far passes none same far =
       let read = HasRead-grows Archive a b c h.records before after h.read passes in
-      let put = put_kept held failures old mid new done (front_of h.tables) h.put none same in
-      (
+      let put = put_kept held failures old mid new done (front_of h.tables) h.put none same in (
         record {
           records = h.records;
           next = after.last;

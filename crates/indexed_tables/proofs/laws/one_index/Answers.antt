@@ -1,4 +1,3 @@
-
 use Rattle.indexed_tables.proofs.Contents.{one_of_content}
 use Rattle.indexed_tables.proofs.laws.one_index.Goals as goal
 

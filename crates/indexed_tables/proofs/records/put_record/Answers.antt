@@ -14,8 +14,7 @@ returns-in-Ok-put_table-clause-put g c =
     let bytes = c.record-item.ensures.bytes in
     let at = c.in-Ok-try_from.at in
     let placed : placed_bytes c.of_record-placed.result ≡ placed_entry c.in-Ok.offset last = c.of_record-placed.ensures.bytes ∙ ap (placed_entry c.in-Ok.offset) bytes in
-    let claim : claim_view c.in-Ok-put_table.claim ≡ claim_of at last p.0 = p.2 ∙ ap (λ (r : List ℕ). claim_of at r p.0) bytes in
-    (
+    let claim : claim_view c.in-Ok-put_table.claim ≡ claim_of at last p.0 = p.2 ∙ ap (λ (r : List ℕ). claim_of at r p.0) bytes in (
       p.0,
       subst (λ (r : List ℕ). IsTableOf r p.0) bytes p.1,
       entry_made c.of_record-placed.result c.in-Ok-put_table.claim c.in-Ok.offset at c.args.before c.args.done last p.0 placed claim c.in-Ok.ensures.1 c.in-Ok-try_from.ensures.1,
