@@ -222,7 +222,7 @@ accepted o text index content short fits =
     let of : 8 + length (concat rs) < 2 ^ 64 = omega (arith, text_length o, short) in
     let sound : AllByRecursion (IsSound end) es = sound_entries [] 8 8 end rs ts ordered index.each of room (omega arith) in
     let follow : FollowOn 8 8 end es = follow_entries [] 8 8 rs ts ordered index.each of room in
-    let distinct : AreDistinct es = apart [] 8 8 rs ts ordered (near_all [] 8 rs ordered of) in
+    let distinct : AreDistinct es = apart [] 8 8 rs ts ordered (near_all 8 8 rs ts of room) in
     let each : AllByRecursion (IsSound end) entries = along (IsSound end) entries (λ q h.
     All-contains (IsSound end) es q (All-from_recursion (IsSound end) es sound) (containing es q (sym (any_ascending_of q es) ∙ ap (λ (xs : List (List ℕ)). list_any (is_same q) xs) (sym (listing_of es)) ∙ h))) in
     let sorted : IsStrictlySortedBy order entries = (listed nat_list_cmp_total bytes_same (set.from_list es)).ascending in

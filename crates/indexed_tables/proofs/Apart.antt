@@ -18,20 +18,28 @@ use Rattle.archive_index.proofs.Placed.{entry_long, offset_is}
 use Rattle.archive_index.proofs.Sums.{AreApart as AreDistinct, any_ascending_of, is_same, listing_of, nonempty}
 use Rattle.table_index.specs.Entry.{claim_bytes}
 use Rattle.table_index.proofs.Entries.{number_kept}
-use Rattle.indexed_tables.specs.Content.{IsTableOf, claim_of, entries_of, table_entries, table_entry}
-use Rattle.indexed_tables.specs.InnerMaking.{AreNear}
+use Rattle.indexed_tables.specs.Content.{IsTableOf, claim_of, entries_of, table_entries, table_entry, tables_text}
+use Rattle.indexed_tables.specs.Making.{AreNear}
 
--- ---- records that begin below 2^64
+-- ---- records and tables that begin below 2^64
 
-pub near_all : (low : List ℕ) (offset : ℕ) (rs : List (List ℕ)) → InOrder Archive low rs → offset + length (concat rs) < 2 ^ 64 → AreNear offset rs
-near_all low offset [] a fits = tt
-near_all low offset (r ∷ rs) a fits =
+pub near_all : (offset at : ℕ) (rs ts : List (List ℕ)) → offset + length (concat rs) < 2 ^ 64 → at + length (tables_text ts) < 2 ^ 64 → AreNear offset at rs ts
+near_all offset at [] ts of fits = tt
+near_all offset at (r ∷ rs) [] of fits = tt
+near_all offset at (r ∷ rs) (t ∷ ts) of fits =
     let longer = length-append r (concat rs) in
-    (omega (arith, fits, longer), near_all r (offset + length r) rs a.2 (omega (arith, fits, longer)))
+    let more = length-append (stored t) (tables_text ts) in
+    (omega (arith, of, longer), omega (arith, fits, more), near_all (offset + length r) (at + length (stored t)) rs ts (omega (arith, of, longer)) (omega (arith, fits, more)))
 
-pub near_push : (offset : ℕ) (rs : List (List ℕ)) (r : List ℕ) → AreNear offset rs → offset + length (concat rs) < 2 ^ 64 → AreNear offset (rs ++ r ∷ [])
-near_push offset [] r near fits = (omega (arith, fits), tt)
-near_push offset (x ∷ rs) r near fits = (near.0, near_push (offset + length x) rs r near.1 (omega (arith, fits, length-append x (concat rs))))
+pub near_push : (offset at : ℕ) (rs ts : List (List ℕ)) (r t : List ℕ) → AllZip IsTableOf rs ts → AreNear offset at rs ts → offset + length (concat rs) < 2 ^ 64 → at + length (tables_text ts) < 2 ^ 64 → AreNear offset at (rs ++ r ∷ []) (ts ++ t ∷ [])
+near_push offset at [] [] r t each near of fits = (omega (arith, of), omega (arith, fits), tt)
+near_push offset at [] (u ∷ ts) r t each near of fits = absurd each
+near_push offset at (x ∷ rs) [] r t each near of fits = absurd each
+near_push offset at (x ∷ rs) (u ∷ ts) r t each near of fits = (
+  near.0,
+  near.1,
+  near_push (offset + length x) (at + length (stored u)) rs ts r t each.1 near.2 (omega (arith, of, length-append x (concat rs))) (omega (arith, fits, length-append (stored u) (tables_text ts))),
+)
 
 -- ---- none comes twice
 
@@ -40,22 +48,22 @@ unfolding table_entry
 entry_offset offset at r t is near =
     ap (from_be_bytes w64) (number_kept (placed_entry offset r) (claim_of at r t) (entry_long offset r is) 58 (omega arith)) ∙ offset_is offset r is near
 
-others : (x : List ℕ) (k : ℕ) (low : List ℕ) (offset at : ℕ) (rs ts : List (List ℕ)) → offset_in x ≡ k → k < offset → InOrder Archive low rs → AreNear offset rs → list_any (is_same x) (table_entries offset at rs ts) ≡ false
+others : (x : List ℕ) (k : ℕ) (low : List ℕ) (offset at : ℕ) (rs ts : List (List ℕ)) → offset_in x ≡ k → k < offset → InOrder Archive low rs → AreNear offset at rs ts → list_any (is_same x) (table_entries offset at rs ts) ≡ false
 others x k low offset at [] ts of lt a near = refl
 others x k low offset at (r ∷ rs) [] of lt a near = refl
 others x k low offset at (r ∷ rs) (t ∷ ts) of lt a near =
     let e : List ℕ = table_entry offset at r t in
     elim (is_same x e) as (λ b. is_same x e ≡ b → (b || list_any (is_same x) (table_entries (offset + length r) (at + length (stored t)) rs ts)) ≡ false) [
       | true ↦ λ s. absurd (omega (arith, of, lt, entry_offset offset at r t a.0 near.0, ap offset_in (tied_is x e s)))
-      | false ↦ λ _. others x k r (offset + length r) (at + length (stored t)) rs ts of (omega (arith, lt)) a.2 near.1
+      | false ↦ λ _. others x k r (offset + length r) (at + length (stored t)) rs ts of (omega (arith, lt)) a.2 near.2
     ] refl
 
-pub apart : (low : List ℕ) (offset at : ℕ) (rs ts : List (List ℕ)) → InOrder Archive low rs → AreNear offset rs → AreDistinct (table_entries offset at rs ts)
+pub apart : (low : List ℕ) (offset at : ℕ) (rs ts : List (List ℕ)) → InOrder Archive low rs → AreNear offset at rs ts → AreDistinct (table_entries offset at rs ts)
 apart low offset at [] ts a near = tt
 apart low offset at (r ∷ rs) [] a near = tt
 apart low offset at (r ∷ rs) (t ∷ ts) a near = (
-  others (table_entry offset at r t) offset r (offset + length r) (at + length (stored t)) rs ts (entry_offset offset at r t a.0 near.0) (omega (arith, nonempty r a.0)) a.2 near.1,
-  apart r (offset + length r) (at + length (stored t)) rs ts a.2 near.1,
+  others (table_entry offset at r t) offset r (offset + length r) (at + length (stored t)) rs ts (entry_offset offset at r t a.0 near.0) (omega (arith, nonempty r a.0)) a.2 near.2,
+  apart r (offset + length r) (at + length (stored t)) rs ts a.2 near.2,
 )
 
 -- ---- in byte order
@@ -83,7 +91,7 @@ length-table_entries offset at (r ∷ rs) [] each = absurd each
 length-table_entries offset at (r ∷ rs) (t ∷ ts) each = omega (arith, length-table_entries (offset + length r) (at + length (stored t)) rs ts each.1)
 
 -- as many entries as records
-pub as_many : (rs ts : List (List ℕ)) → InOrder Archive [] rs → AreNear 8 rs → AllZip IsTableOf rs ts → length (entries_of rs ts) ≡ length rs
+pub as_many : (rs ts : List (List ℕ)) → InOrder Archive [] rs → AreNear 8 8 rs ts → AllZip IsTableOf rs ts → length (entries_of rs ts) ≡ length rs
 unfolding entries_of
 as_many rs ts ordered near each =
     let es : List (List ℕ) = table_entries 8 8 rs ts in

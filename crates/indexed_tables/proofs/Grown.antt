@@ -49,10 +49,10 @@ pub front_long : (tables : List (List ℕ)) → length (front_of tables) ≡ 8 +
 front_long tables = length-append index_magic (tables_text tables)
 
 -- the entry and the table of one record more
-pub tabled_more : (records tables : List (List ℕ)) (before after : List TableEntry) (e : TableEntry) (r t : List ℕ) (offset done : ℕ) → AreTabled records tables before → after ≡ before ++ e ∷ [] → IsTableOf r t → offset ≡ 8 + length (concat records) → offset < 2 ^ 64 → done ≡ 8 + length (tables_text tables)
+pub tabled_more : (records tables : List (List ℕ)) (before after : List TableEntry) (e : TableEntry) (r t : List ℕ) (offset done : ℕ) → AreTabled records tables before → after ≡ before ++ e ∷ [] → IsTableOf r t → offset ≡ 8 + length (concat records) → offset < 2 ^ 64 → done ≡ 8 + length (tables_text tables) → done < 2 ^ 64
     → entry_bytes e ≡ table_entry offset done r t → AreTabled (records ++ r ∷ []) (tables ++ t ∷ []) after
-tabled_more records tables before after e r t offset done are grown table o near d is = record {
-  near = near_push 8 records r are.near (omega (arith, o, near));
+tabled_more records tables before after e r t offset done are grown table o near d close is = record {
+  near = near_push 8 8 records tables r t are.each are.near (omega (arith, o, near)) (omega (arith, d, close));
   each = AllZip-push IsTableOf records tables r t are.each table;
   entries_are =
       ap (map entry_bytes) grown ∙ map-append entry_bytes before (e ∷ [])
@@ -70,13 +70,13 @@ module _ {W : Type 0} (a b c : Option (List ℕ)) (held : W → Option (List ℕ
   front_then t end put = subst (λ (x : List ℕ). IsPut held failures old new 0 x end) (front_push h.tables t) (puts_then held failures (λ (n : ℕ). n) old mid new 0 done (front_of h.tables) (stored t) (Ok end) h.put put)
 
   -- one record more was read, and its table written
-  pub put_more : (more : List TableEntry) (e : TableEntry) (t : List ℕ) (end : ℕ) → Passes b c before after → before.offset < 2 ^ 64 → more ≡ entries ++ e ∷ [] → IsTableOf after.last t → entry_bytes e ≡ table_entry before.offset done after.last t → IsPut held failures mid new done (stored t) end
+  pub put_more : (more : List TableEntry) (e : TableEntry) (t : List ℕ) (end : ℕ) → Passes b c before after → (before.offset < 2 ^ 64) × (done < 2 ^ 64) → more ≡ entries ++ e ∷ [] → IsTableOf after.last t → entry_bytes e ≡ table_entry before.offset done after.last t → IsPut held failures mid new done (stored t) end
       → HasPut a c held failures old new more after end
   put_more more e t end passes near grown table is put = record {
     records = h.records ++ after.last ∷ [];
     tables = h.tables ++ t ∷ [];
     read = HasRead-grows Archive a b c h.records before after h.read passes;
-    tabled = tabled_more h.records h.tables entries more e after.last t before.offset done h.tabled grown table h.read.offset_is near (omega (arith, h.put.size_is, front_long h.tables)) is;
+    tabled = tabled_more h.records h.tables entries more e after.last t before.offset done h.tabled grown table h.read.offset_is near.0 (omega (arith, h.put.size_is, front_long h.tables)) near.1 is;
     put = front_then t end put;
   }
 

@@ -32,7 +32,7 @@ use Rattle.table_index.specs.Text.{end_of, index_text}
 use Rattle.table_index.specs.declared.entry.TableEntry.{TableEntry}
 use Rattle.indexed_tables.specs.Content.{IsIndexOf, IsTableOf, entries_of, front_of, table_entries, tables_text}
 use Rattle.indexed_tables.specs.InnerMaking.{BlamesMaking, HasPutAll, HasStoppedMaking, IsBegun, TellsVersionMaking}
-use Rattle.indexed_tables.specs.Making.{HasFirst, IsMade, IsStopped, Makes}
+use Rattle.indexed_tables.specs.Making.{AreNear, HasFirst, IsMade, IsStopped, Makes}
 use Rattle.indexed_tables.specs.declared.fault.MakingFault.{MakingFault}
 use Rattle.indexed_tables.specs.declared.fault.MakingFault.TheVariants.{Archive as Refused, Write as Wrote}
 use Rattle.indexed_tables.proofs.Apart.{as_many}
@@ -108,7 +108,7 @@ module _ {R W : Type 0} (left : R → Option (List ℕ)) (failures : R → ℕ) 
     text : IfSome (left old) (λ t. t ≡ written content)
     text = text_along (left old) (text_of Archive_format all.records) (written content) (sym (written-records all.records all.read.ordered)) (taken_whole (left old) (left new) (text_of Archive_format all.records) all.read.taken at_end)
 
-    is_index : IsIndexOf content index
+    abbrev is_index : IsIndexOf content index
     is_index = record {
       tables = all.tables;
       each = subst (λ (rs : List (List ℕ)). AllZip IsTableOf rs all.tables) (sym listed) all.tabled.each;
@@ -132,6 +132,7 @@ module _ {R W : Type 0} (left : R → Option (List ℕ)) (failures : R → ℕ) 
           text = text;
           index = index;
           is_index = is_index;
+          near = subst (λ (rs : List (List ℕ)). AreNear 8 8 rs all.tables) (sym listed) all.tabled.near;
           put = record { written = puts.gained; records_are = count ∙ records_are; bytes_are = omega (arith, puts.size_is); unfailed = puts.unfailed };
         }
 

@@ -1,5 +1,5 @@
 -- An index that is made, record by record: the words of the inner functions. No contract of a public one has them.
-use Rattle.std.specs.Prelude.{◌≡◌, ◌<◌, ◌≤◌, ◌+◌, ◌^◌, ℕ, List, [], ◌∷◌, ◌++◌, ◌⊎◌, length, map, take, Option}
+use Rattle.std.specs.Prelude.{◌≡◌, ◌≤◌, ◌^◌, ℕ, List, [], ◌++◌, ◌⊎◌, length, map, take, Option}
 use Rattle.std.specs.List.{AllZip, concat}
 use Rattle.std.specs.Io.KnownBytes.{Appends, Consumes}
 use Rattle.byte_device.specs.Writes.{IsPut, StopsPut}
@@ -17,7 +17,7 @@ use Rattle.archive_index.specs.declared.fault.IndexingFault.TheVariants.{Archive
 use Rattle.table_index.specs.Entry.{entry_bytes}
 use Rattle.table_index.specs.declared.entry.TableEntry.{TableEntry}
 use Rattle.indexed_tables.specs.Content.{IsTableOf, front_of, table_entries}
-use Rattle.indexed_tables.specs.Making.{IsTooFar}
+use Rattle.indexed_tables.specs.Making.{AreNear, IsTooFar}
 use Rattle.indexed_tables.specs.declared.fault.MakingFault.{MakingFault}
 use Rattle.indexed_tables.specs.declared.fault.MakingFault.TheVariants.{Archive as Refused, Write as Wrote}
 use Rattle.indexed_tables.specs.declared.fault.TableFault.{TableFault}
@@ -31,14 +31,9 @@ StopsTable held failures old new done IsTable OutOfMemory =
 StopsTable held failures old new done IsTable (Write fault) = (table : List ℕ) × IsTable table
     × StopsPut held failures old new done (stored table) fault.written
 
--- each record begins below 2^64, the first one here
-abbrev pub AreNear : ℕ → List (List ℕ) → Type 0
-AreNear offset [] = Unit {0}
-AreNear offset (r ∷ rs) = (offset < 2 ^ 64) × AreNear (offset + length r) rs
-
 -- these are the tables of the records, and their entries
 pub record AreTabled (records tables : List (List ℕ)) (entries : List TableEntry) : Type 0 where
-  pub near : AreNear 8 records
+  pub near : AreNear 8 8 records tables
   pub each : AllZip IsTableOf records tables
   pub entries_are : map entry_bytes entries ≡ table_entries 8 8 records tables
 

@@ -1,11 +1,13 @@
 -- What comes of making the index of an archive as it comes.
-use Rattle.std.specs.Prelude.{◌≡◌, ◌≤◌, ◌^◌, ℕ, List, [], ◌∷◌, ◌++◌, ◌⊎◌, length, Option, Some, IfSome, Result, Ok, Err}
+use Rattle.std.specs.Prelude.{◌≡◌, ◌+◌, ◌<◌, ◌≤◌, ◌^◌, ℕ, List, [], ◌∷◌, ◌++◌, ◌⊎◌, length, Option, Some, IfSome, Result, Ok, Err}
 use Rattle.std.specs.List.{AllZip, concat}
 use Rattle.std.specs.FinSet as set
 use Rattle.std.specs.Io.KnownBytes.{Appends, Consumes}
 use Rattle.byte_device.specs.Devices.{FailedIn, Stream}
 use Rattle.byte_device.specs.Writes.{WritesFirst}
 use Rattle.byte_device.specs.declared.writing.WriteFault.{WriteFault}
+use Rattle.join_core.specs.Listing.{listing}
+use Rattle.checked_pages.specs.Pages.{stored}
 use Rattle.archive_core.specs.Content.{Operations, IsContent}
 use Rattle.archive_records.specs.Kind.{magic}
 use Rattle.archive_records.specs.Reading.{IsReadWhole}
@@ -21,6 +23,13 @@ use Rattle.indexed_tables.specs.Content.{IsIndexOf, IsTableOf, front_of}
 use Rattle.indexed_tables.specs.declared.fault.MakingFault.{MakingFault}
 use Rattle.indexed_tables.specs.declared.fault.MakingFault.TheVariants.{Archive as Refused, Write}
 
+-- Each record begins below 2^64 in the archive, and its table in the index; the first ones begin here.
+abbrev pub AreNear : ℕ → ℕ → List (List ℕ) → List (List ℕ) → Type 0
+AreNear offset at [] tables = Unit {0}
+AreNear offset at (r ∷ rs) [] = Unit {0}
+AreNear offset at (r ∷ rs) (t ∷ ts) =
+    (offset < 2 ^ 64) × (at < 2 ^ 64) × AreNear (offset + length r) (at + length (stored t)) rs ts
+
 -- The whole input is the text of one content, in version 2, and its index was written, with these sizes.
 pub record IsMade {R W : Type 0} (input : Stream R) (out : Stream W) (sizes : Sizes) : Type 0 where
   pub content : Operations
@@ -28,6 +37,7 @@ pub record IsMade {R W : Type 0} (input : Stream R) (out : Stream W) (sizes : Si
   pub text : IfSome (input.bytes input.old) (λ text. text ≡ written content)
   pub index : List ℕ
   pub is_index : IsIndexOf content index
+  pub near : AreNear 8 8 (listing content) is_index.tables
   pub put : IsWrittenWhole out.bytes out.failures out.old out.new (set.len content) index sizes
 
 -- If the input is the text of a content, the writer has exactly the first n bytes of its index, and fewer than all.

@@ -37,7 +37,7 @@ fn put_record<W: Sink>(
     done: u128,
 ) -> Result<(TableEntry, u128), MakingFault>
     requires { IsRecord reader.now.last }
-    ensures near { OnOk result (before < 2 ^ 64) }
+    ensures near { OnOk result ((before < 2 ^ 64) × (done < 2 ^ 64)) }
     ensures short { IfOk result (λ put. put.1 < 2 ^ 80) }
     ensures put { IfOk result (λ put. (table : List ℕ) × IsTableOf reader.now.last table
         × (entry_bytes put.0 ≡ table_entry before done reader.now.last table)

@@ -54,12 +54,12 @@ taking-preserved g c =
     let step = rw c.in-Ok-Item.field-0-is at c.in-Ok-Item.ensures in
     let p = c.in_ok-entry.ensures.put in
     let before = c.taking.reader.offset in
-    let near : before < 2 ^ 64 = omega (arith, c.in_ok-entry.ensures.near, c.offset-before.ensures) in
+    let near : before < 2 ^ 64 = omega (arith, c.in_ok-entry.ensures.near.0, c.offset-before.ensures) in
     let entry : entry_bytes c.in_ok-entry.entry ≡ table_entry before c.taking.done c.advance.new.self.last p.0 = p.2 ∙ ap (λ (n : ℕ). table_entry n c.taking.done c.advance.new.self.last p.0) c.offset-before.ensures in
     record {
       gathers = λ a first read put.
           put_more a _ _ g.W.Sink.held g.W.Sink.failures first c.taking.w c.put_record.new.w c.taking.entries.items c.taking.reader c.advance.new.self c.taking.done (c.taking.invariant.gathers a first read put)
-          c.push.new.self.items c.in_ok-entry.entry p.0 c.in_ok-entry.end step.0 near c.in_default-push.ensures.items p.1 entry p.3;
+          c.push.new.self.items c.in_ok-entry.entry p.0 c.in_ok-entry.end step.0 (near, c.in_ok-entry.ensures.near.1) c.in_default-push.ensures.items p.1 entry p.3;
       file = step.0.file_is ∙ c.taking.invariant.file;
       unfailed = step.1 ∙ c.taking.invariant.unfailed;
       short = c.in_ok-entry.ensures.short;
