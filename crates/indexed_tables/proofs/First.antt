@@ -2,7 +2,7 @@
 use Rattle.std.proofs.Common.{◌≡◌, ℕ, ◌+◌, ◌<◌, ◌≤◌, List, [], ◌∷◌, ◌++◌, length, take, Option, Some, None, refl, sym, ap, ◌∙◌, ◌⊎◌, ◌^◌, subst, inl, inr, arith, append_assoc, length-append}
 use Rattle.std.specs.List.{AllZip, concat, flat_map}
 use Rattle.std.specs.Io.KnownBytes.{Appends, Consumes}
-use Rattle.std.proofs.lemmas.List.{append-nil, take-append-le, take_at}
+use Rattle.std.proofs.lemmas.List.{append-nil, take-append-le}
 use Rattle.std.proofs.lemmas.List.Concat.{flat_map-append}
 use Rattle.join_core.specs.Listing.{listing}
 use Rattle.byte_device.specs.Writes.{WritesFirst}
@@ -17,11 +17,10 @@ use Rattle.archive_records.proofs.Puts.{concat-push}
 use Rattle.archive_records.proofs.Longest.{Before, behind_magic, end-stops, longest}
 use Rattle.archive_index.specs.Text.{index_magic}
 use Rattle.indexed_tables.specs.Content.{IsIndexOf, IsTableOf, entries_of, front_of, tables_text}
-use Rattle.indexed_tables.specs.Making.{IsTooFar}
+use Rattle.indexed_tables.specs.Making.{HasBegun, IsBegun, IsTooFar}
 use Rattle.table_index.specs.Text.{end_of, index_text}
 use Rattle.indexed_tables.proofs.Contents.{same_table}
 use Rattle.table_index.proofs.Texts.{end_long}
-use Rattle.indexed_tables.specs.InnerMaking.{HasBegun, IsBegun}
 
 -- records that were read of the text of a content begin its records
 records_begin : (o : Operations) (records : List (List ℕ)) (rest : List ℕ) (b : Option (List ℕ)) → IsContent o → InOrder Archive [] records → AreApart Archive records → Consumes (Some (written o)) b (magic ++ (concat records ++ rest))
@@ -91,7 +90,7 @@ n_before text (Some left) records next taken n =
     let all : List ℕ = concat (records ++ next ∷ []) in
     omega (arith, n, ap length taken, length-append (magic ++ (all ++ [])) left, length-append magic (all ++ []), length-append all [], ap length (concat-push records next), length-append (concat records) next, length-append magic (concat records))
 
--- the records that were taken, and the front that was written, before a record that stands too far
+-- the records that were taken, and the front that was written, before what stands too far
 module _ (a b c d : Option (List ℕ)) (far : IsTooFar a b c d) (o : Operations) (index : List ℕ) (content : IsContent o) (known : a ≡ Some (written o)) (is : IsIndexOf o index) where
   taken_far : Consumes (Some (written o)) b (magic ++ (concat (far.records ++ far.next ∷ []) ++ []))
   taken_far =
@@ -102,16 +101,6 @@ module _ (a b c d : Option (List ℕ)) (far : IsTooFar a b c d) (o : Operations)
   front_far =
       let there = records_begin o (far.records ++ far.next ∷ []) [] b content far.ordered far.apart taken_far in
       front_begins o index far.records far.tables (far.next ∷ there.0) is (there.1 ∙ append_assoc far.records (far.next ∷ []) there.0) far.each
-
-  -- what was written
-  pub first_of_far : WritesFirst c d index (length (front_of far.tables))
-  first_of_far =
-      let front = front_far in
-      let same : take (length (front_of far.tables)) index ≡ front_of far.tables = ap (take (length (front_of far.tables))) front.whole ∙ take_at (front_of far.tables) front.more (length (front_of far.tables)) refl in
-      record {
-        within = omega (arith, ap length front.whole, length-append (front_of far.tables) front.more, front.some);
-        gained = subst (Appends c d) (sym same) far.gained;
-      }
 
   -- so the archive or its index is too long
   pub long_far : (2 ^ 64 ≤ length (written o)) ⊎ (2 ^ 64 ≤ length index)

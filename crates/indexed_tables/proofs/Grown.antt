@@ -20,7 +20,8 @@ use Rattle.archive_index.specs.Text.{index_magic}
 use Rattle.indexed_tables.specs.Content.{IsTableOf, front_of, table_entries, table_entry, tables_text}
 use Rattle.table_index.specs.Entry.{entry_bytes}
 use Rattle.table_index.specs.declared.entry.TableEntry.{TableEntry}
-use Rattle.indexed_tables.specs.InnerMaking.{AreTabled, HasBegun, HasPut, HasPutAll}
+use Rattle.indexed_tables.specs.InnerMaking.{AreTabled, HasPut, HasPutAll}
+use Rattle.indexed_tables.specs.Making.{HasBegun}
 use Rattle.indexed_tables.proofs.Apart.{near_push}
 
 -- one record and its table more

@@ -31,13 +31,13 @@ use Rattle.table_index.specs.Entry.{entry_bytes}
 use Rattle.table_index.specs.Text.{end_of, index_text}
 use Rattle.table_index.specs.declared.entry.TableEntry.{TableEntry}
 use Rattle.indexed_tables.specs.Content.{IsIndexOf, IsTableOf, entries_of, front_of, table_entries, tables_text}
-use Rattle.indexed_tables.specs.InnerMaking.{BlamesMaking, HasPutAll, HasStoppedMaking, IsBegun, TellsVersionMaking}
-use Rattle.indexed_tables.specs.Making.{AreNear, HasFirst, IsMade, IsStopped, Makes}
+use Rattle.indexed_tables.specs.InnerMaking.{BlamesMaking, HasPutAll, HasStoppedMaking, TellsVersionMaking}
+use Rattle.indexed_tables.specs.Making.{AreNear, HasFirst, HasReadWhole, IsBegun, IsMade, IsStopped, Makes}
 use Rattle.indexed_tables.specs.declared.fault.MakingFault.{MakingFault}
 use Rattle.indexed_tables.specs.declared.fault.MakingFault.TheVariants.{Archive as Refused, Write as Wrote}
 use Rattle.indexed_tables.proofs.Apart.{as_many}
 use Rattle.indexed_tables.proofs.Contents.{one_of_content}
-use Rattle.indexed_tables.proofs.First.{first_of, first_of_far}
+use Rattle.indexed_tables.proofs.First.{first_of}
 
 -- the bytes that were written
 gained_bytes : (a b c d : Option (List ℕ)) (n : ℕ) → IsBegun a b c d n → (bytes : List ℕ) × Appends c d bytes × (n ≡ length bytes)
@@ -52,6 +52,7 @@ module _ {R W : Type 0} (left : R → Option (List ℕ)) (failures : R → ℕ) 
     version = version;
     unfailed = s.1;
     count = s.2.0;
+    begun = s.2.1;
     first = λ o index content known is. first_of (left old) (left new) (held start) (held end) s.2.0 o index s.2.1 content known is;
   }
   stopped (Refused OldArchive) s blames version = record {
@@ -59,14 +60,16 @@ module _ {R W : Type 0} (left : R → Option (List ℕ)) (failures : R → ℕ) 
     version = version;
     unfailed = s.1;
     count = s.2.0;
+    begun = s.2.1;
     first = λ o index content known is. first_of (left old) (left new) (held start) (held end) s.2.0 o index s.2.1 content known is;
   }
   stopped (Refused TooLong) s blames version = record {
     refused = (s.0, blames);
     version = version;
     unfailed = s.1;
-    count = length (front_of s.0.tables);
-    first = λ o index content known is. first_of_far (left old) (left new) (held start) (held end) s.0 o index content known is;
+    count = s.2.0;
+    begun = s.2.1;
+    first = λ o index content known is. first_of (left old) (left new) (held start) (held end) s.2.0 o index s.2.1 content known is;
   }
   stopped (Wrote fault) s blames version =
       let gained = gained_bytes (left old) (left new) (held start) (held end) fault.written s.1 in
@@ -76,6 +79,7 @@ module _ {R W : Type 0} (left : R → Option (List ℕ)) (failures : R → ℕ) 
         bytes = gained.0;
         took = gained.1;
         count = gained.2;
+        begun = inl s.1;
         first = λ o index content known is. first_of (left old) (left new) (held start) (held end) fault.written o index s.1 content known is;
       }
 
@@ -155,5 +159,6 @@ module _ {R W : Type 0} (left : R → Option (List ℕ)) (failures : R → ℕ) 
           bytes = take fault.written index;
           took = first.gained;
           count = sym (length-take-le fault.written index (omega (arith, first.within)));
+          begun = inr (record { content = content; whole = whole; index = index; is_index = is_index; first = first });
           first = λ o other is_content known is_other. subst (λ (t : List ℕ). WritesFirst (held start) (held end) t fault.written) (sym (same_index o other is_content known is_other)) first;
         }

@@ -24,7 +24,8 @@ use Rattle.archive_index.proofs.Blamed.{indexing_behind}
 use Rattle.archive_index.proofs.Made.{wanted}
 use Rattle.table_index.specs.declared.entry.TableEntry.{TableEntry}
 use Rattle.indexed_tables.specs.Content.{IsTableOf, front_of}
-use Rattle.indexed_tables.specs.InnerMaking.{BlamesMaking, HasBegun, HasPut, HasPutAll, HasStoppedMaking, IsBegun, StopsRecord}
+use Rattle.indexed_tables.specs.InnerMaking.{BlamesMaking, HasPut, HasPutAll, HasStoppedMaking, StopsRecord}
+use Rattle.indexed_tables.specs.Making.{HasBegun, IsBegun}
 use Rattle.indexed_tables.specs.declared.fault.MakingFault.{MakingFault}
 use Rattle.indexed_tables.specs.declared.fault.MakingFault.TheVariants.{Archive as Refused, Write as Wrote}
 use Rattle.indexed_tables.proofs.Grown.{begun_in, begun_next, begun_where}
@@ -67,6 +68,7 @@ module _ {W : Type 0} (a b c : Option (List ℕ)) (held : W → Option (List ℕ
           ];
         },
         put.unfailed,
+        (done, inr (begun_where a c held failures old new h.records h.tables done _ (Stopped-unkept Archive a b c h.records before after h.read passes) h.tabled.each put)),
       )
 
   -- the table of the next record was not written

@@ -1,13 +1,12 @@
 -- An index that is made, record by record: the words of the inner functions. No contract of a public one has them.
-use Rattle.std.specs.Prelude.{◌≡◌, ◌≤◌, ◌^◌, ℕ, List, [], ◌++◌, ◌⊎◌, length, map, take, Option}
-use Rattle.std.specs.List.{AllZip, concat}
+use Rattle.std.specs.Prelude.{◌≡◌, ◌≤◌, ◌^◌, ℕ, List, [], ◌++◌, ◌⊎◌, map, Option}
+use Rattle.std.specs.List.{AllZip}
 use Rattle.std.specs.Io.KnownBytes.{Appends, Consumes}
 use Rattle.byte_device.specs.Writes.{IsPut, StopsPut}
 use Rattle.byte_device.specs.Devices.{FailedIn}
 use Rattle.checked_pages.specs.Pages.{stored}
-use Rattle.archive_records.specs.Kind.{magic, old_magic}
+use Rattle.archive_records.specs.Kind.{old_magic}
 use Rattle.archive_records.specs.Reader.{HasRead, HasReadAll, HasStopped, Position}
-use Rattle.archive_records.specs.Text.{AreApart, InOrder}
 use Rattle.archive_records.specs.declared.format.Format.TheVariants.{Archive}
 use Rattle.archive_records.specs.declared.fault.RecordFaultKind.TheVariants.{OutOfMemory as Wanted}
 use Rattle.archive_records.specs.declared.kind.TextKind.TheVariants.{Archive as Archive_text}
@@ -17,7 +16,7 @@ use Rattle.archive_index.specs.declared.fault.IndexingFault.TheVariants.{Archive
 use Rattle.table_index.specs.Entry.{entry_bytes}
 use Rattle.table_index.specs.declared.entry.TableEntry.{TableEntry}
 use Rattle.indexed_tables.specs.Content.{IsTableOf, front_of, table_entries}
-use Rattle.indexed_tables.specs.Making.{AreNear, IsTooFar}
+use Rattle.indexed_tables.specs.Making.{AreNear, IsBegun, IsTooFar}
 use Rattle.indexed_tables.specs.declared.fault.MakingFault.{MakingFault}
 use Rattle.indexed_tables.specs.declared.fault.MakingFault.TheVariants.{Archive as Refused, Write as Wrote}
 use Rattle.indexed_tables.specs.declared.fault.TableFault.{TableFault}
@@ -55,24 +54,6 @@ pub record HasPutAll {W : Type 0} (a b : Option (List ℕ)) (held : W → Option
   pub tabled : AreTabled records tables entries
   pub put : IsPut held failures old new 0 (front_of tables) done
 
--- The magic of an archive, these records and what came after them were read, and of the front of its index with these
--- tables the first n bytes were written.
-pub record HasBegun (left_old left_new held_old held_new : Option (List ℕ)) (n : ℕ) : Type 0 where
-  pub records : List (List ℕ)
-  pub tables : List (List ℕ)
-  pub rest : List ℕ
-  pub taken : Consumes left_old left_new (magic ++ (concat records ++ rest))
-  pub ordered : InOrder Archive [] records
-  pub apart : AreApart Archive records
-  pub each : AllZip IsTableOf records tables
-  pub within : n ≤ length (front_of tables)
-  pub gained : Appends held_old held_new (take n (front_of tables))
-
--- the same, or nothing was written yet
-abbrev pub IsBegun : Option (List ℕ) → Option (List ℕ) → Option (List ℕ) → Option (List ℕ) → ℕ → Type 0
-IsBegun left_old left_new held_old held_new n =
-    ((n ≡ 0) × Appends held_old held_new []) ⊎ HasBegun left_old left_new held_old held_new n
-
 -- why the table of a record was not written, which stands so many bytes after the archive's beginning
 abbrev pub StopsRecord : {W : Type 0} → (W → Option (List ℕ)) → (W → ℕ) → W → W → ℕ → ℕ → List ℕ → MakingFault → Type 0
 StopsRecord held failures old new before done r (Refused TooLong) =
@@ -93,6 +74,7 @@ HasStoppedMaking a b held failures old new (Refused OldArchive) =
     Consumes a b old_magic × (failures new ≡ failures old) × ((n : ℕ) × IsBegun a b (held old) (held new) n)
 HasStoppedMaking a b held failures old new (Refused TooLong) =
     IsTooFar a b (held old) (held new) × (failures new ≡ failures old)
+    × ((n : ℕ) × IsBegun a b (held old) (held new) n)
 HasStoppedMaking a b held failures old new (Wrote fault) =
     FailedIn (failures old) (failures new) × IsBegun a b (held old) (held new) fault.written
 

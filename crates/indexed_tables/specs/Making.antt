@@ -1,5 +1,5 @@
 -- What comes of making the index of an archive as it comes.
-use Rattle.std.specs.Prelude.{◌≡◌, ◌+◌, ◌<◌, ◌≤◌, ◌^◌, ℕ, List, [], ◌∷◌, ◌++◌, ◌⊎◌, length, Option, Some, IfSome, Result, Ok, Err}
+use Rattle.std.specs.Prelude.{◌≡◌, ◌+◌, ◌<◌, ◌≤◌, ◌^◌, ℕ, List, [], ◌∷◌, ◌++◌, ◌⊎◌, length, take, Option, Some, IfSome, Result, Ok, Err}
 use Rattle.std.specs.List.{AllZip, concat}
 use Rattle.std.specs.FinSet as set
 use Rattle.std.specs.Io.KnownBytes.{Appends, Consumes}
@@ -58,6 +58,32 @@ pub record IsTooFar (left_old left_new held_old held_new : Option (List ℕ)) : 
   pub gained : Appends held_old held_new (front_of tables)
   pub far : (2 ^ 64 ≤ length (magic ++ concat records)) ⊎ (2 ^ 64 ≤ length (front_of tables))
 
+-- Of an input that stood so before and so after, the magic, these records and what stands behind them were taken; of the
+-- front of their index the writer gained the first n bytes.
+pub record HasBegun (left_old left_new held_old held_new : Option (List ℕ)) (n : ℕ) : Type 0 where
+  pub records : List (List ℕ)
+  pub tables : List (List ℕ)
+  pub rest : List ℕ
+  pub taken : Consumes left_old left_new (magic ++ (concat records ++ rest))
+  pub ordered : InOrder Archive_format [] records
+  pub apart : AreApart Archive_format records
+  pub each : AllZip IsTableOf records tables
+  pub within : n ≤ length (front_of tables)
+  pub gained : Appends held_old held_new (take n (front_of tables))
+
+-- the same, or nothing was gained yet
+abbrev pub IsBegun : Option (List ℕ) → Option (List ℕ) → Option (List ℕ) → Option (List ℕ) → ℕ → Type 0
+IsBegun left_old left_new held_old held_new n =
+    ((n ≡ 0) × Appends held_old held_new []) ⊎ HasBegun left_old left_new held_old held_new n
+
+-- The whole input is the text of a content, and the writer gained the first n bytes of its index, and fewer than all.
+pub record HasReadWhole {R W : Type 0} (input : Stream R) (out : Stream W) (n : ℕ) : Type 0 where
+  pub content : Operations
+  pub whole : IsReadWhole Archive content input.bytes input.failures input.old input.new
+  pub index : List ℕ
+  pub is_index : IsIndexOf content index
+  pub first : WritesFirst (out.bytes out.old) (out.bytes out.new) index n
+
 -- Why no index is made of an archive: as none without tables is made, or a record or a table would stand too far.
 abbrev pub RefusesToMake : {R W : Type 0} → Stream R → Stream W → IndexingFault → Type 0
 RefusesToMake input out TooLong =
@@ -65,12 +91,14 @@ RefusesToMake input out TooLong =
     × (input.failures input.new ≡ input.failures input.old)
 RefusesToMake input out fault = RefusesToIndex input.bytes input.failures input.old input.new fault
 
--- The archive is refused, or has no index. The writer has the first bytes of one, and did not fail.
+-- The archive is refused, or has no index. The writer has the first bytes of one, and did not fail: of the index of the
+-- records that came, and so of each content of which the input is the text.
 pub record IsRefused {R W : Type 0} (input : Stream R) (out : Stream W) (fault : IndexingFault) : Type 0 where
   pub refused : RefusesToMake input out fault
   pub version : TellsVersion (input.bytes input.old) fault
   pub unfailed : out.failures out.new ≡ out.failures out.old
   pub count : ℕ
+  pub begun : IsBegun (input.bytes input.old) (input.bytes input.new) (out.bytes out.old) (out.bytes out.new) count
   pub first : HasFirst input out count
 
 -- The writer failed, after it had taken so many first bytes of the index. The reader did not.
@@ -80,6 +108,8 @@ pub record IsStopped {R W : Type 0} (input : Stream R) (out : Stream W) (fault :
   pub bytes : List ℕ
   pub took : Appends (out.bytes out.old) (out.bytes out.new) bytes
   pub count : fault.written ≡ length bytes
+  pub begun : IsBegun (input.bytes input.old) (input.bytes input.new) (out.bytes out.old) (out.bytes out.new) fault.written
+      ⊎ HasReadWhole input out fault.written
   pub first : HasFirst input out fault.written
 
 -- What came of making the index of an archive.
