@@ -1,8 +1,8 @@
 -- The index of a content is read as one.
-use Rattle.std.proofs.Common.{◌≡◌, ℕ, ◌+◌, ◌*◌, ◌<◌, ◌≤◌, ◌^◌, Bool, true, false, not, cond, ◌||◌, ◌&&◌, eqb, List, [], ◌∷◌, ◌++◌, length, take, drop, get_or, refl, sym, ap, ◌∙◌, subst, inl, inr, arith, length-append, nat_le}
+use Rattle.std.proofs.Common.{◌≡◌, ℕ, ◌+◌, ◌<◌, ◌≤◌, ◌^◌, true, cond, ◌||◌, ◌&&◌, eqb, List, [], ◌∷◌, ◌++◌, length, drop, get_or, refl, sym, ap, ◌∙◌, subst, inl, inr, arith, length-append, nat_le}
 use Rattle.std.specs.Prelude.{Ok}
 use Rattle.std.specs.Int.{w64, from_be_bytes}
-use Rattle.std.specs.List.{AllByRecursion, AllZip, Contains, concat, list_any}
+use Rattle.std.specs.List.{AllByRecursion, AllZip, concat, list_any}
 use Rattle.std.specs.List.Sorted.{IsPermutation, IsStrictlySortedBy}
 use Rattle.std.specs.Ordering.{is_lt, nat_cmp}
 use Rattle.std.specs.declared.cmp.Ordering.TheVariants.{Less}
@@ -11,15 +11,13 @@ use Rattle.std.specs.FinSet as set
 use Rattle.std.specs.Str.{bytes_eq}
 use Rattle.std.proofs.lemmas.Bool.{cases_Bool, le-leb}
 use Rattle.std.proofs.lemmas.List.{drop_at}
-use Rattle.std.proofs.lemmas.List.Elements.{All-contains, All-from_recursion, recursion_from_All}
+use Rattle.std.proofs.lemmas.List.Elements.{All-contains, All-from_recursion}
 use Rattle.std.proofs.lemmas.List.Sorted.{IsPermutation-sym}
 use Rattle.std.proofs.lemmas.Slice.Eq.{bytes_eq-Decides}
-use Rattle.sha2.specs.Sha256.{sha256}
 use Rattle.sha2.proofs.Facts256.{length-sha256}
 use Rattle.join_core.specs.Listing.{ascending_of, listing}
 use Rattle.join_core.proofs.Listing.{listed}
-use Rattle.checked_pages.specs.Pages.{page_digests, pages_in, stored}
-use Rattle.checked_pages.proofs.PageLemmas.{length-digests}
+use Rattle.checked_pages.specs.Pages.{page_digests, stored}
 use Rattle.table_index.specs.Entry.{zeros}
 use Rattle.archive_core.specs.Content.{IsContent, Operations, is_admission}
 use Rattle.archive_core.specs.Record.{IsRecord}
@@ -29,12 +27,12 @@ use Rattle.archive_records.specs.declared.format.Format.TheVariants.{Archive}
 use Rattle.archive_records.proofs.Puts.{bytes_same}
 use Rattle.archive_records.proofs.Contents.{InOrder-listing, along, containing, order}
 use Rattle.archive_index.specs.Text.{index_magic}
-use Rattle.archive_index.specs.Entry.{IsPlacedEntry, has_kind, has_length, has_tag, length_in, offset_in, placed_entry}
+use Rattle.archive_index.specs.Entry.{has_kind, has_length, has_tag, length_in, offset_in, placed_entry}
 use Rattle.archive_index.proofs.Placed.{entry_long, is_placed, length_is, offset_is, tag_is}
 use Rattle.archive_index.proofs.Sums.{AreApart as AreDistinct, any_ascending_of, is_same, listing_of, nonempty, text_length}
 use Rattle.indexed_tables.specs.Content.{IsIndexOf, IsTableOf, claim_of, entries_of, table_entries, table_entry, tables_text}
 use Rattle.table_index.specs.Entry.{claim_at, claim_bytes, claim_in, has_claim, no_claim, stored_size}
-use Rattle.table_index.specs.Text.{AreLaid, FollowOn, IsIndexText, PassTests, end_of, index_text, test_entry}
+use Rattle.table_index.specs.Text.{FollowOn, IsIndexText, PassTests, end_of, test_entry}
 use Rattle.table_index.proofs.Entries.{byte_kept, claim_read, long_with, number_kept}
 use Rattle.table_index.proofs.Tests.{long_entries}
 use Rattle.indexed_tables.proofs.Apart.{apart, moved, near_all}

@@ -1,5 +1,5 @@
 -- What is read over any bytes is of the content that the index was made of.
-use Rattle.std.proofs.Common.{◌≡◌, ℕ, ◌+◌, ◌-◌, ◌*◌, ◌<◌, ◌^◌, List, [], ◌∷◌, ◌++◌, length, drop, refl, sym, ap, ◌∙◌, subst, arith, length-append, append_assoc}
+use Rattle.std.proofs.Common.{◌≡◌, ℕ, ◌+◌, ◌<◌, ◌^◌, List, [], ◌∷◌, length, drop, refl, sym, ap, ◌∙◌, arith, length-append}
 use Rattle.std.specs.Prelude.{Option}
 use Rattle.std.specs.Int.{w64, to_be_bytes}
 use Rattle.std.specs.List.{AllByRecursion, concat}
@@ -12,7 +12,6 @@ use Rattle.symbol_tables.specs.declared.nearest.NearestSymbol.{NearestSymbol}
 use Rattle.archive_core.specs.Content.{IsContent, Operations}
 use Rattle.archive_core.proofs.Records.{same_parts}
 use Rattle.archive_records.specs.Text.{written}
-use Rattle.archive_index.specs.Text.{index_magic}
 use Rattle.indexed_tables.specs.Asked.{DigestsTell, IsToldBy}
 use Rattle.indexed_tables.specs.Content.{EndAlike, HasTable, IsIndexOf, entries_of}
 use Rattle.table_index.specs.Entry.{claim_in}

@@ -1,5 +1,5 @@
 -- The entries of records that stand one after another: each is the entry of one of them alone.
-use Rattle.std.proofs.Common.{◌≡◌, ℕ, ◌+◌, ◌<◌, ◌≤◌, ◌^◌, Bool, true, false, ◌||◌, List, [], ◌∷◌, ◌++◌, length, refl, sym, ap, ◌∙◌, arith, length-append}
+use Rattle.std.proofs.Common.{◌≡◌, ℕ, ◌+◌, ◌<◌, ◌^◌, true, false, ◌||◌, List, [], ◌∷◌, ◌++◌, length, refl, sym, ap, ◌∙◌, arith, length-append}
 use Rattle.std.specs.Int.{from_be_bytes, w64}
 use Rattle.std.specs.List.{AllZip, concat, list_any}
 use Rattle.std.specs.List.Sorted.{IsPermutation}
@@ -16,7 +16,6 @@ use Rattle.archive_records.proofs.Contents.{order}
 use Rattle.archive_index.specs.Entry.{offset_in, placed_entry}
 use Rattle.archive_index.proofs.Placed.{entry_long, offset_is}
 use Rattle.archive_index.proofs.Sums.{AreApart as AreDistinct, any_ascending_of, is_same, listing_of, nonempty}
-use Rattle.table_index.specs.Entry.{claim_bytes}
 use Rattle.table_index.proofs.Entries.{number_kept}
 use Rattle.indexed_tables.specs.Content.{IsTableOf, claim_of, entries_of, table_entries, table_entry, tables_text}
 use Rattle.indexed_tables.specs.Making.{AreNear}

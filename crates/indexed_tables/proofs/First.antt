@@ -1,6 +1,6 @@
 -- What was written so far is a beginning of the index of the content whose text the input is.
-use Rattle.std.proofs.Common.{◌≡◌, ℕ, ◌+◌, ◌<◌, ◌≤◌, List, [], ◌∷◌, ◌++◌, length, take, Option, Some, None, refl, sym, ap, ◌∙◌, ◌⊎◌, ◌^◌, subst, inl, inr, arith, append_assoc, length-append}
-use Rattle.std.specs.List.{AllZip, concat, flat_map}
+use Rattle.std.proofs.Common.{◌≡◌, ℕ, ◌<◌, ◌≤◌, List, [], ◌∷◌, ◌++◌, length, take, Option, Some, None, refl, sym, ap, ◌∙◌, ◌⊎◌, ◌^◌, subst, inl, inr, arith, append_assoc, length-append}
+use Rattle.std.specs.List.{AllZip, concat}
 use Rattle.std.specs.Io.KnownBytes.{Appends, Consumes}
 use Rattle.std.proofs.lemmas.List.{append-nil, take-append-le}
 use Rattle.std.proofs.lemmas.List.Concat.{flat_map-append}
@@ -14,11 +14,11 @@ use Rattle.archive_records.specs.declared.format.Format.TheVariants.{Archive}
 use Rattle.archive_records.proofs.Contents.{InOrder-listing, written_text}
 use Rattle.archive_records.proofs.Ends.{end-is_end}
 use Rattle.archive_records.proofs.Puts.{concat-push}
-use Rattle.archive_records.proofs.Longest.{Before, behind_magic, end-stops, longest}
+use Rattle.archive_records.proofs.Longest.{behind_magic, end-stops, longest}
 use Rattle.archive_index.specs.Text.{index_magic}
 use Rattle.indexed_tables.specs.Content.{IsIndexOf, IsTableOf, entries_of, front_of, tables_text}
-use Rattle.indexed_tables.specs.Making.{HasBegun, IsBegun, IsTooFar}
-use Rattle.table_index.specs.Text.{end_of, index_text}
+use Rattle.indexed_tables.specs.Making.{IsBegun, IsTooFar}
+use Rattle.table_index.specs.Text.{end_of}
 use Rattle.indexed_tables.proofs.Contents.{same_table}
 use Rattle.table_index.proofs.Texts.{end_long}
 

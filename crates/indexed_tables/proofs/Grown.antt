@@ -1,7 +1,7 @@
 -- The front of an index, one table after another.
-use Rattle.std.proofs.Common.{◌≡◌, ℕ, ◌+◌, ◌^◌, ◌<◌, ◌≤◌, List, [], ◌∷◌, ◌++◌, length, map, take, Option, Some, None, refl, sym, ap, ◌∙◌, subst, inl, inr, arith, append_assoc, length-append}
+use Rattle.std.proofs.Common.{◌≡◌, ℕ, ◌+◌, ◌^◌, ◌<◌, List, [], ◌∷◌, ◌++◌, length, map, take, Option, refl, sym, ap, ◌∙◌, subst, arith, append_assoc, length-append}
 use Rattle.std.specs.Prelude.{Err, Ok}
-use Rattle.std.specs.List.{AllZip, concat, flat_map}
+use Rattle.std.specs.List.{AllZip, concat}
 use Rattle.std.specs.Io.KnownBytes.{Appends, Consumes}
 use Rattle.std.proofs.lemmas.List.{append-nil, map-append, take_all}
 use Rattle.std.proofs.lemmas.List.Concat.{flat_map-append}
@@ -11,7 +11,7 @@ use Rattle.byte_device.proofs.Gains.{puts_then}
 use Rattle.byte_device.proofs.Known.{Consumes-then}
 use Rattle.checked_pages.specs.Pages.{stored}
 use Rattle.archive_records.specs.Kind.{magic}
-use Rattle.archive_records.specs.Reader.{Finishes, HasRead, HasReadAll, Passes, Position, Stopped}
+use Rattle.archive_records.specs.Reader.{Finishes, HasRead, Passes, Position, Stopped}
 use Rattle.archive_records.specs.Text.{text_of}
 use Rattle.archive_records.specs.declared.fault.RecordFault.{RecordFault}
 use Rattle.archive_records.specs.declared.format.Format.TheVariants.{Archive}

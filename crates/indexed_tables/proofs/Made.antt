@@ -1,9 +1,9 @@
 -- The index that was made, and the first bytes of one.
-use Rattle.std.proofs.Common.{◌≡◌, ℕ, ◌+◌, ◌<◌, ◌≤◌, List, [], ◌∷◌, ◌++◌, length, map, take, Option, Some, Err, Ok, refl, sym, ap, ◌∙◌, subst, inl, inr, arith, append_assoc, length-append}
+use Rattle.std.proofs.Common.{◌≡◌, ℕ, List, [], ◌++◌, length, map, take, Option, Some, Err, Ok, refl, sym, ap, ◌∙◌, subst, inl, inr, arith, append_assoc}
 use Rattle.std.specs.Prelude.{IfSome}
 use Rattle.std.specs.List.{AllZip, concat}
 use Rattle.std.specs.FinSet as set
-use Rattle.std.specs.Io.KnownBytes.{Appends, Consumes, IsAtEnd}
+use Rattle.std.specs.Io.KnownBytes.{Appends, IsAtEnd}
 use Rattle.std.specs.Cmp.Lexicographic.{nat_list_cmp_total}
 use Rattle.std.proofs.Math.ListN.{length-map}
 use Rattle.std.proofs.lemmas.List.{length-take-le}
@@ -24,15 +24,14 @@ use Rattle.archive_records.proofs.Contents.{order, sorted-InOrder, written-recor
 use Rattle.archive_records.proofs.Inputs.{IsReadTo, read_whole}
 use Rattle.archive_records.proofs.Puts.{bytes_same, length_written}
 use Rattle.archive_index.specs.Text.{index_magic}
-use Rattle.archive_index.specs.Reading.{TellsVersion}
 use Rattle.archive_index.specs.declared.fault.IndexingFault.TheVariants.{Archive as Archive_fault, OldArchive, TooLong}
 use Rattle.archive_index.proofs.Made.{refused as indexing_refused, taken_whole, text_along}
 use Rattle.table_index.specs.Entry.{entry_bytes}
 use Rattle.table_index.specs.Text.{end_of, index_text}
 use Rattle.table_index.specs.declared.entry.TableEntry.{TableEntry}
-use Rattle.indexed_tables.specs.Content.{IsIndexOf, IsTableOf, entries_of, front_of, table_entries, tables_text}
+use Rattle.indexed_tables.specs.Content.{IsIndexOf, IsTableOf, entries_of, front_of, tables_text}
 use Rattle.indexed_tables.specs.InnerMaking.{BlamesMaking, HasPutAll, HasStoppedMaking, TellsVersionMaking}
-use Rattle.indexed_tables.specs.Making.{AreNear, HasFirst, HasReadWhole, IsBegun, IsMade, IsStopped, Makes}
+use Rattle.indexed_tables.specs.Making.{AreNear, IsBegun, IsMade, IsStopped, Makes}
 use Rattle.indexed_tables.specs.declared.fault.MakingFault.{MakingFault}
 use Rattle.indexed_tables.specs.declared.fault.MakingFault.TheVariants.{Archive as Refused, Write as Wrote}
 use Rattle.indexed_tables.proofs.Apart.{as_many}

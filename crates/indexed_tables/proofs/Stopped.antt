@@ -1,30 +1,28 @@
 -- Why making an index stopped, after some records whose tables were written.
-use Rattle.std.proofs.Common.{◌≡◌, ℕ, ◌+◌, ◌<◌, ◌≤◌, ◌^◌, List, [], ◌∷◌, ◌++◌, length, take, Option, refl, sym, ap, ◌∙◌, ◌⊎◌, subst, inl, inr, arith, length-append}
+use Rattle.std.proofs.Common.{◌≡◌, ℕ, ◌≤◌, ◌^◌, List, [], length, take, Option, refl, sym, ap, ◌∙◌, ◌⊎◌, subst, inl, inr, arith, length-append}
 use Rattle.std.specs.List.{AllZip, concat}
-use Rattle.std.specs.Io.KnownBytes.{Appends, Consumes}
+use Rattle.std.specs.Io.KnownBytes.{Appends}
 use Rattle.std.proofs.lemmas.List.{append-nil}
 use Rattle.byte_device.specs.Devices.{FailedIn}
 use Rattle.byte_device.specs.Writes.{IsPut, StopsPut}
-use Rattle.byte_device.proofs.Known.{Appends-none, Appends-then, Consumes-none}
+use Rattle.byte_device.proofs.Known.{Appends-none, Appends-then}
 use Rattle.checked_pages.specs.Pages.{stored}
 use Rattle.archive_records.specs.Kind.{magic}
-use Rattle.archive_records.specs.Reading.{Blames}
-use Rattle.archive_records.specs.Reader.{HasRead, HasReadAll, HasStopped, Passes, Position, Stopped, StopsAt}
+use Rattle.archive_records.specs.Reader.{HasRead, HasStopped, Passes, Position, Stopped, StopsAt}
 use Rattle.archive_records.specs.declared.fault.RecordFault.{RecordFault}
 use Rattle.archive_records.specs.declared.fault.RecordFaultKind.TheVariants.{OutOfMemory}
 use Rattle.archive_records.specs.declared.format.Format.TheVariants.{Archive}
 use Rattle.archive_records.specs.declared.kind.TextKind.TheVariants.{Archive as Archive_text}
-use Rattle.archive_records.proofs.FaultKinds.{memory_blames}
 use Rattle.archive_records.proofs.Steps.{HasRead-grows, Stopped-fails, Stopped-unkept}
 use Rattle.archive_index.specs.Text.{index_magic}
-use Rattle.archive_index.specs.InnerMaking.{BlamesIndexing, HasStoppedIndexing}
+use Rattle.archive_index.specs.InnerMaking.{HasStoppedIndexing}
 use Rattle.archive_index.specs.declared.fault.IndexingFault.{IndexingFault}
 use Rattle.archive_index.specs.declared.fault.IndexingFault.TheVariants.{Archive as Archive_fault, OldArchive, TooLong}
 use Rattle.archive_index.proofs.Blamed.{indexing_behind}
 use Rattle.archive_index.proofs.Made.{wanted}
 use Rattle.table_index.specs.declared.entry.TableEntry.{TableEntry}
 use Rattle.indexed_tables.specs.Content.{IsTableOf, front_of}
-use Rattle.indexed_tables.specs.InnerMaking.{BlamesMaking, HasPut, HasPutAll, HasStoppedMaking, StopsRecord}
+use Rattle.indexed_tables.specs.InnerMaking.{BlamesMaking, HasPut, HasStoppedMaking, StopsRecord}
 use Rattle.indexed_tables.specs.Making.{HasBegun, IsBegun}
 use Rattle.indexed_tables.specs.declared.fault.MakingFault.{MakingFault}
 use Rattle.indexed_tables.specs.declared.fault.MakingFault.TheVariants.{Archive as Refused, Write as Wrote}
@@ -114,10 +112,6 @@ module _ {W : Type 0} (a b : Option (List ℕ)) (held : W → Option (List ℕ))
         inr (begun_none written (omega (arith, count, stops.first.within, ap length same)) (subst (Appends (held old) (held new)) (λ i. take (sym count i) (same i)) stops.first.gained)),
       )
 
--- nothing was read, for want of memory
-pub unread : (a : Option (List ℕ)) → HasStoppedIndexing a a (Archive_fault (record { kind = OutOfMemory; offset = 0 }))
-unread a = inl ([], Consumes-none a, λ format is. inr (inr (refl, omega arith)), refl)
-
 -- nothing was written yet
 pub none_stopped : {W : Type 0} (a b : Option (List ℕ)) (held : W → Option (List ℕ)) (failures : W → ℕ) (w : W) (fault : IndexingFault) → HasStoppedIndexing a b fault → (fault ≡ TooLong → ⊥) → HasStoppedMaking a b held failures w w (Refused fault)
 none_stopped a b held failures w (Archive_fault fault) stopped short = (stopped, refl, (0, inl (refl, Appends-none (held w))))
@@ -128,10 +122,3 @@ none_stopped a b held failures w TooLong stopped short = absurd (short refl)
 pub making_behind : {R : Type 0} (left : R → Option (List ℕ)) (failures : R → ℕ) (old mid new : R) → failures mid ≡ failures old → (fault : MakingFault) → BlamesMaking left failures mid new fault → BlamesMaking left failures old new fault
 making_behind left failures old mid new same (Refused fault) blames = indexing_behind left failures old mid new same fault blames
 making_behind left failures old mid new same (Wrote fault) kept = kept ∙ same
-
--- where a record's table is not written, the reader did not fail
-pub record_blames : {R W : Type 0} (left : R → Option (List ℕ)) (failures : R → ℕ) (old new : R) (held : W → Option (List ℕ)) (writes : W → ℕ) (start end : W) (before done : ℕ) (r : List ℕ) (fault : MakingFault) → failures new ≡ failures old → StopsRecord held writes start end before done r fault → BlamesMaking left failures old new fault
-record_blames left failures old new held writes start end before done r (Refused TooLong) same stops = same
-record_blames left failures old new held writes start end before done r (Refused OldArchive) same stops = absurd stops
-record_blames left failures old new held writes start end before done r (Refused (Archive_fault fault)) same stops = subst (λ f. Blames left failures old new f.kind) (sym stops.2) (memory_blames left failures old new same)
-record_blames left failures old new held writes start end before done r (Wrote fault) same stops = same

@@ -1,11 +1,10 @@
 -- The table of a record, as it was written.
-use Rattle.std.proofs.Common.{◌≡◌, ℕ, ◌+◌, ◌<◌, ◌^◌, List, [], ◌∷◌, ◌++◌, length, drop, Option, refl, sym, ap, ◌∙◌, subst, arith}
+use Rattle.std.proofs.Common.{◌≡◌, ℕ, List, [], ◌++◌, length, Option, refl, sym, ap, ◌∙◌, subst, arith}
 use Rattle.std.specs.Prelude.{Result, Ok, Err, IfOk, IfErr}
 use Rattle.std.specs.Io.KnownBytes.{Appends}
 use Rattle.byte_device.specs.Writes.{IsPut}
 use Rattle.byte_device.proofs.Known.{Appends-none}
-use Rattle.sha2.specs.Sha256.{sha256}
-use Rattle.checked_pages.specs.Pages.{digests_from, page_digests, stored}
+use Rattle.checked_pages.specs.Pages.{digests_from, stored}
 use Rattle.checked_pages.specs.Views.{claim_view}
 use Rattle.checked_pages.specs.declared.claim.Claim.{Claim as ClaimFields}
 use Rattle.symbol_tables.specs.Table.{IsTableText}
@@ -17,19 +16,11 @@ use Rattle.archive_core.proofs.Entries.{slice_of}
 use Rattle.archive_index.specs.Entry.{placed_bytes, placed_entry}
 use Rattle.archive_index.specs.declared.entry.PlacedEntry.{PlacedEntry}
 use Rattle.table_index.specs.Entry.{claim_at, claim_bytes, entry_bytes, no_claim}
-use Rattle.table_index.specs.declared.entry.TableEntry.{TableEntry}
 use Rattle.indexed_tables.specs.Content.{IsTableOf, claim_of, table_entry}
 use Rattle.indexed_tables.specs.InnerMaking.{StopsTable}
 use Rattle.indexed_tables.specs.declared.fault.TableFault.{TableFault}
 use Rattle.indexed_tables.specs.declared.fault.TableFault.TheVariants.{OutOfMemory, Write}
-use Rattle.indexed_tables.proofs.Contents.{claim_admitted, claim_retired, stored_long}
-
--- so many bytes are there then
-pub table_short : (done end : ℕ) (table : List ℕ) → done < 2 ^ 64 → length table < 2 ^ 64 → end ≡ done + length (stored table) → end < 2 ^ 80
-table_short done end table near small is = omega (arith, near, small, is, stored_long table)
-
-pub claim_made : (c : ClaimFields) (done size : ℕ) (table digests : List ℕ) → c.offset ≡ done → c.size ≡ size → size ≡ length table → c.root ≡ sha256 digests → digests ≡ page_digests table → claim_view c ≡ claim_at done table
-claim_made c done size table digests o s n r d = λ i. record { offset = o i; size = (s ∙ n) i; root = (r ∙ ap sha256 d) i }
+use Rattle.indexed_tables.proofs.Contents.{claim_admitted, claim_retired}
 
 -- ---- the table of a slice is that of its admission
 

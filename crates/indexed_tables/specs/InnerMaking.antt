@@ -1,5 +1,5 @@
 -- An index that is made, record by record: the words of the inner functions. No contract of a public one has them.
-use Rattle.std.specs.Prelude.{◌≡◌, ◌≤◌, ◌^◌, ℕ, List, [], ◌++◌, ◌⊎◌, map, Option}
+use Rattle.std.specs.Prelude.{◌≡◌, ◌≤◌, ◌^◌, ℕ, List, [], ◌⊎◌, map, Option}
 use Rattle.std.specs.List.{AllZip}
 use Rattle.std.specs.Io.KnownBytes.{Appends, Consumes}
 use Rattle.byte_device.specs.Writes.{IsPut, StopsPut}

@@ -1,5 +1,5 @@
-use Rattle.std.proofs.Common.{◌≡◌, List, ℕ, [], get_or, refl, ap, sym, subst}
-use Rattle.checked_pages.specs.Pages.{AreStored, Claim, MayBeStored}
+use Rattle.std.proofs.Common.{◌≡◌, [], get_or, refl, ap, sym, subst}
+use Rattle.checked_pages.specs.Pages.{AreStored, MayBeStored}
 use Rattle.checked_pages.specs.Views.{claim_view}
 use Rattle.table_index.specs.Entry.{claim_in}
 use Rattle.table_index.proofs.PlaceLemmas.{claim_at_place}

@@ -1,9 +1,6 @@
-use Rattle.std.proofs.Common.{◌≡◌, ◌∷◌, ◌++◌, ◌∙◌, Ok, Err, length, map, refl}
-use Rattle.std.specs.Int.{w64, to_be_bytes}
+use Rattle.std.proofs.Common.{Ok, Err, length, map, refl}
 use Rattle.std.specs.List.{concat}
-use Rattle.std.proofs.Math.ListN.{length-map}
-use Rattle.sha2.specs.Sha256.{sha256}
-use Rattle.byte_device.proofs.Gains.{puts_along, puts_then, stops_before}
+use Rattle.byte_device.proofs.Gains.{puts_then, stops_before}
 use Rattle.archive_records.proofs.Blamed.{failed}
 use Rattle.table_index.specs.Entry.{entry_bytes}
 use Rattle.table_index.specs.Text.{end_of}
