@@ -1,8 +1,8 @@
 -- An archive of version 1 is told by its first eight bytes.
-use Rattle.std.proofs.Common.{◌≡◌, ◌≢◌, ℕ, ◌<◌, ◌≤◌, List, [], ◌++◌, length, get_or, take, Option, Some, None, Err, refl, sym, ap, ◌∙◌, inl, inr, arith, length-take, length-append}
+use Rattle.std.proofs.Common.{◌≡◌, ◌≢◌, ℕ, ◌<◌, List, [], ◌++◌, length, get_or, take, Option, Some, None, Err, refl, sym, ap, ◌∙◌, inl, inr, arith, length-take, length-append}
 use Rattle.std.specs.Prelude.{IfSome}
 use Rattle.std.specs.Io.KnownBytes.{Consumes, IsAtEnd}
-use Rattle.std.proofs.lemmas.List.{append-nil, take-append-le, take-take}
+use Rattle.std.proofs.lemmas.List.{take-append-le, take-take}
 use Rattle.archive_records.specs.declared.fault.RecordFaultKind.{RecordFaultKind}
 use Rattle.archive_records.specs.declared.fault.RecordFaultKind.TheVariants.{BadMagic, Truncated}
 use Rattle.archive_records.specs.declared.format.Format.TheVariants.{OldArchive as Old_format}
