@@ -99,9 +99,9 @@ fn read_entries<P: Placed>(
 ///
 /// The first of these: the magic is another; there is no room for an end record, or none at the end, or no room for its
 /// entries; the entries have another digest; of an entry, in this order, the tag, the kind or the length is none that
-/// it may have, it is not above the one before it, or its table does not end before the entries; or records or tables do
-/// not follow one another. Where the device fails or memory is refused, the offset is where the part begins that was
-/// being read.
+/// it may have, it is not above the one before it, or its claim is none that it may have; or records or tables do not
+/// follow one another. Where the device fails or memory is refused, the offset is where the part begins that was being
+/// read.
 pub fn read_index<P: Placed>(heap: Heap, device: &mut P) -> Result<TableIndex, IndexFault>
     ensures { ReadsIndex P.whole P.failures device.old device.new result }
 {
