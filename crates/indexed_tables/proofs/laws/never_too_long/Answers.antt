@@ -1,0 +1,5 @@
+use Rattle.indexed_tables.proofs.First.{not_far}
+use Rattle.indexed_tables.proofs.laws.never_too_long.Goals as goal
+
+pub returns : goal.returns
+returns c = not_far

@@ -1,0 +1,5 @@
+use Rattle.indexed_tables.proofs.Contents.{one_of_content}
+use Rattle.indexed_tables.proofs.laws.one_index.Goals as goal
+
+pub returns : goal.returns
+returns c = one_of_content

@@ -1,0 +1,4 @@
+pub mod Content
+pub mod Asked
+pub mod Making
+pub mod InnerMaking

@@ -1,0 +1,81 @@
+//! The entries of an index in byte order, and its end record.
+
+ghost use Rattle.std.specs.Prelude.{◌≡◌, ◌∷◌, ◌++◌, ◌<◌, ◌≤◌, ◌^◌, IfOk, length, map};
+ghost use Rattle.std.specs.FinSet as set;
+ghost use Rattle.std.specs.Int.{w64, to_be_bytes};
+ghost use Rattle.std.specs.List.{concat};
+ghost use Rattle.sha2.specs.Sha256.{sha256};
+ghost use Rattle.join_core.specs.Listing.{listing};
+ghost use Rattle.archive_core.specs.Summary.{Entries};
+ghost use Rattle.byte_device.specs.Writes.{Puts};
+ghost use Rattle.table_index.specs.Entry.{entry_bytes};
+ghost use Rattle.table_index.specs.Text.{end_of};
+
+use archive_records::{Sizes, end_bytes};
+use byte_device::{Sink, WriteFault, put};
+use memory::Heap;
+use sha2::{Digest, Sha256};
+use table_index::TableEntry;
+
+/// The entries in ascending byte order.
+pub(crate) fn sorted(entries: Vec<TableEntry, Heap>) -> Vec<TableEntry, Heap>
+    ensures { let all : Entries = set.from_list (map entry_bytes entries.items) in
+        map entry_bytes result.items ≡ listing all }
+{
+    let mut entries = entries;
+    entries.sort_unstable_by(|a, b| a.compare(b));
+    entries.dedup_by(|a, b| a.compare(b).is_eq());
+    entries
+}
+
+/// The end record of so many entries, whose bytes have this SHA-256.
+fn end_record(count: u64, digest: &[u8; 32]) -> [u8; 41]
+    ensures { result ≡ 3 ∷ (to_be_bytes w64 count ++ digest.now) }
+{
+    let mut bytes = [0; 41];
+    bytes[..9].copy_from_slice(&end_bytes(count));
+    bytes[9..].copy_from_slice(digest);
+    bytes
+}
+
+/// The SHA-256 of the bytes of entries.
+fn digest_of(entries: &[TableEntry]) -> [u8; 32]
+    ensures { result ≡ sha256 (concat (map entry_bytes entries.now)) }
+{
+    let mut hasher = Sha256::new();
+    'hashing: for entry in entries {
+        hasher.update(&entry.bytes());
+    }
+    hasher.finalize()
+}
+
+/// Writes the entries in their order after the first `done` bytes of an index.
+fn put_each<W: Sink>(entries: &[TableEntry], w: &mut W, done: u128) -> Result<u128, WriteFault>
+    requires { done < 2 ^ 80 }
+    ensures puts { Puts W.held W.failures (λ n. n) w.old w.new done (concat (map entry_bytes entries.now)) result }
+    ensures short { IfOk result (λ n. n ≤ 2 ^ 98) }
+{
+    let mut done = done;
+    'putting: for entry in entries {
+        done = put(w, done, &entry.bytes())?;
+    }
+    Ok(done)
+}
+
+/// Writes the entries in their order and the end record after the first `done` bytes of an index, and says how many
+/// entries and bytes there are then.
+pub(crate) fn put_entries<W: Sink>(
+    entries: &[TableEntry],
+    w: &mut W,
+    done: u128,
+) -> Result<Sizes, WriteFault>
+    requires { done < 2 ^ 80 }
+    ensures puts { Puts W.held W.failures (λ sizes. sizes.bytes) w.old w.new done
+        (concat (map entry_bytes entries.now) ++ end_of (map entry_bytes entries.now)) result }
+    ensures records { IfOk result (λ sizes. sizes.records ≡ length entries.now) }
+{
+    let between = put_each(entries, w, done)?;
+    let records = entries.len() as u64;
+    let bytes = put(w, between, &end_record(records, &digest_of(entries)))?;
+    Ok(Sizes { records, bytes })
+}

@@ -1,0 +1,33 @@
+//! Why no index is made, and why a table of one is not read.
+
+use archive_index::IndexingFault;
+use byte_device::WriteFault;
+
+/// Why no index is made of an archive.
+#[derive(Clone, Copy, Debug, PartialEq, Eq)]
+pub enum MakingFault {
+    /// The archive is refused, or it has no index.
+    Archive(IndexingFault),
+    /// The writer failed, after it had taken so many first bytes of the index.
+    Write(WriteFault),
+}
+
+/// Why the table of a record is not written.
+#[derive(Clone, Copy, Debug, PartialEq, Eq)]
+pub(crate) enum TableFault {
+    /// A growth of the memory was refused, and nothing was written.
+    OutOfMemory,
+    /// The writer failed.
+    Write(WriteFault),
+}
+
+/// Why the table of an entry is not read.
+#[derive(Clone, Copy, Debug, PartialEq, Eq)]
+pub enum EntryFault {
+    /// What stands where the table of this entry is stored, from 0 on, is not what the entry vouches for.
+    Damaged(u64),
+    /// The device failed while a table was read that is stored at this offset.
+    Device(u64),
+    /// A growth of the memory was refused.
+    OutOfMemory,
+}
