@@ -1,6 +1,6 @@
 -- How `extract` ends over archives and indexes that are handed on.
 use Rattle.std.proofs.Common.{◌≡◌, ◌∙◌, ℕ, ◌<◌, ◌≤◌, List, [], ◌∷◌, ◌++◌, length, take, drop, Option, Result}
-use Rattle.std.proofs.Common.{Bool, Err, refl, ap, sym, subst, arith, inl, length-append}
+use Rattle.std.proofs.Common.{Bool, true, ◌==◌, true≢false, Err, refl, ap, sym, subst, arith, inl, length-append}
 use Rattle.std.proofs.KnownBytes.{Appends-nil}
 use Rattle.std.proofs.lemmas.Bool.{le-ltb, lt-ltb}
 use Rattle.std.specs.Io.KnownBytes.{Appends}
@@ -8,12 +8,12 @@ use Rattle.std.specs.Prelude.{nat_lt}
 use Rattle.archive_core.specs.declared.keys.Digest.{Digest}
 use Rattle.archive_core.specs.declared.keys.SliceKey.{SliceKey}
 use Rattle.byte_device.specs.declared.disks.CannotOpen.{CannotOpen}
-use Rattle.command_ends.specs.Inputs.{Reader, readers}
+use Rattle.command_ends.specs.Inputs.{Reader, reader, readers}
 use Rattle.command_ends.specs.Outputs.{Outs, Takes, Writer, out_of}
 use Rattle.command_ends.specs.declared.faults.CommandFault.{CommandFault}
 use Rattle.command_ends.specs.declared.faults.Status.{Status}
 use Rattle.command_ends.specs.declared.outputs.Output.{Output as Out}
-use Rattle.slice_extraction.specs.Extract.{Extraction, Extracts}
+use Rattle.slice_extraction.specs.Extract.{Extraction, Extracts, extract}
 use Rattle.slice_extraction.specs.Indexed.{extract_at}
 use Rattle.plan_commands.specs.Asking.{extract_of, no_archive, unless_extra}
 use Rattle.plan_commands.proofs.Asked.{as_many_readers, dropped, taken}
@@ -59,6 +59,19 @@ module _ {D T : Type 0} (out : Outs D T) (report : Writer) where
 
 module _ {S : Type 0} (left whole : S → Option (List ℕ)) (failures place_failures : S → ℕ) (key : SliceKey)
     (digest : Option Digest) where
+  -- without an index
+  pub whole_extracted : {D T : Type 0} (archives ix : List (Result S CannotOpen)) (a c : Result S CannotOpen)
+      (b d : List (Result S CannotOpen)) (out : Outs D T) (report : Writer) (result : Result Status CommandFault)
+      → archives ≡ a ∷ b → true ≡ (length ix == 0)
+      → Extracts (extract (reader left failures a c) (readers left failures b d) key digest (out_of out).draft) out report result
+      → Extracts (extract_of (readers left failures archives (c ∷ d)) (readers whole place_failures archives (c ∷ d))
+      (readers left failures ix ix) key digest (out_of out).draft) out report result
+  whole_extracted archives [] a c b d out report result is none ends =
+      subst (λ (all : List (Result S CannotOpen)). Extracts (extract_of (readers left failures all (c ∷ d))
+      (readers whole place_failures all (c ∷ d)) (readers left failures [] []) key digest (out_of out).draft) out report result)
+      (sym is) ends
+  whole_extracted archives (i ∷ ix) a c b d out report result is none ends = absurd (true≢false none)
+
   -- there are more indexes than archives
   pub more_stopped : {D T : Type 0} (archives ix : List (Result S CannotOpen)) (out : Outs D T) (report : Writer)
       (fault : CommandFault) (n : ℕ) → n ≡ length archives → n < length ix → fault ≡ no_archive n

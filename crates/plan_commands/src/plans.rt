@@ -185,13 +185,11 @@ fn extract<'l>(values: &'l [Values]) -> Option<Plan<'l>>
     let [Texts(One(_)), Uuids(One(uuid)), Archs(One(arch)), rest @ ..] = values else {
         return None;
     };
+    let [Texts(One(_)), Digests(Perhaps(digest)), rest @ ..] = rest else {
+        return None;
+    };
     match rest {
-        [
-            Texts(One(_)),
-            Digests(Perhaps(digest)),
-            Texts(Several(others)),
-            Texts(Several(_)),
-        ] => Some(Plan::Extract {
+        [Texts(Several(others)), Texts(Several(_))] => Some(Plan::Extract {
             key: key(uuid, arch),
             digest: *digest,
             others: others.len(),

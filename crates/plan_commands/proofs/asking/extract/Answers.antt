@@ -2,8 +2,14 @@ use Rattle.std.proofs.Common.{arith, length, refl}
 use Rattle.std.proofs.lemmas.Result.{err_from_is_err_and}
 use Rattle.byte_device.proofs.Known.{Appends-none}
 use Rattle.plan_commands.proofs.Asked.{not_none, some_read}
-use Rattle.plan_commands.proofs.Extracted.{few_extracted, more_stopped}
+use Rattle.plan_commands.proofs.Extracted.{few_extracted, more_stopped, whole_extracted}
 use Rattle.plan_commands.proofs.asking.extract.Goals as goal
+
+pub returns-then-is_empty : goal.returns-then-is_empty
+returns-then-is_empty g c = whole_extracted g.S.Source.left g.S.Placed.whole g.S.Source.failures g.S.Placed.failures
+    c.args.key.now c.args.digest.now c.args.archives.now c.args.indexes.now c.first_and_rest-archive.result.0.now
+    c.run_extract.new.archive c.first_and_rest-archive.result.1.now c.run_extract.new.others _ _ _
+    c.first_and_rest-archive.ensures.parts c.if-is_empty.ensures c.run_extract.ensures
 
 pub returns-in_err-test_indexes : goal.returns-in_err-test_indexes
 returns-in_err-test_indexes g c =
