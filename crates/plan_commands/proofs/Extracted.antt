@@ -2,7 +2,7 @@
 use Rattle.std.proofs.Common.{◌≡◌, ◌∙◌, ℕ, ◌<◌, ◌≤◌, List, [], ◌∷◌, ◌++◌, length, take, drop, Option, Result}
 use Rattle.std.proofs.Common.{Bool, true, ◌==◌, true≢false, Err, refl, ap, sym, subst, arith, inl, length-append}
 use Rattle.std.proofs.KnownBytes.{Appends-nil}
-use Rattle.std.proofs.lemmas.Bool.{le-ltb, lt-ltb}
+use Rattle.std.proofs.lemmas.Bool.{le-ltb, lt-ltb, ne_eqb}
 use Rattle.std.specs.Io.KnownBytes.{Appends}
 use Rattle.std.specs.Prelude.{nat_lt}
 use Rattle.archive_core.specs.declared.keys.Digest.{Digest}
@@ -70,7 +70,8 @@ module _ {S : Type 0} (left whole : S → Option (List ℕ)) (failures place_fai
       subst (λ (all : List (Result S CannotOpen)). Extracts (extract_of (readers left failures all (c ∷ d))
       (readers whole place_failures all (c ∷ d)) (readers left failures [] []) key digest (out_of out).draft) out report result)
       (sym is) ends
-  whole_extracted archives (i ∷ ix) a c b d out report result is none ends = absurd (true≢false none)
+  whole_extracted archives (i ∷ ix) a c b d out report result is none ends =
+      absurd (true≢false (none ∙ ne_eqb (length (i ∷ ix)) 0 (omega arith)))
 
   -- there are more indexes than archives
   pub more_stopped : {D T : Type 0} (archives ix : List (Result S CannotOpen)) (out : Outs D T) (report : Writer)
