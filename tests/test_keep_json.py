@@ -17,7 +17,8 @@ ENDS = {
     "add": ["added", "known", "retired", "refused", "passed_over", "made", "dry_run"],
     "list": ["builds"],
     "check": ["slices", "retirements", "wrong"],
-    "status": ["images", "companions", "retirements", "conflicts", "bytes", "today", "sites", "lost", "left"],
+    "status": ["images", "companions", "retirements", "conflicts", "bytes", "today", "levels", "waiting"]
+    + ["sites", "lost", "left"],
 }
 
 
@@ -128,6 +129,7 @@ class Stated(JsonCase):
         numbers = {name: int(lines[name]) for name in ("images", "companions", "retirements", "conflicts", "bytes")}
         same("numbers", {name: end[name] for name in numbers}, numbers)
         same("today", (end["today"], end["lost"], end["left"]), (int(lines.get("today", 0)), [], []))
+        same("levels", (end["levels"], end["waiting"]), (0, int(lines.get("waiting", 0))))
 
     def test_what_is_lost_and_left(self) -> None:
         self.room.make_many(2)

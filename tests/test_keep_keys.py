@@ -91,6 +91,30 @@ class Limits(ThreeSites):
             (self.shared / at).rmdir()
         until_same([self.east, self.west], archive([image(0), image(1), image(60), image(61)]))
 
+    def test_files_that_are_taken_away(self) -> None:
+        """Each file of a site, and each signature, is there again after the next exchange of the site."""
+        self.begin(self.east, self.west)
+        self.west.add(image(60))
+        self.west.exchange()
+        own = self.kinds_of(self.west)
+        same("kinds", own, ["answers", "asks", "builds", "is"])
+        for ending in (".sym", ".sum", ".txt", ".site", ".sig", "."):
+            taken = [path for path in self.shared.iterdir() if path.name.startswith("west.") and ending in path.name]
+            for one in taken:
+                one.unlink()
+            self.assertTrue(taken, ending)
+            # Its own file that has no signature is named too.
+            self.west.exchange(status=2 if ending == ".sig" else 0)
+            same(f"kinds after {ending}", self.kinds_of(self.west), own)
+        until_same([self.east, self.west], archive([image(0), image(1), image(60)]))
+
+    def kinds_of(self, site: Site) -> List[str]:
+        """The kinds of the files of a site in the folder, of which each has its signature."""
+        paths = [path for path in self.shared.iterdir() if path.name.startswith(f"{site.name}.")]
+        files = [path for path in paths if path.suffix != ".sig"]
+        same("files without a signature", [path.name for path in files if not beside(path).exists()], [])
+        return sorted(path.name.split(".")[1] for path in files)
+
     def test_most(self) -> None:
         """A word says how long a file may be, also where nobody signs."""
         self.begin(self.east, self.west)

@@ -123,6 +123,7 @@ class Today(TodayCase):
         for is_folded in (False, True):
             counts = {"images": 41, "companions": 1, "retirements": 1, "conflicts": 1}
             counts.update({"bytes": self.room.archive.stat().st_size, "today": len(EMPTY) if is_folded else today})
+            counts.update({} if is_folded else {"waiting": len(self.made[1])})
             lines = [f"{name} {count}" for name, count in counts.items()]
             same("lines", self.room.call("status", self.room.archive)[0], lines)
             self.room.call("fold", self.room.archive)

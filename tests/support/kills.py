@@ -27,7 +27,7 @@ def counted(call):
         return call(*words, **more)
     return carry_out
 
-for name in ("fsync", "mkdir", "replace", "rmdir", "unlink", "write"):
+for name in ("fsync", "link", "mkdir", "replace", "rmdir", "unlink", "write"):
     setattr(os, name, counted(getattr(os, name)))
 sys.argv = sys.argv[1:]
 sys.path[0] = os.path.dirname(sys.argv[0])
@@ -120,7 +120,7 @@ def counted(call):
     return carry_out
 
 busy = []
-for name in ("fsync", "mkdir", "replace", "rmdir", "unlink", "write"):
+for name in ("fsync", "link", "mkdir", "replace", "rmdir", "unlink", "write"):
     setattr(os, name, counted(getattr(os, name)))
 sys.argv = sys.argv[1:]
 sys.path[0] = os.path.dirname(sys.argv[0])

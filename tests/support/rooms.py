@@ -3,6 +3,7 @@ import atexit
 import compileall
 import os
 import pathlib
+import re
 import shutil
 import subprocess
 import tempfile
@@ -24,11 +25,39 @@ def compiled() -> str:
     return os.environ.setdefault("KEEP", str(folder / "tools" / "symarch-keep"))
 
 
+# Calls symarch-keep for archives of which no size is too small for levels.
+LEVELLED = """
+import sys
+
+sys.path.insert(0, {folder})
+from symarch_tools.keeping import levels
+
+levels.LEAST = 0
+from symarch_tools.keep import main
+
+sys.exit(main())
+"""
 # The tool that the environment variable KEEP names, or else that of this tree.
 keep = os.environ.get("KEEP") or compiled()
 # What stays beside an archive.
 INDEXES = ("idx", "idx.sum", "today.idx", "today.idx.sum")
-BESIDE = ("lock", "log", *INDEXES, "today", "asked", "site", "lost", "builds", "signers")
+BESIDE = ("lock", "log", *INDEXES, "today", "asked", "site", "lost", "builds", "signers", "changed")
+LEVEL = re.compile(r"\.[1-9][0-9]?(\.idx(\.sum)?)?")
+
+
+def levelled(folder: pathlib.Path) -> str:
+    """A tool in a folder that is symarch-keep, for archives of which no size is too small for levels."""
+    tool = folder / "levelled-keep"
+    lines = LEVELLED.replace("{folder}", repr(os.path.dirname(os.path.realpath(keep))))
+    tool.write_text(f"#!/usr/bin/env -S python3 -BIS{lines}")
+    tool.chmod(0o755)
+    return str(tool)
+
+
+def levels_of(archive: Union[str, pathlib.Path]) -> List[pathlib.Path]:
+    """The levels of an archive, in their order."""
+    paths = [pathlib.Path(f"{os.fspath(archive)}.{number}") for number in range(1, 100)]
+    return [path for path in paths if path.exists()]
 
 
 def today_of(archive: Union[str, pathlib.Path]) -> pathlib.Path:
@@ -43,7 +72,7 @@ def kept_index(path: Union[str, pathlib.Path]) -> bytes:
 
 def bytes_of(archive: Union[str, pathlib.Path]) -> bytes:
     """What an archive has, with what came in since its last fold."""
-    files = [path for path in (pathlib.Path(archive), today_of(archive)) if path.exists()]
+    files = [path for path in (pathlib.Path(archive), *levels_of(archive), today_of(archive)) if path.exists()]
     texts = [path.read_bytes() for path in files]
     return texts[0] if len(texts) == 1 else join_of(*texts)
 
@@ -61,7 +90,7 @@ class Room:
     """A folder of one case."""
 
     def __init__(self, path: pathlib.Path) -> None:
-        self.path = path
+        self.path, self.tool = path, keep
         self.archive = path / "site.sym"
 
     def file(self, name: Union[str, bytes], content: bytes) -> bytes:
@@ -96,7 +125,7 @@ class Room:
         """Begins the tool with these words; `before` is what runs it."""
         more = {"stdin": subprocess.DEVNULL, "stdout": subprocess.PIPE, "stderr": subprocess.PIPE, **more}
         environment = {**os.environ, "SYMARCH": symarch, **(environment or {})}
-        return subprocess.Popen([*before, keep, *words], cwd=self.path, env=environment, **more)
+        return subprocess.Popen([*before, self.tool, *words], cwd=self.path, env=environment, **more)
 
     def call(self, *words: Any, status: Optional[int] = 0, **more: Any) -> Tuple[List[str], List[str]]:
         """Carries out a word, and returns the lines of standard output and of standard error. Its status is this one,
@@ -145,7 +174,8 @@ class Room:
     def left(self) -> List[str]:
         """What has a name that begins with that of the archive, but for what stays beside it."""
         names = (name for name in os.listdir(self.path) if name.startswith("site.sym."))
-        return sorted(name for name in names if name not in [f"site.sym.{ending}" for ending in BESIDE])
+        others = (name for name in names if name not in [f"site.sym.{ending}" for ending in BESIDE])
+        return sorted(name for name in others if not LEVEL.fullmatch(name[len("site.sym") :]))
 
 
 class RoomCase(ProgramCase):

@@ -8,13 +8,14 @@ Examples:
   symarch-keep list builds.sym                    prints its builds by name: app, version, build, day
   symarch-keep exchange builds.sym shared east    exchanges with the other sites over a folder
   symarch-keep check builds.sym                   finds each byte that changed on the disk
-  symarch-keep fold builds.sym                    joins what came in lately into it, as at night
+  symarch-keep fold builds.sym                    joins what came in lately with what is no larger, as at night
 
 The program is the one that SYMARCH names; else the one that ./symarch built, or that was installed with this tool; else
 `symarch` in PATH. None is built here: if SYMARCH names the script ./symarch, the program that it built is called.
 
-What comes in goes into ARCHIVE.today, a small archive beside ARCHIVE, and `fold` joins it into ARCHIVE. What a site has
-is what both have together: `find`, `symbolicate`, `name` and `list` ask both, and so does `symbolicate-report`.
+What comes in goes into ARCHIVE.today, a small archive beside ARCHIVE. `fold` joins it with ARCHIVE; or, if that is
+large, with archives that stand between the two, its levels: ARCHIVE.1, ARCHIVE.2 and so on. What a site has is what all
+of them have together: `find`, `symbolicate`, `name` and `list` ask all, and so does `symbolicate-report`.
 
 A word that is called with --quiet, and ends with 0, prints nothing; one that ends otherwise prints what it would print
 without it. So cron, which mails what is printed, mails what is wrong.
@@ -36,23 +37,23 @@ and `path_hex`, which is null otherwise, has all of them in hex digits. The line
                                   error says is wrong, and of `add` added, known, retired, refused, passed_over, which
                                   has the number of each kind, made, dry_run; of `list` builds; of `check` slices,
                                   retirements, wrong; of `status` images, companions, retirements, conflicts, bytes,
-                                  today, sites, with name, asked, answered, joined, lost, with record, uuid, arch,
-                                  digest, and left, with path, path_hex
+                                  today, levels, waiting, sites, with name, asked, answered, joined, lost, with
+                                  record, uuid, arch, digest, and left, with path, path_hex
 
 The first column is `type`, which each object has. If a word fails, the others of its end are null. A command line that
 is wrong, which ends with 3, prints none.
 
-Each word that writes replaces one of the two by a new file that is synced and then renamed. Killed at any moment, it
+Each word that writes replaces one of these by a new file that is synced and then renamed. Killed at any moment, it
 leaves the old one or the new one. One of them works at a time, by a lock on the file ARCHIVE.lock, which stays; others
-wait, but for those that ask. The new file is written in a folder ARCHIVE.making-*, so the disk needs room for a second
-ARCHIVE. What a kill leaves the next call removes.
+wait, but for those that ask. The new file is written in a folder ARCHIVE.making-*, so the disk needs room for it. What
+a kill leaves the next call removes.
 
-Beside them stand their indexes, ARCHIVE.idx and ARCHIVE.today.idx, with the SHA-256 of each slice as it came in and
-where it stands; ARCHIVE.idx.sum and ARCHIVE.today.idx.sum, the SHA-256 of each index; ARCHIVE.builds, the names of
-builds; ARCHIVE.log, the lines of the words with their dates; ARCHIVE.asked, what `exchange` asked with; ARCHIVE.site,
-which tells this site from another one of its name; ARCHIVE.signers, if it signs; and ARCHIVE.lost, what was there and
-is not, if there is such. Keep them with ARCHIVE. An archive of version 1 has no index, and becomes one of version 2 by
-the next word that writes."""
+Beside each stands its index, as ARCHIVE.idx and ARCHIVE.today.idx, with the SHA-256 of each slice as it came in and
+where it stands; and, as ARCHIVE.idx.sum, the SHA-256 of that. There are also ARCHIVE.builds, the names of builds;
+ARCHIVE.log, the lines of the words with their dates; ARCHIVE.asked, what `exchange` asked with; ARCHIVE.site, which
+tells this site from another one of its name; ARCHIVE.signers, if it signs; ARCHIVE.lost, what was there and is not, if
+there is such; and ARCHIVE.changed, what `check` found, until that is mended. Keep them with ARCHIVE. An archive of
+version 1 has no index, and becomes one of version 2 by the next word that writes."""
 import argparse
 import os
 import sys

@@ -91,7 +91,8 @@ Where the report does not state the architecture of an image, it is the one of x
 which the archive has its UUID; where there are several, that of the report's processor.
 
 Several archives are asked as their join, as `symarch merge` writes it: each last name that begins as an archive is one.
-ARCHIVE.today, if `symarch-keep` has one beside an archive, is asked too, and has to be an archive.
+ARCHIVE.today and the levels ARCHIVE.1, ARCHIVE.2 and so on, if `symarch-keep` has such beside an archive, are asked
+too, and have to be archives.
 
 If an index stands beside an archive, as ARCHIVE.idx, the archive is read by it, and each name that is printed is one
 that the index vouches for:
@@ -130,7 +131,7 @@ from .keeping.screen import about, shown, system_text
 from .keeping.json_lines import Members, path_members
 from .reports.account import Account, print_end, print_objects
 from .reports.answers import Origin
-from .reports.archives import Archives
+from .reports.archives import Archives, with_levels
 from .reports.demangling import demangled, without_underscores
 from .reports.faults import Failure, NoReport, Status
 from .reports.folders import files_below, is_named_as_report
@@ -257,7 +258,8 @@ def clash(reports: Sequence[str], archives: Iterable[str], out: str) -> Optional
 
 
 def refuse_clash(words: Words, reports: Sequence[str]) -> None:
-    fault = clash(reports, [file.path for file in words.archives], words.out) if words.out is not None else None
+    archives = [file.path for file in with_levels(words.archives)] if words.out is not None else []
+    fault = clash(reports, archives, words.out) if words.out is not None else None
     if fault:
         raise Failure(fault, Status.BAD_WORDS)
 

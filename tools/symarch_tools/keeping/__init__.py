@@ -10,16 +10,18 @@
 - bundles           what Info.plist and the path say of a slice
 - slices            what files and folders have
 - program           the program symarch
+- file_names        the names of the files of an archive
 - upgrading         what was kept before there were indexes
 - archive_file      an archive file, and what is known of it
 - lock              the lock of an archive
 - log               the lines of the words with their dates
 - losing            what was there and is not
 - placing           the folder of an archive, and how a new file takes the place of one
+- levels            the files of an archive, and which of them a fold joins
 - archive           an archive with what came in lately, and how more comes in
 - forms             words of a command line that are no paths
 - ordering          what to type if ARCHIVE does not stand first
-- asking            how both archives are asked, each by its index
+- asking            how the files of an archive are asked, each by its index
 - finding           `find`
 - symbolicating     `symbolicate`
 - naming            `name`
@@ -28,6 +30,7 @@
 - folding           `fold`
 - retiring          `retire`
 - stating           `status`
+- changing          what `check` found, for `repair`
 - checking          `check`, and what changed
 - repairing         `repair`
 - senders           who may send, by signatures

@@ -27,8 +27,8 @@ others go in. There may be any number of files; few are open at a time. The larg
 For each slice a line is printed after ARCHIVE is in place, in the order in which they were found:
 
   added UUID ARCH DIGEST PATH
-  known UUID ARCH DIGEST PATH      ARCHIVE or ARCHIVE.today had it, or it was found before
-  retired UUID ARCH DIGEST PATH    it is withdrawn in one of them, so it stays out
+  known UUID ARCH DIGEST PATH      it was there, or was found before
+  retired UUID ARCH DIGEST PATH    it is withdrawn, so it stays out
 
 DIGEST is the SHA-256 that `symarch-keep find` prints. PATH is printed as UTF-8; the backslash, each byte that is no
 UTF-8 and each byte of a character that does not print, as a newline, stand as \x and two hex digits.
@@ -38,10 +38,10 @@ identifier, version and build of Info.plist, which `symarch-keep list` prints: o
 identifier, as .dSYM, .app, .framework or .xcarchive. An Info.plist that is damaged, or of more than 65536 bytes, says
 nothing, and keeps nothing out. Of the same name the first day stays.
 
-The lines are kept in ARCHIVE.log too, with the date. If no slice is new, ARCHIVE is not touched, and what it has is
-not read again. What is new goes into ARCHIVE.today, so that ARCHIVE is not written anew, and is asked together with it;
-`symarch-keep fold` joins the two. An `add` does so by itself where it finds more than a tenth of ARCHIVE in
-ARCHIVE.today, or no ARCHIVE.
+The lines are kept in ARCHIVE.log too, with the date. If no slice is new, ARCHIVE is not touched, and what it has is not
+read again. What is new goes into ARCHIVE.today, so that ARCHIVE is not written anew, and is asked together with it,
+until `symarch-keep fold`. An `add` folds by itself where it finds more than a tenth of all there in ARCHIVE.today, or
+no ARCHIVE.
 
 Status:
   0    each slice that was found is in ARCHIVE or ARCHIVE.today, or is retired there

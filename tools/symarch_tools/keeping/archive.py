@@ -1,52 +1,52 @@
-"""An archive: ARCHIVE and ARCHIVE.today, which are asked as their join; what they have, and what is lost; and how more
-comes in.
-
-What comes in goes into ARCHIVE.today, and `fold` joins that into ARCHIVE. ARCHIVE.today is emptied after ARCHIVE has
-all of it, so at any moment both have together what they had."""
-import contextlib
+"""An archive: ARCHIVE, its levels and ARCHIVE.today, which are asked as their join; what they have, and what is lost;
+and how more comes in, by the rules of `levels`."""
 import os
 from typing import Callable, List, Optional, Sequence, Tuple
 
 from ..signals import signals
 from . import upgrading
-from .archive_file import INDEX, INDEX_SUM, NEXT_INDEX, ArchiveFile
+from .archive_file import ArchiveFile
 from .archive_file import size_of, write_synced
 from .builds import Builds
-from .contents import EMPTY, Content, heads_in
+from .contents import EMPTY, Content, archive_of_retirements, heads_in, join_of
+from .file_names import INDEX, INDEX_SUM, NEXT_INDEX, archive_of_level
 from .indexes import Index, Row, held_against, index_by, index_in, index_of
 from .json_lines import line_of, path_members, record_members
+from .levels import Files, joined_by_fold
 from .lock import Lock
 from .looks import MOST_LOOKED_AT, look_of
 from .losing import LOST, Lost, counted, lost_lines
-from .placing import Placing
-from .program import DESCRIPTORS, Program
+from .program import Program
 from .screen import Failed, Screen, shown
 from .slices import Slice
 
-TODAY, ASKED = b".today", b".asked"
+ASKED = b".asked"
 # ARCHIVE.today has grown if it has more than one of so many parts of ARCHIVE.
 PARTS = 10
 
 
-class Archive(Placing):
-    """The archive that a path names, also through links, with what came in since its last fold. Who does not write
-    changes nothing."""
+class Archive(Files):
+    """The archive that a path names, also through links, with its levels and what came in since its last fold. Who does
+    not write changes nothing."""
 
     def __init__(
         self, path: bytes, is_made: bool = False, writes: bool = True, may_be_damaged: bool = False
     ) -> None:
         super().__init__(os.path.realpath(path))
         self.writes = writes
-        self.main, self.today = ArchiveFile(self.path, b"main"), ArchiveFile(self.beside(TODAY), b"today")
-        self.files = self.main, self.today
         if not is_made:
             os.stat(self.path)
         if os.path.isdir(self.path):
             raise Failed(f"{shown(path)} is a folder, and no archive")
-        for file, named in zip(self.files, (path, path + TODAY)):
+        whole = archive_of_level(self.path) if writes else None
+        if whole is not None:
+            # A lock beside it would make it an archive of its own.
+            raise Failed(f"{shown(path)} is a level of {shown(whole)}: name that", 3)
+        for file in self.files:
             if not may_be_damaged and not file.begins_as_archive():
                 with open(file.path, "rb") as opened:
                     look = look_of(opened.read(MOST_LOOKED_AT))
+                named = path + file.path[len(self.path) :]
                 raise Failed(f"{shown(named)} is no archive{f', but {look}' if look else ''}")
         self.lock = Lock(self.path, writes)
         self.lost = Lost(self.beside(LOST))
@@ -56,6 +56,8 @@ class Archive(Placing):
     def take_lock(self, screen: Screen) -> None:
         """Waits until no other call has the lock, and goes on where one was killed."""
         self.lock.take(screen)
+        # Another call may have folded meanwhile.
+        self.find_levels()
         if self.writes:
             # A signal may come as a folder is made, or as it is removed.
             signals.at_end.append(self.remove_rooms)
@@ -84,7 +86,7 @@ class Archive(Placing):
     # ---- what it has
 
     def content(self, program: Program, screen: Screen) -> Content:
-        """What both files have together, as the last word left them. What is another file since is seen anew."""
+        """What the files have together, as the last word left them. What is another file since is seen anew."""
         others = [file for file in self.files if not file.recall(screen)]
         if not self.writes:
             for file in others:
@@ -93,15 +95,13 @@ class Archive(Placing):
                     file.vouch(index_by(file.content, file.path), screen)
             return self.joined()
         self.see_anew(others, program, screen)
-        # Where a fold was killed before it did that.
-        if len(self.today.content) and not len(self.today.content.beyond(self.main.content)):
+        self.levels = [level for level in self.levels if level.exists()]
+        superfluous = self.superfluous()
+        if superfluous:
             with self.room() as room:
-                self.empty_today(room, screen)
+                self.remove(superfluous, room, screen)
         self.settle()
         return self.joined()
-
-    def joined(self) -> Content:
-        return self.main.content.joined(self.today.content)
 
     def see_anew(self, others: Sequence[ArchiveFile], program: Program, screen: Screen) -> None:
         """Indexes files that are others since the last word, and says what changed or is lost."""
@@ -193,26 +193,75 @@ class Archive(Placing):
         slices: Sequence[Slice] = (),
         more: Optional[bytes] = None,
     ) -> None:
-        """Joins news, which slices or an archive of the room have, to ARCHIVE.today; or to ARCHIVE, with all of
-        ARCHIVE.today."""
+        """Joins news, which slices or an archive of the room have, to ARCHIVE.today; or to a level or ARCHIVE, with all
+        of ARCHIVE.today."""
         if not self.is_to_be_folded():
             self.join(room, program, self.today, news, lines, screen, slices, more)
             return
-        if len(self.today.content):
-            self.merge(room, program, self.today, b"grown", screen, slices, more)
-            news, slices, more = self.today.content.joined(news), (), os.path.join(room, b"grown")
-        self.join(room, program, self.main, news, lines, screen, slices, more)
-        self.empty_today(room, screen)
+        if more is None or len(self.today.content):
+            self.merge(room, program, [self.today], b"grown", screen, slices, [more] if more else [])
+            news, more = self.today.content.joined(news), os.path.join(room, b"grown")
+        self.join_by_fold(room, program, news, more, lines, screen)
 
     def is_to_be_folded(self) -> bool:
         """Whether ARCHIVE.today has grown, or there is no ARCHIVE."""
-        return PARTS * self.today.size() >= self.main.size()
+        return PARTS * self.today.size() >= sum(file.size() for file in self.files if file is not self.today)
 
-    def fold(self, room: bytes, program: Program, screen: Screen) -> None:
-        """Joins ARCHIVE.today into ARCHIVE, and empties it."""
-        if len(self.today.content):
-            self.join(room, program, self.main, self.today.content, [], screen, more=self.today.path)
+    def fold(
+        self, room: bytes, program: Program, screen: Screen, is_whole: bool = False, is_purge: bool = False
+    ) -> None:
+        """Joins ARCHIVE.today and the files before it that are alike in size, or all; and takes out of the others what
+        is retired, if that has waited long or has to go."""
+        self.join_by_fold(room, program, self.today.content, self.today.path, [], screen, is_whole)
+        for file in self.files:
+            retired = self.waiting().get(file.path, [])
+            if retired and (is_purge or self.log.is_old(retired, file.path)):
+                self.join_all(room, program, [file], Content(), None, [], screen)
+
+    def join_by_fold(
+        self,
+        room: bytes,
+        program: Program,
+        news: Content,
+        more: bytes,
+        lines: Sequence[str],
+        screen: Screen,
+        is_whole: bool = False,
+    ) -> None:
+        """Joins news, which an archive has, with the files before ARCHIVE.today that are alike in size, or with all;
+        and ARCHIVE.today has nothing then."""
+        files = [*reversed(self.levels), self.main]
+        sizes = [*[news.size()] * bool(len(news)), *(file.size() for file in files)]
+        count = len(files) if is_whole else joined_by_fold(sizes) - bool(len(news))
+        if len(news) or count > 1 or not self.main.exists():
+            self.join_all(room, program, files[:count], news, more, lines, screen)
         self.empty_today(room, screen)
+
+    def join_all(
+        self,
+        room: bytes,
+        program: Program,
+        files: Sequence[ArchiveFile],
+        news: Content,
+        more: Optional[bytes],
+        lines: Sequence[str],
+        screen: Screen,
+    ) -> None:
+        """Puts the join of files, the largest one last, and of news, which an archive has, in the place of the largest
+        file, or makes a level of it if there is none; and removes the others. What a further file retires goes."""
+        content = join_of([news, *(file.content for file in files)])
+        retired = self.retired().intersection(content.held)
+        paths = [more] if more and len(news) else []
+        if retired:
+            paths.append(os.path.join(room, b"withdrawn"))
+            write_synced(paths[-1], archive_of_retirements(retired))
+        file, others = (files[-1], files[:-1]) if files else (self.new_level(), [])
+        is_alone = len(paths) == 1 and not any(it.exists() for it in files)
+        if not is_alone or not linked(paths[0], os.path.join(room, b"new")):
+            self.merge(room, program, [file, *reversed(others)], b"new", screen, more=paths)
+        self.replace(room, file, self.new_index(room, file, content.joined(Content(retired))), lines, screen)
+        self.levels += [] if files else [file]
+        self.remove(others, room, screen)
 
     def join(
         self,
@@ -226,7 +275,7 @@ class Archive(Placing):
         more: Optional[bytes] = None,
     ) -> None:
         """Puts the join of a file with news in its place."""
-        self.merge(room, program, file, b"new", screen, slices, more)
+        self.merge(room, program, [file], b"new", screen, slices, [more] if more else [])
         self.replace(room, file, self.new_index(room, file, file.content.joined(news)), lines, screen)
 
     @staticmethod
@@ -243,31 +292,36 @@ class Archive(Placing):
         self,
         room: bytes,
         program: Program,
-        file: ArchiveFile,
+        files: Sequence[ArchiveFile],
         name: bytes,
         screen: Screen,
-        slices: Sequence[Slice],
-        more: Optional[bytes],
+        slices: Sequence[Slice] = (),
+        more: Sequence[bytes] = (),
     ) -> None:
-        """Has the program write the join of a file with slices, or with another archive, into the room. No command
-        writes a file that it reads."""
-        old, new = file.path, os.path.join(room, name)
-        if not file.exists():
-            old = os.path.join(room, b"old")
-            program.run(["new", "old"], folder=room, names={"old": shown(old)})
-        size = size_of(old) + (size_of(more) if more else sum(one.length for one in slices))
+        """Has the program write the join of files, the largest one first, with slices, or with other archives, into the
+        room. No command writes a file that it reads."""
+        paths, new = [*(file.path for file in files if file.exists()), *more], os.path.join(room, name)
+        if len(paths) + bool(slices) < 2:
+            paths.insert(0, os.path.join(room, b"old"))
+            program.run(["new", "old"], folder=room, names={"old": shown(paths[0])})
+        size = sum(map(size_of, paths)) + sum(one.length for one in slices)
         screen.begin(f"writing: {{}} of {len(slices)} slices" if slices else "writing", size)
-        with contextlib.ExitStack() as opened:
-            # Words that are no UTF-8 are refused, so no word has the archive's path. The program holds the lock too,
-            # since it may outlive this one for a moment.
-            read = [opened.enter_context(open(path, "rb")).fileno() for path in filter(None, (old, more))]
-            first, *others = [f"{DESCRIPTORS}/{number}" for number in read]
-            words = ["merge", first, os.fsdecode(name), *(others or ["/dev/stdin"])]
-            names = dict(zip(words[1:], map(shown, filter(None, (old, new, more)))))
-            held = [*read, *filter(None, [self.lock.descriptor])]
-            program.run(words, slices, room, held, watched(screen, room), names)
+        # The program holds the lock too, since it may outlive this one for a moment.
+        held = [self.lock.descriptor] if self.lock.descriptor is not None else []
+        program.merge(paths, new, slices, held, watched(screen, room))
         if not os.path.exists(new):
             raise Failed(f"{program.path} wrote no archive")
+
+    def remove(self, files: Sequence[ArchiveFile], room: bytes, screen: Screen) -> None:
+        """Empties ARCHIVE.today and removes levels, of which other files have all."""
+        for file in files:
+            if file is self.today:
+                self.empty_today(room, screen)
+                continue
+            try:
+                self.forget(file)
+            except OSError as error:
+                self.say_what_is_left(file, error, screen)
 
     def empty_today(self, room: bytes, screen: Screen) -> None:
         if self.today.exists() and not len(self.today.content):
@@ -276,8 +330,11 @@ class Archive(Placing):
             write_synced(os.path.join(room, b"new"), [EMPTY])
             self.replace(room, self.today, index_of([]), [], screen)
         except OSError as error:
-            told = f"{error.strerror}; the archive has all, and the next call goes on"
-            screen.fail(f"{shown(self.today.path)}: {told}")
+            self.say_what_is_left(self.today, error, screen)
+
+    @staticmethod
+    def say_what_is_left(file: ArchiveFile, error: OSError, screen: Screen) -> None:
+        screen.fail(f"{shown(file.path)}: {error.strerror}; the archive has all, and the next call goes on")
 
     # ---- what a kill left, and what an earlier symarch-keep kept
 
@@ -295,6 +352,9 @@ class Archive(Placing):
         if not following and not before:
             self.log.drop_pending()
             self.builds.drop_next()
+        for level in [one for one in self.levels if not one.exists() and not os.path.exists(one.beside(INDEX))]:
+            # It was not put in place, or is being removed.
+            self.forget(level)
         self.upgrade(screen)
 
     def upgrade(self, screen: Screen) -> None:
@@ -311,6 +371,15 @@ class Archive(Placing):
             with self.room() as room:
                 # Nothing says whether the file is still that of its sum, so its heads are compared.
                 self.lay_index(room, file, INDEX, index_by(content, file.path))
+
+def linked(path: bytes, new: bytes) -> bool:
+    """Gives a file a second name, if the file system has such."""
+    try:
+        os.link(path, new)
+        return True
+    except OSError:
+        return False
+
 
 def index_made(path: bytes, room: bytes, program: Program, screen: Screen) -> Index:
     """The index of an archive, by the program."""

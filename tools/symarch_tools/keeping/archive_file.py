@@ -7,12 +7,12 @@ import os
 from typing import Iterable, List, Optional, Tuple
 
 from .contents import MAGIC, MAGICS, RETIREMENT, Content, Kept, Malformed, content_in, heads_in
+from .file_names import INDEX, INDEX_SUM, NEXT_INDEX
 from .indexes import Index, changes, index_in
 from .program import Program
 from .screen import Failed, Screen, about, shown, write
 from .upgrading import old_content
 
-INDEX, NEXT_INDEX, INDEX_SUM = b".idx", b".idx.next", b".idx.sum"
 NO_UUID = "00000000-0000-0000-0000-000000000000"
 # So many bytes of a retirement may differ where it changed: half of its digest.
 MOST_CHANGED = 16

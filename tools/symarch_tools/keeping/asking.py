@@ -1,5 +1,5 @@
-"""What the words that ask have alike: ARCHIVE and ARCHIVE.today are opened, and are asked as their join, each by its
-index. They take no lock, so they never wait for a word that writes."""
+"""What the words that ask have alike: ARCHIVE, its levels and ARCHIVE.today are opened, and are asked as their join,
+each by its index. They take no lock, so they never wait for a word that writes."""
 import argparse
 import contextlib
 import os
@@ -8,8 +8,9 @@ import time
 from typing import BinaryIO, Dict, Iterator, List, NamedTuple, Optional, Sequence, Tuple
 
 from .archive import Archive
-from .archive_file import INDEX, ArchiveFile
-from .contents import EMPTY, Content, entry_in
+from .archive_file import ArchiveFile
+from .contents import EMPTY, entry_in, join_of
+from .file_names import INDEX
 from .forms import HELP
 from .indexes import Index
 from .program import DESCRIPTORS, Program
@@ -33,8 +34,13 @@ class Asked:
 
     def __init__(self, path: bytes, ends: contextlib.ExitStack) -> None:
         self.archive, self.ends, self.program = Archive(path, writes=False), ends, Program()
-        # A fold empties ARCHIVE.today once ARCHIVE has all of it, so who opens that first misses nothing.
+        # A fold removes a file once one that stands before it has all of it, so who opens the last one first misses
+        # nothing.
         files = [self.opened(self.archive.today)] if self.archive.today.size() > len(EMPTY) else []
+        self.archive.find_levels()
+        for level in reversed(self.archive.levels):
+            with contextlib.suppress(FileNotFoundError):
+                files.append(self.opened(level))
         files.append(self.opened(self.archive.main))
         # The first index is that of the first archive, and so on.
         self.files = sorted(files, key=lambda it: it.its_index is None)
@@ -112,9 +118,7 @@ class Asked:
         said."""
         if not all(one.its_index for one in self.files):
             return list(lines)
-        content = Content()
-        for one in self.files:
-            content = content.joined(one.its_index.content() if one.its_index else Content())
+        content = join_of([one.its_index.content() for one in self.files if one.its_index])
         is_held = {line: entry_in(*line.split(" ")[:3]) in content.held for line in lines}
         for key in dict.fromkeys(" ".join(line.split(" ")[:2]) for line in lines if not is_held[line]):
             screen.fail(self.changed(key).text)

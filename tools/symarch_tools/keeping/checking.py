@@ -1,6 +1,7 @@
-"""Reads all of ARCHIVE and ARCHIVE.today, each record at the place that its index names, and holds it against the
-SHA-256 that the index has of it as it came in. So it finds each byte that changed, also those that leave an archive an
-archive. It changes nothing, so it may be called on a disk that is read-only.
+"""Reads all of ARCHIVE, its levels and ARCHIVE.today, each record at the place that its index names, and holds it
+against the SHA-256 that the index has of it as it came in. So it finds each byte that changed, also those that leave an
+archive an archive. It changes none of them, and may be called on a disk that is read-only. What changed it keeps in
+ARCHIVE.changed, if it may, so that `repair` need not look for it again.
 
   changed UUID ARCH DIGEST OFFSET FILE            the slice that had this SHA-256 has not, or its head has other bytes
   changed retired UUID ARCH DIGEST OFFSET FILE    the retirement has other bytes
@@ -11,8 +12,8 @@ archive. It changes nothing, so it may be called on a disk that is read-only.
                                                   `exchange` remembers of signers are not as symarch-keep wrote them
   unknown FILE                                    nothing says whether the file is as it was
 
-FILE is ARCHIVE, ARCHIVE.today or a file beside them, and OFFSET where in it the record stands, in bytes from the first.
-Something is lost if ARCHIVE was replaced, as by an older one. `symarch-keep repair` mends what changed, and
+FILE is ARCHIVE, a level, ARCHIVE.today or a file beside them, and OFFSET where in it the record stands, in bytes from
+the first. Something is lost if ARCHIVE was replaced, as by an older one. `symarch-keep repair` mends what changed, and
 `symarch-keep exchange` brings back what is lost. An index that is damaged is made anew by the next word that writes, if
 the file is as it was. Of names of builds it drops those that are damaged; `exchange` and `add` bring them back. A file
 is unknown before the first word that writes, and if its index is lost or damaged and the file is another one. While it
@@ -26,12 +27,14 @@ Status:
   126  there is no program"""
 import argparse
 import os
-from typing import BinaryIO, Iterable, List, Set, Tuple
+from typing import BinaryIO, Iterable, List, Optional, Set, Tuple
 
 from .archive import Archive, changed_line, file_line
-from .archive_file import INDEX, INDEX_SUM, ArchiveFile, is_same_but_for_retirements
+from .archive_file import ArchiveFile, is_same_but_for_retirements
+from .changing import keep_changed, line_of_file, line_of_row
 from .contents import ADMISSION, DIGEST, END, KEY, LENGTH, MAGIC, MAGICS, Content, Malformed, Moved
 from .contents import digest_in, record_size, records_in
+from .file_names import INDEX, INDEX_SUM, strangers_beside
 from .indexes import HEAD, TAIL, Index, Row, held_against, index_by, index_of, is_companion
 from .losing import lost_lines
 from .program import Program
@@ -57,8 +60,9 @@ class Findings:
         self.good: Set[bytes] = set()
         self.has_ends = False
 
-    def look_through(self, opened: BinaryIO, moved: Moved) -> None:
-        for row in self.rows:
+    def look_through(self, opened: BinaryIO, moved: Moved, rows: Optional[List[Row]] = None) -> None:
+        """Reads these rows, or all, and the ends."""
+        for row in self.rows if rows is None else rows:
             opened.seek(row.at)
             is_good = opened.read(len(row.head())) == row.head()
             if row.is_slice() and not self.has_good_slice(opened, row, moved) or not is_good:
@@ -162,16 +166,26 @@ def are_damaged_signers(archive: Archive) -> bool:
         return True
 
 
+def strangers_of(archive: Archive) -> List[bytes]:
+    """Archives that are called as levels and are none."""
+    paths = map(archive.beside, strangers_beside(archive.path))
+    return [path for path in paths if ArchiveFile(path, b"").magic() in MAGICS]
+
+
 def look_through(archive: Archive, files: List[ArchiveFile], screen: Screen) -> List[str]:
     """The lines of what changed in files, by their indexes. Other words may write meanwhile."""
-    found = [(open(file.path, "rb"), Findings(file.path, file.index)) for file in files if file.index]
+    found = [(file, file.index, open(file.path, "rb")) for file in files if file.index]
     lines: List[str] = []
+    kept = [line_of_file(*it) for it in found]
     archive.release_lock()
-    screen.begin("reading", sum(os.fstat(opened.fileno()).st_size for opened, _ in found))
-    for opened, findings in found:
+    screen.begin("reading", sum(os.fstat(opened.fileno()).st_size for _, _, opened in found))
+    for file, index, opened in found:
+        findings = Findings(file.path, index)
         with opened:
             findings.look_through(opened, screen.moved)
         lines += findings.lines()
+        kept += [line_of_row(file, row) for row in findings.changed]
+    keep_changed(archive.path, kept)
     return lines
 
 
@@ -185,12 +199,15 @@ def carry_out(words: argparse.Namespace) -> int:
     for file in others:
         lines, its_lost = held(file, program, screen)
         more, lost = more + lines, lost.joined(its_lost)
-    content = archive.joined()
+    content, strangers = archive.joined(), strangers_of(archive)
+    more += [file_line("unknown", path) for path in strangers]
     lines = look_through(archive, same, screen) + more + lost_lines(lost.beyond(content))
     screen.show(lines)
     for file in archive.files:
         if f"unknown {shown(file.path)}" in lines:
-            screen.line(advice(file))
+            screen.line(advice(archive, file))
+    for path in map(shown, strangers):
+        screen.line(f"{path}: give it another name; or, if it is a level, call `symarch index {path} {path}.idx`")
     told = "all is there that was known" if others else "all is as it was"
     counts = f"{len(content.held)} slices, {len(content.retired)} retirements"
     wrong = f"{len(lines)} changed, lost, damaged or unknown"
@@ -201,9 +218,10 @@ def carry_out(words: argparse.Namespace) -> int:
     return screen.end(2 if lines else 0, dict(zip(KEYS, numbers)))
 
 
-def advice(file: ArchiveFile) -> str:
+def advice(archive: Archive, file: ArchiveFile) -> str:
     """What takes a file of which nothing is known as it stands."""
     if not file.doubt:
         return f"{shown(file.path)}: nothing is known of it; the next word that writes takes it as it stands"
-    index, kept = shown(file.beside(INDEX)), shown(file.beside(INDEX_SUM))
-    return f"{shown(file.path)}: to take it as it stands, remove {index} and {kept}, and call `symarch-keep fold`"
+    path, index, kept = map(shown, (file.path, file.beside(INDEX), file.beside(INDEX_SUM)))
+    call = f"symarch index {path} {index}" if file in archive.levels else "symarch-keep fold"
+    return f"{path}: to take it as it stands, remove {index} and {kept}, and call `{call}`"

@@ -6,7 +6,7 @@ import os
 import re
 import struct
 import uuid
-from typing import BinaryIO, Callable, Collection, Dict, Iterable, Iterator, List, Optional, Set, Tuple
+from typing import BinaryIO, Callable, Collection, Dict, Iterable, Iterator, List, Optional, Sequence, Set, Tuple
 
 MAGICS = (b"MSYMARC2", b"MSYMARC1")
 SUMMARY = b"MSYMSUM1"
@@ -54,9 +54,7 @@ class Content:
         return len(self.retired) + len(self.held)
 
     def joined(self, other: "Content") -> "Content":
-        retired = self.retired | other.retired
-        held = {**self.held, **other.held}
-        return Content(retired, {entry: length for entry, length in held.items() if entry not in retired})
+        return join_of([self, other])
 
     def beyond(self, other: "Content") -> "Content":
         """What `other` has neither as it is here nor withdrawn."""
@@ -81,6 +79,29 @@ class Content:
 
     def summary(self) -> bytes:
         return summary_of(self.entries())
+
+
+def join_of(contents: Sequence[Content]) -> Content:
+    """What some contents have together."""
+    joined = Content(set().union(*(one.retired for one in contents)))
+    for one in contents:
+        joined.held.update(one.held)
+    for entry in joined.retired.intersection(joined.held):
+        del joined.held[entry]
+    return joined
+
+
+def is_within(content: Content, others: Sequence[Content]) -> bool:
+    """Whether others have all of a content, or withdraw it."""
+    are_retired = all(any(entry in one.retired for one in others) for entry in content.retired)
+    return are_retired and all(
+        any(entry in one.held or entry in one.retired for one in others) for entry in content.held
+    )
+
+
+def archive_of_retirements(entries: Collection[bytes]) -> List[bytes]:
+    """The pieces of the archive of retirements, by key and digest."""
+    return [MAGICS[0], *sorted(RETIREMENT + entry for entry in entries), END, len(entries).to_bytes(LENGTH, "big")]
 
 
 def head_of(key: bytes, length: int) -> bytes:

@@ -3,9 +3,10 @@ or a bucket that `rclone` or `aws s3 sync` mirrors. NAME is the name of this sit
 letters, digits, `-` and `_`.
 
 One call joins what others answered, asks anew if something changed, answers what others ask, and removes what is done
-with. What comes in goes into ARCHIVE.today, as by `add`, and what is asked and answered is of both. Call it at each
-site, at any time and as often as you like, as by cron: when each site was called three times after the last change, and
-FOLDER copied between, all have the same, and after `symarch-keep fold` the same bytes. Two at once wait for each other.
+with. What comes in goes into ARCHIVE.today, as by `add`, and what is asked and answered is of all levels. Call it at
+each site, at any time and as often as you like, as by cron: when each site was called three times after the last
+change, and FOLDER copied between, all have the same, and after `symarch-keep fold --all` the same bytes. Two at once
+wait for each other.
 
 FOLDER has the questions and the answers of all sites. Their names say from whom to whom, and carry the SHA-256 of their
 bytes, so a file that is not copied to its end is told, and passed over. No file is ever rewritten.
@@ -14,7 +15,7 @@ FOLDER also has the mark of each site: what ARCHIVE.site has beside the archive 
 another one's, nothing is done: choose another NAME. --take-name takes NAME for this site all the same, as after it lost
 its disk; the other one is refused from then on.
 
-A question is made of ARCHIVE.idx and ARCHIVE.today.idx, and ARCHIVE.asked has what this site asked with. If the site
+A question is made of the indexes, and ARCHIVE.asked has what this site asked with. If the site
 lacks something of that, as one that was restored from a backup, the call says so and asks anew; each answer that is
 there is joined before it is removed. ARCHIVE.lost has what is lost, and each call ends with 2 until all of it is back,
 or `symarch-keep status --accept` takes it as lost. A slice that changed is not sent. ARCHIVE is made if it does not
@@ -272,8 +273,8 @@ class Exchange:
             origins.setdefault(entry, answer.site)
 
     def put(self, room: bytes, origins: Dict[bytes, str]) -> None:
-        """Puts what the archive lacks of the answers into it."""
-        write_file(room, b"ours", self.content.summary())
+        """Puts what the archive lacks of the answers into it. What it retires it does not lack."""
+        write_file(room, b"ours", summary_with_retired(self.content))
         self.screen.begin("comparing")
         self.program.run(["delta", "total", "ours", "missing"], folder=room, moved=watched(self.screen, room))
         with open(os.path.join(room, b"missing"), "rb") as file:
@@ -402,20 +403,22 @@ class Exchange:
             self.screen.moved(len(chunk))
 
     def make_answer(self, room: bytes, theirs: Content, lacking: Content) -> None:
-        """Makes the archive of what is lacking, of those files that have some of it. What the other site withdrew it
+        """Makes the archive of what is lacking, of those files that have some of it. What the other site retires it
         does not lack."""
-        gone = [ADMISSION + entry for entry in theirs.retired if entry not in theirs.held]
-        write_file(room, b"theirs", summary_of(sorted(theirs.entries() + gone)))
-        names = []
-        for name, file in (("answer", self.archive.main), ("more", self.archive.today)):
+        write_file(room, b"theirs", summary_with_retired(theirs))
+        names, moved = [], watched(self.screen, room)
+        for number, file in enumerate(self.archive.files):
             if len(file.content.beyond(theirs)):
-                self.program.run_over(file.path, "delta", "theirs", name, folder=room, moved=watched(self.screen, room))
-                names.append(name)
-        if len(names) == 2:
-            self.program.run(["merge", *names[:1], "both", *names[1:]], folder=room)
-            names = ["both"]
-        os.replace(os.path.join(room, os.fsencode(names[0])), os.path.join(room, b"answer"))
-        with open(os.path.join(room, b"answer"), "rb") as made:
+                names.append(f"lacking-{number}")
+                self.program.run_over(file.path, "delta", "theirs", names[-1], folder=room, moved=moved)
+        paths, answer = [os.path.join(room, name.encode()) for name in names], os.path.join(room, b"answer")
+        if len(paths) > 1:
+            self.program.merge(paths, os.path.join(room, b"all"), (), (), moved)
+            for path in paths:
+                os.unlink(path)
+            paths = [os.path.join(room, b"all")]
+        os.replace(paths[0], answer)
+        with open(answer, "rb") as made:
             self.screen.moved(lacking.size())
             if content_in(made, self.screen.moved) != lacking:
                 raise Failed(f"a slice of {shown(self.archive.path)} changed; `symarch-keep check` says which")
@@ -448,6 +451,12 @@ class Exchange:
         if lost:
             how = "`symarch-keep status` names them, and `status --accept` takes as lost what no site has"
             self.screen.fail(f"{shown(self.archive.path)}: lost: {counted(lost)}; {how}")
+
+
+def summary_with_retired(content: Content) -> bytes:
+    """The summary of a content and of the slices that it retires, which a delta against it leaves out."""
+    gone = [ADMISSION + entry for entry in content.retired if entry not in content.held]
+    return summary_of(sorted(content.entries() + gone))
 
 
 def is_summary(data: bytes) -> bool:

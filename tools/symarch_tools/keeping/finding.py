@@ -1,4 +1,4 @@
-"""Prints what ARCHIVE and ARCHIVE.today have of UUID, as `symarch find` prints it of the archive of both.
+"""Prints what ARCHIVE, its levels and ARCHIVE.today have of UUID, as `symarch find` prints it of the archive of all.
 
 For example, which slices a build has under this UUID, and by which SHA-256 one may be retired:
 
@@ -9,13 +9,13 @@ For example, which slices a build has under this UUID, and by which SHA-256 one 
   ARCH retired DIGEST    a retirement
   ARCH conflict N        so many slices answer for this UUID and ARCH
 
-Both are read by their indexes: if one of them has all, as after a fold, no slice is read, and else those of UUID. If
-one that is read changed since it came in, nothing is printed but that. An archive without an index is read whole. No
+They are read by their indexes: if one of them has all, no slice is read, and else those of UUID. If one that is read
+changed since it came in, nothing is printed but that. An archive without an index is read whole. No
 lock is taken, and nothing is written.
 
 Status:
   0    it is printed
-  1    neither has anything of UUID
+  1    none has anything of UUID
   2    an archive, or what is beside it, could not be read or vouched for, or a line not be printed
   3    the words have another form
   126  there is no program"""

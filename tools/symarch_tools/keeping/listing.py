@@ -1,5 +1,5 @@
-"""Prints the builds of which ARCHIVE and ARCHIVE.today have slices, by what `symarch-keep add` and `exchange` kept of
-their names in ARCHIVE.builds.
+"""Prints the builds of which ARCHIVE, its levels and ARCHIVE.today have slices, by what `symarch-keep add` and
+`exchange` kept of their names in ARCHIVE.builds.
 
 For example, those of one app that came in since a day:
 
@@ -16,8 +16,8 @@ before names were kept: `add` of their files names them. A slice without an app 
 architecture. What is retired has no line. A space in APP, VERSION or BUILD stands as \\x20. A name that is damaged in
 ARCHIVE.builds is said and passed over, and the status is 2.
 
-Both archives are asked by their indexes, so no slice is read. An archive without an index is read whole. No lock is
-taken, and nothing is written.
+All are asked by their indexes, so no slice is read. An archive without an index is read whole. No lock is taken, and
+nothing is written.
 
 Status:
   0    they are printed

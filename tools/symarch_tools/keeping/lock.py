@@ -4,6 +4,7 @@ import fcntl
 import os
 from typing import Optional
 
+from .file_names import LOCK
 from .screen import Screen, shown
 
 
@@ -24,7 +25,7 @@ class Lock:
     def is_free(self) -> bool:
         """Whether nobody else has the lock. It is taken then."""
         if self.descriptor is None:
-            self.descriptor = opened(self.archive + b".lock", self.writes)
+            self.descriptor = opened(self.archive + LOCK, self.writes)
         if self.descriptor is None:
             return False
         try:

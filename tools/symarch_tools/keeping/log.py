@@ -4,13 +4,16 @@ import contextlib
 import os
 import shutil
 import time
-from typing import Callable, ContextManager, Iterable
+from typing import Callable, Collection, ContextManager, Dict, Iterable
 
 from .archive_file import append_synced, size_of
+from .contents import words_of
 from .screen import Screen, system_text
 
 LOG, NEXT_LOG = b".log", b".log.next"
 DATE = "%Y-%m-%dT%H:%M:%SZ"
+# For so many seconds the bytes of a retired slice wait at most for a fold: 30 days.
+MOST_WAITING = 30 * 24 * 60 * 60
 
 
 class Log:
@@ -67,6 +70,23 @@ class Log:
                 append_synced(copy, text)
                 os.replace(copy, self.path)
 
+    def is_old(self, retired: Collection[bytes], path: bytes) -> bool:
+        """Whether one of some slices is retired for so long that its bytes have to go: since the first line of it; or,
+        if none is there, since the file was written that has it, which had gone then by a retirement of before."""
+        began = dict.fromkeys((words_of(entry) for entry in retired), dated_at(os.stat(path).st_mtime))
+        began.update(self.first_retired(began))
+        return min(began.values()) <= dated_at(time.time() - MOST_WAITING)
+
+    def first_retired(self, wanted: Collection[str]) -> Dict[str, str]:
+        """The date of the first line by which each of some slices is retired, if there is one."""
+        found: Dict[str, str] = {}
+        with contextlib.suppress(FileNotFoundError), open(self.path, encoding="utf-8", errors="replace") as file:
+            for line in file:
+                date, word, *words = line.rstrip("\n").split(" ", 5)
+                if word == "retired" and " ".join(words[:3]) in wanted:
+                    found.setdefault(" ".join(words[:3]), date)
+        return found
+
     def note(self, lines: Iterable[str], screen: Screen) -> None:
         """Adds lines where no archive is written."""
         try:
@@ -75,6 +95,10 @@ class Log:
             screen.fail(system_text(error, self.path))
 
 
+def dated_at(seconds: float) -> str:
+    return time.strftime(DATE, time.gmtime(seconds))
+
+
 def dated(lines: Iterable[str]) -> bytes:
-    now = time.strftime(DATE, time.gmtime())
+    now = dated_at(time.time())
     return "".join(f"{now} {line}\n" for line in lines).encode()

@@ -1,12 +1,12 @@
-"""Prints where symbols of exactly this NAME stand in what ARCHIVE and ARCHIVE.today have together, as `symarch name`
-prints it of the archive of both: a line UUID ARCH DIGEST ADDR (SEG,SECT) for each.
+"""Prints where symbols of exactly this NAME stand in what ARCHIVE, its levels and ARCHIVE.today have together, as
+`symarch name` prints it of the archive of all: a line UUID ARCH DIGEST ADDR (SEG,SECT) for each.
 
 For example, which builds have a function, and at which address:
 
   symarch-keep name builds.sym _copy_body
   symarch-keep name builds.sym -- '-[Spool copyBody:]'
 
-All slices of both are read. If both have an index, a slice that has such a symbol and another SHA-256 than it came in
+All slices are read. If each archive has an index, a slice that has such a symbol and another SHA-256 than it came in
 with gets no line, and is said on standard error. No lock is taken, and nothing is written.
 
 Status:

@@ -13,10 +13,11 @@ import tempfile
 from typing import Iterator, List, Optional, Sequence
 
 from ..signals import signals
-from .archive_file import INDEX, INDEX_SUM, NEXT_INDEX, ArchiveFile
+from .archive_file import ArchiveFile
 from .archive_file import note_of, sync_folder, write_synced
 from .builds import Builds
 from .contents import Content, kept_text
+from .file_names import INDEX, INDEX_SUM, NEXT_INDEX
 from .indexes import Index
 from .log import Log, dated
 from .screen import Screen, shown, system_text

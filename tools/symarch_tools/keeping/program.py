@@ -3,7 +3,7 @@ import contextlib
 import os
 import re
 import subprocess
-from typing import Callable, Dict, Iterable, Optional, Sequence, Tuple, Union
+from typing import Callable, Dict, Iterable, List, Optional, Sequence, Tuple, Union
 
 from ..program import candidates, named
 from ..signals import signals
@@ -81,6 +81,28 @@ class Program:
             raise fault(os.fsdecode(words[0]), told, process.returncode, slices, places)
         return printed or b"", process.returncode
 
+    def merge(
+        self, paths: Sequence[bytes], new: bytes, slices: Sequence[Slice], held: Sequence[int], moved: Moved
+    ) -> None:
+        """Writes the join of archives, the largest one first, and of slices, as a new file. Those after the first come
+        joined by a pipe, so that nothing is written twice or has to fit in memory. The program holds open files too.
+        Words that are no UTF-8 are refused, so no word has the path of an archive."""
+        folder, name = os.path.split(new)
+        with contextlib.ExitStack() as ends:
+            opened = [ends.enter_context(open(path, "rb")).fileno() for path in paths]
+            names = {f"{DESCRIPTORS}/{number}": shown(path) for number, path in zip(opened, paths)}
+            pipes = Pipes(self.path, ends)
+            read = [opened[0], *pipes.joined(opened[1:])]
+            names.update({f"{DESCRIPTORS}/{number}": " and ".join(map(shown, paths[1:])) for number in read[1:]})
+            first, *others = [f"{DESCRIPTORS}/{number}" for number in read]
+            words = ["merge", first, os.fsdecode(name), *(others or ["/dev/stdin"])]
+            try:
+                self.run(words, slices, folder, [*read, *held], moved, {**names, words[2]: shown(new)})
+            except Failed as failed:
+                raise pipes.fault(names) or failed from None
+            finally:
+                pipes.close()
+
     def run_over(
         self, path: bytes, command: str, *more: str, folder: Optional[bytes] = None, moved: Moved = not_moved
     ) -> bytes:
@@ -89,6 +111,54 @@ class Program:
             words = [command, f"{DESCRIPTORS}/{file.fileno()}", *more]
             names = {words[1]: shown(path)}
             return self.run(words, folder=folder, open_files=(file.fileno(),), moved=moved, names=names)
+
+
+class Pipes:
+    """Programs that join archives into pipes: each an archive and the pipe of the one before it."""
+
+    def __init__(self, program: str, ends: contextlib.ExitStack) -> None:
+        self.program, self.ends = program, ends
+        self.processes: List["subprocess.Popen[bytes]"] = []
+        # The end of the last pipe, which is read.
+        self.end: Optional[int] = None
+
+    def joined(self, opened: Sequence[int]) -> List[int]:
+        """What the join of open archives is read from, if there are any."""
+        read = opened[-1:]
+        for one in reversed(opened[:-1]):
+            read = [self.begin(one, read[0])]
+        return list(read)
+
+    def begin(self, opened: int, rest: int) -> int:
+        end, written = os.pipe()
+        words = [self.program, "merge", *(f"{DESCRIPTORS}/{it}" for it in (opened, written, rest))]
+        nothing = subprocess.DEVNULL
+        with signals.later():
+            process = subprocess.Popen(
+                words, stdin=nothing, stdout=nothing, stderr=subprocess.PIPE, pass_fds=(opened, written, rest)
+            )
+            self.processes.append(self.ends.enter_context(process))
+            self.ends.push(lambda failed, *_: process.kill() if failed else None)
+        os.close(written)
+        self.close()
+        self.end = end
+        return end
+
+    def close(self) -> None:
+        """Ends those that write: nobody reads on."""
+        if self.end is not None:
+            os.close(self.end)
+        self.end = None
+
+    def fault(self, names: Dict[str, str]) -> Optional[Exception]:
+        """Why the first one failed that was refused an archive. Those after it read half a pipe."""
+        self.close()
+        for process in self.processes:
+            with signals.later():
+                said = process.communicate()[1].decode(errors="replace").strip()
+            if process.returncode > 0 and said.startswith("symarch: archive "):
+                return fault("merge", said, process.returncode, (), names)
+        return None
 
 
 def answering_program() -> str:
@@ -110,15 +180,15 @@ def in_folder(words: Sequence[Word], folder: Optional[bytes]) -> Dict[str, str]:
     return {os.fsdecode(word): shown(os.path.join(folder, os.fsencode(word))) for word in words[1:]}
 
 
-def give(descriptor: int, slices: Sequence[Slice], moved: Moved, retirements: Sequence[bytes] = ()) -> None:
-    """Writes the archive of retirements and slices, which are in the order of their records."""
-    write(descriptor, MAGICS[0] + b"".join(retirements))
+def give(descriptor: int, slices: Sequence[Slice], moved: Moved) -> None:
+    """Writes the archive of slices, which are in the order of their records."""
+    write(descriptor, MAGICS[0])
     for done, one in enumerate(slices):
         write(descriptor, one.head)
         for chunk in one.chunks():
             write(descriptor, chunk)
             moved(done)
-    write(descriptor, END + (len(retirements) + len(slices)).to_bytes(LENGTH, "big"))
+    write(descriptor, END + len(slices).to_bytes(LENGTH, "big"))
 
 
 def fault(command: str, said: str, status: int, slices: Sequence[Slice], names: Dict[str, str]) -> Exception:

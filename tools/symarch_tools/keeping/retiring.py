@@ -6,10 +6,10 @@ For example, what came in of an app before this year; the first line only prints
   symarch-keep retire --dry-run --app com.example.spool --before 2026-01-01 builds.sym
   symarch-keep retire --app com.example.spool --before 2026-01-01 builds.sym
 
-From then on nothing that is asked of ARCHIVE and ARCHIVE.today finds the slice. The retirement goes into ARCHIVE.today;
-the next `symarch-keep fold` takes the bytes of the slice out of ARCHIVE. It reaches each site by `exchange`, and the
-slice comes back at none. A slice that neither has is refused, since a word may be wrong; --before-it-comes retires it
-all the same, so that it never comes in.
+From then on nothing that is asked finds the slice. The retirement goes into ARCHIVE.today; the next `symarch-keep fold`
+that joins the file in which the slice stands takes its bytes out, or the first one after 30 days, or `fold --purge`. It
+reaches each site by `exchange`, and the slice comes back at none. A slice that is not there is refused, since a word
+may be wrong; --before-it-comes retires it all the same, so that it never comes in.
 
 The line that is printed, and kept in ARCHIVE.log with the date, is `retired UUID ARCH DIGEST`, or `known UUID ARCH
 DIGEST` if it was retired before; nothing is written then.
@@ -24,7 +24,7 @@ Call `exchange` before, so that this site knows the apps of the others.
 
 Status:
   0    the slices are retired
-  1    neither file has such a slice, and nothing was done
+  1    there is no such slice, and nothing was done
   2    they are retired, and some line could not be printed or kept
   3    the words have another form
   4    ARCHIVE could not be read or written, memory ran out, names of builds were damaged, or lines not be printed
@@ -37,7 +37,7 @@ from typing import Dict, Iterable, List, NamedTuple, Optional, Sequence, Tuple
 from .archive import Archive
 from .archive_file import write_synced
 from .builds import UNKNOWN, Lines, Named, field_shown
-from .contents import END, KEY, LENGTH, MAGICS, RETIREMENT, Content, words_of
+from .contents import KEY, Content, archive_of_retirements, words_of
 from .forms import app_of, arch_of, day_of, digest_of, other_form, uuid_of
 from .program import Program
 from .screen import Failed, Screen, screen_of, shown
@@ -103,8 +103,8 @@ def retire(
 ) -> None:
     """The retirements come in by an archive of their own, all or none of them."""
     with archive.room() as room:
-        path, records = os.path.join(room, b"retirements"), sorted(RETIREMENT + entry for entry in entries)
-        write_synced(path, [MAGICS[0], *records, END, len(records).to_bytes(LENGTH, "big")])
+        path = os.path.join(room, b"retirements")
+        write_synced(path, archive_of_retirements(entries))
         archive.put(room, program, Content(entries), lines, screen, more=path)
 
 

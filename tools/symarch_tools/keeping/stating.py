@@ -1,13 +1,15 @@
-"""Prints what ARCHIVE and ARCHIVE.today have together, in numbers, and what is known of the sites with which they
-exchange. It reads the indexes, so it takes little time; `symarch-keep check` reads all. Of an archive that is not the
-one of its index it reads the heads of the slices, and few of their bytes.
+"""Prints what ARCHIVE, its levels and ARCHIVE.today have together, in numbers, and what is known of the sites with
+which they exchange. It reads the indexes, so it takes little time; `symarch-keep check` reads all. Of an archive that
+is not the one of its index it reads the heads of the slices, and few of their bytes.
 
   images N            slices that are no companions
   companions N        slices of dSYMs
   retirements N       slices that were withdrawn
   conflicts N         UUIDs and architectures for which several slices answer, so that `symarch` prints !N
   bytes N             of ARCHIVE
-  today N             bytes of ARCHIVE.today, which `symarch-keep fold` joins into ARCHIVE
+  today N             bytes of ARCHIVE.today, which `symarch-keep fold` joins with others
+  levels N            bytes of ARCHIVE.1, ARCHIVE.2 and so on together, if there are such
+  waiting N           bytes of retired slices that stand in a file yet, until it is folded, or `fold --purge` is called
   site NAME ...       when that site last asked, by its clock; when it was last answered, and its answer last joined
   lost ...            UUID, ARCH and DIGEST of a slice that was there and is not, or the same after `retired`
   left PATH           what a kill left, which the next word that writes removes
@@ -25,18 +27,19 @@ Status:
   2    something is lost; an index, its sum, ARCHIVE.lost or names of builds are damaged; or some line could not be
        printed or kept
   3    the words have another form
-  4    ARCHIVE or ARCHIVE.today could not be read, or ARCHIVE.lost not be written
+  4    ARCHIVE, a level or ARCHIVE.today could not be read, or ARCHIVE.lost not be written
   126  there is no program"""
 import argparse
 import collections
 import os
 from typing import Counter, Dict, List, NamedTuple, Sequence
 
-from .archive import TODAY, Archive
-from .archive_file import INDEX_SUM, NEXT_INDEX, ArchiveFile
+from .archive import Archive
+from .archive_file import ArchiveFile
 from .builds import NEXT_BUILDS
 from .contents import DIGEST, KEY, RETIREMENT, Content, Malformed, digest_in, head_of, record_size, records_in
 from .exchanging import Asked
+from .file_names import INDEX_SUM, NEXT_INDEX
 from .indexes import HEAD, is_companion
 from .json_lines import Line, Members, path_members
 from .log import NEXT_LOG
@@ -46,7 +49,8 @@ from .screen import Failed, Screen, screen_of, shown
 
 USAGE = "symarch-keep status [--quiet] [--json] [--accept] ARCHIVE"
 ABOUT = "print what it has, in numbers"
-KEYS = ("images", "companions", "retirements", "conflicts", "bytes", "today", "sites", "lost", "left")
+NUMBERS = ("images", "companions", "retirements", "conflicts", "bytes", "today", "levels", "waiting")
+KEYS = (*NUMBERS, "sites", "lost", "left")
 DATES = ("asked", "answered", "joined")
 
 
@@ -65,21 +69,28 @@ def carry_out(words: argparse.Namespace) -> int:
         archive.say_damaged_builds(screen)
         if archive.lost.fault:
             screen.fail(f"{shown(archive.lost.path)}: {archive.lost.fault}, so what is lost is not known")
-    # A word that writes meanwhile has what was asked before, and ARCHIVE has what ARCHIVE.today had before.
+    # A word that writes meanwhile has what was asked before, and ARCHIVE and levels have what ARCHIVE.today had before.
     asked = Asked(archive)
-    seen = [see(file, screen) for file in (archive.today, archive.main)]
+    seen = [see(archive.today, screen)]
+    archive.find_levels()
+    seen += [see(file, screen) for file in (*reversed(archive.levels), archive.main)]
     numbers = numbers_of([record for one in seen for record in one.records])
-    numbers.update({"bytes": archive.main.size(), "today": archive.today.size()})
+    numbers.update({"bytes": archive.main.size(), "today": archive.today.size(), **numbers_of_levels(archive)})
     lost, sites, left = lost_lines(lost_of(archive, asked, seen)), sites_of(asked), left_of(archive)
     if screen.is_json:
         found = [site_members(note) for note in sites], [members_of_lost(line) for line in lost]
         lists = [*found, [path_members(path) for path in left]]
         screen.faults += [str(line) for line in lost]
         return screen.end(2 if lost else 0, {**numbers, **dict(zip(KEYS[len(numbers):], lists))})
-    is_there = archive.today.exists()
-    lines = [f"{name} {number}" for name, number in numbers.items() if name != "today" or is_there]
+    is_there = {"today": archive.today.exists(), "levels": bool(archive.levels), "waiting": numbers["waiting"] > 0}
+    lines = [f"{name} {number}" for name, number in numbers.items() if is_there.get(name, True)]
     screen.show([*lines, *sites, *lost, *(f"left {shown(path)}" for path in left)])
     return screen.status(2 if lost else 0)
+
+
+def numbers_of_levels(archive: Archive) -> Dict[str, int]:
+    """How many bytes levels have, and retired slices that wait to be taken out, in any file."""
+    return {"levels": sum(level.size() for level in archive.levels), "waiting": archive.bytes_waiting()}
 
 
 def site_members(note: str) -> Members:
@@ -221,6 +232,7 @@ def left_of(archive: Archive) -> List[bytes]:
     """What a kill left. What belongs to one that works now is not."""
     if archive.writes or not archive.lock.is_free():
         return []
-    paths = [archive.beside(ending) for ending in (NEXT_INDEX, TODAY + NEXT_INDEX, NEXT_LOG, NEXT_BUILDS)]
+    paths = [file.beside(NEXT_INDEX) for file in archive.files]
+    paths += [archive.beside(ending) for ending in (NEXT_LOG, NEXT_BUILDS)]
     paths += [os.path.join(archive.folder, name) for name in archive.rooms()]
     return [path for path in paths if os.path.exists(path)]

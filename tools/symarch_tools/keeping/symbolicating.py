@@ -1,5 +1,5 @@
 """Prints the symbol nearest to each ADDRESS of the image of UUID and ARCH, as `symarch symbolicate` prints it of the
-archive that ARCHIVE and ARCHIVE.today have together.
+archive that ARCHIVE, its levels and ARCHIVE.today have together.
 
 For example, an address of a crash, of an image that was loaded at 0x104d38000:
 
@@ -15,7 +15,7 @@ Each ADDRESS gets a line: the address, and
 A number is hexadecimal, with 0x or without. Where - stands in the place of ADDRESS, the addresses are those of standard
 input, between which white space stands.
 
-Both archives are read by their indexes, so that only the slices of UUID and ARCH are read of them, and one that changed
+All are read by their indexes, so that only the slices of UUID and ARCH are read of them, and one that changed
 since it came in gives no name. An archive without an index is read whole. No lock is taken, and nothing is written.
 
 Status:

@@ -4,9 +4,10 @@ from __future__ import annotations
 
 import os
 from array import array
-from typing import Dict, Iterable, List, Sequence, Tuple
+from typing import Dict, Iterable, List, Optional, Sequence, Tuple
 
-from ..keeping.contents import KEY
+from ..keeping import file_names
+from ..keeping.contents import EMPTY, KEY, MAGICS
 from .answers import Answers, Key, Names, Origin
 from .faults import Failure, Status
 from .images import Image, unique
@@ -16,7 +17,10 @@ from .streams import note, noted, say
 
 # What `symarch-keep` has beside an archive: what came in lately, the index, the index of a file that takes the place of
 # the archive just now, and the SHA-256 of both.
-TODAY, INDEX, NEXT_INDEX, SUMS = ".today", ".idx", ".idx.next", ".idx.sum"
+NAMES = file_names.TODAY, file_names.INDEX, file_names.NEXT_INDEX, file_names.INDEX_SUM
+TODAY, INDEX, NEXT_INDEX, SUMS = map(os.fsdecode, NAMES)
+# How often archives are asked again that a fold changed meanwhile.
+TRIES = 10
 
 
 def beside(path: str, ending: str) -> str:
@@ -54,11 +58,50 @@ class ArchiveFile:
             return key_in(rows.row(entry).entry[1 : 1 + KEY])
 
 
-class Archives:
-    """The archives of a call. `has_changed` says whether a slice was refused by its digest."""
+def with_levels(paths: Iterable[str]) -> List[ArchiveFile]:
+    """The archives, each after what `symarch-keep` has beside it: what came in lately, unless that has no record, and
+    the levels, the last one first. A fold removes a file once one that follows here has all of it."""
+    found = []
+    for path in paths:
+        today, levels = beside(path, TODAY), levels_of(path)
+        if os.path.lexists(today) and not is_empty_archive(today):
+            found.append(ArchiveFile(today, path))
+        found += [ArchiveFile(level, path) for level in reversed(levels)]
+        found.append(ArchiveFile(path, path[: -len(TODAY)] if path.endswith(TODAY) else path))
+    return found
 
-    def __init__(self, files: Sequence[ArchiveFile]) -> None:
-        self.files, self.names, self.has_changed = files, Names(), False
+
+def levels_of(path: str) -> List[str]:
+    """The levels of an archive that are there."""
+    numbers = file_names.numbers_beside(os.fsencode(beside(path, "")))
+    levels = [beside(path, os.fsdecode(file_names.level_ending(number))) for number in numbers]
+    return list(filter(os.path.exists, levels))
+
+
+def is_empty_archive(path: str) -> bool:
+    try:
+        if os.stat(path).st_size != len(EMPTY):
+            return False
+        with open(path, "rb") as file:
+            return file.read() in [magic + EMPTY[len(magic) :] for magic in MAGICS]
+    except OSError:
+        return False
+
+
+def place_of(path: str) -> Tuple[str, Optional[int]]:
+    """Which file stands under a path."""
+    try:
+        return path, os.stat(path).st_ino
+    except OSError:
+        return path, None
+
+
+class Archives:
+    """The archives of a call, by their paths. `has_changed` says whether a slice was refused by its digest."""
+
+    def __init__(self, paths: Sequence[str]) -> None:
+        self.paths, self.names, self.has_changed = paths, Names(), False
+        self.files: List[ArchiveFile] = []
         self.program = Program()
 
     def look_up(self, images: Sequence[Image]) -> None:
@@ -68,21 +111,33 @@ class Archives:
             for arch in image.architectures():
                 wanted.setdefault((image.uuid, arch), []).append(image)
         once: Dict[Tuple[int, ...], array[int]] = {}
-        answers = {key: Answers(key, offsets_of(some, once), self.names) for key, some in wanted.items()}
+        offsets = {key: offsets_of(some, once) for key, some in wanted.items()}
         for image in images:
             image.asked = array("Q")
-        self.ask(list(answers.values()))
+        for tries_left in reversed(range(TRIES)):
+            answers = {key: Answers(key, its, self.names) for key, its in offsets.items()}
+            places = self.places()
+            self.files = with_levels(self.paths)
+            if self.ask(list(answers.values()), places if tries_left else None):
+                break
         for image in images:
             found = {arch: answers[image.uuid, arch] for arch in image.architectures()}
             image.take({arch: one for arch, one in found.items() if one.origin is not Origin.ABSENT})
         self.look_into_files(images, [one for one in answers.values() if one.origin is Origin.UNKNOWN])
 
-    def ask(self, answers: List[Answers]) -> None:
-        """Asks the archives, by the index beside each that has one, and again without what these do not vouch for."""
+    def places(self) -> List[Tuple[str, Optional[int]]]:
+        """Which files the archives and their levels are. A fold makes others; what comes in lately does not."""
+        return [place_of(path) for one in self.paths for path in (one, *levels_of(one))]
+
+    def ask(self, answers: List[Answers], places: Optional[List[Tuple[str, Optional[int]]]]) -> bool:
+        """Asks the archives, by the index beside each that has one, and again without what these do not vouch for.
+        Returns False if others stand in these places meanwhile: what was asked may have missed what a fold moved."""
         while True:
             indexed = [file for file in self.files if file.index]
             plain = [file.path for file in self.files if not file.index]
             reply = self.program.frames([(file.path, file.index) for file in indexed], plain, answers)
+            if places is not None and places != self.places():
+                return False
             fault = reply.fault_of_index()
             if fault is None or fault.number >= len(indexed):
                 break
@@ -91,6 +146,7 @@ class Archives:
         noted.extend(line.strip() for line in said.splitlines())
         say(said)
         self.program.judge(reply)
+        return True
 
     def without_changed(self, file: ArchiveFile, fault: IndexFault, answers: List[Answers]) -> List[Answers]:
         """What is asked again after a fault of an index: all, by another index, or all but the slices that changed."""

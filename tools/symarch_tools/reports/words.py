@@ -5,10 +5,9 @@ import argparse
 import os
 import shlex
 import stat
-from typing import Any, Dict, Iterable, List, NoReturn, Optional, Sequence, Tuple
+from typing import Any, Dict, List, NoReturn, Optional, Sequence, Tuple
 
 from ..version import PrintVersion
-from .archives import TODAY, ArchiveFile, beside
 from .encodings import decoded
 from .faults import Failure, Status
 from .pasted import MOST_OF_BEGINNING
@@ -19,8 +18,6 @@ NAME = "symbolicate-report"
 OPTIONS = "[--missing | [--json] [--text] [--demangle | --raw] [--out FOLDER] | --group [--demangle | --raw]]"
 USAGE = f"{NAME} {OPTIONS} REPORT... ARCHIVE..."
 MAGICS = (b"MSYMARC1", b"MSYMARC2")
-# How long an archive without records is.
-EMPTY_SIZE = 17
 # The commands of the program that a report might be given to.
 ANSWERING = ("frames", "symbolicate")
 
@@ -102,7 +99,7 @@ class Words:
         fault = self.fault_of_names(names) or self.fault_of_options()
         if fault:
             parser.error(fault)
-        self.archives = with_today(archives)
+        self.archives = archives
 
     def fault_of_options(self) -> Optional[str]:
         """Why the options do not stand together, if they do not."""
@@ -192,19 +189,3 @@ def reports_and_archives(names: Sequence[str]) -> Tuple[List[str], List[str]]:
     while first > 1 and is_archive(names[first - 1]):
         first -= 1
     return list(names[:first]), list(names[first:])
-
-
-def with_today(archives: Iterable[str]) -> List[ArchiveFile]:
-    """The archives, each after what `symarch-keep` has beside it of what came in lately, unless that has no record. A
-    fold empties that once the archive has all of it, so who opens it first misses nothing."""
-    found = []
-    for path in archives:
-        today = beside(path, TODAY)
-        if os.path.lexists(today) and not is_empty_archive(today):
-            found.append(ArchiveFile(today, path))
-        found.append(ArchiveFile(path, path[: -len(TODAY)] if path.endswith(TODAY) else path))
-    return found
-
-
-def is_empty_archive(path: str) -> bool:
-    return is_archive(path) and os.path.getsize(path) == EMPTY_SIZE
