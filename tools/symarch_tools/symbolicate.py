@@ -136,6 +136,7 @@ from .reports.demangling import demangled, without_underscores
 from .reports.faults import Failure, NoReport, Status
 from .reports.folders import files_below, is_named_as_report
 from .reports.groups import group_lines
+from .reports.names import Names
 from .reports.report import Count, Report
 from .reports.streams import drop, encoded, note, printing
 from .reports.words import NAME, Words, is_folder
@@ -202,6 +203,15 @@ def print_missing(reports: Iterable[Report]) -> None:
             names[image.uuid] = names.get(image.uuid) or " ".join((image.name or "").split())
     with printing() as stream:
         stream.write(encoded("".join(f"{number} {name}".rstrip() + "\n" for number, name in names.items())))
+
+
+def show_names(words: Words, symbols: Names, functions: Names) -> None:
+    """Changes the names to those that are printed. Only symbols have the underscore."""
+    if not words.is_raw:
+        symbols.shown = without_underscores(symbols.shown)
+    if not words.is_mangled:
+        made = demangled([*symbols.shown, *functions.shown], words.is_demangled)
+        symbols.shown, functions.shown = made[: len(symbols.shown)], made[len(symbols.shown) :]
 
 
 def print_groups(reports: Iterable[Report]) -> None:
@@ -289,16 +299,13 @@ def carry_out(words: Words) -> int:
             print_objects(reader.refused)
             print_end(0, vars(Count()), status)
         return status
-    archives = Archives(words.archives)
+    archives = Archives(words.archives, words.has_lines(), words.has_paths)
     archives.look_up([image for report in reports for image in report.images.with_frames()])
     status = status or (Status.REFUSED if archives.has_changed else Status.DONE)
     if words.is_missing:
         print_missing(reports)
         return status
-    if not words.is_raw:
-        archives.names.shown = without_underscores(archives.names.shown)
-    if words.is_demangled:
-        archives.names.shown = demangled(archives.names.shown)
+    show_names(words, archives.names, archives.chains.names)
     if words.is_group:
         print_groups(reports)
     elif words.out is not None:
