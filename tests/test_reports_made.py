@@ -762,7 +762,8 @@ class Demangling(ReportCase):
         return re.findall(r"^[0-9]+ x 0x[0-9a-f]+ (.*) \+ 4$", out.decode(), re.M)
 
     def demangled(
-        self, wanted: Sequence[str], note: str = "", others: Sequence[str] = (), **demanglers: str
+        self, wanted: Sequence[str], note: str = "", others: Sequence[str] = (), words: Sequence[str] = ("--demangle",),
+        **demanglers: str
     ) -> None:
         """Fails where others come of these demanglers, something else is said, or one is called more than once; or
         where one of the others is called at all."""
@@ -774,7 +775,7 @@ class Demangling(ReportCase):
         for name, body in {**dict.fromkeys(others, "cat"), **demanglers}.items():
             self.script(f"demanglers/{name.replace('_', '-')}", f'echo >>"{self.folder}/{name}"\n{body}')
         both = f"{self.folder / 'demanglers'}:{tools}"
-        came = self.report("--demangle", self.crash, self.archive, environment={"PATH": both})
+        came = self.report(*words, self.crash, self.archive, environment={"PATH": both})
         self.assertEqual((came.status, self.names(came.out)), (0, list(wanted)))
         self.assertEqual(came.error_lines[:-1], [f"symbolicate-report: {note}"] if note else [])
         for name in demanglers:
@@ -786,7 +787,20 @@ class Demangling(ReportCase):
 
     def test_not_asked_for(self) -> None:
         """One underscore is dropped, as Apple's reports have names."""
-        self.assertEqual(self.names(self.report(self.crash, self.archive).out), STRIPPED)
+        self.assertEqual(self.names(self.report("--no-demangle", self.crash, self.archive).out), STRIPPED)
+
+    def test_by_default(self) -> None:
+        """If a demangler is there; if none is, nothing is said."""
+        self.demangled(["spool::copy()", *STRIPPED[1:]], words=[], llvm_cxxfilt=self.cxx)
+        shutil.rmtree(self.folder / "demanglers")
+        shutil.rmtree(self.folder / "tools")
+        self.demangled(STRIPPED, words=[])
+
+    def test_no_name_needs_one(self) -> None:
+        """Then none is called."""
+        self.archive.unlink()
+        self.make([b"_plain", b"-[Spool copy:]", b"_Spool"])
+        self.demangled(["plain", "-[Spool copy:]", "Spool"], others=["llvm_cxxfilt", "swift"])
 
     def test_raw(self) -> None:
         came = self.report("--raw", self.crash, self.archive)

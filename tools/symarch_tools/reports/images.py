@@ -44,7 +44,8 @@ class Kind(enum.IntFlag):
 
 
 # As plain numbers: an operation on a flag takes ten times as long, and a report may have a million frames.
-IS_RETURN, HAD_NAME, CANNOT_BE_ASKED, IS_BELOW, HAS_BELOW, IS_INLINED, HAS_INLINED, IS_LISTED = (int(one) for one in Kind)
+IS_RETURN, HAD_NAME, CANNOT_BE_ASKED, IS_BELOW, HAS_BELOW = map(int, list(Kind)[:5])
+IS_INLINED, HAS_INLINED, IS_LISTED = map(int, list(Kind)[5:])
 
 
 class Image:
@@ -130,6 +131,7 @@ class Frames:
         self.images = images
         self.places, self.numbers, self.asked, self.kinds = array("Q"), array("i"), array("Q"), bytearray()
         self.known: Dict[Tuple[int, int, int], Dict[Optional[Symbol], List[str]]] = {}
+        self.known_lines: Dict[Tuple[int, int, int], Lines] = {}
 
     def __len__(self) -> int:
         return len(self.kinds)
@@ -189,11 +191,15 @@ class Frames:
 
     def lines(self, at: int) -> Lines:
         """Where a frame that has one name is in the source, without the inlined functions that the report has."""
-        image = self.image(at)
-        if image is None or not self.name(at):
-            return NOTHING
-        found = image.lines(self.asked[at])
-        return found._replace(inlined=()) if self.kinds[at] & HAS_INLINED else found
+        key = self.numbers[at], self.asked[at], self.kinds[at]
+        found = self.known_lines.get(key)
+        if found is None:
+            image = self.image(at)
+            found = image.lines(self.asked[at]) if image and self.name(at) else NOTHING
+            found = found._replace(inlined=()) if self.kinds[at] & HAS_INLINED else found
+            if len(self.known_lines) < MOST_KNOWN:
+                self.known_lines[key] = found
+        return found
 
 
 Answer = TypeVar("Answer", bound=Hashable)
