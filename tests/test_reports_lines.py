@@ -124,6 +124,17 @@ class Inlined(LinesCase):
         self.assertEqual([shape(line)["source"] for line in frames], [
             shape(line)["source"] for line in system.splitlines() if "\t" in line])  # fmt: skip
 
+    def test_as_text_of_what_was_printed(self) -> None:
+        """Files and lines that a report states stay if the archive has none."""
+        for form in ("ips", "metrickit"):
+            path = self.file(f"x{FORM[form]}", self.printed(fixture(form)))
+            text = self.report("--text", path, "empty").out.decode()
+            ours = named(f"text-inlined-{form}").decode()
+            places = lambda said: re.findall(r"(?:fail|start) \+ \d+ \(\S+:\d+", said)
+            self.assertEqual(places(text), places(ours))
+        path = self.file("stackshot.ips", named("stackshot"))
+        self.assertIn(b" copy_body + 12 (spool.c:9)\n", self.report("--text", path, "empty").out)
+
     def test_again(self) -> None:
         """What was printed is a report, of which the same is printed: inlined functions come once."""
         for form in FORM:

@@ -135,7 +135,8 @@ class ReadableReport:
             said = f"{symbol[0]} + {symbol[1]}" if len(symbol) > 1 and symbol[1] is not None else f"{symbol[0]}"
         lines = self.frames.lines(at)
         made = list(inlined_lines(lines, head, 0))
-        head, tail = numbered(head, len(made)), source_after(lines.source, encoded(source))
+        tail = source_after(lines.source, encoded(f" ({source})" if source else ""))
+        head = numbered(head, len(made))
         if self.frames.kinds[at] & IS_INLINED:
             tail += b" " + INLINED
         return [*made, named_line(self.answers(at), head, b"", tail, b"") or head + encoded(said) + tail]
@@ -159,7 +160,8 @@ class ReadableReport:
         number = 0
         for at in places:
             base, name, offset, symbol = self.call(at)
-            lines = self.lines_of_frame(number, at, name, base, offset or 0, symbol, "")
+            source = source_of(self.document.said(at))
+            lines = self.lines_of_frame(number, at, name, base, offset or 0, symbol, source)
             number += len(lines)
             yield from lines
 
@@ -192,7 +194,8 @@ class ReadableReport:
         base, name, offset, symbol = self.call(at)
         samples = number_in(self.document.said(at).get("sampleCount"))
         head = f"{'  ' * (1 + min(depth, MOST_SET_IN))}{1 if samples is None else samples:<4} ".encode()
-        inside = f"{source.text()} in " if source else ""
+        text = source.text() if source else "" if inlined else source_of(self.document.said(at))
+        inside = f"{text} in " if text else ""
         place = f" ({inside}{name or '???'} + {offset})" if offset is not None else ""
         tail = encoded(f"{place} [0x{(base or 0) + (offset or 0):x}]")
         if inlined:
@@ -241,9 +244,11 @@ def number_in(value: object) -> Optional[int]:
 
 def source_of(said: Any) -> str:
     """The source file and line that a frame states."""
-    if not isinstance(said, dict) or not said.get("sourceFile"):
-        return ""
-    return f" ({said['sourceFile']}:{said.get('sourceLine', 0)})"
+    if isinstance(said, list):
+        file, line = said[4:6] if len(said) > 5 else (None, None)
+    else:
+        file, line = said.get("sourceFile"), said.get("sourceLine", 0)
+    return f"{file}:{line}" if file else ""
 
 
 def process_of(node: Optional[Node]) -> Optional[str]:
