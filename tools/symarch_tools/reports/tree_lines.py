@@ -13,7 +13,7 @@ from .source_lines import Inlined, Lines
 BARS = rb"[\s+!:|*]*"
 NODE = re.compile(BARS + rb"(?=[0-9]+\s+\S)")
 KERNEL = b"*"
-# How much further, and the bars of `sample`, in turn from the outermost on.
+# How much further one stands below another, and the bars of `sample`, in turn from the outermost on.
 STEP, IN_TURN = 2, b"+!:|"
 # What stands after a frame of `sample`; before the image of a frame of a spindump, and up to its address.
 AFTER_ADDRESSES = re.compile(rb"( +\[[^]]*\])(?:  \S.*:[0-9]+(?:,[0-9]+)*)?")

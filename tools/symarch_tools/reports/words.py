@@ -141,7 +141,7 @@ class Words:
             return "--missing stands alone"
         if self.is_group and others:
             return f"--group prints no report, so {others[0]} does not stand beside it"
-        if self.is_raw and len(given) > 1 and {"--demangle", "--no-demangle"} & {*given}:
+        if self.is_raw and self.is_demangled:
             return "--raw keeps what --demangle changes: name one of them"
         if self.has_no_lines and self.has_paths:
             return "--no-lines prints no paths, so --paths does not stand beside it"
