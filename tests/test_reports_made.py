@@ -300,14 +300,15 @@ class CutJson(CutCase):
         offsets = list(re.finditer(rb'( *)"offsetIntoBinaryTextSegment" : [0-9]+', data))
         below = data.index(b"{", offsets[3].end())
         has_image = re.compile(rb'"binaryUUID" : "[0-9A-F-]{36}"')
-        spool_one, start, copy_body = (b"spool_one", 0), (b"start", 52), (b"copy_body", 12)
+        spool_one, start, copy_body = (b"spool_one", 0, 24), (b"start", 52, 32), (b"copy_body", 12, 9)
+        members = b',\n%b"symbol" : "%b",\n%b"symbolLocation" : %d,\n%b"sourceFile" : "spool.c",\n%b"sourceLine" : %d'
 
         def wanted_of(part: bytes) -> Wanted:
             names = [spool_one, start, None, start if len(part) > below else spool_one, copy_body, spool_one]
             made, done = b"", 0
             for found, name in zip(offsets, names):
                 if name and len(part) > found.end():
-                    added = b',\n%b"symbol" : "%b",\n%b"symbolLocation" : %d' % (found[1], name[0], found[1], name[1])
+                    added = members % (found[1], name[0], found[1], name[1], found[1], found[1], name[2])
                     made, done = made + part[done : found.end()] + added, found.end()
             end = None if part.strip() == data.strip() else where(part, "within its JSON")
             return (made + part[done:], end) if has_image.search(part) else (None, end)
@@ -423,7 +424,8 @@ class ManyImages(ReportCase):
         document["threads"] = [{"frames": frames}]
         text = first + "\n" + json.dumps(document)
         frame = f'{{"imageOffset": 1040, "imageIndex": {len(self.uuids)}'
-        names = text.replace(frame, frame + ', "symbol": "copy_body", "symbolLocation": 12')
+        more = ', "symbol": "copy_body", "symbolLocation": 12, "sourceFile": "spool.c", "sourceLine": 9'
+        names = text.replace(frame, frame + more)
         self.is_printed(self.report(self.file("ips", text), "shipped"), names.encode())
 
 
@@ -436,7 +438,7 @@ class Several(ReportCase):
         self.paths = [self.file(f"several/{form}", source(form)) for form in self.forms]
 
     def test_each_is_written(self) -> None:
-        lines = f'echo "$1 ${{3##*/}}" >>"{self.folder}/calls"', f'cat "$2" >>"{self.folder}/asked"'
+        lines = f'echo "$1 ${{4##*/}}" >>"{self.folder}/calls"', f'cat "$2" >>"{self.folder}/asked"'
         counting = self.script("counting", "\n".join([*lines, 'exec "$symarch" "$@"']))
         out = self.folder / "out of several"
         came = self.report("--out", out, *self.paths, "shipped", environment={"SYMARCH": counting})
@@ -513,8 +515,8 @@ class Backtraces(ReportCase):
     def test_some_have_names(self) -> None:
         addresses = b"(0x104d3846c 0x104d3846c 0x18576a274 0x12345678)"
         frames = (
-            ("Spool Server", 0x104D3846C, "spool_one + 0"),
-            ("Spool Server", 0x104D3846C, "start + 52"),
+            ("Spool Server", 0x104D3846C, "spool_one + 0 (spool.c:24)"),
+            ("Spool Server", 0x104D3846C, "start + 52 (spool.c:32)"),
             ("dyld", 0x18576A274, "0x18576a000 + 628"),
             ("???", 0x12345678, "???"),
         )
@@ -559,12 +561,13 @@ class KindsOfFrames(ReportCase):
         more = b"\nThread 1:\n0   spool   0x0000000104d3846c copy_more + 4 [inlined] (spool.c:12)\n"
         more += b"1   spool   0x0000000104d3846c "
         path = self.file("inlined", source("crash").replace(begin, more + b"0x104d38000 + 1132\n" + begin))
-        names = named("crash").replace(begin, more + b"spool_one + 0\n" + begin)
+        names = named("crash").replace(begin, more + b"spool_one + 0 (spool.c:24)\n" + begin)
         self.is_printed(self.report(path, "shipped"), names)
 
     def test_a_first_frame_that_was_inlined_in_json(self) -> None:
         inlined, frame = '{"imageOffset":1132,"imageIndex":0,"inline":true}', '{"imageOffset":1132,"imageIndex":0'
-        added = [',"symbol":"spool_one","symbolLocation":0}', ',"symbol":"start","symbolLocation":52}']
+        added = [',"symbol":"spool_one","symbolLocation":0', ',"symbol":"start","symbolLocation":52']
+        added = [f'{one},"sourceFile":"spool.c","sourceLine":{line}}}' for one, line in zip(added, (24, 32))]
         path = self.file("ips", with_frames(",".join([inlined, frame + "}", inlined, frame + "}"])))
         names = with_frames(",".join([inlined, frame + added[0], inlined, frame + added[1]]))
         self.is_printed(self.report(path, "shipped"), names)
@@ -572,7 +575,8 @@ class KindsOfFrames(ReportCase):
     def test_a_frame_in_the_place_of_an_offset(self) -> None:
         frame = '{"imageOffset":1132,"imageIndex":0}'
         data = with_frames(f'{{"imageOffset":1040,"imageIndex":0,"symbol":"x","symbolLocation":[{frame}]}}')
-        names = with_frames('{"imageOffset":1040,"imageIndex":0,"symbol":"copy_body","symbolLocation":12}')
+        names = with_frames('{"imageOffset":1040,"imageIndex":0,"symbol":"copy_body","symbolLocation":12,'
+                            '"sourceFile":"spool.c","sourceLine":9}')
         self.is_printed(self.report(self.file("within", data), "shipped"), names)
 
 
@@ -689,10 +693,11 @@ class Hostile(ReportCase):
 
     def test_a_frame_among_what_is_none(self) -> None:
         came = self.report(self.file("types", hostile_reports()["types"]), "shipped")
-        self.assertIn(b'{"imageOffset":1040,"imageIndex":0,"symbol":"copy_body","symbolLocation":12}', came.out)
+        frame = b'{"imageOffset":1040,"imageIndex":0,"symbol":"copy_body","symbolLocation":12'
+        self.assertIn(frame + b',"sourceFile":"spool.c","sourceLine":9}', came.out)
         self.assertTrue(came.error_lines[-1].startswith("1 of 1 "), came.errors)
 
     def test_bytes_that_are_no_utf_8(self) -> None:
         came = self.report(self.file("bytes", hostile_reports()["bytes"]), "shipped")
-        wanted = b'{"imageOffset":1040,"symbol":"copy_body","imageIndex":0,"\xff":"\xfe","symbolLocation":12}'
-        self.assertIn(wanted, came.out)
+        wanted = b'{"imageOffset":1040,"symbol":"copy_body","imageIndex":0,"\xff":"\xfe","symbolLocation":12'
+        self.assertIn(wanted + b',"sourceFile":"spool.c","sourceLine":9}', came.out)
