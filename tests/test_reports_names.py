@@ -106,8 +106,8 @@ class Demangling(ReportCase):
     def test_no_name_needs_one(self) -> None:
         """Then none is called."""
         self.archive.unlink()
-        self.make([b"_plain", b"-[Spool copy:]", b"_Spool"])
-        self.demangled(["plain", "-[Spool copy:]", "Spool"], others=["llvm_cxxfilt", "swift"])
+        self.make([b"_plain", b"-[Spool copy:]", b"_Read", b"_Test"])
+        self.demangled(["plain", "-[Spool copy:]", "Read", "Test"], others=["llvm_cxxfilt", "swift"])
 
     def test_raw(self) -> None:
         came = self.report("--raw", self.crash, self.archive)

@@ -13,7 +13,7 @@ from .streams import note
 LLVM, GNU = "llvm-cxxfilt", "c++filt"
 NUMBERED = re.compile(re.escape(LLVM) + r"-([0-9]+)")
 # What names begin with that these demangle.
-OF_SWIFT, OF_CXX = re.compile(r"_*(?:\$[sSe]|T)"), re.compile("_*[ZR]")
+OF_SWIFT, OF_CXX = re.compile(r"_*\$[sSe]|_+T"), re.compile("_+[ZR]")
 # The function of a block, which GNU does not know, by that which has the block.
 BLOCK = re.compile(r"__(_Z[\w$]+?)_block_invoke(?:_?[0-9]+)?(?:\..*)?")
 BLOCK_WORDS = "invocation function for block in "
