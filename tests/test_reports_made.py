@@ -575,8 +575,8 @@ class KindsOfFrames(ReportCase):
     def test_a_frame_in_the_place_of_an_offset(self) -> None:
         frame = '{"imageOffset":1132,"imageIndex":0}'
         data = with_frames(f'{{"imageOffset":1040,"imageIndex":0,"symbol":"x","symbolLocation":[{frame}]}}')
-        names = with_frames('{"imageOffset":1040,"imageIndex":0,"symbol":"copy_body","symbolLocation":12,'
-                            '"sourceFile":"spool.c","sourceLine":9}')
+        names = with_frames('{"imageOffset":1040,"imageIndex":0,"sourceFile":"spool.c","sourceLine":9,'
+                            '"symbol":"copy_body","symbolLocation":12}')
         self.is_printed(self.report(self.file("within", data), "shipped"), names)
 
 
@@ -626,7 +626,8 @@ class Again(ReportCase):
         differ = self.file("ips-differ", named("ips-differ"))
         self.is_printed(self.report(differ, "differ"), "ips-differ")
         self.is_printed(self.report(differ, "shipped"), "ips")
-        self.is_printed(self.report(self.file("ips", named("ips")), "differ"), "ips-differ")
+        one = self.report("--no-lines", FORMS["ips"].path, "shipped").out
+        self.is_printed(self.report(self.file("ips", one), "differ"), "ips-differ")
 
 
 # Values of all kinds in the places of others.
