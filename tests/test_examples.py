@@ -6,12 +6,12 @@ from .support.cases import TOP, ProgramCase
 from .support.made_images import slice_text
 from .support.program import call, symarch
 
-# What the program names by `llvm-nm`, in the place of what stands there.
+# What the program names by `llvm-nm` and llvm-symbolizer, in the place of what stands there.
 NAMES = {
-    "0x104d38000 + 1040": "copy_body + 12",
-    "0x104d38000 + 1016": "file_message + 32",
-    "0x104d38000 + 1156": "spool_one + 24",
-    "0x104d38000 + 1128": "start + 48",
+    "0x104d38000 + 1040": "copy_body + 12 (spool.c:9)",
+    "0x104d38000 + 1016": "file_message + 32 (spool.c:21)",
+    "0x104d38000 + 1156": "spool_one + 24 (spool.c:26)",
+    "0x104d38000 + 1128": "start + 48 (spool.c:31)",
 }
 
 

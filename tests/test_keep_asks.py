@@ -33,6 +33,7 @@ class AskCase(RoomCase):
             ["symbolicate", UUID, "arm64e", "0"],
             ["name", "_copy_body"],
             ["name", "_nowhere"],
+            ["symbolicate", *LOADED, "--lines", UUID, "arm64", *ADDRESSES],
         ]
 
     def placed(self, words: Sequence[str], path: pathlib.Path) -> List[str]:

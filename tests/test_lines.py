@@ -15,7 +15,7 @@ from .model.dwarf_lines import rows_of
 from .model.dwarf_numbers import units_of
 from .model.images import image_of
 from .model.lines import answer_lines, frame_line
-from .support import crash, kept_lines, llvm, made_dsyms
+from .support import kept_lines, llvm, made_dsyms
 from .support.cases import FolderCase, ProgramCase, Without, same
 from .support.made_images import EMPTY, WORDS, archive, index
 from .support.program import TOP, call, symarch
@@ -155,11 +155,7 @@ class Printed(LinesCase):
             same(one.name, self.answers(words, addresses), wanted)
 
     def test_what_documents_show(self) -> None:
-        """The lines of README's first example, and of COMMANDS."""
-        self.expect(["admit", "empty.sym", "spool.sym", crash.CRASH / "spool-1.dSYM"], prints=None)
-        words = "symbolicate --lines spool.sym 4c4c4419-5555-3144-a1d2-4341c97782f0 arm64".split()
-        shown = self.call(*words, "--load", "0x104d38000", "0x104d38410").out.decode()
-        self.assertIn(f"```\n{shown}```\n", (TOP / "README.md").read_text(encoding="utf-8"))
+        """The lines of COMMANDS."""
         found = SHOWN.findall((TOP / "docs" / "COMMANDS.md").read_text(encoding="utf-8"))
         self.assertEqual(len(found), 1)
         for one in kept_lines.kept():

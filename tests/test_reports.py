@@ -13,7 +13,7 @@ from typing import Any, List, Sequence, Tuple
 from .support.kills import interrupted
 from .support.program import TOP, call, symarch
 from .support.reports import CRASHES, DYLD, FIXTURES, KERNEL, SPOOL, SPOOL_2, SPOOL_X86_64, TOOL, ReportCase
-from .support.reports import FORMS, named, source
+from .support.reports import FORMS, named, source, without_lines
 
 ARM64, X86_64 = f"spool {SPOOL} arm64", f"spool {SPOOL_X86_64}"
 BY_DSYM, WITHOUT, UNLISTED = f"by dSYM: {ARM64}", f"without dSYM: {ARM64}", "1 of images that the report does not list"
@@ -21,7 +21,8 @@ NO_DYLD, NO_DYLD_ARM64E = f"not in the archive: dyld {DYLD}", f"not in the archi
 NO_LIBDYLD = "libdyld.dylib b3f1a5d2-7c44-3e0b-9a61-5d2c8e7f4a90"
 OLD_LIBDYLD = "not in the archive: libdyld.dylib 9fd01a5a-d3e5-3b0f-8b7c-6d5e4f3a2b10 arm64e"
 ABSENT_HELPER = f"Spool Helper (Renderer) 5e0c7b1a-26d4-3f98-8c3b-a9f1e2d4c507, dyld {DYLD}"
-OPTIONS = "[--missing | [--json] [--text] [--demangle | --raw] [--out FOLDER] | --group [--demangle | --raw]]"
+NAMES = "[--no-demangle | --raw]"
+OPTIONS = f"[--missing | [--json] [--text] [--no-lines | --paths] {NAMES} [--out FOLDER] | --group {NAMES}]"
 USAGE = f"usage: symbolicate-report {OPTIONS} REPORT... ARCHIVE..."
 
 
@@ -184,12 +185,13 @@ class Conflicts(ReportCase):
 
     def test_slices_that_answer_alike(self) -> None:
         counts = "4 of 4 frames named, 0 named before, 0 not named"
-        self.prints([CRASHES / "arm64.crash", "alike"], "crash", counts, WITHOUT)
+        self.prints([CRASHES / "arm64.crash", "alike"], without_lines(named("crash")), counts, WITHOUT)
 
     def test_sample_of_slices_that_answer_alike(self) -> None:
         counts = "13 of 16 frames named, 1 named before, 2 not named", UNLISTED
         ours, absent = f"without dSYM: spool {SPOOL}", f"not in the archive: {ABSENT_HELPER}"
-        self.prints([FIXTURES / "spool.sample.txt", "alike"], "sample", *counts, ours, absent)
+        wanted = without_lines(named("sample")).replace(b"0x104d383f0]", b"0x104d383f0]  spool.c:20")
+        self.prints([FIXTURES / "spool.sample.txt", "alike"], wanted, *counts, ours, absent)
 
     def test_crash(self) -> None:
         counts = "2 of 4 frames named, 0 named before, 0 not named, 2 with several answers"
@@ -473,6 +475,10 @@ class Refused(ReportCase):
             (["--missing", "--raw", path, "shipped"], "--missing stands alone"),
             (["--demangle", "--raw", path, "shipped"], "--raw keeps what --demangle changes: name one of them"),
             (["--missing", "--out", out, path, "shipped"], "--missing stands alone"),
+            (["--missing", "--no-lines", path, "shipped"], "--missing stands alone"),
+            (["--no-lines", "--paths", path, "shipped"],
+             "--no-lines prints no paths, so --paths does not stand beside it"),
+            (["--demangle", "--no-demangle", path, "shipped"], "--demangle and --no-demangle: name one of them"),
             (["--out"], "argument --out: expected one argument"),
             (["--unknown", path, "shipped"], "there is no option --unknown"),
             ([path, "shipped", "-q"], "there is no option -q"),
@@ -561,8 +567,8 @@ class Refused(ReportCase):
     def test_help(self) -> None:
         came = self.report("--help")
         self.assertEqual((came.status, came.errors), (0, b""))
-        for option in (b"--missing", b"--group", b"--text", b"--demangle", b"--raw", b"--out FOLDER", b"--version"):
-            self.assertIn(option, came.out)
+        for option in ("missing", "group", "text", "no-lines", "paths", "no-demangle", "raw", "out FOLDER", "version"):
+            self.assertIn(f"--{option}".encode(), came.out)
 
     def test_nothing_can_be_written(self) -> None:
         crash = CRASHES / "arm64.crash"
@@ -595,7 +601,7 @@ class Calls(ReportCase):
     def test_one_call_for_all_images(self) -> None:
         self.report(FIXTURES / "spool.spindump.txt", "both", environment={"SYMARCH": self.counting()})
         (words,) = (self.folder / "calls").read_text().splitlines()
-        self.assertRegex(words, r"^frames frames \S+ both$")
+        self.assertRegex(words, r"^frames frames \S+ --lines both$")
         asked = (self.folder / "asked").read_text().splitlines()
         self.assertEqual(len(set(asked)), len(asked), "a frame that is asked for twice")
         uuids = [uuid.replace("-", "") for uuid in (SPOOL, SPOOL_2, DYLD, KERNEL)]

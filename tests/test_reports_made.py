@@ -1,12 +1,10 @@
 """symbolicate-report with reports that are made here: in other encodings, cut, large, several at once, with a full
-report, with frames of each kind, hostile ones, and with demanglers. What has to be printed is made from the fixtures,
-from expected/reports, whose names were written from `llvm-nm`, and by arithmetic."""
+report, with frames of each kind, and hostile ones. What has to be printed is made from the fixtures, from
+expected/reports, whose names were written from `llvm-nm`, and by arithmetic."""
 import json
 import os
 import re
 import resource
-import shutil
-import struct
 import subprocess
 import sys
 from itertools import product
@@ -14,7 +12,7 @@ from pathlib import Path
 from typing import Any, Callable, Dict, Iterable, List, Optional, Sequence, Tuple
 
 from .support.program import symarch
-from .support.reports import DYLD, FIXTURES, FORMS, KERNEL, SPOOL, TOOL, ReportCase, named, program, source
+from .support.reports import DYLD, FIXTURES, FORMS, KERNEL, SPOOL, TOOL, ReportCase, named, source
 
 SUMMARY = re.compile(
     r"(\d+) of (\d+) frames named, (\d+) named before, (\d+) not named(?:, (\d+) with several answers)?(?:; .*)?"
@@ -302,14 +300,15 @@ class CutJson(CutCase):
         offsets = list(re.finditer(rb'( *)"offsetIntoBinaryTextSegment" : [0-9]+', data))
         below = data.index(b"{", offsets[3].end())
         has_image = re.compile(rb'"binaryUUID" : "[0-9A-F-]{36}"')
-        spool_one, start, copy_body = (b"spool_one", 0), (b"start", 52), (b"copy_body", 12)
+        spool_one, start, copy_body = (b"spool_one", 0, 24), (b"start", 52, 32), (b"copy_body", 12, 9)
+        members = b',\n%b"symbol" : "%b",\n%b"symbolLocation" : %d,\n%b"sourceFile" : "spool.c",\n%b"sourceLine" : %d'
 
         def wanted_of(part: bytes) -> Wanted:
             names = [spool_one, start, None, start if len(part) > below else spool_one, copy_body, spool_one]
             made, done = b"", 0
             for found, name in zip(offsets, names):
                 if name and len(part) > found.end():
-                    added = b',\n%b"symbol" : "%b",\n%b"symbolLocation" : %d' % (found[1], name[0], found[1], name[1])
+                    added = members % (found[1], name[0], found[1], name[1], found[1], found[1], name[2])
                     made, done = made + part[done : found.end()] + added, found.end()
             end = None if part.strip() == data.strip() else where(part, "within its JSON")
             return (made + part[done:], end) if has_image.search(part) else (None, end)
@@ -425,7 +424,8 @@ class ManyImages(ReportCase):
         document["threads"] = [{"frames": frames}]
         text = first + "\n" + json.dumps(document)
         frame = f'{{"imageOffset": 1040, "imageIndex": {len(self.uuids)}'
-        names = text.replace(frame, frame + ', "symbol": "copy_body", "symbolLocation": 12')
+        more = ', "symbol": "copy_body", "symbolLocation": 12, "sourceFile": "spool.c", "sourceLine": 9'
+        names = text.replace(frame, frame + more)
         self.is_printed(self.report(self.file("ips", text), "shipped"), names.encode())
 
 
@@ -438,7 +438,7 @@ class Several(ReportCase):
         self.paths = [self.file(f"several/{form}", source(form)) for form in self.forms]
 
     def test_each_is_written(self) -> None:
-        lines = f'echo "$1 ${{3##*/}}" >>"{self.folder}/calls"', f'cat "$2" >>"{self.folder}/asked"'
+        lines = f'echo "$1 ${{4##*/}}" >>"{self.folder}/calls"', f'cat "$2" >>"{self.folder}/asked"'
         counting = self.script("counting", "\n".join([*lines, 'exec "$symarch" "$@"']))
         out = self.folder / "out of several"
         came = self.report("--out", out, *self.paths, "shipped", environment={"SYMARCH": counting})
@@ -515,8 +515,8 @@ class Backtraces(ReportCase):
     def test_some_have_names(self) -> None:
         addresses = b"(0x104d3846c 0x104d3846c 0x18576a274 0x12345678)"
         frames = (
-            ("Spool Server", 0x104D3846C, "spool_one + 0"),
-            ("Spool Server", 0x104D3846C, "start + 52"),
+            ("Spool Server", 0x104D3846C, "spool_one + 0 (spool.c:24)"),
+            ("Spool Server", 0x104D3846C, "start + 52 (spool.c:32)"),
             ("dyld", 0x18576A274, "0x18576a000 + 628"),
             ("???", 0x12345678, "???"),
         )
@@ -561,12 +561,13 @@ class KindsOfFrames(ReportCase):
         more = b"\nThread 1:\n0   spool   0x0000000104d3846c copy_more + 4 [inlined] (spool.c:12)\n"
         more += b"1   spool   0x0000000104d3846c "
         path = self.file("inlined", source("crash").replace(begin, more + b"0x104d38000 + 1132\n" + begin))
-        names = named("crash").replace(begin, more + b"spool_one + 0\n" + begin)
+        names = named("crash").replace(begin, more + b"spool_one + 0 (spool.c:24)\n" + begin)
         self.is_printed(self.report(path, "shipped"), names)
 
     def test_a_first_frame_that_was_inlined_in_json(self) -> None:
         inlined, frame = '{"imageOffset":1132,"imageIndex":0,"inline":true}', '{"imageOffset":1132,"imageIndex":0'
-        added = [',"symbol":"spool_one","symbolLocation":0}', ',"symbol":"start","symbolLocation":52}']
+        added = [',"symbol":"spool_one","symbolLocation":0', ',"symbol":"start","symbolLocation":52']
+        added = [f'{one},"sourceFile":"spool.c","sourceLine":{line}}}' for one, line in zip(added, (24, 32))]
         path = self.file("ips", with_frames(",".join([inlined, frame + "}", inlined, frame + "}"])))
         names = with_frames(",".join([inlined, frame + added[0], inlined, frame + added[1]]))
         self.is_printed(self.report(path, "shipped"), names)
@@ -574,7 +575,8 @@ class KindsOfFrames(ReportCase):
     def test_a_frame_in_the_place_of_an_offset(self) -> None:
         frame = '{"imageOffset":1132,"imageIndex":0}'
         data = with_frames(f'{{"imageOffset":1040,"imageIndex":0,"symbol":"x","symbolLocation":[{frame}]}}')
-        names = with_frames('{"imageOffset":1040,"imageIndex":0,"symbol":"copy_body","symbolLocation":12}')
+        names = with_frames('{"imageOffset":1040,"imageIndex":0,"sourceFile":"spool.c","sourceLine":9,'
+                            '"symbol":"copy_body","symbolLocation":12}')
         self.is_printed(self.report(self.file("within", data), "shipped"), names)
 
 
@@ -624,7 +626,8 @@ class Again(ReportCase):
         differ = self.file("ips-differ", named("ips-differ"))
         self.is_printed(self.report(differ, "differ"), "ips-differ")
         self.is_printed(self.report(differ, "shipped"), "ips")
-        self.is_printed(self.report(self.file("ips", named("ips")), "differ"), "ips-differ")
+        one = self.report("--no-lines", FORMS["ips"].path, "shipped").out
+        self.is_printed(self.report(self.file("ips", one), "differ"), "ips-differ")
 
 
 # Values of all kinds in the places of others.
@@ -691,149 +694,11 @@ class Hostile(ReportCase):
 
     def test_a_frame_among_what_is_none(self) -> None:
         came = self.report(self.file("types", hostile_reports()["types"]), "shipped")
-        self.assertIn(b'{"imageOffset":1040,"imageIndex":0,"symbol":"copy_body","symbolLocation":12}', came.out)
+        frame = b'{"imageOffset":1040,"imageIndex":0,"symbol":"copy_body","symbolLocation":12'
+        self.assertIn(frame + b',"sourceFile":"spool.c","sourceLine":9}', came.out)
         self.assertTrue(came.error_lines[-1].startswith("1 of 1 "), came.errors)
 
     def test_bytes_that_are_no_utf_8(self) -> None:
         came = self.report(self.file("bytes", hostile_reports()["bytes"]), "shipped")
-        wanted = b'{"imageOffset":1040,"symbol":"copy_body","imageIndex":0,"\xff":"\xfe","symbolLocation":12}'
-        self.assertIn(wanted, came.out)
-
-
-NAMES = (b"__ZN5spool4copyEv", b"_$s5spool4copyyyF", b"_plain", b"-[Spool copy:]", b"no_underscore", b"__two")
-# The same without their first underscore, which is all that happens to a name without a demangler.
-STRIPPED = ["_ZN5spool4copyEv", "$s5spool4copyyyF", "plain", "-[Spool copy:]", "no_underscore", "_two"]
-
-# Names without that underscore, and what each demangler of C++ makes of them.
-SPELLED = {
-    "_ZN5spool4copyEv": "spool::copy()",
-    "_ZN5spool4copyEv.cold.1": "spool::copy() (.cold.1)",
-    "_ZN5spool4copyEv.constprop.0.isra.1": "spool::copy() (.constprop.0.isra.1)",
-    "___ZN5spool4copyEv_block_invoke": "invocation function for block in spool::copy()",
-    "___ZN5spool4copyEv_block_invoke_2": "invocation function for block in spool::copy()",
-    "___spool_copy_block_invoke": "___spool_copy_block_invoke",
-    "_ZZ4mainENKUliE_clEi": "main::'lambda'(int)::operator()(int) const",
-    "_ZZZ4mainENKUlvE1_clEvENKUlvE_clEv": "main::'lambda1'()::operator()() const::'lambda'()::operator()() const",
-    "_ZNSt3__16vectorINS_4pairIiDnEENS_9allocatorIS2_EEE5clearEv":
-        "std::__1::vector<std::__1::pair<int, std::nullptr_t>, "
-        "std::__1::allocator<std::__1::pair<int, std::nullptr_t>>>::clear()",
-    "_ZN12_GLOBAL__N_14spinEv": "(anonymous namespace)::spin()",
-    "_RNvC5spool4copy": "spool::copy",
-    "-[Spool copy:]": "-[Spool copy:]",
-    "main": "main",
-}
-
-
-def image_of(names: Sequence[bytes]) -> bytes:
-    """An image for x86_64 of a function of 16 bytes for each name, in this order."""
-    strings = b"\0" + b"".join(name + b"\0" for name in names)
-    front, size, text = 32 + 152 + 24 + 24, 16 * len(names), 0x100000000
-    section = struct.pack("<16s16sQQI28x", b"__text", b"__TEXT", text, size, front)
-    segment = struct.pack("<II16sQQQQ8xI4x", 0x19, 152, b"__TEXT", text, 4096, 0, 4096, 1) + section
-    at = front + 16 * len(names)
-    symtab = struct.pack("<6I", 2, 24, front, len(names), at, len(strings))
-    header = struct.pack("<IIIIIIII", 0xFEEDFACF, 0x01000007, 3, 2, 3, front - 32, 0, 0)
-    uuid = struct.pack("<II", 0x1B, 24) + bytes(range(16))
-    places, entries = 1, b""
-    for number, name in enumerate(names):
-        entries += struct.pack("<IBBHQ", places, 0x0E, 1, 0, text + 16 * number)
-        places += len(name) + 1
-    return header + segment + uuid + symtab + entries + strings
-
-
-class Demangling(ReportCase):
-    """Names of C++ and of Swift, of C and of Objective-C, by the demanglers that stand in PATH."""
-
-    def setUp(self) -> None:
-        super().setUp()
-        self.make(NAMES)
-
-    def make(self, names: Sequence[bytes]) -> None:
-        """Makes a crash with a frame in each function of an image, and its archive."""
-        self.archive = self.folder / "names.sym"
-        program("admit", self.archives / "empty", self.archive, self.file("image", image_of(names)))
-        addresses = enumerate(0x10000 + 16 * number + 4 for number in range(len(names)))
-        lines = "".join(f"{number} x 0x{address:x} 0x10000 + 1\n" for number, address in addresses)
-        images = f"Binary Images:\n0x10000 - 0x1ffff x <{bytes(range(16)).hex()}> /x\n"
-        self.crash = self.file("crash", f"Code Type: X86-64\nThread 0:\n{lines}{images}")
-
-    def names(self, out: bytes) -> List[str]:
-        """The names of the frames of a crash; the offset is that of the frame, the fifth byte of its function."""
-        return re.findall(r"^[0-9]+ x 0x[0-9a-f]+ (.*) \+ 4$", out.decode(), re.M)
-
-    def demangled(
-        self, wanted: Sequence[str], note: str = "", others: Sequence[str] = (), **demanglers: str
-    ) -> None:
-        """Fails where others come of these demanglers, something else is said, or one is called more than once; or
-        where one of the others is called at all."""
-        # The shell and what its scripts call stand in this folder alone.
-        tools = self.folder / "tools"
-        tools.mkdir()
-        for tool in ("sed", "head", "sh", "echo", "cat"):
-            (tools / tool).symlink_to(shutil.which(tool) or "")
-        for name, body in {**dict.fromkeys(others, "cat"), **demanglers}.items():
-            self.script(f"demanglers/{name.replace('_', '-')}", f'echo >>"{self.folder}/{name}"\n{body}')
-        both = f"{self.folder / 'demanglers'}:{tools}"
-        came = self.report("--demangle", self.crash, self.archive, environment={"PATH": both})
-        self.assertEqual((came.status, self.names(came.out)), (0, list(wanted)))
-        self.assertEqual(came.error_lines[:-1], [f"symbolicate-report: {note}"] if note else [])
-        for name in demanglers:
-            self.assertEqual((self.folder / name).read_text(), "\n", f"calls of {name}")
-        self.assertEqual([name for name in others if (self.folder / name).exists()], [], "calls of others")
-
-    cxx = "sed 's/^_ZN5spool4copyEv$/spool::copy()/'"
-    swift = "sed 's/^$s5spool4copyyyF$/spool.copy() -> ()/'"
-
-    def test_not_asked_for(self) -> None:
-        """One underscore is dropped, as Apple's reports have names."""
-        self.assertEqual(self.names(self.report(self.crash, self.archive).out), STRIPPED)
-
-    def test_raw(self) -> None:
-        came = self.report("--raw", self.crash, self.archive)
-        self.assertEqual((came.status, self.names(came.out)), (0, [name.decode() for name in NAMES]))
-
-    def test_both(self) -> None:
-        wanted = ["spool::copy()", "spool.copy() -> ()", *STRIPPED[2:]]
-        self.demangled(wanted, llvm_cxxfilt=self.cxx, swift=self.swift)
-
-    def test_swift_alone(self) -> None:
-        self.demangled([STRIPPED[0], "spool.copy() -> ()", *STRIPPED[2:]], swift=self.swift)
-
-    def test_cxx_alone(self) -> None:
-        self.demangled(["spool::copy()", *STRIPPED[1:]], llvm_cxxfilt=self.cxx)
-
-    def test_one_fails(self) -> None:
-        wanted, note = ["spool::copy()", *STRIPPED[1:]], "swift demangle failed: it demangles no names"
-        self.demangled(wanted, note, swift="sed s/^/x/; exit 1", llvm_cxxfilt=self.cxx)
-
-    def test_one_prints_less(self) -> None:
-        self.demangled(STRIPPED, "llvm-cxxfilt -n failed: it demangles no names", llvm_cxxfilt="head -n 2")
-
-    def test_neither(self) -> None:
-        note = "neither swift nor llvm-cxxfilt nor c++filt is there: names are not demangled"
-        self.demangled(STRIPPED, note)
-
-    def test_the_greatest_version(self) -> None:
-        wanted = ["spool::copy()", *STRIPPED[1:]]
-        self.demangled(wanted, others=["llvm_cxxfilt_9", "llvm_cxxfilt_14x", "c++filt"], llvm_cxxfilt_14=self.cxx)
-
-    def test_llvm_before_its_versions(self) -> None:
-        self.demangled(["spool::copy()", *STRIPPED[1:]], others=["llvm_cxxfilt_14", "c++filt"], llvm_cxxfilt=self.cxx)
-
-    def test_gnu_alone(self) -> None:
-        self.demangled(["spool::copy()", *STRIPPED[1:]], **{"c++filt": self.cxx})
-
-    def test_the_same_by_each(self) -> None:
-        """Of the commands themselves, as far as they are installed."""
-        self.archive.unlink()
-        self.make([b"_" + name.encode() for name in SPELLED])
-        for command in ("llvm-cxxfilt", "llvm-cxxfilt-14", "c++filt"):
-            path = shutil.which(command)
-            with self.subTest(command):
-                if not path:
-                    self.skipTest(f"there is no {command}")
-                folder = self.folder / f"only {command}"
-                folder.mkdir()
-                (folder / command).symlink_to(os.path.realpath(path))
-                came = self.report("--demangle", self.crash, self.archive, environment={"PATH": str(folder)})
-                self.assertEqual(self.names(came.out), list(SPELLED.values()))
+        wanted = b'{"imageOffset":1040,"symbol":"copy_body","imageIndex":0,"\xff":"\xfe","symbolLocation":12'
+        self.assertIn(wanted + b',"sourceFile":"spool.c","sourceLine":9}', came.out)

@@ -1,6 +1,7 @@
 """Cases over symbolicate-report, with archives of the images of examples/crash."""
 import os
 import pathlib
+import re
 import subprocess
 import sys
 import tempfile
@@ -50,6 +51,11 @@ def source(form: str) -> bytes:
 def named(form: str) -> bytes:
     """What has to be printed of it. Names and offsets were written from `llvm-nm` of the images."""
     return (EXPECTED / form).read_bytes()
+
+
+def without_lines(data: bytes) -> bytes:
+    """A text without the files and lines of the frames of spool."""
+    return re.sub(rb" \(\w+\.c:[0-9]+\)$|  \w+\.c:[0-9,]+$", b"", data, flags=re.M)
 
 
 def program(*words: Word) -> None:

@@ -32,12 +32,20 @@ All is printed as it stands, byte for byte, but for
 
 - frames that have one answer: its name and offset stand in the place of what stood there, in JSON as `symbol` and
   `symbolLocation`, or after the two numbers. Slices that answer alike are one answer;
+- the file and the line of such a frame, by the DWARF of its dSYM, where they are known and all slices say the same:
+  ` (spool.c:41)` after a name of a crash, `  spool.c:41` at the end of a line of `sample`, in one of a spindump
+  `(spool.c:41 in spool + 1040)`, in JSON `sourceFile` and `sourceLine`, or after the name and its offset;
+- functions that were inlined there, the innermost first, unless the report has them: in a crash each is a numbered line
+  `clamp (shared.h:6) [inlined]` before that of its frame, and in an .ips a frame with `inline` before it. In a call
+  tree they stand below their frame, the innermost last, and what the frame called below them. In MetricKit the frame
+  has a list `inlined`. A frame that is an array has none;
 - frames for which the slices have N different answers: `!N`, and below it each answer, after the SHA-256 of each slice
   that gives it; in JSON `conflict`;
 - a line of addresses of which one has an answer: it becomes a numbered frame for each address.
 
-Frames that stay as they are: those of functions that were inlined, of images that the archive does not have, and where
-it has no symbol, so that the names that Apple wrote stay; and backtraces that are strings in JSON.
+Frames that stay as they are: those that the report says were inlined, but for their numbers, of images that the archive
+does not have, and where it has no symbol, so that the names that Apple wrote stay; and backtraces that are strings in
+JSON.
 
 If a report is cut, standard error says where it ends, by line and byte: within its JSON or a line, before its first
 frame, or before its images. The frames before that place are named. A text that is cut after a line of its images looks
@@ -116,8 +124,8 @@ The status is 0; 1 where no frame has one name (with --missing: never); 2 where 
 these, which prints nothing of it, where a folder has none, where a slice changed, or a file cannot be written; 3 where
 the words are others; 126 where there is no program, or it does not answer as `symarch`; or that of `symarch` where it
 refuses the archive, with its line on standard error. If nobody reads standard output, SIGPIPE ends the tool. Names are
-those of the symbol tables, without the underscore that these put before a name of C, as Apple's reports have them;
-`--raw` keeps it."""
+those of the symbol tables, without the underscore that these put before a name of C, as Apple's reports have them, and
+those of C++, Rust and Swift readable if a demangler is there."""
 from __future__ import annotations
 
 import os
@@ -136,6 +144,7 @@ from .reports.demangling import demangled, without_underscores
 from .reports.faults import Failure, NoReport, Status
 from .reports.folders import files_below, is_named_as_report
 from .reports.groups import group_lines
+from .reports.names import Names
 from .reports.report import Count, Report
 from .reports.streams import drop, encoded, note, printing
 from .reports.words import NAME, Words, is_folder
@@ -202,6 +211,15 @@ def print_missing(reports: Iterable[Report]) -> None:
             names[image.uuid] = names.get(image.uuid) or " ".join((image.name or "").split())
     with printing() as stream:
         stream.write(encoded("".join(f"{number} {name}".rstrip() + "\n" for number, name in names.items())))
+
+
+def show_names(words: Words, symbols: Names, functions: Names) -> None:
+    """Changes the names to those that are printed. Only symbols have the underscore."""
+    if not words.is_raw:
+        symbols.shown = without_underscores(symbols.shown)
+    if not words.is_mangled:
+        made = demangled([*symbols.shown, *functions.shown], words.is_demangled)
+        symbols.shown, functions.shown = made[: len(symbols.shown)], made[len(symbols.shown) :]
 
 
 def print_groups(reports: Iterable[Report]) -> None:
@@ -289,16 +307,13 @@ def carry_out(words: Words) -> int:
             print_objects(reader.refused)
             print_end(0, vars(Count()), status)
         return status
-    archives = Archives(words.archives)
+    archives = Archives(words.archives, words.has_lines(), words.has_paths)
     archives.look_up([image for report in reports for image in report.images.with_frames()])
     status = status or (Status.REFUSED if archives.has_changed else Status.DONE)
     if words.is_missing:
         print_missing(reports)
         return status
-    if not words.is_raw:
-        archives.names.shown = without_underscores(archives.names.shown)
-    if words.is_demangled:
-        archives.names.shown = demangled(archives.names.shown)
+    show_names(words, archives.names, archives.chains.names)
     if words.is_group:
         print_groups(reports)
     elif words.out is not None:

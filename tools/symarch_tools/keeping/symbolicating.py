@@ -12,6 +12,8 @@ Each ADDRESS gets a line: the address, and
   ?     no slice answers for UUID and ARCH
   !N    N slices answer, of which each gets a line below
 
+With --lines the answer of a slice has the source lines below it, as `symarch symbolicate --lines` prints them.
+
 A number is hexadecimal, with 0x or without. Where - stands in the place of ADDRESS, the addresses are those of standard
 input, between which white space stands.
 
@@ -35,12 +37,13 @@ from .contents import arch_in
 from .forms import arch_of, hex_of, uuid_of
 from .screen import Failed, screen_of
 
-USAGE = "symarch-keep symbolicate [--load HEX] ARCHIVE UUID ARCH ADDRESS..."
+USAGE = "symarch-keep symbolicate [--load HEX] [--lines] ARCHIVE UUID ARCH ADDRESS..."
 ABOUT = "name the symbols at addresses"
 
 
 def define(parser: argparse.ArgumentParser) -> None:
     parser.add_argument("--load", metavar="HEX", help="where the image was loaded")
+    parser.add_argument("--lines", action="store_true", help="print source lines and inlined frames")
     asking.define(parser, "UUID", "ARCH")
     parser.add_argument("addresses", metavar="ADDRESS", nargs="+", help="- stands for those of standard input")
 
@@ -57,8 +60,9 @@ def addresses_of(words: List[str]) -> List[str]:
 
 def carry_out(words: argparse.Namespace) -> int:
     key = [str(uuid_of(words.uuid)), arch_in(arch_of(words.arch))]
-    load = [] if words.load is None else [f"--load={hex_of('HEX', words.load)}"]
+    options = [] if words.load is None else [f"--load={hex_of('HEX', words.load)}"]
+    options += ["--lines"] if words.lines else []
     addresses = addresses_of(words.addresses)
     with opened_archive(os.fsencode(words.archive)) as asked:
-        lines, status = asked.answer("symbolicate", [*key, *addresses], load)
+        lines, status = asked.answer("symbolicate", [*key, *addresses], options)
     return show(lines, screen_of(words), status)

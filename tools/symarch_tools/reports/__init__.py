@@ -4,8 +4,12 @@
 - encodings         the bytes of a file, as UTF-8, and back
 - pasted            what stands before each line of a pasted report, and back
 - images            the images of a report, and the frames that lie in them
-- archive           the answers of the program
+- names             the names of all answers
+- source_lines      files, lines and inlined functions
+- answers           the answers of the program
 - demangling        names as people write them
+- named_lines       lines of crashes with names
+- tree_lines        lines of call trees with names
 - text_report       reports as lines
 - json_walk         JSON of any size, piece by piece
 - json_report       reports as JSON

@@ -6,17 +6,24 @@ import enum
 import re
 import uuid
 from array import array
-from typing import Dict, Iterator, List, Optional, Tuple
+from typing import Dict, Iterator, Optional, Set, Tuple
+
+from .names import Names
+from .source_lines import NOTHING, Chains, Lines
 
 # A UUID and an architecture.
 Key = Tuple[uuid.UUID, str]
 # The name of a function, and the offset in it.
 Symbol = Tuple[str, int]
+# What a slice answers, by the places of its name and of its frames, and the offset.
+Places = Tuple[int, int, int]
 
 # What a slice answers, `NAME + OFFSET (SEG,SECT)`; and the line before the answers of several.
 ANSWER = re.compile(rb"(.*) \+ ([0-9]{1,20}) \(.*\)")
 SEVERAL = re.compile(rb"!([0-9]{1,9})")
 NO_SYMBOL, NOT_THERE = b"-", b"0x%016x ?\n"
+# What the lines of frames begin with.
+OF_FRAME = b"    "
 # The places of names for an offset without a symbol, and for one with the answers of several slices.
 NONE, MANY = -1, -2
 
@@ -32,27 +39,32 @@ class Origin(enum.Enum):
     ABSENT = "not in the archive"
 
 
-class Names:
-    """The names of all answers, each of them once."""
+class Said:
+    """The lines of the program, of which the next one is read ahead."""
 
-    def __init__(self) -> None:
-        self.places: Dict[bytes, int] = {}
-        self.shown: List[str] = []
+    def __init__(self, lines: Iterator[bytes]) -> None:
+        self.lines = lines
+        self.ahead = next(lines, b"")
 
-    def place(self, name: bytes) -> int:
-        if name not in self.places:
-            self.places[name] = len(self.shown)
-            self.shown.append(name.decode(errors="surrogateescape"))
-        return self.places[name]
+    def line(self) -> bytes:
+        line, self.ahead = self.ahead, next(self.lines, b"")
+        return line
+
+    def frames(self) -> bytes:
+        """The lines of frames that stand here."""
+        found = []
+        while self.ahead.startswith(OF_FRAME):
+            found.append(self.line())
+        return b"".join(found)
 
 
 class Answers:
     """What the slices of a key answer for offsets in ascending order."""
 
-    def __init__(self, key: Key, offsets: array[int], names: Names) -> None:
-        self.key, self.offsets, self.names = key, offsets, names
-        self.places, self.symbol_offsets = array("i"), array("Q")
-        self.several: Dict[int, Dict[str, Tuple[int, int]]] = {}
+    def __init__(self, key: Key, offsets: array[int], names: Names, chains: Chains) -> None:
+        self.key, self.offsets, self.names, self.chains = key, offsets, names, chains
+        self.places, self.symbol_offsets, self.chain_places = array("i"), array("Q"), array("I")
+        self.several: Dict[int, Dict[str, Places]] = {}
         self.origin = Origin.ABSENT
 
     def questions(self) -> Iterator[str]:
@@ -63,21 +75,27 @@ class Answers:
 
     def at(self, offset: int) -> Dict[str, Optional[Symbol]]:
         """By the digest of each slice, which is empty if one answers, its name and offset, or None."""
+        return {digest: self.shown(*said[:2]) for digest, said in self.said(offset).items()}
+
+    def lines_at(self, offset: int) -> Lines:
+        """Where an offset is in the source, if all slices that answer say the same of it."""
+        found: Set[Lines] = {self.chains.lines(said[2]) for said in self.said(offset).values()}
+        return found.pop() if len(found) == 1 else NOTHING
+
+    def said(self, offset: int) -> Dict[str, Places]:
         place = bisect.bisect_left(self.offsets, offset)
         if place >= len(self.places) or self.offsets[place] != offset or self.places[place] == MANY:
-            said = self.several.get(offset, {})
-        else:
-            said = {"": (self.places[place], self.symbol_offsets[place])}
-        return {digest: self.shown(*symbol) for digest, symbol in said.items()}
+            return self.several.get(offset, {})
+        return {"": (self.places[place], self.symbol_offsets[place], self.chain_places[place])}
 
     def shown(self, place: int, symbol_offset: int) -> Optional[Symbol]:
         return (self.names.shown[place], symbol_offset) if place >= 0 else None
 
-    def take(self, lines: Iterator[bytes]) -> None:
+    def take(self, lines: Said) -> None:
         """Takes the answer to each question. Those of a key that no slice has are not kept. ValueError if a line is no
         answer."""
         for offset in self.offsets:
-            line = next(lines, b"")
+            line = lines.line()
             if line == NOT_THERE % offset and not self.places:
                 continue
             address, said = two_words(line)
@@ -87,26 +105,27 @@ class Answers:
             self.origin = Origin.UNKNOWN
             several = SEVERAL.fullmatch(said)
             if several:
-                self.several[offset] = dict(self.of_slice(next(lines, b"")) for _ in range(int(several[1])))
-                self.add(MANY, 0)
+                self.several[offset] = dict(self.of_slice(lines) for _ in range(int(several[1])))
+                self.add(MANY, 0, 0)
             else:
-                self.add(*self.symbol(said))
+                self.add(*self.answer(said, lines))
 
-    def add(self, place: int, symbol_offset: int) -> None:
+    def add(self, place: int, symbol_offset: int, chain_place: int) -> None:
         self.places.append(place)
         self.symbol_offsets.append(symbol_offset)
+        self.chain_places.append(chain_place)
 
-    def of_slice(self, line: bytes) -> Tuple[str, Tuple[int, int]]:
-        digest, said = two_words(line.lstrip(b" "))
-        return digest.decode(), self.symbol(said)
+    def of_slice(self, lines: Said) -> Tuple[str, Places]:
+        digest, said = two_words(lines.line().lstrip(b" "))
+        return digest.decode(), self.answer(said, lines)
 
-    def symbol(self, said: bytes) -> Tuple[int, int]:
-        if said == NO_SYMBOL:
-            return NONE, 0
+    def answer(self, said: bytes, lines: Said) -> Places:
+        """What a slice answers: its name and offset, and below that its frames."""
         found = ANSWER.fullmatch(said)
-        if not found:
+        if not found and said != NO_SYMBOL:
             raise ValueError
-        return self.names.place(found[1]), int(found[2])
+        symbol = (self.names.place(found[1]), int(found[2])) if found else (NONE, 0)
+        return (*symbol, self.chains.place(lines.frames()))
 
 
 def two_words(line: bytes) -> Tuple[bytes, bytes]:

@@ -8,11 +8,13 @@ from typing import Dict, Iterable, List, Optional, Sequence, Tuple
 
 from ..keeping import file_names
 from ..keeping.contents import EMPTY, KEY, MAGICS
-from .answers import Answers, Key, Names, Origin
+from .answers import Answers, Key, Origin
 from .faults import Failure, Status
 from .images import Image, unique
 from .kept import IndexFile, Kept, changed_keys, is_damaged, key_in
+from .names import Names
 from .program import IndexFault, Program
+from .source_lines import Chains
 from .streams import note, noted, say
 
 # What `symarch-keep` has beside an archive: what came in lately, the index, the index of a file that takes the place of
@@ -99,10 +101,10 @@ def place_of(path: str) -> Tuple[str, Optional[int]]:
 class Archives:
     """The archives of a call, by their paths. `has_changed` says whether a slice was refused by its digest."""
 
-    def __init__(self, paths: Sequence[str]) -> None:
-        self.paths, self.names, self.has_changed = paths, Names(), False
+    def __init__(self, paths: Sequence[str], has_lines: bool, has_paths: bool) -> None:
+        self.paths, self.names, self.chains, self.has_changed = paths, Names(), Chains(has_paths), False
         self.files: List[ArchiveFile] = []
-        self.program = Program()
+        self.program = Program(has_lines)
 
     def look_up(self, images: Sequence[Image]) -> None:
         """Asks for all offsets of all images at once, for each of them once."""
@@ -115,7 +117,7 @@ class Archives:
         for image in images:
             image.asked = array("Q")
         for tries_left in reversed(range(TRIES)):
-            answers = {key: Answers(key, its, self.names) for key, its in offsets.items()}
+            answers = {key: Answers(key, its, self.names, self.chains) for key, its in offsets.items()}
             places = self.places()
             self.files = with_levels(self.paths)
             if self.ask(list(answers.values()), places if tries_left else None):

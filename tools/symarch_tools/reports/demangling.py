@@ -12,6 +12,8 @@ from .streams import note
 # What demangles C++, the best first; between them stands what is called as the first one is, and a number.
 LLVM, GNU = "llvm-cxxfilt", "c++filt"
 NUMBERED = re.compile(re.escape(LLVM) + r"-([0-9]+)")
+# What names begin with that these demangle.
+OF_SWIFT, OF_CXX = re.compile(r"_*\$[sSe]|_+T"), re.compile("_+[ZR]")
 # The function of a block, which GNU does not know, by that which has the block.
 BLOCK = re.compile(r"__(_Z[\w$]+?)_block_invoke(?:_?[0-9]+)?(?:\..*)?")
 BLOCK_WORDS = "invocation function for block in "
@@ -30,15 +32,16 @@ def without_underscores(names: Sequence[str]) -> List[str]:
     return [name[1:] if name.startswith("_") else name for name in names]
 
 
-def demangled(names: Sequence[str]) -> List[str]:
-    """The names, by each demangler that is there, which is called once for all of them."""
+def demangled(names: Sequence[str], is_asked_for: bool) -> List[str]:
+    """The names, by each demangler that is there, which is called once for all of them if one may be mangled. If none
+    is there, this is said where demangling was asked for."""
     shown = list(names)
     swift, cxx = shutil.which("swift"), cxx_demangler()
-    if not swift and not cxx:
+    if is_asked_for and not swift and not cxx:
         note(f"neither swift nor {LLVM} nor {GNU} is there: names are not demangled")
-    if swift:
+    if swift and any(map(OF_SWIFT.match, shown)):
         shown = changed(["swift", "demangle"], shown)
-    return cxx_demangled(cxx, shown) if cxx else shown
+    return cxx_demangled(cxx, shown) if cxx and any(map(OF_CXX.match, shown)) else shown
 
 
 def cxx_demangler() -> Optional[str]:

@@ -8,9 +8,10 @@ from typing import Any, Dict, Iterable, Iterator, List, Match, NamedTuple, Optio
 from ..keeping.screen import shown
 from .images import HAD_NAME, Frames
 from .json_report import JsonReport
+from .named_lines import INLINED
 from .readable import name_of, text_in
 from .report import Part, Report
-from .text_report import BACKTRACE, CRASH, INLINED, NO_NAME, TextReport, frames_in
+from .text_report import BACKTRACE, CRASH, NO_NAME, TextReport, frames_in
 
 # So many frames make a group, below those that threw the exception: the images that have these.
 TOP = 3
@@ -20,7 +21,7 @@ NO_THREAD = "no crashed thread"
 CRASHED = re.compile(rb"(?<![^\r\n])Thread [0-9]+ Crashed:[^\r\n]*(?:\r\n|\r|\n|\Z)")
 EXCEPTION = re.compile(rb"(?<![^\r\n])[ \t]*Last Exception Backtrace[^\r\n]*(?:\r\n|\r|\n|\Z)")
 # What stands after a name in a line of a crash.
-AFTER_NAME = re.compile(rb"(?: \+ [0-9]+)?(?: \[inlined\])?(?: \([^()]*:[0-9]+\))?\s*\Z")
+AFTER_NAME = re.compile(rb"(?: \+ [0-9]+)?(?: \[inlined\])?(?: \([^()]*:[0-9]+\))?(?: \[inlined\])?\s*\Z")
 
 
 def group_lines(reports: Iterable[Report]) -> Iterator[str]:

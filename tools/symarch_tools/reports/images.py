@@ -10,6 +10,7 @@ from array import array
 from typing import Dict, Hashable, List, Mapping, Optional, Sequence, Tuple, TypeVar
 
 from .answers import Answers, Origin, Symbol
+from .source_lines import NOTHING, Lines
 
 # The architectures that a report may name, and what reports call the processors that run them.
 ARCHITECTURES = ("x86_64", "x86_64h", "arm64", "arm64e")
@@ -35,12 +36,16 @@ class Kind(enum.IntFlag):
     # In the trees of MetricKit: it is no root, and it has others below it.
     IS_BELOW = enum.auto()
     HAS_BELOW = enum.auto()
-    # Its function was inlined.
+    # Its function was inlined; and the report has those that were inlined in this one, before it.
     IS_INLINED = enum.auto()
+    HAS_INLINED = enum.auto()
+    # It stands in a list beside a call tree.
+    IS_LISTED = enum.auto()
 
 
 # As plain numbers: an operation on a flag takes ten times as long, and a report may have a million frames.
-IS_RETURN, HAD_NAME, CANNOT_BE_ASKED, IS_BELOW, HAS_BELOW, IS_INLINED = map(int, Kind)
+IS_RETURN, HAD_NAME, CANNOT_BE_ASKED, IS_BELOW, HAS_BELOW = map(int, list(Kind)[:5])
+IS_INLINED, HAS_INLINED, IS_LISTED = map(int, list(Kind)[5:])
 
 
 class Image:
@@ -79,6 +84,9 @@ class Image:
     def symbols(self, asked: int) -> Dict[str, Optional[Symbol]]:
         """By the digest of each slice that answers a name and an offset, or None where it has no symbol."""
         return self.answers.at(asked) if self.answers else {}
+
+    def lines(self, asked: int) -> Lines:
+        return self.answers.lines_at(asked) if self.answers else NOTHING
 
 
 def unique(offsets: array[int]) -> array[int]:
@@ -123,6 +131,7 @@ class Frames:
         self.images = images
         self.places, self.numbers, self.asked, self.kinds = array("Q"), array("i"), array("Q"), bytearray()
         self.known: Dict[Tuple[int, int, int], Dict[Optional[Symbol], List[str]]] = {}
+        self.known_lines: Dict[Tuple[int, int, int], Lines] = {}
 
     def __len__(self) -> int:
         return len(self.kinds)
@@ -179,6 +188,18 @@ class Frames:
     def name(self, at: int) -> Optional[Symbol]:
         """The name and the offset, where there is one answer, else None."""
         return one_of(self.answers(at))
+
+    def lines(self, at: int) -> Lines:
+        """Where a frame that has one name is in the source, without the inlined functions that the report has."""
+        key = self.numbers[at], self.asked[at], self.kinds[at]
+        found = self.known_lines.get(key)
+        if found is None:
+            image = self.image(at)
+            found = image.lines(self.asked[at]) if image and self.name(at) else NOTHING
+            found = found._replace(inlined=()) if self.kinds[at] & HAS_INLINED else found
+            if len(self.known_lines) < MOST_KNOWN:
+                self.known_lines[key] = found
+        return found
 
 
 Answer = TypeVar("Answer", bound=Hashable)

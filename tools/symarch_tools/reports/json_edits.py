@@ -7,7 +7,8 @@ from array import array
 from typing import Any, Dict, List, Mapping, Match, Optional, Sequence, Set, Tuple
 
 from .answers import Symbol
-from .json_walk import FLAT, KEY, STRING, Member, loaded
+from .json_walk import FLAT, KEY, SPACE, STRING, Member, loaded
+from .source_lines import Inlined, Lines, Source
 
 # The different answers to a frame, each with the digests of its slices; and a change: where it begins and ends, and
 # what stands there then.
@@ -21,6 +22,7 @@ ARRAY = re.compile(rb"\[\s*[^\s,]+(\s*,\s*)[^\s,\]]+")
 # A value of more bytes is not read, and the space before the first member is not looked for further back.
 MOST_OF_VALUE, MOST_SPACE = 10_000, 1_000
 SYMBOL, LOCATION, CONFLICT = "symbol", "symbolLocation", "conflict"
+FILE, LINE, INLINE, INLINED = "sourceFile", "sourceLine", "inline", "inlined"
 # New members stand after the offset of MetricKit, since the end of an object with others in it may be far; else at the
 # end of the object, or after these.
 OFFSET = "offsetIntoBinaryTextSegment"
@@ -85,7 +87,7 @@ class Members:
         return found
 
 
-def changes(data: bytes, place: int, members: List[Place], answers: FrameAnswers) -> List[Change]:
+def changes(data: bytes, place: int, members: List[Place], answers: FrameAnswers, lines: Lines) -> List[Change]:
     """The changes of the frame that stands at a place and has these answers, in ascending order: each a place, the end
     of what stands there, and what stands there then. Members are given where others are in the frame."""
     one = next(iter(answers)) if len(answers) == 1 else None
@@ -94,18 +96,47 @@ def changes(data: bytes, place: int, members: List[Place], answers: FrameAnswers
         flat = FLAT.match(data, place)
         assert flat is not None
         if flat[0].startswith(b"["):
-            return [array_change(flat, one, answers)]
+            return [array_change(flat, one, answers, lines)]
         found = places_in(flat)
-    anchor = next((it for it in found if it.name == OFFSET), None) or found[-1]
-    if members and anchor.name != OFFSET:
-        anchor = [it for it in found if it.name in INDEXED][-1]
+    anchor = next((it for it in found if it.name == OFFSET), None)
+    is_of_calls = anchor is not None
+    if anchor is None:
+        anchor = [it for it in found if it.name in INDEXED][-1] if members else found[-1]
     layout = Layout(data, found)
-    gone: Set[str]
-    if one:
-        values, gone = {SYMBOL: text_of(one[0]), LOCATION: b"%d" % one[1]}, {CONFLICT}
-    else:
-        values, gone = {CONFLICT: layout.conflict(answers)}, {SYMBOL, LOCATION}
-    return member_changes(found, anchor, layout, values, gone)
+    if not one:
+        values, gone = {CONFLICT: layout.nested(conflict_of(answers))}, {SYMBOL, LOCATION}
+        return member_changes(found, anchor, layout, values, gone)
+    values = {SYMBOL: text_of(one[0]), LOCATION: b"%d" % one[1], **source_members(lines.source)}
+    if is_of_calls and lines.inlined:
+        values[INLINED] = layout.nested(list(map(inlined_members, lines.inlined)))
+    made = member_changes(found, anchor, layout, values, {CONFLICT})
+    if lines.inlined and not is_of_calls:
+        made.insert(0, (place, place, inlined_frames(layout, place, found, lines.inlined)))
+    return made
+
+
+def source_members(source: Optional[Source]) -> Dict[str, bytes]:
+    return {FILE: text_of(source.file), LINE: b"%d" % source.line} if source else {}
+
+
+def inlined_members(inlined: Inlined) -> Dict[str, Any]:
+    """An inlined function, as a frame of MetricKit lists it, which has no frames of its own for these."""
+    source = {FILE: inlined.source.file, LINE: inlined.source.line} if inlined.source else {}
+    return {**({SYMBOL: inlined.name} if inlined.name else {}), **source}
+
+
+def inlined_frames(layout: Layout, place: int, found: Sequence[Place], inlined: Sequence[Inlined]) -> bytes:
+    """Frames of inlined functions, each before the next one, in the layout of their frame, which follows. They have its
+    image and its offset."""
+    indexes = {it.name: layout.data[it.begin : it.end] for it in found if it.name in INDEXED}
+    before = layout.space_before(place)
+    made = b""
+    for one in inlined:
+        name = {SYMBOL: text_of(one.name)} if one.name else {}
+        values = {**indexes, **name, INLINE: b"true", **source_members(one.source)}
+        members = layout.between.join(text_of(name) + layout.colon + value for name, value in values.items())
+        made += b"{" + layout.first + members + layout.last + b"}," + before
+    return made
 
 
 def places_in(flat: Match[bytes]) -> List[Place]:
@@ -117,25 +148,30 @@ def places_in(flat: Match[bytes]) -> List[Place]:
 
 
 class Layout:
-    """How the members of an object are written: what is between two of them, and between a name and its value."""
+    """How the members of an object are written: what is between two of them, and between a name and its value; before
+    the first one, and after the last one."""
 
     def __init__(self, data: bytes, found: Sequence[Place]) -> None:
+        self.data = data
         first = found[0]
-        if len(found) > 1:
-            self.between = data[first.end : found[1].key_begin]
-        else:
-            before = data[max(first.key_begin - MOST_SPACE, 0) : first.key_begin]
-            self.between = b"," + before[len(before.rstrip(b" \t\r\n")) :]
+        self.first, self.last = self.space_before(first.key_begin), b""
+        self.between = data[first.end : found[1].key_begin] if len(found) > 1 else b"," + self.first
+        end = SPACE.match(data, found[-1].end)
+        if end and data[end.end() : end.end() + 1] == b"}":
+            self.last = end[0]
         key = KEY.match(data, first.key_begin)
         assert key is not None
         self.colon = data[key.end(1) : first.begin]
 
+    def space_before(self, place: int) -> bytes:
+        before = self.data[max(place - MOST_SPACE, 0) : place]
+        return before[len(before.rstrip(b" \t\r\n")) :]
+
     def member(self, name: str, value: bytes) -> bytes:
         return self.between + text_of(name) + self.colon + value
 
-    def conflict(self, answers: FrameAnswers) -> bytes:
-        """The answers of a frame, in lines of their own where members are."""
-        said = conflict_of(answers)
+    def nested(self, said: List[Dict[str, Any]]) -> bytes:
+        """A list of objects, in lines of their own where members are."""
         if b"\n" not in self.between:
             return text_of(said, separators=(self.between.decode(), self.colon.decode()))
         line_end = self.between[self.between.index(b",") + 1 :]
@@ -159,13 +195,14 @@ def member_changes(
     return sorted(made)
 
 
-def array_change(flat: Match[bytes], one: Optional[Symbol], answers: FrameAnswers) -> Change:
+def array_change(flat: Match[bytes], one: Optional[Symbol], answers: FrameAnswers, lines: Lines) -> Change:
     """The change of a frame that is an array: what is said of it follows its two numbers."""
     first = ARRAY.match(flat[0])
     assert first is not None
     between = first[1]
     if one:
-        added = between + text_of(one[0]) + between + b"%d" % one[1]
+        said = [text_of(one[0]), b"%d" % one[1], *source_members(lines.source).values()]
+        added = b"".join(between + value for value in said)
     else:
         added = between + text_of(conflict_of(answers), separators=(",", ":"))
     end = len(flat[0][:-1].rstrip())

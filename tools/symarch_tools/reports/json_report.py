@@ -4,7 +4,8 @@ from __future__ import annotations
 from array import array
 from typing import Any, Dict, Iterator, List, Optional, Tuple
 
-from .images import HAD_NAME, HAS_BELOW, IS_BELOW, IS_INLINED, IS_RETURN, NO_IMAGE, PROCESSORS, Frames, Images
+from .images import HAD_NAME, HAS_BELOW, HAS_INLINED, IS_BELOW, IS_INLINED, IS_RETURN, NO_IMAGE, PROCESSORS, Frames
+from .images import Images
 from .json_edits import Change, Members, changes
 from .json_walk import FLAT, Broken, Node, Walker, loaded
 
@@ -133,10 +134,16 @@ class JsonReport:
         if is_inlined:
             kind |= IS_INLINED
         else:
-            kind |= IS_RETURN * bool(node.kept)
+            kind |= IS_RETURN * bool(node.kept) | HAS_INLINED * self.is_inlined_before(index, offset)
         node.kept = bool(node.kept) or not is_inlined
         self.add(begin, NOT_PLACED - (index if 0 <= index < MOST_INDEX else MOST_INDEX), offset, kind)
         return True
+
+    def is_inlined_before(self, index: int, offset: int) -> bool:
+        """Whether the last frame is of a function that was inlined at this place."""
+        frames = self.frames
+        is_last = len(frames) > 0 and frames.kinds[-1] & IS_INLINED
+        return bool(is_last) and (frames.numbers[-1], frames.asked[-1]) == (NOT_PLACED - index, offset)
 
     def close_frame(self, node: Node) -> None:
         if node.parent and not node.is_list and self.take_frame(node.parent, node.begin, node.values()):
@@ -229,7 +236,8 @@ class JsonReport:
         for at in range(len(self.frames)):
             answers = self.frames.answers(at)
             if answers.keys() - {None}:
-                yield from changes(self.data, self.frames.places[at], self.members.of(at), answers)
+                members = self.members.of(at)
+                yield from changes(self.data, self.frames.places[at], members, answers, self.frames.lines(at))
 
     def pieces(self) -> Iterator[bytes]:
         """The bytes of the document with names in it, in its own layout. What stands in a value that another change

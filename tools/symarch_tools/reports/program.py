@@ -10,7 +10,7 @@ from typing import IO, List, NamedTuple, Optional, Sequence, Tuple
 from ..keeping.screen import about
 from ..program import found_program, named
 from ..signals import signals
-from .answers import Answers
+from .answers import Answers, Said
 from .faults import Failure, Status
 
 # The lines of so many questions are written at once.
@@ -53,15 +53,16 @@ class Reply(NamedTuple):
 
 
 class Program:
-    """The program."""
+    """The program, which is asked for lines of the source too, or not."""
 
-    def __init__(self) -> None:
+    def __init__(self, has_lines: bool) -> None:
         self.path, self.named = found_program(), named()
+        self.options = ["--lines"] if has_lines else []
 
     def frames(self, indexed: Sequence[Tuple[str, str]], plain: Sequence[str], answers: Sequence[Answers]) -> Reply:
         """Asks archives with their indexes and archives without. The questions are in a file of their own: a standard
         input has no path where /proc is not mounted."""
-        options = [word for _, index in indexed for word in ("--index", index)]
+        options = [*self.options, *(word for _, index in indexed for word in ("--index", index))]
         archives = [path for path, _ in indexed] + list(plain)
         with tempfile.NamedTemporaryFile(prefix="symbolicate-report.") as asked, tempfile.TemporaryFile() as errors:
             with about(asked.name.encode()):
@@ -104,14 +105,15 @@ def take(answers: Sequence[Answers], run: subprocess.Popen[bytes]) -> Optional[b
     """Whether the program answers as `frames` does; None if it says nothing more. What does is ended, since it may
     never end."""
     assert run.stdout is not None
+    said = Said(run.stdout)
     try:
         for one in answers:
-            one.take(run.stdout)
-        if not run.stdout.readline():
+            one.take(said)
+        if not said.line():
             return True
     except ValueError:
         pass
-    if not run.stdout.readline():
+    if not said.ahead:
         return None
     run.kill()
     return False

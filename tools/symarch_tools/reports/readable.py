@@ -7,9 +7,11 @@ from typing import Any, Dict, Iterable, Iterator, List, Optional, Sequence, Tupl
 from .images import IS_INLINED
 from .json_report import Calls, JsonReport, Stack
 from .json_walk import MOST_FLAT, NESTED, SPACE, Node, loaded
+from .named_lines import INLINED, NO_NAME, LineAnswers, inlined_lines, named_line, numbered, source_after
 from .readable_header import header_lines, labelled, of, state_lines
+from .source_lines import Inlined, Source
 from .streams import encoded
-from .text_report import LineAnswers, TextReport, named_line
+from .text_report import TextReport
 
 # Values of more bytes are left away, and a tree is set in no further than so many calls.
 MOST_OF_VALUE = 100_000
@@ -111,26 +113,33 @@ class ReadableReport:
         return f"Thread {number}{' Crashed' if is_crashed else ''}:{': ' if names else ''}{', '.join(names)}"
 
     def frame_lines(self, places: range) -> Iterator[bytes]:
-        for number, at in enumerate(places):
+        number = 0
+        for at in places:
             said = self.document.said(at)
             index, offset = (said["imageIndex"], said["imageOffset"]) if isinstance(said, dict) else said[:2]
             listed = self.document.listed[index] if 0 <= index < len(self.document.listed) else None
             base, name = base_of(listed), name_of(listed)
             symbol = [said.get("symbol"), said.get("symbolLocation")] if isinstance(said, dict) else said[2:4]
-            yield self.frame_line(number, at, name, base, offset, symbol, source_of(said))
+            lines = self.lines_of_frame(number, at, name, base, offset, symbol, source_of(said))
+            number += len(lines)
+            yield from lines
 
-    def frame_line(self, number: int, at: int, name: Optional[str], base: Optional[int], offset: int,
-                   symbol: Sequence[Any], source: str) -> bytes:
-        """A line of a crash: the image, the address, the name and its offset, or where the image was loaded."""
+    def lines_of_frame(self, number: int, at: int, name: Optional[str], base: Optional[int], offset: int,
+                       symbol: Sequence[Any], source: str) -> List[bytes]:
+        """A line of a crash: the image, the address, the name and its offset, or where the image was loaded; after one
+        for each function that was inlined there."""
         address = "???" if base is None else f"0x{base + offset:x}"
         head = encoded(f"{number:<4}{name or '???':<30}\t{address:>18} ")
         said = f"0x{base:x} + {offset}" if base is not None and self.frames.image(at) else "???"
         if symbol and symbol[0]:
             said = f"{symbol[0]} + {symbol[1]}" if len(symbol) > 1 and symbol[1] is not None else f"{symbol[0]}"
+        lines = self.frames.lines(at)
+        made = list(inlined_lines(lines, head, 0))
+        tail = source_after(lines.source, encoded(f" ({source})" if source else ""))
+        head = numbered(head, len(made))
         if self.frames.kinds[at] & IS_INLINED:
-            said += " [inlined]"
-        tail = encoded(source)
-        return named_line(self.answers(at), head, b"", tail, b"") or head + encoded(said) + tail
+            tail += b" " + INLINED
+        return [*made, named_line(self.answers(at), head, b"", tail, b"") or head + encoded(said) + tail]
 
     def answers(self, at: int) -> LineAnswers:
         """The answers to a frame, as those of a line."""
@@ -143,11 +152,34 @@ class ReadableReport:
         for number, (owner, first, end) in enumerate(calls.stacks):
             is_crashed = calls.is_thread and owner.value("threadAttributed")
             yield f"Thread {number}{' Crashed' if is_crashed else ''}:"
-            for place, at in enumerate(range(first, end)):
-                yield self.call_line(place, at, calls.is_thread)
+            lines = self.thread_lines if calls.is_thread else self.tree_lines
+            yield from lines(range(first, end))
             yield ""
 
-    def call_line(self, number: int, at: int, is_thread: bool) -> bytes:
+    def thread_lines(self, places: range) -> Iterator[bytes]:
+        number = 0
+        for at in places:
+            base, name, offset, symbol = self.call(at)
+            source = source_of(self.document.said(at))
+            lines = self.lines_of_frame(number, at, name, base, offset or 0, symbol, source)
+            number += len(lines)
+            yield from lines
+
+    def tree_lines(self, places: range) -> Iterator[bytes]:
+        """The lines of a tree. What a frame called stands below the functions that were inlined there."""
+        open_frames: List[Tuple[int, int]] = []
+        for at in places:
+            depth = self.document.depths[at]
+            open_frames = [one for one in open_frames if one[0] < depth]
+            depth += sum(count for _, count in open_frames)
+            lines = self.frames.lines(at)
+            yield self.node(at, depth, lines.source, None)
+            for number, one in enumerate(reversed(lines.inlined), 1):
+                yield self.node(at, depth + number, one.source, one)
+            open_frames.append((self.document.depths[at], len(lines.inlined)))
+
+    def call(self, at: int) -> Tuple[Optional[int], Optional[str], Optional[int], Sequence[Any]]:
+        """Where the image of a frame was loaded, its name, the offset in it, and the name that the report has."""
         said = self.document.said(at)
         address, offset = number_in(said.get("address")), number_in(said.get("offsetIntoBinaryTextSegment"))
         image, name = self.frames.image(at), text_in(said.get("binaryName"))
@@ -155,14 +187,19 @@ class ReadableReport:
         base = address - offset if address is not None and offset is not None else address
         if image and is_placed and base is not None:
             self.bases.setdefault(image.uuid, (base, name))
-        symbol = (said.get("symbol"), said.get("symbolLocation"))
-        if is_thread:
-            return self.frame_line(number, at, name, base, offset if is_placed and offset else 0, symbol, "")
-        inset = "  " * (1 + min(self.document.depths[at], MOST_SET_IN))
-        samples = number_in(said.get("sampleCount"))
-        head = f"{inset}{1 if samples is None else samples:<4} ".encode()
-        place = f" ({name or '???'} + {offset})" if is_placed else ""
-        tail = encoded(f"{place} [0x{address or 0:x}]")
+        return base, name, offset if is_placed else None, (said.get("symbol"), said.get("symbolLocation"))
+
+    def node(self, at: int, depth: int, source: Optional[Source], inlined: Optional[Inlined]) -> bytes:
+        """A line of a tree: of a frame, or of a function that was inlined there."""
+        base, name, offset, symbol = self.call(at)
+        samples = number_in(self.document.said(at).get("sampleCount"))
+        head = f"{'  ' * (1 + min(depth, MOST_SET_IN))}{1 if samples is None else samples:<4} ".encode()
+        text = source.text() if source else "" if inlined else source_of(self.document.said(at))
+        inside = f"{text} in " if text else ""
+        place = f" ({inside}{name or '???'} + {offset})" if offset is not None else ""
+        tail = encoded(f"{place} [0x{(base or 0) + (offset or 0):x}]")
+        if inlined:
+            return head + encoded(inlined.name or NO_NAME) + tail + b" " + INLINED
         before = f"{symbol[0]} + {symbol[1]}" if symbol[0] else "???"
         return named_line(self.answers(at), head, b"", tail, b"") or head + encoded(before) + tail
 
@@ -207,9 +244,11 @@ def number_in(value: object) -> Optional[int]:
 
 def source_of(said: Any) -> str:
     """The source file and line that a frame states."""
-    if not isinstance(said, dict) or not said.get("sourceFile"):
-        return ""
-    return f" ({said['sourceFile']}:{said.get('sourceLine', 0)})"
+    if isinstance(said, list):
+        file, line = said[4:6] if len(said) > 5 else (None, None)
+    else:
+        file, line = said.get("sourceFile"), said.get("sourceLine", 0)
+    return f"{file}:{line}" if file else ""
 
 
 def process_of(node: Optional[Node]) -> Optional[str]:

@@ -2,19 +2,19 @@
 from __future__ import annotations
 
 import bisect
-import itertools
 import re
 from array import array
 from typing import Any, Dict, Iterator, List, Mapping, Match, Optional, Pattern, Sequence, Set, Tuple
 
-from .answers import Symbol
-from .images import ARCHITECTURES, CANNOT_BE_ASKED, HAD_NAME, IS_RETURN, NO_IMAGE, PROCESSORS, Frames, Images
-from .images import different
+from .images import ARCHITECTURES, CANNOT_BE_ASKED, HAD_NAME, HAS_INLINED, IS_LISTED, IS_RETURN, NO_IMAGE, PROCESSORS
+from .images import Frames, Images, different
+from .named_lines import INLINED, SOURCE, LineAnswers, inlined_lines, named_line, numbered, source_after
+from .source_lines import NOTHING
+from .tree_lines import BARS, OfSample, OfSpindump, Tree, column_of, source_of_all
 
-# What was found in a line, by the names of a form; the answers to the frames of a line, one for each; and a line of a
-# tree that is held back: where it begins, its bytes, and the column of its number.
+# What was found in a line, by the names of a form; and a line of a tree that is held back: where it begins, its bytes,
+# and the column of its number.
 Found = Mapping[str, Any]
-LineAnswers = Mapping[Tuple[Optional[Symbol], ...], List[str]]
 Held = Tuple[int, bytes, Optional[int]]
 
 PROCESSOR = re.compile(rb"^Code Type:\s+([\w-]+)", re.MULTILINE)
@@ -28,8 +28,6 @@ CRASH = re.compile(
 )
 NAMED_DECIMAL = re.compile(OF_CRASH % rb"[0-9]{9,20}(?= +[^\s0-9])")
 OFFSET = re.compile(rb" \+ [0-9]")
-INLINED = b"[inlined]"
-SOURCE = re.compile(rb" \([^()]*:[0-9]+\)$")
 # What stands in the place of a name that is not known, but for the name of the image itself and an offset.
 NO_NAME = re.compile(rb"\s*(?:\?\?\?.*|0x[0-9a-fA-F]+ \+ [0-9]+.*|[0-9]{5,20} \+ [0-9]+.*|)")
 
@@ -38,9 +36,6 @@ EXCEPTION = b"Last Exception Backtrace"
 IN_BACKTRACE = rb"(?:0x[0-9a-fA-F]{1,16}|[0-9]{5,20})"
 BACKTRACE = re.compile(rb"\((?P<addresses>" + IN_BACKTRACE + rb"(?:\s+" + IN_BACKTRACE + rb")*)\)\s*")
 
-# Lines of call trees begin with the bars of the tree and a number of samples, which stands further in the deeper it is.
-BARS = rb"[\s+!:|*]*"
-NODE = re.compile(BARS + rb"(?=[0-9]+\s+\S)")
 # As `2543 ???  (in spool)  load address 0x104d38000 + 0x410  [0x104d38410]`, or `2543 main  (in spool) + 8  [0x..]`.
 # Several addresses of one function may stand in one line. Lists have such frames without a number. In some copies of
 # trees the addresses are decimal.
@@ -124,6 +119,10 @@ class Part:
         self.first, self.starts = len(frames), array("Q")
         self.heading = b""
         self.is_after_first = False
+        # The address of the inlined function in the line before; and where the frame of a tree stands that has one
+        # below it.
+        self.inlined_at: Optional[bytes] = None
+        self.has_inlined = -1
         self.callers: Set[int] = set()
         self.leaves: Set[int] = set()
         self.listed: List[Dict[str, bytes]] = []
@@ -167,16 +166,20 @@ class Part:
 
     def take_crash(self, place: int, found: Match[bytes]) -> None:
         is_return = self.is_after_first = self.is_after_first and found["number"] != b"0"
+        inlined_at, self.inlined_at = self.inlined_at, None
         if INLINED in found.string:
+            self.inlined_at = found["addresses"]
             return
         self.is_after_first = True
         said = found["said"]
         has_name = not NO_NAME.fullmatch(said) and not said.startswith(found["image"].strip() + b" + ")
-        self.add(place, address_of(found["addresses"]), NOT_SAID, is_return * IS_RETURN | has_name * HAD_NAME)
+        kind = is_return * IS_RETURN | has_name * HAD_NAME | (inlined_at == found["addresses"]) * HAS_INLINED
+        self.add(place, address_of(found["addresses"]), NOT_SAID, kind)
 
     def take_tree(self, place: int, found: Found, column: Optional[int], below: Optional[int]) -> None:
         addresses = addresses_of(found["addresses"])
-        kind = self.is_return(addresses, column, below) * IS_RETURN
+        kind = self.is_return(addresses, column, below) * IS_RETURN | (place == self.has_inlined) * HAS_INLINED
+        kind |= self.heading.startswith((HEAVIEST, *LISTS)) * IS_LISTED
         if not NO_NAME.fullmatch(found["said"]):
             kind |= HAD_NAME
         for address in addresses:
@@ -281,8 +284,10 @@ class TextReport:
             if part.ends_before(line):
                 self.end_part(part, held)
                 part, held = Part(self.frames, self.processor), None
-            found = None if part.is_list or len(line) > MOST_OF_LINE else NODE.match(line)
-            column = found.end() if found else None
+            if INLINED in line and IN_BRACKETS.search(line):
+                part.has_inlined = held[0] if held else -1
+                continue
+            column = None if part.is_list or len(line) > MOST_OF_LINE else column_of(line)
             self.take(part, held, column)
             held = None if part.is_list else (place, line, column)
         self.end_part(part, held)
@@ -303,31 +308,54 @@ class TextReport:
 
     def pieces(self) -> Iterator[bytes]:
         """The bytes of the report with names in it."""
-        done, at = self.begin, 0
+        done, at, more, tree = self.begin, 0, 0, Tree()
         while at < len(self.frames):
             place, first = self.frames.places[at], at
             while at < len(self.frames) and self.frames.places[at] == place:
                 at += 1
             found = self.line_at(place)
-            yield self.data[done:place]
-            yield self.line(range(first, at), found[1], found[2])
+            before, more = without_frames(self.data[done:place], more, tree)
+            yield before
+            made, more = self.line(range(first, at), found, more, tree)
+            yield made
             done = found.end()
-        yield self.data[done : self.end]
+        yield without_frames(self.data[done : self.end], more, tree)[0]
 
-    def line(self, places: range, line: bytes, end: bytes) -> bytes:
-        """A line with the names of its frames, or as it was."""
+    def line(self, places: range, whole: Match[bytes], more: int, tree: Tree) -> Tuple[bytes, int]:
+        """A line with the names of its frames, or as it was. The frames of a thread have numbers that are greater by
+        the inlined functions before them."""
+        line, end = whole[1], whole[2]
         form, found = frames_in(line)
         if found is None:
-            return line + end
+            return line + end, more
         if form == BACKTRACE:
-            return self.backtrace(places, addresses_of(found["addresses"]), end) or line + end
-        answers = self.answers(places)
+            return self.backtrace(places, addresses_of(found["addresses"]), end) or line + end, 0
         if form == CRASH:
-            source = SOURCE.search(line)
-            around = found["head"], b"", source[0] if source else b""
-        else:
-            around = found["head"], found.groupdict().get("middle", b""), found["tail"]
-        return named_line(answers, *around, end) or line + end
+            return self.crash_lines(places[0], found, end, 0 if found["number"] == b"0" else more)
+        following = self.line_at(whole.end())[1] if whole.end() < self.end else b""
+        return self.tree_lines(places, found, end, following, tree), 0
+
+    def tree_lines(self, places: range, found: Match[bytes], end: bytes, following: bytes, tree: Tree) -> bytes:
+        """A line of a call tree, before those of inlined functions. `sample` has lists without either."""
+        is_sample, is_list = found.re == SAMPLE, bool(self.frames.kinds[places[0]] & IS_LISTED)
+        form = OfSample(found) if is_sample else OfSpindump(found)
+        every = [self.frames.lines(at) for at in places] if not (is_sample and is_list) else [NOTHING]
+        tail = form.with_source(source_of_all(every))
+        named = named_line(self.answers(places), form.head, form.middle, tail, end)
+        made = tree.moved(named or found.string + end)
+        inlined = every[0].inlined if len(every) == 1 else ()
+        below = list(tree.inlined(form, inlined, following, is_list))
+        return made if not below else (end or b"\n").join([made[: len(made) - len(end)], *below]) + end
+
+    def crash_lines(self, at: int, found: Match[bytes], end: bytes, more: int) -> Tuple[bytes, int]:
+        """A line of a crash, after those of inlined functions, and by how much the number of the frame is greater."""
+        lines, line, head = self.frames.lines(at), found.string, found["head"]
+        said = SOURCE.search(line)
+        tail = source_after(lines.source, said[0] if said else b"")
+        made = list(inlined_lines(lines, head, more))
+        more += len(made)
+        named = named_line(self.answers([at]), numbered(head, more), b"", tail, end)
+        return (end or b"\n").join([*made, named or numbered(line, more) + end]), more
 
     def answers(self, places: Sequence[int]) -> LineAnswers:
         """The different answers to the frames of a line. Each is one for every frame."""
@@ -342,32 +370,31 @@ class TextReport:
         """A line for each address of a line of addresses, as crashes have them, where one of them has a name."""
         if not any(self.frames.answers(at).keys() - {None} for at in places):
             return None
-        lines = [self.backtrace_line(*one) for one in zip(itertools.count(), places, addresses)]
+        lines: List[bytes] = []
+        for at, address in zip(places, addresses):
+            lines += self.backtrace_lines(len(lines), at, address)
         return (end or b"\n").join(lines) + end
 
-    def backtrace_line(self, number: int, at: int, address: int) -> bytes:
+    def backtrace_lines(self, number: int, at: int, address: int) -> Iterator[bytes]:
         image, offset = self.frames.image(at), self.frames.offset(at)
         name = (image.name if image else "") or "???"
         head = b"%-4d%-30s\t0x%016x " % (number, name.encode(errors="surrogateescape"), address)
         said = b"0x%x + %d" % (address - offset, offset) if image else b"???"
-        return named_line(self.answers([at]), head, b"", b"", b"") or head + said
+        lines = self.frames.lines(at)
+        yield from inlined_lines(lines, head, 0)
+        head = numbered(head, len(lines.inlined))
+        yield named_line(self.answers([at]), head, b"", source_after(lines.source), b"") or head + said
 
 
-def named_line(answers: LineAnswers, head: bytes, middle: bytes, tail: bytes, end: bytes) -> Optional[bytes]:
-    """A line with its names, between what stands around them; None where no slice has a name."""
-    if len(answers) > 1:
-        lines = [b"%b!%d%b%b" % (head, len(answers), middle, tail)]
-        for answer, digests in answers.items():
-            said = " + ".join(names_and_offsets(answer)) if any(answer) else "-"
-            lines.append(" ".join([" ", *digests, said]).encode(errors="surrogateescape"))
-        return (end or b"\n").join(lines) + end
-    if not any(any(answer) for answer in answers):
-        return None
-    names, offsets = (said.encode(errors="surrogateescape") for said in names_and_offsets(next(iter(answers))))
-    return b"%b%b%b + %b%b%b" % (head, names, middle, offsets, tail, end)
-
-
-def names_and_offsets(symbols: Sequence[Optional[Symbol]]) -> Tuple[str, str]:
-    """The names of the symbols of a line, once where all have one name, and their offsets."""
-    names, offsets = zip(*[symbol or ("-", "-") for symbol in symbols])
-    return ",".join(names if len(set(names)) > 1 else names[:1]), ",".join(map(str, offsets))
+def without_frames(data: bytes, more: int, tree: Tree) -> Tuple[bytes, int]:
+    """Lines between those that are asked for: of functions that the report says were inlined, whose numbers are greater
+    too, of the tree, and of others, as an empty one, which ends a thread."""
+    if not more and not tree.open:
+        return data, more
+    made = []
+    for line in data.splitlines(keepends=True):
+        form, found = frames_in(line.rstrip(b"\r\n"))
+        if found is None and not line.strip() or found and form == CRASH and found["number"] == b"0":
+            more = 0
+        made.append(numbered(line, more) if found and form == CRASH else tree.moved(line))
+    return b"".join(made), more

@@ -15,9 +15,12 @@ from .report import BEGINNING, DOCUMENT, STANDARD_INPUT
 from .streams import printing, say
 
 NAME = "symbolicate-report"
-OPTIONS = "[--missing | [--json] [--text] [--demangle | --raw] [--out FOLDER] | --group [--demangle | --raw]]"
+NAMES = "[--no-demangle | --raw]"
+OPTIONS = f"[--missing | [--json] [--text] [--no-lines | --paths] {NAMES} [--out FOLDER] | --group {NAMES}]"
 USAGE = f"{NAME} {OPTIONS} REPORT... ARCHIVE..."
 MAGICS = (b"MSYMARC1", b"MSYMARC2")
+# What is said of a report that is printed.
+OF_REPORTS = ("--text", "--json", "--no-lines", "--paths")
 # The commands of the program that a report might be given to.
 ANSWERING = ("frames", "symbolicate")
 
@@ -53,6 +56,9 @@ def parser_of_words(description: Optional[str]) -> Parser:
     parser.add_argument("--group", help=GROUP, **flag)
     parser.add_argument("--json", help=JSON, **flag)
     parser.add_argument("--text", help=TEXT, **flag)
+    parser.add_argument("--no-lines", help=NO_LINES, **flag)
+    parser.add_argument("--paths", help=PATHS, **flag)
+    parser.add_argument("--no-demangle", help=NO_DEMANGLE, **flag)
     parser.add_argument("--demangle", help=DEMANGLE, **flag)
     parser.add_argument("--raw", help=RAW, **flag)
     parser.add_argument("--out", metavar="FOLDER", action=Once, help=OUT)
@@ -69,9 +75,13 @@ JSON = """print in place of the report what standard error says of it and of its
 --out the reports are written too"""
 TEXT = """print a JSON report as people read a crash: its header, what the system said of its end, the threads with
 names and offsets, the images. It leaves out a `Full Report` that repeats the text before it"""
-DEMANGLE = """make names of C++ and Swift readable: run `swift demangle`, and the first of `llvm-cxxfilt`,
-`llvm-cxxfilt-N` of the greatest N and `c++filt`, if they are installed, once each for all names"""
-RAW = """keep the underscore that a symbol table puts before each name"""
+NO_LINES = """print names alone, without files, lines and inlined functions, as for an archive without dSYMs"""
+PATHS = """print the paths of source files as the compilers wrote them, and not their last names"""
+NO_DEMANGLE = """leave names of C++, Rust and Swift as they are. Otherwise `swift demangle` makes them readable, and the
+first of `llvm-cxxfilt`, `llvm-cxxfilt-N` of the greatest N and `c++filt`: those that are installed, once each for all
+names, if one needs it"""
+DEMANGLE = """say so if none of these is installed"""
+RAW = """keep the underscore that a symbol table puts before each name, and leave names as they are"""
 OUT = """write each report to FOLDER under the name of its own file, whole or not at all, and make FOLDER if it is not
 there. It replaces a file that is there, but never one that this call reads. Several reports need it, and so does a
 folder; two reports of one name are refused"""
@@ -91,8 +101,11 @@ class Words:
         self.is_group: bool = asked.group
         self.is_json: bool = asked.json
         self.is_text: bool = asked.text
+        self.has_no_lines: bool = asked.no_lines
+        self.has_paths: bool = asked.paths
         self.is_demangled: bool = asked.demangle
         self.is_raw: bool = asked.raw
+        self.is_mangled: bool = asked.no_demangle or asked.raw
         self.out: Optional[str] = asked.out
         names = [*asked.names, *words[end + 1 :]]
         self.reports, archives = reports_and_archives(names)
@@ -101,16 +114,39 @@ class Words:
             parser.error(fault)
         self.archives = archives
 
+    def has_lines(self) -> bool:
+        """Whether a report is printed that has lines of the source."""
+        is_counted = self.is_missing or self.is_group or (self.is_json and self.out is None)
+        return not (is_counted or self.has_no_lines)
+
+    def given(self) -> Dict[str, bool]:
+        """The options without a value, and whether each is given."""
+        return {
+            "--missing": self.is_missing,
+            "--group": self.is_group,
+            "--json": self.is_json,
+            "--text": self.is_text,
+            "--no-lines": self.has_no_lines,
+            "--paths": self.has_paths,
+            "--no-demangle": self.is_mangled and not self.is_raw,
+            "--demangle": self.is_demangled,
+            "--raw": self.is_raw,
+        }
+
     def fault_of_options(self) -> Optional[str]:
         """Why the options do not stand together, if they do not."""
-        of_reports = {"--text": self.is_text, "--json": self.is_json, "--out": self.out is not None}
-        others = [option for option, is_given in of_reports.items() if is_given]
-        if self.is_missing and (others or self.is_group or self.is_demangled or self.is_raw):
+        given = [option for option, is_given in self.given().items() if is_given]
+        others = [option for option in OF_REPORTS if option in given] + ["--out"] * (self.out is not None)
+        if self.is_missing and (others or len(given) > 1):
             return "--missing stands alone"
         if self.is_group and others:
             return f"--group prints no report, so {others[0]} does not stand beside it"
         if self.is_raw and self.is_demangled:
             return "--raw keeps what --demangle changes: name one of them"
+        if self.has_no_lines and self.has_paths:
+            return "--no-lines prints no paths, so --paths does not stand beside it"
+        if self.is_mangled and self.is_demangled:
+            return "--demangle and --no-demangle: name one of them"
         if self.need_out(self.reports):
             return "several reports are written by --out FOLDER"
         if STANDARD_INPUT in self.reports and self.out is not None:
@@ -149,10 +185,7 @@ class Words:
 
     def line(self, names: Sequence[str], more: Sequence[str] = ()) -> str:
         """The line to type for these reports and archives, with more options."""
-        given = {"--missing": self.is_missing, "--group": self.is_group, "--json": self.is_json}
-        given["--text"] = self.is_text
-        given.update({"--demangle": self.is_demangled, "--raw": self.is_raw})
-        options = [option for option, is_given in given.items() if is_given]
+        options = [option for option, is_given in self.given().items() if is_given]
         options += ["--out", self.out] if self.out is not None else []
         has_hyphen = any(name.startswith("-") and name != STANDARD_INPUT for name in names)
         return " ".join(map(shlex.quote, [NAME, *options, *more, *(["--"] if has_hyphen else []), *names]))
