@@ -1,5 +1,6 @@
 -- What comes of making the index of an archive as it comes.
-use Rattle.std.specs.Prelude.{◌≡◌, ◌+◌, ◌<◌, ◌≤◌, ◌^◌, ℕ, List, [], ◌∷◌, ◌++◌, ◌⊎◌, length, take, Option, Some, IfSome, Result, Ok, Err}
+use Rattle.std.specs.Prelude.{◌≡◌, ◌+◌, ◌<◌, ◌≤◌, ◌^◌, ℕ, List, [], ◌∷◌, ◌++◌, ◌⊎◌, length}
+use Rattle.std.specs.Prelude.{take, Option, Some, IfSome, Result, Ok, Err}
 use Rattle.std.specs.List.{AllZip, concat}
 use Rattle.std.specs.FinSet as set
 use Rattle.std.specs.Io.KnownBytes.{Appends, Consumes}
@@ -58,8 +59,8 @@ pub record IsTooFar (left_old left_new held_old held_new : Option (List ℕ)) : 
   pub gained : Appends held_old held_new (front_of tables)
   pub far : (2 ^ 64 ≤ length (magic ++ concat records)) ⊎ (2 ^ 64 ≤ length (front_of tables))
 
--- Of an input that stood so before and so after, the magic, these records and what stands behind them were taken; of the
--- front of their index the writer gained the first n bytes.
+-- Of an input that stood so before and so after, the magic, these records and what stands behind them were taken; of
+-- the front of their index the writer gained the first n bytes.
 pub record HasBegun (left_old left_new held_old held_new : Option (List ℕ)) (n : ℕ) : Type 0 where
   pub records : List (List ℕ)
   pub tables : List (List ℕ)
@@ -108,7 +109,8 @@ pub record IsStopped {R W : Type 0} (input : Stream R) (out : Stream W) (fault :
   pub bytes : List ℕ
   pub took : Appends (out.bytes out.old) (out.bytes out.new) bytes
   pub count : fault.written ≡ length bytes
-  pub begun : IsBegun (input.bytes input.old) (input.bytes input.new) (out.bytes out.old) (out.bytes out.new) fault.written
+  pub begun :
+      IsBegun (input.bytes input.old) (input.bytes input.new) (out.bytes out.old) (out.bytes out.new) fault.written
       ⊎ HasReadWhole input out fault.written
   pub first : HasFirst input out fault.written
 

@@ -30,8 +30,7 @@ pub fn accepted()
         → IsIndexText text (entries_of (listing o) index.tables) }
 {}
 
-/// An archive of less than 2^64 bytes, whose index has less than 2^64 bytes too, has no record and no table that stands too
-/// far.
+/// In an archive of less than 2^64 bytes no record stands too far, and no table, if its index has less than 2^64 bytes.
 pub fn never_too_long()
     ensures { (o : Operations) (index : List ℕ) (left held_old held_new : Option (List ℕ)) → IsContent o
         → IsIndexOf o index → length (written o) < 2 ^ 64 → length index < 2 ^ 64
