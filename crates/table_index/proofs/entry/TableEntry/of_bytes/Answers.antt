@@ -1,0 +1,23 @@
+use Rattle.std.proofs.Common.{sym, arith}
+use Rattle.std.proofs.lemmas.List.{length-take-le}
+use Rattle.table_index.proofs.Entries.{entry_of_parts, fields_of, kind_front, tag_front}
+use Rattle.table_index.proofs.entry.TableEntry.of_bytes.Goals as goal
+
+pub slice_bounds-placed_in-end : goal.slice_bounds-placed_in-end
+slice_bounds-placed_in-end c = sym (length-take-le 74 c.args.bytes.now (omega (arith, c.requires.long)))
+
+pub placed_in-requires-clause-long : goal.placed_in-requires-clause-long
+placed_in-requires-clause-long c = length-take-le 74 c.args.bytes.now (omega (arith, c.requires.long))
+
+pub placed_in-requires-clause-tag : goal.placed_in-requires-clause-tag
+placed_in-requires-clause-tag c = tag_front c.args.bytes.now c.requires.tag
+
+pub placed_in-requires-clause-kind : goal.placed_in-requires-clause-kind
+placed_in-requires-clause-kind c = kind_front c.args.bytes.now c.requires.kind
+
+pub returns-clause-bytes : goal.returns-clause-bytes
+returns-clause-bytes c = entry_of_parts c.args.bytes.now _ c.placed_in.ensures.bytes c.claim_in.ensures.bytes
+
+pub returns-clause-fields : goal.returns-clause-fields
+returns-clause-fields c =
+    fields_of c.args.bytes.now _ c.requires.long (entry_of_parts c.args.bytes.now _ c.placed_in.ensures.bytes c.claim_in.ensures.bytes) c.placed_in.ensures.offset_is c.placed_in.ensures.length_is c.claim_in.ensures.is

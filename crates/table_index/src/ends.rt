@@ -1,0 +1,206 @@
+//! What stands at the two ends of an index.
+
+ghost use Rattle.std.specs.Prelude.{◌≡◌, ◌≢◌, ◌↔◌, ◌+◌, ◌-◌, ◌*◌, ◌<◌, ◌≤◌, ◌^◌, ℕ, List, Ok, IfOk, IfErr, OnOk, MatchResult};
+ghost use Rattle.std.specs.Prelude.{IsTrue, length, slice_index, take, drop, min};
+ghost use Rattle.std.specs.Str.{bytes_eq};
+ghost use Rattle.archive_index.specs.Text.{index_magic};
+ghost use Rattle.table_index.specs.Fault.{FailsInFront, FailsAtEnd, test_front};
+ghost use Rattle.table_index.specs.InnerReading.{AreEndsOf, FailsInEnds, IsFronted, IsUnread};
+ghost use Rattle.table_index.specs.Reading.{IsRefused, ReadsText};
+ghost use Rattle.table_index.specs.declared.fault.IndexFaultKind.TheVariants.{Device};
+
+use crate::entry::{ENTRY_LEN, number_at};
+use crate::{IndexFault, IndexFaultKind};
+use byte_device::{Failed, ReadFault};
+use memory::Heap;
+use placed_bytes::{Placed, read_at};
+
+/// How many bytes the magic has.
+pub const MAGIC_LEN: u64 = 8;
+
+/// How many bytes the end record has.
+pub const END_LEN: u64 = 41;
+
+/// The tag of the end record.
+const END: u8 = 3;
+
+/// What the end record says of the entries.
+#[derive(Clone, Copy)]
+pub(crate) struct Ends {
+    /// Where the entries begin.
+    pub start: u64,
+    /// How many there are.
+    pub count: u64,
+    /// The SHA-256 of their bytes.
+    pub digest: [u8; 32],
+}
+
+/// What an index begins with.
+pub fn magic() -> [u8; 8]
+    ensures { result ≡ index_magic }
+{
+    *b"MSYMIDX1"
+}
+
+/// How many bytes there are.
+fn read_size<P: Placed>(device: &mut P) -> Result<u64, IndexFault>
+    ensures { ReadsText P.whole P.failures device.old device.new result
+        (λ text size. size ≡ length text) (λ text fault. ⊥) }
+{
+    match device.size() {
+        Ok(size) => Ok(size),
+        Err(Failed) => Err(IndexFault {
+            kind: IndexFaultKind::Device,
+            offset: 0,
+        }),
+    }
+}
+
+/// So many bytes from an offset on.
+pub(crate) fn read_part<P: Placed>(
+    heap: Heap,
+    device: &mut P,
+    offset: u64,
+    count: u64,
+) -> Result<Vec<u8, Heap>, IndexFault>
+    requires { offset + count < 2 ^ 64 }
+    ensures long { IfOk result (λ bytes. length bytes.items ≡ count) }
+    ensures read { ReadsText P.whole P.failures device.old device.new result
+        (λ text bytes. bytes.items ≡ take count (drop offset text)) (IsUnread offset count) }
+{
+    match read_at(heap, device, offset, count) {
+        Ok(Some(bytes)) => Ok(bytes),
+        Ok(None) => Err(IndexFault {
+            kind: IndexFaultKind::Truncated,
+            offset,
+        }),
+        Err(ReadFault::Device) => Err(IndexFault {
+            kind: IndexFaultKind::Device,
+            offset,
+        }),
+        Err(ReadFault::OutOfMemory) => Err(IndexFault::out_of_memory(offset)),
+    }
+}
+
+/// Whether these bytes begin the magic.
+fn begins(front: &[u8]) -> bool
+    requires { length front.now ≤ 8 }
+    ensures { result ≡ bytes_eq front.now (take (length front.now) index_magic) }
+{
+    front == &magic()[..front.len()]
+}
+
+/// Whether so many bytes have room for the magic, an end record and so many entries.
+fn has_room(size: u64, count: u64) -> bool
+    ensures { IsTrue result ↔ (49 + 122 * count ≤ size) }
+{
+    let entries = ENTRY_LEN as u128 * u128::from(count);
+    u128::from(MAGIC_LEN + END_LEN) + entries <= u128::from(size)
+}
+
+/// Tests the front of a text of this size, whose first bytes these are.
+fn test_front(size: u64, front: &[u8]) -> Result<(), IndexFault>
+    requires { length front.now ≡ min size 8 }
+    ensures tested { (text : List ℕ) → size ≡ length text → front.now ≡ take 8 text
+        → MatchResult result (λ _. test_front text ≡ Ok tt) (FailsInFront text) }
+    ensures room { OnOk result (49 ≤ size) }
+    ensures faulty { IfErr result (λ fault. fault.kind ≢ Device) }
+{
+    if !begins(front) {
+        return Err(IndexFault {
+            kind: IndexFaultKind::BadMagic,
+            offset: 0,
+        });
+    }
+    if !has_room(size, 0) {
+        return Err(IndexFault {
+            kind: IndexFaultKind::Truncated,
+            offset: size.saturating_sub(END_LEN),
+        });
+    }
+    Ok(())
+}
+
+/// Reads the magic, and says how many bytes there are: room for an end record at least.
+fn read_front<P: Placed>(heap: Heap, device: &mut P) -> Result<u64, IndexFault>
+    ensures room { IfOk result (λ size. 49 ≤ size) }
+    ensures read { ReadsText P.whole P.failures device.old device.new result
+        IsFronted FailsInFront }
+{
+    let size = read_size(device)?;
+    let front = read_part(heap, device, 0, size.min(MAGIC_LEN))?;
+    test_front(size, &front)?;
+    Ok(size)
+}
+
+/// Whether an end record begins here.
+fn is_end(bytes: &[u8]) -> bool
+    requires { 0 < length bytes.now }
+    ensures { IsTrue result ↔ (slice_index bytes.now 0 ≡ 3) }
+{
+    bytes[0] == END
+}
+
+/// The SHA-256 in an end record.
+fn digest_in(end: &[u8]) -> [u8; 32]
+    requires { length end.now ≡ 41 }
+    ensures { result ≡ drop 9 end.now }
+{
+    let mut digest = [0; 32];
+    digest.copy_from_slice(&end[9..]);
+    digest
+}
+
+/// What an end record says that these bytes are, at the end of a text of this size.
+fn ends_in(size: u64, end: &[u8]) -> Result<Ends, IndexFault>
+    requires room { 49 ≤ size }
+    requires long { length end.now ≡ 41 }
+    ensures tested { (text : List ℕ) → IsFronted text size → end.now ≡ drop (length text - 41) text
+        → MatchResult result (AreEndsOf text) (FailsAtEnd text) }
+    ensures faulty { IfErr result (λ fault. fault.kind ≢ Device) }
+    ensures fits { IfOk result (λ ends. ends.start + 122 * ends.count + 41 ≡ size) }
+{
+    let offset = size - END_LEN;
+    if !is_end(end) {
+        return Err(IndexFault {
+            kind: IndexFaultKind::Truncated,
+            offset,
+        });
+    }
+    let count = number_at(end, 1);
+    if !has_room(size, count) {
+        return Err(IndexFault {
+            kind: IndexFaultKind::BadCount,
+            offset,
+        });
+    }
+    Ok(Ends {
+        start: offset - ENTRY_LEN as u64 * count,
+        count,
+        digest: digest_in(end),
+    })
+}
+
+/// Reads the end record of a text of this size.
+fn read_end<P: Placed>(heap: Heap, device: &mut P, size: u64) -> Result<Ends, IndexFault>
+    requires { 49 ≤ size }
+    ensures fits { IfOk result (λ ends. ends.start + 122 * ends.count + 41 ≡ size) }
+    ensures read { ReadsText P.whole P.failures device.old device.new result
+        (λ text ends. IsFronted text size → AreEndsOf text ends)
+        (λ text fault. IsFronted text size → IsRefused FailsAtEnd text fault) }
+{
+    let end = read_part(heap, device, size - END_LEN, END_LEN)?;
+    ends_in(size, &end)
+}
+
+/// Reads the magic and the end record.
+pub(crate) fn read_ends<P: Placed>(heap: Heap, device: &mut P) -> Result<Ends, IndexFault>
+    ensures fits { IfOk result (λ ends. ends.start + 122 * ends.count + 41 < 2 ^ 64) }
+    ensures read { ReadsText P.whole P.failures device.old device.new result AreEndsOf FailsInEnds }
+{
+    let Ok(own) = heap.clone() else {
+        return Err(IndexFault::out_of_memory(0));
+    };
+    let size = read_front(own, device)?;
+    read_end(heap, device, size)
+}

@@ -1,0 +1,63 @@
+//! Whether the records of entries follow one another, and their tables.
+
+ghost use Rattle.std.specs.Prelude.{◌≡◌, ◌↔◌, All, IfOk, IsTrue, [], map, true};
+ghost use Rattle.archive_core.specs.Content.{is_admission};
+ghost use Rattle.archive_index.specs.Entry.{offset_in};
+ghost use Rattle.table_index.specs.Entry.{HasItsFields, claim_in, entry_bytes};
+ghost use Rattle.table_index.specs.Text.{AreLaid, FollowOn, PassTests};
+
+use crate::TableEntry;
+use crate::ends::MAGIC_LEN;
+use crate::testing::stored_size;
+use archive_core::FindState;
+use memory::{Heap, NoMemory};
+
+/// Whether an entry is that of an admission.
+#[tactic(auto, unfolding(crate::specs::Entry::entry_bytes, archive_index::specs::Entry::placed_bytes))]
+fn is_admission(entry: &TableEntry) -> bool
+    ensures { result ≡ is_admission (entry_bytes entry.now) }
+{
+    match entry.placed.row.state {
+        FindState::Retired => false,
+        FindState::Image | FindState::Dsym => true,
+    }
+}
+
+/// Whether a record stands at this offset of the archive, and its table, if it has one, at that of the index.
+fn follows(entry: &TableEntry, offset: u128, at: u128) -> bool
+    requires { HasItsFields entry.now }
+    ensures { let e = entry_bytes entry.now in
+        IsTrue result ↔ ((offset_in e ≡ offset) × (is_admission e ≡ true → (claim_in e).offset ≡ at)) }
+{
+    u128::from(entry.placed.offset) == offset
+        && (!is_admission(entry) || u128::from(entry.claim.offset) == at)
+}
+
+/// Whether the records follow one another in this order from the magic of their archive on, and the tables from that of
+/// the index up to this offset.
+fn follow_on(order: &[TableEntry], end: u64) -> bool
+    requires { All HasItsFields order.now }
+    ensures { IsTrue result ↔ FollowOn 8 8 end (map entry_bytes order.now) }
+{
+    let mut offset = u128::from(MAGIC_LEN);
+    let mut at = u128::from(MAGIC_LEN);
+    'following: for entry in order {
+        if !follows(entry, offset, at) {
+            return false;
+        }
+        offset += u128::from(entry.placed.length);
+        at += stored_size(&entry.claim);
+    }
+    at == u128::from(end)
+}
+
+/// Whether in some order they do. The entries are copied to be sorted by their offsets.
+pub(crate) fn are_laid(heap: Heap, entries: &[TableEntry], end: u64) -> Result<bool, NoMemory>
+    requires fields { All HasItsFields entries.now }
+    requires tested { PassTests end [] (map entry_bytes entries.now) }
+    ensures { IfOk result (λ laid. IsTrue laid ↔ AreLaid end (map entry_bytes entries.now)) }
+{
+    let mut order = Vec::from_slice(heap, entries)?;
+    order.sort_unstable_by_key(|entry| entry.placed.offset);
+    Ok(follow_on(&order, end))
+}
