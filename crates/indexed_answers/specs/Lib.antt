@@ -1,0 +1,4 @@
+pub mod Told
+pub mod Asking
+pub mod Views
+pub mod InnerAnswering
