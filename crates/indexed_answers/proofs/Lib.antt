@@ -1,3 +1,4 @@
 pub mod Columns
 pub mod Picked
 pub mod Asked
+pub mod Right

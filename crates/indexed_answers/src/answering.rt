@@ -27,7 +27,7 @@ fn admits_under(front: &[u8], entry: &TableEntry) -> bool
     ensures { result ≡ admits_under front.now (entry_bytes entry.now) }
 {
     let bytes = entry.bytes();
-    bytes[0] == ADMISSION && *front == bytes[1..25]
+    bytes[0] == ADMISSION && front == &bytes[1..25]
 }
 
 /// Whether an entry is that of a companion.

@@ -1,12 +1,11 @@
 //! What an index tells of several places under a key.
 
 ghost use Rattle.std.specs.Prelude.{◌≡◌, IfOk, map, slice_index_or, None};
-ghost use Rattle.archive_core.specs.Lookup.{answer_view, own_row, own_view};
+ghost use Rattle.archive_core.specs.Lookup.{Alone, answer_view, own_row, own_view};
 ghost use Rattle.indexed_answers.specs.Views.{answer_of, row_at, told_view};
 
 use archive_core::{Answer, Digest, Own};
 use memory::{Heap, NoMemory};
-use sorted_archive::answer_of_one;
 use symbol_tables::OwnedFound;
 
 /// What the table of an entry tells.
@@ -33,6 +32,16 @@ impl EntryAnswers {
             Some(Some(found)) => Own::Symbol(found.lent()),
             _ => Own::NoSymbol,
         }
+    }
+}
+
+/// The answer where one slice alone answers.
+fn answer_of_one(own: Own<'_>) -> Answer<'_>
+    ensures { answer_view result ≡ Alone (own_view own.entry) }
+{
+    match own {
+        Own::NoSymbol => Answer::NoSymbol,
+        Own::Symbol(found) => Answer::Symbol(found),
     }
 }
 

@@ -7,12 +7,14 @@
 //! - `answering`: the entries that answer under a key, in the order of their records;
 //! - `own`: what a table tells of a place; `told`: what that of an entry tells of several;
 //! - `answers`: [`Answers`], what all of them tell; `asking`: [`answer_at`].
+//! - [`laws`]: what is told is right of the slices whose tables are stored.
 #![tactic(auto)]
 
 mod answering;
 mod answers;
 mod asking;
 mod fault;
+pub mod laws;
 mod own;
 mod told;
 

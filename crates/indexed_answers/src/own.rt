@@ -15,8 +15,18 @@ use archive_core::Where;
 use checked_pages::CheckFault;
 use memory::Heap;
 use placed_bytes::Placed;
-use sorted_archive::unslid;
 use symbol_tables::{OwnedFound, Table};
+
+/// The address that a loaded one stands for: `address - load + base`, in whole numbers.
+fn unslid(base: u64, load: u64, address: u64) -> Option<u64>
+    ensures { result ≡ unslid base load address }
+{
+    if load <= address {
+        base.checked_add(address - load)
+    } else {
+        base.checked_sub(load - address)
+    }
+}
 
 /// The address in a slice's file that a place stands for, by the `vmaddr` of its `__TEXT`.
 fn address_of(base: Option<u64>, asked: Where) -> Option<u64>

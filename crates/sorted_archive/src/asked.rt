@@ -106,8 +106,8 @@ pub fn file_address(slice: &Slice, asked: Where) -> Option<u64>
     }
 }
 
-/// The address that a loaded one stands for: `address - load + base`, in whole numbers.
-pub fn unslid(base: u64, load: u64, address: u64) -> Option<u64>
+// The address that a loaded one stands for: `address - load + base`, in whole numbers.
+fn unslid(base: u64, load: u64, address: u64) -> Option<u64>
     ensures { result ≡ unslid base load address }
 {
     if load <= address {

@@ -29,7 +29,7 @@ mod plain;
 mod range;
 mod taking;
 
-pub use asked::{answer_of_one, file_address, unslid};
+pub use asked::file_address;
 pub use indexed::IndexedArchive;
 pub use plain::PlainArchive;
 pub use taking::{new_in_turn, take_each};
