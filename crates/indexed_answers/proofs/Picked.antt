@@ -1,9 +1,10 @@
 -- Entries that are picked one after another, with their numbers, and sorted by their offsets.
-use Rattle.std.proofs.Common.{◌≡◌, ℕ, ◌+◌, ◌<◌, ◌≤◌, Bool, true, false, cond, ◌||◌, ◌&&◌, List, [], ◌∷◌, ◌++◌, length, map, take, get_or, slice_get, Some, refl, sym, subst, ap, ◌∙◌, arith}
+use Rattle.std.proofs.Common.{◌≡◌, ℕ, zero, suc, inl, inr, ◌+◌, ◌<◌, ◌≤◌, Bool, true, false, cond, ◌||◌, ◌&&◌, List, [], ◌∷◌, ◌++◌, length, map, take, get_or, slice_get, Some, refl, sym, subst, ap, ◌∙◌, arith}
 use Rattle.std.specs.Prelude.{All, filter}
 use Rattle.std.specs.List.{list_any}
 use Rattle.std.specs.List.Sorted.{IsNonDecreasingBy, IsPermutation}
 use Rattle.std.proofs.Math.ListN.{length-map}
+use Rattle.std.proofs.lemmas.Bool.{and_parts, cases_Bool}
 use Rattle.std.proofs.lemmas.List.{append-nil, get_or-map, map-append, take_all}
 use Rattle.std.proofs.lemmas.List.Elements.{All-contains, All-get_or, All-push, Contains-get_or, filter_more}
 use Rattle.std.proofs.lemmas.List.Folds.{list_any_more}
@@ -38,7 +39,12 @@ module _ (entries : List TableEntry) (i : ℕ) (e : TableEntry) (lt : i < length
   any_here p here = any_at p all i [] within (ap p at ∙ here)
     where
       any_at : (p : List ℕ → Bool) (xs : List (List ℕ)) (i : ℕ) (d : List ℕ) → i < length xs → p (get_or xs i d) ≡ true → list_any p xs ≡ true
-      any_at p xs i d lt here = grind (arith, list_any)
+      any_at p [] i d lt here = absurd (omega (arith, lt))
+      any_at p (x ∷ xs) zero d lt here = ap (λ b. b || list_any p xs) here
+      any_at p (x ∷ xs) (suc i) d lt here = elim (cases_Bool (p x)) [
+        | inl t ↦ ap (λ b. b || list_any p xs) t
+        | inr f ↦ ap (λ b. b || list_any p xs) f ∙ any_at p xs i d (omega (arith, lt)) here
+      ]
 
   pub passed : (p : List ℕ → Bool) (found : List Numbered) → p (entry_bytes e) ≡ false → map numbered_bytes found ≡ filter p (take i all)
       → map numbered_bytes found ≡ filter p (take (i + 1) all)
@@ -55,9 +61,10 @@ module _ (entries : List TableEntry) (i : ℕ) (e : TableEntry) (lt : i < length
       ∙ sym (filter_more p all i [] within ∙ ap (λ (ys : List (List ℕ)). filter p (take i all) ++ ys) one)
 
   -- its number
-  pub numbered : (front : List ℕ) (before after : List Numbered) (n : Numbered) → All HasItsFields entries → after ≡ before ++ n ∷ [] → n.entry ≡ e → n.number ≡ i → admits_under front (entry_bytes e) ≡ true
+  pub numbered : (front : List ℕ) (before after : List Numbered) (n : Numbered) → All HasItsFields entries → after ≡ before ++ n ∷ [] → n.entry ≡ e → n.number ≡ i → (companions : Bool) → answers front companions (entry_bytes e) ≡ true
       → All (IsNumbered front all) before → All (IsNumbered front all) after
-  numbered front before after n fields grown its count under each =
+  numbered front before after n fields grown its count companions answered each =
+      let under : admits_under front (entry_bytes e) ≡ true = (and_parts _ _ answered).0 in
       let stands : slice_get all n.number ≡ Some (entry_bytes n.entry) =
       ap (slice_get all) count ∙ slice_get-get_or all i [] within ∙ ap Some (at ∙ ap entry_bytes (sym its)) in
       let one : IsNumbered front all n = record {

@@ -1,6 +1,6 @@
 //! The entries that answer under a key.
 
-ghost use Rattle.std.specs.Prelude.{◌≡◌, All, IfOk, filter, length, map};
+ghost use Rattle.std.specs.Prelude.{◌≡◌, ◌&&◌, All, IfOk, filter, length, map};
 ghost use Rattle.std.specs.List.Sorted.{IsNonDecreasingBy, IsPermutation};
 ghost use Rattle.archive_index.specs.Entry.{offset_in};
 ghost use Rattle.table_index.specs.Entry.{HasItsFields, entry_bytes};
@@ -37,13 +37,29 @@ fn is_companion(entry: &TableEntry) -> bool
     entry.bytes()[57] == 1
 }
 
+/// Whether an entry is that of a companion under these bytes.
+fn is_companion_under(front: &[u8], entry: &TableEntry) -> bool
+    requires { length front.now ≡ 24 }
+    ensures { result ≡ (admits_under front.now (entry_bytes entry.now) && is_companion (entry_bytes entry.now)) }
+{
+    admits_under(front, entry) && is_companion(entry)
+}
+
+/// Whether an entry answers, where companions alone do so or any slice does.
+fn answers(front: &[u8], companions: bool, entry: &TableEntry) -> bool
+    requires { length front.now ≡ 24 }
+    ensures { result ≡ answers front.now companions (entry_bytes entry.now) }
+{
+    admits_under(front, entry) && (!companions || is_companion(entry))
+}
+
 /// Whether a companion is under these bytes.
 fn has_companion(front: &[u8], entries: &[TableEntry]) -> bool
     requires { length front.now ≡ 24 }
     ensures { result ≡ has_companion front.now (map entry_bytes entries.now) }
 {
     'entries: for entry in entries {
-        if admits_under(front, entry) && is_companion(entry) {
+        if is_companion_under(front, entry) {
             return true;
         }
     }
@@ -66,11 +82,15 @@ fn picked(
     let mut found = Vec::new(heap);
     let mut number = 0;
     'entries: for entry in entries {
-        if admits_under(front, entry) && (!companions || is_companion(entry)) {
-            let entry = *entry;
-            found.push(Numbered { number, entry })?;
-        }
+        let own = number;
         number += 1;
+        if !answers(front, companions, entry) {
+            continue 'entries;
+        }
+        found.push(Numbered {
+            number: own,
+            entry: *entry,
+        })?;
     }
     Ok(found)
 }

@@ -1,4 +1,4 @@
-use Rattle.std.proofs.Common.{List, Err, Some, map, subst, ap, sym, ◌∙◌, arith}
+use Rattle.std.proofs.Common.{List, Err, Some, map, subst, ap, sym, refl, ◌∙◌, arith}
 use Rattle.std.specs.List.{AllZip}
 use Rattle.std.proofs.lemmas.List.{take_all}
 use Rattle.std.proofs.lemmas.Result.{err_from_is_err_and}
@@ -20,7 +20,7 @@ asked-preserved g c =
       unfailed = own.read.counts ∙ c.asked.invariant.unfailed;
       keeps = λ text t known opened. own.keeps text t (c.asked.invariant.whole ∙ known) (c.asked.invariant.keeps text t known opened);
       told = λ text known.
-          zip_viewed (IsOwnOpened c.args.table.now text) told_view c.args.asked.now c.asked.place-index c.place-item.result c.asked.owns.items c.push.new.self.items c.in_ok-found.found c.asked-test.true c.place-item.is c.push.ensures.items
+          zip_viewed (IsOwnOpened c.args.table.now text) told_view c.args.asked.now c.asked.place-index _ c.asked.owns.items c.push.new.self.items c.in_ok-found.found c.asked-test.true refl c.in_default-push.ensures.items
           (c.asked.invariant.told text known)
           (λ slice t bytes is opened. own.read.says text (c.asked.invariant.whole ∙ known) slice t bytes is (c.asked.invariant.keeps text t known opened));
     }

@@ -1,4 +1,4 @@
-use Rattle.std.proofs.Common.{List, ℕ, map, ap, sym, subst}
+use Rattle.std.proofs.Common.{List, ℕ, map, take, drop, ap, sym, subst, ◌∙◌}
 use Rattle.std.specs.List.{AllZip}
 use Rattle.checked_pages.specs.Pages.{AreStored}
 use Rattle.table_index.specs.Entry.{entry_bytes}
@@ -9,7 +9,7 @@ use Rattle.indexed_answers.proofs.told.told_by.Goals as goal
 pub returns-in-Ok : goal.returns-in-Ok
 returns-in-Ok g c = λ front entries is. record {
   says = λ text known. record {
-    digest_is = c.digest_in-digest.ensures;
+    digest_is = c.digest_in-digest.ensures ∙ ap (λ (b : List ℕ). take 32 (drop 25 b)) c.bytes.ensures;
     owns = subst (λ claim. AllZip (IsToldBy text claim) c.args.asked.now (map told_view c.in-Ok.owns.items)) (sym is.fields.claim_is) (c.in-Ok.ensures.says text known);
   };
   keeps = c.in-Ok.ensures.keeps;

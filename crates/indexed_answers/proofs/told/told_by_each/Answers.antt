@@ -23,7 +23,7 @@ answering-preserved g c = λ front entries each.
       told.keeps ∙ so_far.0,
       told.counts ∙ so_far.1,
       λ text known.
-      zip_more (IsColumn text c.args.asked.now) xs i (numbered_bytes n) c.answering.columns.items c.push.new.self.items c.in_ok-column.column (omega (arith, c.answering-test.true, length-map c.args.answering.now numbered_bytes)) here c.push.ensures.items
+      zip_more (IsColumn text c.args.asked.now) xs i (numbered_bytes n) c.answering.columns.items c.push.new.self.items c.in_ok-column.column (omega (arith, c.answering-test.true, length-map c.args.answering.now numbered_bytes)) here c.in_default-push.ensures.items
       (so_far.2 text known) (told.says text (so_far.0 ∙ known)),
     )
 
@@ -45,3 +45,10 @@ returns g c = λ front entries each.
       keeps = so_far.0;
       counts = so_far.1;
     }
+
+pub returns-in-Err : goal.returns-in-Err
+returns-in-Err g c = λ front entries each.
+    let so_far = c.answering.invariant front entries each in
+    let one = subst (IsNumbered front entries) (sym c.numbered-item.is) (All-get_or (IsNumbered front entries) c.args.answering.now c.answering.numbered-index c.numbered-item.result c.answering-test.true each) in
+    let told = c.in_ok-column.ensures front entries one in
+    record { says = λ text known. tt; keeps = told.keeps ∙ so_far.0; counts = told.counts ∙ so_far.1 }
