@@ -1,5 +1,5 @@
 -- Lists that are told element by element.
-use Rattle.std.proofs.Common.{◌≡◌, ℕ, ◌+◌, ◌<◌, List, [], ◌∷◌, ◌++◌, length, map, take, get_or, sym, subst, ap, ◌∙◌}
+use Rattle.std.proofs.Common.{◌≡◌, ℕ, zero, suc, refl, arith, ◌+◌, ◌<◌, List, [], ◌∷◌, ◌++◌, length, map, take, get_or, sym, subst, ap, ◌∙◌}
 use Rattle.std.specs.List.{AllZip}
 use Rattle.std.proofs.lemmas.List.{map-append, take_more}
 
@@ -35,3 +35,9 @@ zip_as R S [] [] to all = tt
 zip_as R S [] (_ ∷ _) to all = absurd all
 zip_as R S (_ ∷ _) [] to all = absurd all
 zip_as R S (x ∷ xs) (y ∷ ys) to all = (to x y all.0, zip_as R S xs ys to all.1)
+
+-- an element, whatever stands for one past the end
+pub any_default : {X : Type 0} (xs : List X) (i : ℕ) (d e : X) → i < length xs → get_or xs i d ≡ get_or xs i e
+any_default [] i d e lt = absurd (omega (arith, lt))
+any_default (x ∷ xs) zero d e lt = refl
+any_default (x ∷ xs) (suc i) d e lt = any_default xs i d e (omega (arith, lt))
