@@ -1,7 +1,7 @@
 -- What a call says that asks an index, said otherwise.
 use Rattle.std.proofs.Common.{◌∙◌, ◌≡◌, ℕ, List, sym, subst}
 use Rattle.std.specs.Prelude.{Option, Some, Result, Ok, Err, MatchResult}
-use Rattle.indexed_answers.specs.Asking.{Asks, Blames, IsUntold}
+use Rattle.indexed_answers.specs.Asking.{Asks, Blames}
 use Rattle.indexed_answers.specs.declared.fault.AnswerFault.{AnswerFault}
 
 -- what is told is told otherwise

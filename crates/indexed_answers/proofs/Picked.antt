@@ -1,20 +1,19 @@
 -- Entries that are picked one after another, with their numbers, and sorted by their offsets.
-use Rattle.std.proofs.Common.{◌≡◌, ℕ, zero, suc, inl, inr, ◌+◌, ◌<◌, ◌≤◌, Bool, true, false, cond, ◌||◌, ◌&&◌, List, [], ◌∷◌, ◌++◌, length, map, take, get_or, slice_get, Some, refl, sym, subst, ap, ◌∙◌, arith}
+use Rattle.std.proofs.Common.{◌≡◌, ℕ, zero, suc, inl, inr, ◌+◌, ◌<◌, Bool, true, false, cond, ◌||◌, List, [], ◌∷◌, ◌++◌, length, map, take, get_or, slice_get, Some, sym, subst, ap, ◌∙◌, arith}
 use Rattle.std.specs.Prelude.{All, filter}
 use Rattle.std.specs.List.{list_any}
 use Rattle.std.specs.List.Sorted.{IsNonDecreasingBy, IsPermutation}
 use Rattle.std.proofs.Math.ListN.{length-map}
 use Rattle.std.proofs.lemmas.Bool.{and_parts, cases_Bool}
-use Rattle.std.proofs.lemmas.List.{append-nil, get_or-map, map-append, take_all}
-use Rattle.std.proofs.lemmas.List.Elements.{All-contains, All-get_or, All-push, Contains-get_or, filter_more}
+use Rattle.std.proofs.lemmas.List.{append-nil, get_or-map, map-append}
+use Rattle.std.proofs.lemmas.List.Elements.{All-get_or, All-push, filter_more}
 use Rattle.std.proofs.lemmas.List.Folds.{list_any_more}
 use Rattle.std.proofs.lemmas.List.Sorted.{All-permutation, IsPermutation-map}
 use Rattle.std.proofs.lemmas.Option.{slice_get-get_or}
 use Rattle.archive_index.specs.Entry.{offset_in}
 use Rattle.table_index.specs.Entry.{HasItsFields, entry_bytes}
 use Rattle.table_index.specs.declared.entry.TableEntry.{TableEntry}
-use Rattle.indexed_answers.specs.Told.{AreAnsweringUnder, admits_under, answering_under, answers, has_companion, is_companion}
-use Rattle.indexed_answers.specs.Asking.{IsEntryUnder}
+use Rattle.indexed_answers.specs.Told.{AreAnsweringUnder, admits_under, answers, has_companion}
 use Rattle.indexed_answers.specs.InnerAnswering.{IsNumbered, numbered_bytes}
 use Rattle.indexed_answers.specs.declared.answering.Numbered.{Numbered}
 

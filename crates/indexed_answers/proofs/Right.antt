@@ -1,5 +1,5 @@
 -- What is told is right of the slices whose tables are stored.
-use Rattle.std.proofs.Common.{◌≡◌, ℕ, zero, suc, ◌<◌, ◌≤◌, List, [], ◌∷◌, length, map, get_or, refl, subst, ◌∙◌, arith, Option, Some, None, slice_get, true, ◌^◌}
+use Rattle.std.proofs.Common.{◌≡◌, ℕ, zero, suc, ◌<◌, List, [], ◌∷◌, length, map, get_or, refl, subst, ◌∙◌, arith, Option, Some, None, slice_get, true, ◌^◌}
 use Rattle.std.specs.List.{AllZip}
 use Rattle.std.proofs.lemmas.Slice.Zip.{AllZip-long}
 use Rattle.macho_symbols.specs.Found.{FoundRecord}

@@ -1,5 +1,5 @@
 -- What comes of asking an index.
-use Rattle.std.specs.Prelude.{◌≡◌, ◌<◌, ◌^◌, ℕ, true, List, length, slice_get, Option, Some, Result, MatchResult, Contains}
+use Rattle.std.specs.Prelude.{◌≡◌, ◌<◌, ◌^◌, ℕ, true, List, length, slice_get, Option, Some, Result, MatchResult}
 use Rattle.byte_device.specs.Devices.{FailedIn}
 use Rattle.checked_pages.specs.Pages.{AreStored}
 use Rattle.symbol_tables.specs.Table.{IsTableText}

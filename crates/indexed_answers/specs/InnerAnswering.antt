@@ -1,5 +1,5 @@
 -- Entries with their numbers: the words of the inner functions. No contract of a public one has them.
-use Rattle.std.specs.Prelude.{◌≡◌, ℕ, List, map, slice_get, Option, Some, true}
+use Rattle.std.specs.Prelude.{ℕ, List, Option}
 use Rattle.macho_symbols.specs.Found.{FoundRecord}
 use Rattle.symbol_tables.specs.Opened.{IsOpened}
 use Rattle.symbol_tables.specs.Steps.{AreBytes}

@@ -1,5 +1,5 @@
 -- What is told, as the code has it.
-use Rattle.std.specs.Prelude.{◌≡◌, ◌<◌, ℕ, List, [], ◌∷◌, map, length, take, drop, slice_index_or, Option, None}
+use Rattle.std.specs.Prelude.{◌≡◌, ℕ, List, [], ◌∷◌, map, take, drop, slice_index_or, Option, None}
 use Rattle.std.specs.List.{AllZip}
 use Rattle.std.specs.Option.{option_map}
 use Rattle.macho_symbols.specs.Found.{FoundRecord}

@@ -1,5 +1,4 @@
 use Rattle.std.proofs.Common.{List, map, rules}
-use Rattle.std.specs.Prelude.{All}
 use Rattle.std.specs.List.Sorted.{IsNonDecreasingBy}
 use Rattle.std.proofs.lemmas.List.Sorted.{All-permutation, IsNonDecreasingBy-from_sort_by_key}
 use Rattle.table_index.specs.Entry.{entry_bytes}

@@ -1,8 +1,4 @@
-use Rattle.std.proofs.Common.{◌&&◌, ◌≡◌, map, ap, sym, ◌∙◌, arith}
-use Rattle.std.specs.List.{list_any}
-use Rattle.std.proofs.Math.ListN.{length-map}
-use Rattle.std.proofs.lemmas.List.{take_all}
-use Rattle.table_index.specs.Entry.{entry_bytes}
+use Rattle.std.proofs.Common.{◌&&◌, sym, ◌∙◌}
 use Rattle.indexed_answers.specs.Told.{admits_under, is_companion}
 use Rattle.indexed_answers.proofs.Picked.{any_here, none_more}
 use Rattle.indexed_answers.proofs.answering.has_companion.Goals as goal

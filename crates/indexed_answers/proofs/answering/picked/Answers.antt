@@ -1,8 +1,4 @@
-use Rattle.std.proofs.Common.{map, refl, sym, ap, ◌∙◌, ◌+◌, arith}
-use Rattle.std.specs.Prelude.{filter}
-use Rattle.std.proofs.Math.ListN.{length-map}
-use Rattle.std.proofs.lemmas.List.{take_all}
-use Rattle.table_index.specs.Entry.{entry_bytes}
+use Rattle.std.proofs.Common.{refl, sym, ap, ◌∙◌, ◌+◌}
 use Rattle.indexed_answers.specs.Told.{answers}
 use Rattle.indexed_answers.proofs.Picked.{numbered, passed, pushed}
 use Rattle.indexed_answers.proofs.answering.picked.Goals as goal

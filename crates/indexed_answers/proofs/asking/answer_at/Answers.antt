@@ -1,13 +1,11 @@
-use Rattle.std.proofs.Common.{◌≡◌, List, ℕ, Err, map, subst, ap, sym, ◌∙◌}
+use Rattle.std.proofs.Common.{Err, map, subst, ap, sym, ◌∙◌}
 use Rattle.std.specs.Prelude.{All}
-use Rattle.std.specs.List.{AllZip}
 use Rattle.std.proofs.lemmas.Result.{err_from_is_err_and}
 use Rattle.archive_core.specs.Key.{key_bytes}
 use Rattle.table_index.specs.Entry.{entry_bytes}
 use Rattle.indexed_answers.specs.Told.{AreAnsweringUnder}
-use Rattle.indexed_answers.specs.Views.{IsColumn}
 use Rattle.indexed_answers.specs.InnerAnswering.{IsNumbered, numbered_bytes}
-use Rattle.indexed_answers.proofs.Asked.{asked_as, passed_on}
+use Rattle.indexed_answers.proofs.Asked.{passed_on}
 use Rattle.indexed_answers.proofs.asking.answer_at.Goals as goal
 
 pub returns-in_err-columns : goal.returns-in_err-columns

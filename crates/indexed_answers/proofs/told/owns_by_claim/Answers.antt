@@ -5,7 +5,6 @@ use Rattle.checked_pages.specs.Views.{claim_view}
 use Rattle.checked_pages.proofs.PageLemmas.{may_be}
 use Rattle.checked_pages.proofs.ReadLemmas.{after_ok, passed_on, read_as}
 use Rattle.symbol_tables.specs.Table.{table_bytes}
-use Rattle.indexed_answers.specs.Views.{told_view}
 use Rattle.indexed_answers.proofs.Columns.{zip_as}
 use Rattle.indexed_answers.proofs.told.owns_by_claim.Goals as goal
 

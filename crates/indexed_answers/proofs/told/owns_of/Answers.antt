@@ -1,4 +1,4 @@
-use Rattle.std.proofs.Common.{List, Err, Some, map, subst, ap, sym, get_or, ◌∙◌, arith}
+use Rattle.std.proofs.Common.{Err, map, subst, ap, sym, get_or, ◌∙◌, arith}
 use Rattle.std.specs.List.{AllZip}
 use Rattle.std.proofs.lemmas.List.{take_all}
 use Rattle.std.proofs.lemmas.Result.{err_from_is_err_and}

@@ -21,10 +21,10 @@ returns-in-Err-Changed g c = λ front entries is.
     let read = rw c.in-Err-Changed.field-0-is at c.in-Err-Changed.ensures in
     record {
       says = λ text known. (
-          entry_bytes c.args.numbered.now.entry,
-          is.under,
-          λ short slice table is_table stored. read.says text known short slice table is_table (subst (λ claim. AreStored text claim table) is.fields.claim_is stored),
-        );
+        entry_bytes c.args.numbered.now.entry,
+        is.under,
+        λ short slice table is_table stored. read.says text known short slice table is_table (subst (λ claim. AreStored text claim table) is.fields.claim_is stored),
+      );
       keeps = read.keeps;
       counts = read.counts;
     }

@@ -1,4 +1,4 @@
-use Rattle.std.proofs.Common.{◌≡◌, ◌<◌, List, Err, Some, length, map, subst, ap, sym, ◌∙◌, arith, get_or}
+use Rattle.std.proofs.Common.{◌≡◌, Err, map, subst, ap, sym, ◌∙◌, arith, get_or}
 use Rattle.std.specs.List.{AllZip}
 use Rattle.std.proofs.Math.ListN.{length-map}
 use Rattle.std.proofs.lemmas.List.{get_or-map, take_all}
@@ -23,8 +23,8 @@ answering-preserved g c = λ front entries each.
       told.keeps ∙ so_far.0,
       told.counts ∙ so_far.1,
       λ text known.
-      zip_more (IsColumn text c.args.asked.now) xs i (numbered_bytes n) c.answering.columns.items c.push.new.self.items c.in_ok-column.column (omega (arith, c.answering-test.true, length-map c.args.answering.now numbered_bytes)) here c.in_default-push.ensures.items
-      (so_far.2 text known) (told.says text (so_far.0 ∙ known)),
+          zip_more (IsColumn text c.args.asked.now) xs i (numbered_bytes n) c.answering.columns.items c.push.new.self.items c.in_ok-column.column (omega (arith, c.answering-test.true, length-map c.args.answering.now numbered_bytes)) here c.in_default-push.ensures.items
+          (so_far.2 text known) (told.says text (so_far.0 ∙ known)),
     )
 
 pub returns-in_err-column : goal.returns-in_err-column
