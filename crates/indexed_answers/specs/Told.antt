@@ -1,5 +1,6 @@
 -- What an index tells of an address under a key: by its entries, and by the tables that may be stored where they say.
-use Rattle.std.specs.Prelude.{◌≡◌, ◌≤◌, ◌&&◌, ◌||◌, ◌==◌, not, ℕ, Bool, List, [], ◌∷◌, length, take, drop, filter, slice_index, Option}
+use Rattle.std.specs.Prelude.{◌≡◌, ◌≤◌, ◌&&◌, ◌||◌, ◌==◌, not, ℕ, Bool, List, []}
+use Rattle.std.specs.Prelude.{◌∷◌, length, take, drop, filter, slice_index, Option}
 use Rattle.std.specs.List.{AllZip, list_any}
 use Rattle.std.specs.List.Sorted.{IsNonDecreasingBy, IsPermutation}
 use Rattle.macho_symbols.specs.Found.{FoundRecord}

@@ -17,7 +17,8 @@ pub struct EntryAnswers {
     pub owns: Vec<Option<OwnedFound>, Heap>,
 }
 
-/// What an index tells of several places under a key: what each entry tells that answers, in the order of their records.
+/// What an index tells of several places under a key: what each entry tells that answers, in the order of their
+/// records.
 #[derive(Drop)]
 pub struct Answers {
     pub(crate) columns: Vec<EntryAnswers, Heap>,

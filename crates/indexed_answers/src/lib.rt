@@ -1,7 +1,7 @@
 //! Answers out of an index: by its entries, and by the tables of those that answer.
 //!
-//! Of the index the entries under a key are looked at, and of the tables of those that answer the pages that are needed,
-//! each compared with its digest. No slice is read.
+//! Of the index the entries under a key are looked at, and of the tables of those that answer the pages that are
+//! needed, each compared with its digest. No slice is read.
 //!
 //! - `fault`: why nothing is told;
 //! - `answering`: the entries that answer under a key, in the order of their records;

@@ -13,10 +13,10 @@ ghost use Rattle.symbol_tables.specs.Table.{IsTableOf, TableParts, table_bytes};
 ghost use Rattle.symbol_tables.specs.Found.{names_at, owned_view};
 ghost use Rattle.symbol_tables.specs.Opened.{IsOpened};
 
+use crate::Table;
 use crate::names::before_nul;
 use crate::nearest::NearestSymbol;
 use crate::opening::{HEAD_LEN, SECTION_LEN};
-use crate::Table;
 use checked_pages::CheckFault;
 use macho_symbols::Found;
 use memory::Heap;
@@ -72,11 +72,7 @@ impl Table {
     }
 
     /// The names of the section of a number, from 1 on.
-    fn section_names<P: Placed>(
-        &mut self,
-        device: &mut P,
-        sect: u8,
-    ) -> Result<[u8; 32], CheckFault>
+    fn section_names<P: Placed>(&mut self, device: &mut P, sect: u8) -> Result<[u8; 32], CheckFault>
         ensures fits { sect < 2 ^ 8 }
         ensures claim { self.new.pages.claim ≡ self.old.pages.claim }
         ensures keeps { (text : List ℕ) (t : TableParts) → P.whole device.old ≡ Some text → IsOpened self.old text t
