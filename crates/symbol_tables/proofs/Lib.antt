@@ -4,6 +4,7 @@ pub mod StepLemmas
 pub mod OneSteps
 pub mod Asked
 pub mod TableLemmas
+pub mod FoundLemmas
 mod SectionLemmas
 mod EntryLemmas
 mod TurnLemmas

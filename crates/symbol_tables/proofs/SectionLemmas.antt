@@ -26,7 +26,7 @@ sections_all all so_far zero left is none = sym (append-nil (map section_view so
 sections_all all so_far (suc n) left is none =
     sym (append-nil (map section_view so_far)) ∙ ap (λ ss. map section_view so_far ++ take (suc n) ss) (sym (none (omega arith))) ∙ is
 
-get-take : {X : Type 0} (n : ℕ) (xs : List X) (i : ℕ) → i < n → slice_get (take n xs) i ≡ slice_get xs i
+pub get-take : {X : Type 0} (n : ℕ) (xs : List X) (i : ℕ) → i < n → slice_get (take n xs) i ≡ slice_get xs i
 get-take zero xs i h = absurd (omega arith)
 get-take (suc n) [] i h = refl
 get-take (suc n) (x ∷ xs) zero h = refl

@@ -57,7 +57,7 @@ unfolding zeros
 length-zeros zero = refl
 length-zeros (suc n) = ap suc (length-zeros n)
 
-length-padded : (name : List ℕ) → length name ≤ 16 → length (padded name) ≡ 16
+pub length-padded : (name : List ℕ) → length name ≤ 16 → length (padded name) ≡ 16
 length-padded name h = omega (arith, h, length-append name (zeros (16 - length name)), length-zeros (16 - length name))
 
 pub length-names : (names : List SectionNames) → All (λ s. (length s.segment ≤ 16) × (length s.section ≤ 16)) names → length (flat_map section_bytes names) ≡ 32 * length names

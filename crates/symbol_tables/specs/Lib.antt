@@ -4,4 +4,5 @@ pub mod Stored
 pub mod Asked
 pub mod Table
 pub mod Opened
+pub mod Found
 pub mod InnerCandidates

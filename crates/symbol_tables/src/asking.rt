@@ -43,6 +43,7 @@ impl Table {
         device: &mut P,
         address: u64,
     ) -> Result<Option<NearestSymbol>, CheckFault>
+        ensures claim { self.new.pages.claim ≡ self.old.pages.claim }
         ensures keeps { (text : List ℕ) (t : TableParts) → P.whole device.old ≡ Some text → IsOpened self.old text t
             → IsOpened self.new text t }
         ensures read { ReadsStored P.whole P.failures device.old device.new result

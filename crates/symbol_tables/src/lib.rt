@@ -20,6 +20,7 @@
 //! - `head`, `table`: [`Table`], a table whose head was read; `opening`: [`Table::open`];
 //! - `nearest`: [`NearestSymbol`]; `asking`: [`Table::nearest`], the nearest symbol of an address, and
 //!   [`nearest_by_claim`], of a table that is opened for it;
+//! - `found`: [`OwnedFound`], a symbol with the names of its section; [`Table::found`];
 //! - `laws`: what the definitions say of each other.
 //!
 //! Decided:
@@ -37,6 +38,7 @@
 mod asking;
 mod candidate;
 mod compared;
+mod found;
 mod head;
 pub mod laws;
 mod making;
@@ -53,6 +55,7 @@ mod text;
 mod turns;
 
 pub use asking::nearest_by_claim;
+pub use found::OwnedFound;
 pub use making::TableText;
 pub use names::name_from;
 pub use nearest::NearestSymbol;

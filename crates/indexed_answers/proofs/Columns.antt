@@ -1,0 +1,43 @@
+-- Lists that are told element by element.
+use Rattle.std.proofs.Common.{◌≡◌, ℕ, zero, suc, refl, arith, ◌+◌, ◌<◌, List, [], ◌∷◌, ◌++◌, length, map, take, get_or, sym, subst, ap, ◌∙◌}
+use Rattle.std.specs.List.{AllZip}
+use Rattle.std.proofs.lemmas.List.{map-append, take_more}
+
+pairs_more : {X Y : Type 0} (R : X → Y → Type 0) (xs : List X) (ys : List Y) (x : X) (y : Y) → AllZip R xs ys → R x y → AllZip R (xs ++ x ∷ []) (ys ++ y ∷ [])
+pairs_more R [] [] x y all one = (one, tt)
+pairs_more R [] (_ ∷ _) x y all one = absurd all
+pairs_more R (_ ∷ _) [] x y all one = absurd all
+pairs_more R (a ∷ xs) (b ∷ ys) x y all one = (all.0, pairs_more R xs ys x y all.1 one)
+
+-- one pair more
+pub zip_more : {X Y : Type 0} (R : X → Y → Type 0) (xs : List X) (i : ℕ) (x : X) (before after : List Y) (y : Y) → i < length xs → x ≡ get_or xs i x → after ≡ before ++ y ∷ []
+    → AllZip R (take i xs) before → R x y → AllZip R (take (i + 1) xs) after
+zip_more R xs i x before after y lt is grown all one =
+    subst (AllZip R (take (i + 1) xs)) (sym grown)
+    (subst (λ zs. AllZip R zs (before ++ y ∷ [])) (sym (take_more xs i x lt)) (pairs_more R (take i xs) before (get_or xs i x) y all (subst (λ z. R z y) is one)))
+
+-- the same as seen through a view
+pub zip_viewed : {X Y Z : Type 0} (R : X → Z → Type 0) (v : Y → Z) (xs : List X) (i : ℕ) (x : X) (before after : List Y) (y : Y) → i < length xs → x ≡ get_or xs i x → after ≡ before ++ y ∷ []
+    → AllZip R (take i xs) (map v before) → R x (v y) → AllZip R (take (i + 1) xs) (map v after)
+zip_viewed R v xs i x before after y lt is grown all one =
+    zip_more R xs i x (map v before) (map v after) (v y) lt is (ap (map v) grown ∙ map-append v before (y ∷ [])) all one
+
+-- one row more of those that are made of elements
+pub rows_more : {X Y Z : Type 0} (f : X → Z) (v : Y → Z) (xs : List X) (i : ℕ) (x : X) (before after : List Y) (y : Y) → i < length xs → x ≡ get_or xs i x → after ≡ before ++ y ∷ [] → v y ≡ f x
+    → map v before ≡ map f (take i xs) → map v after ≡ map f (take (i + 1) xs)
+rows_more f v xs i x before after y lt is grown same all =
+    ap (map v) grown ∙ map-append v before (y ∷ []) ∙ (λ j. all j ++ same j ∷ []) ∙ ap (λ z. map f (take i xs) ++ f z ∷ []) is
+    ∙ sym (ap (map f) (take_more xs i x lt) ∙ map-append f (take i xs) (get_or xs i x ∷ []))
+
+-- what is told otherwise of each pair
+pub zip_as : {X Y : Type 0} (R S : X → Y → Type 0) (xs : List X) (ys : List Y) → ((x : X) (y : Y) → R x y → S x y) → AllZip R xs ys → AllZip S xs ys
+zip_as R S [] [] to all = tt
+zip_as R S [] (_ ∷ _) to all = absurd all
+zip_as R S (_ ∷ _) [] to all = absurd all
+zip_as R S (x ∷ xs) (y ∷ ys) to all = (to x y all.0, zip_as R S xs ys to all.1)
+
+-- an element, whatever stands for one past the end
+pub any_default : {X : Type 0} (xs : List X) (i : ℕ) (d e : X) → i < length xs → get_or xs i d ≡ get_or xs i e
+any_default [] i d e lt = absurd (omega (arith, lt))
+any_default (x ∷ xs) zero d e lt = refl
+any_default (x ∷ xs) (suc i) d e lt = any_default xs i d e (omega (arith, lt))

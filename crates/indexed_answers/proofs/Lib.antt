@@ -1,0 +1,4 @@
+pub mod Columns
+pub mod Picked
+pub mod Asked
+pub mod Right

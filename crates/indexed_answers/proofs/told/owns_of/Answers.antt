@@ -1,0 +1,42 @@
+use Rattle.std.proofs.Common.{Err, map, subst, ap, sym, get_or, ◌∙◌, arith}
+use Rattle.std.specs.List.{AllZip}
+use Rattle.std.proofs.lemmas.List.{take_all}
+use Rattle.std.proofs.lemmas.Result.{err_from_is_err_and}
+use Rattle.checked_pages.specs.Pages.{AreStored}
+use Rattle.checked_pages.specs.Views.{claim_view}
+use Rattle.checked_pages.proofs.ReadLemmas.{after_ok, passed_on}
+use Rattle.symbol_tables.specs.Table.{table_bytes}
+use Rattle.archive_core.specs.declared.lookup.Where.TheVariants.{File}
+use Rattle.indexed_answers.specs.Views.{told_view}
+use Rattle.indexed_answers.specs.InnerAnswering.{IsOwnOpened}
+use Rattle.indexed_answers.proofs.Columns.{any_default, zip_viewed}
+use Rattle.indexed_answers.proofs.told.owns_of.Goals as goal
+
+pub asked-preserved : goal.asked-preserved
+asked-preserved g c =
+    let own = c.in_ok-found.ensures in
+    record {
+      claim = own.claim ∙ c.asked.invariant.claim;
+      whole = own.read.keeps ∙ c.asked.invariant.whole;
+      unfailed = own.read.counts ∙ c.asked.invariant.unfailed;
+      keeps = λ text t known opened. own.keeps text t (c.asked.invariant.whole ∙ known) (c.asked.invariant.keeps text t known opened);
+      told = λ text known.
+          zip_viewed (IsOwnOpened c.args.table.now text) told_view c.args.asked.now c.asked.place-index (get_or c.args.asked.now c.asked.place-index (File 0)) c.asked.owns.items c.push.new.self.items c.in_ok-found.found c.asked-test.true (any_default c.args.asked.now c.asked.place-index (File 0) _ c.asked-test.true) c.in_default-push.ensures.items
+          (c.asked.invariant.told text known)
+          (λ slice t bytes is opened. own.read.says text (c.asked.invariant.whole ∙ known) slice t bytes is (c.asked.invariant.keeps text t known opened));
+    }
+
+pub returns-in_err-found : goal.returns-in_err-found
+returns-in_err-found g c =
+    let p = err_from_is_err_and c.from_residual.result c.from_residual.ensures.1 in
+    passed_on _ _ _ _ _ _ _ _ _ _ _ c.in_err-found.was (p.1 ∙ ap Err p.2)
+    (λ text known absent t opened stored.
+    absent t (c.asked.invariant.keeps text t known opened) (subst (λ claim. AreStored text (claim_view claim) (table_bytes t)) (sym c.asked.invariant.claim) stored))
+    (after_ok _ _ _ _ _ _ _ _ c.asked.invariant.whole c.asked.invariant.unfailed c.own_of.ensures.read)
+
+pub returns : goal.returns
+returns g c = record {
+  says = λ text known. subst (λ xs. AllZip (IsOwnOpened c.args.table.now text) xs (map told_view c.asked.owns.items)) (take_all c.asked.place-index c.args.asked.now (omega (arith, c.asked-test.false))) (c.asked.invariant.told text known);
+  keeps = c.asked.invariant.whole;
+  counts = c.asked.invariant.unfailed;
+}
