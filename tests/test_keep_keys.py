@@ -296,21 +296,25 @@ class Meeting(SignersCase):
     seconds = 40
 
     def copy(self, sites: Sequence[Site], dice: random.Random, chance: float = 1.0, half: float = 0.0) -> None:
-        """Copies files between the folders of sites, some of them, and some by half."""
+        """Copies files between the folders of sites, some of them, and some by half. What has as many bytes there stays."""
         for source in sites:
             for target in sites:
-                for path in source.folder.iterdir():
+                for path in sorted(source.folder.iterdir()):
                     if source is not target and dice.random() < chance and not path.name.startswith("."):
                         data, to = path.read_bytes(), target.folder / path.name
-                        to.write_bytes(data[: len(data) // 2] if dice.random() < half else data)
+                        data = data[: len(data) // 2] if dice.random() < half else data
+                        if not to.exists() or to.stat().st_size < len(data):
+                            to.write_bytes(data)
 
     def test_folders_that_are_copied(self) -> None:
-        """Once all have the first site's mark, files come in any order, whole or half, and never go."""
+        """Once all have begun with the first site's mark, files come in any order, whole or half, and never go."""
         dice = random.Random(7)
         sites = [self.site(name, f"{name}-folder") for name in ("east", "west", "north")]
         made: List[bytes] = []
         sites[0].exchange()
         self.copy(sites, dice)
+        for site in sites[1:]:
+            site.exchange()
         for number in range(24):
             site, act = dice.choice(sites), dice.random()
             if act < 0.3:
