@@ -296,7 +296,7 @@ class Meeting(SignersCase):
     seconds = 40
 
     def copy(self, sites: Sequence[Site], dice: random.Random, chance: float = 1.0, half: float = 0.0) -> None:
-        """Copies files between the folders of sites, some of them, and some by half. What has as many bytes there stays."""
+        """Copies files between the folders of sites, some of them, and some by half. What is whole stays."""
         for source in sites:
             for target in sites:
                 for path in sorted(source.folder.iterdir()):
