@@ -7,6 +7,7 @@ other does. Those that take longest begin first, by their `seconds`."""
 import argparse
 import os
 import re
+import signal
 import subprocess
 import sys
 import time
@@ -87,6 +88,8 @@ def main() -> int:
     parser.add_argument("names", metavar="NAME", nargs="*", help="a module, a class or a method, as unittest has it")
     parser.add_argument("--jobs", metavar="N", type=int, default=os.cpu_count() or 1, help="classes at once")
     words = parser.parse_args()
+    # Under nohup it is ignored, by all that is called here too.
+    signal.signal(signal.SIGHUP, signal.SIG_DFL)
     beside, alone, inner = chosen(words.names)
     passed = failed = 0
     failures = []
