@@ -4,7 +4,7 @@ use Rattle.std.specs.Prelude.{All, filter}
 use Rattle.std.specs.List.{list_any}
 use Rattle.std.specs.List.Sorted.{IsNonDecreasingBy, IsPermutation}
 use Rattle.std.proofs.Math.ListN.{length-map}
-use Rattle.std.proofs.lemmas.Bool.{and_parts, cases_Bool}
+use Rattle.std.proofs.lemmas.Bool.{cases_Bool}
 use Rattle.std.proofs.lemmas.List.{append-nil, get_or-map, map-append}
 use Rattle.std.proofs.lemmas.List.Elements.{All-get_or, All-push, filter_more}
 use Rattle.std.proofs.lemmas.List.Folds.{list_any_more}
@@ -13,7 +13,7 @@ use Rattle.std.proofs.lemmas.Option.{slice_get-get_or}
 use Rattle.archive_index.specs.Entry.{offset_in}
 use Rattle.table_index.specs.Entry.{HasItsFields, entry_bytes}
 use Rattle.table_index.specs.declared.entry.TableEntry.{TableEntry}
-use Rattle.indexed_answers.specs.Told.{AreAnsweringUnder, admits_under, answers, has_companion}
+use Rattle.indexed_answers.specs.Told.{AreAnsweringUnder, answers, has_companion}
 use Rattle.indexed_answers.specs.InnerAnswering.{IsNumbered, numbered_bytes}
 use Rattle.indexed_answers.specs.declared.answering.Numbered.{Numbered}
 
@@ -60,14 +60,16 @@ module _ (entries : List TableEntry) (i : ℕ) (e : TableEntry) (lt : i < length
       ∙ sym (filter_more p all i [] within ∙ ap (λ (ys : List (List ℕ)). filter p (take i all) ++ ys) one)
 
   -- its number
-  pub numbered : (front : List ℕ) (before after : List Numbered) (n : Numbered) → All HasItsFields entries → after ≡ before ++ n ∷ [] → n.entry ≡ e → n.number ≡ i → (companions : Bool) → answers front companions (entry_bytes e) ≡ true
+  pub numbered : (front : List ℕ) (before after : List Numbered) (n : Numbered) → All HasItsFields entries → after ≡ before ++ n ∷ [] → n.entry ≡ e → n.number ≡ i → answers front (has_companion front all) (entry_bytes e) ≡ true
       → All (IsNumbered front all) before → All (IsNumbered front all) after
-  numbered front before after n fields grown its count companions answered each =
-      let under : admits_under front (entry_bytes e) ≡ true = (and_parts _ _ answered).0 in
+  numbered front before after n fields grown its count answered each =
       let stands : slice_get all n.number ≡ Some (entry_bytes n.entry) =
       ap (slice_get all) count ∙ slice_get-get_or all i [] within ∙ ap Some (at ∙ ap entry_bytes (sym its)) in
       let one : IsNumbered front all n = record {
-        under = record { stands = stands; admits = ap (λ (z : TableEntry). admits_under front (entry_bytes z)) its ∙ under };
+        answering = record {
+          stands = stands;
+          answers_is = ap (λ (z : TableEntry). answers front (has_companion front all) (entry_bytes z)) its ∙ answered;
+        };
         fields = subst HasItsFields (sym (its ∙ is)) (All-get_or HasItsFields entries i e lt fields);
       } in
       subst (All (IsNumbered front all)) (sym grown) (All-push (IsNumbered front all) before n each one)

@@ -9,7 +9,7 @@ use Rattle.archive_core.specs.Lookup.{AnswerRecord, IsAnswerOf, IsOwn, IsOwnRow,
 use Rattle.archive_core.specs.declared.keys.SliceKey.{SliceKey}
 use Rattle.archive_core.specs.declared.lookup.Where.{Where}
 use Rattle.table_index.specs.Entry.{claim_in}
-use Rattle.indexed_answers.specs.Told.{IsAnswerAt, IsToldBy, IsToldOf, IsToldRow, admits_under}
+use Rattle.indexed_answers.specs.Told.{IsAnswerAt, IsToldBy, IsToldOf, IsToldRow, answers, has_companion}
 use Rattle.indexed_answers.specs.Asking.{IsUntold}
 use Rattle.indexed_answers.specs.Contents.{IsSliceOf}
 use Rattle.indexed_answers.specs.Views.{AreAnswersAt, IsColumn, answer_of, row_at, told_view}
@@ -47,10 +47,10 @@ answer_right text asked slices entries (Disputed rows) all is =
     (omega (arith, is.0, AllZip-long (IsSliceOf text) slices entries all), rows_right text asked slices entries rows all is.1)
 
 pub undamaged : (text front : List ℕ) (entries : List (List ℕ)) (number : ℕ) → length text < 2 ^ 64
-    → ((n : ℕ) (e : List ℕ) → slice_get entries n ≡ Some e → admits_under front e ≡ true → (slice : List ℕ) × IsSliceOf text slice e)
+    → ((n : ℕ) (e : List ℕ) → slice_get entries n ≡ Some e → answers front (has_companion front entries) e ≡ true → (slice : List ℕ) × IsSliceOf text slice e)
     → IsUntold text front entries (Damaged number) → ⊥
 undamaged text front entries number short each untold =
-    let slice = each number untold.0 untold.1.stands untold.1.admits in
+    let slice = each number untold.0 untold.1.stands untold.1.answers_is in
     untold.2 short slice.0 slice.1.table slice.1.is_table slice.1.stored
 
 -- ---- of each place

@@ -4,7 +4,7 @@ use Rattle.byte_device.specs.Devices.{FailedIn}
 use Rattle.checked_pages.specs.Pages.{AreStored}
 use Rattle.symbol_tables.specs.Table.{IsTableText}
 use Rattle.table_index.specs.Entry.{claim_in}
-use Rattle.indexed_answers.specs.Told.{admits_under}
+use Rattle.indexed_answers.specs.Told.{answers, has_companion}
 use Rattle.indexed_answers.specs.declared.fault.AnswerFault.{AnswerFault}
 use Rattle.indexed_answers.specs.declared.fault.AnswerFault.TheVariants.{Damaged, Device, OutOfMemory}
 
@@ -13,16 +13,16 @@ abbrev pub HasNoTable : List ℕ → List ℕ → Type 0
 HasNoTable text e = length text < 2 ^ 64 → (slice table : List ℕ) → IsTableText slice table
     → AreStored text (claim_in e) table → ⊥
 
--- the entry of this number, from 0 on, is under these bytes
-pub record IsEntryUnder (front : List ℕ) (entries : List (List ℕ)) (number : ℕ) (e : List ℕ) : Type 0 where
+-- the entry of this number, from 0 on, answers under these bytes
+pub record IsAnswering (front : List ℕ) (entries : List (List ℕ)) (number : ℕ) (e : List ℕ) : Type 0 where
   pub stands : slice_get entries number ≡ Some e
-  pub admits : admits_under front e ≡ true
+  pub answers_is : answers front (has_companion front entries) e ≡ true
 
--- why nothing is told: an entry under these bytes has no table, or it is the machine's
+-- why nothing is told: an entry that answers has no table, or it is the machine's
 abbrev pub IsUntold : List ℕ → List ℕ → List (List ℕ) → AnswerFault → Type 0
-IsUntold text front entries (Damaged number) = (e : List ℕ) × IsEntryUnder front entries number e × HasNoTable text e
+IsUntold text front entries (Damaged number) = (e : List ℕ) × IsAnswering front entries number e × HasNoTable text e
 IsUntold text front entries (Device offset) =
-    (number : ℕ) × (e : List ℕ) × IsEntryUnder front entries number e × (offset ≡ (claim_in e).offset)
+    (number : ℕ) × (e : List ℕ) × IsAnswering front entries number e × (offset ≡ (claim_in e).offset)
 IsUntold text front entries OutOfMemory = Unit {0}
 
 -- what a fault says of the device

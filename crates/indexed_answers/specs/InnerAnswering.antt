@@ -8,16 +8,16 @@ use Rattle.symbol_tables.specs.declared.table.Table.{Table}
 use Rattle.archive_core.specs.Lookup.{IsOwn}
 use Rattle.archive_core.specs.declared.lookup.Where.{Where}
 use Rattle.table_index.specs.Entry.{HasItsFields, entry_bytes}
-use Rattle.indexed_answers.specs.Asking.{IsEntryUnder}
+use Rattle.indexed_answers.specs.Asking.{IsAnswering}
 use Rattle.indexed_answers.specs.declared.answering.Numbered.{Numbered}
 
 -- the bytes of an entry
 abbrev pub numbered_bytes : Numbered → List ℕ
 numbered_bytes n = entry_bytes n.entry
 
--- an entry under these bytes has its number among all
+-- an entry that answers under these bytes has its number among all
 pub record IsNumbered (front : List ℕ) (entries : List (List ℕ)) (n : Numbered) : Type 0 where
-  pub under : IsEntryUnder front entries n.number (entry_bytes n.entry)
+  pub answering : IsAnswering front entries n.number (entry_bytes n.entry)
   pub fields : HasItsFields n.entry
 
 -- what a table that is opened tells of a place

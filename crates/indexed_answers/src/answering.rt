@@ -75,6 +75,7 @@ fn picked(
 ) -> Result<Vec<Numbered, Heap>, NoMemory>
     requires front { length front.now ≡ 24 }
     requires fields { All HasItsFields entries.now }
+    requires companions { companions ≡ has_companion front.now (map entry_bytes entries.now) }
     ensures picked { IfOk result (λ found. map numbered_bytes found.items
         ≡ filter (answers front.now companions) (map entry_bytes entries.now)) }
     ensures numbers { IfOk result (λ found. All (IsNumbered front.now (map entry_bytes entries.now)) found.items) }

@@ -18,7 +18,7 @@ use table_index::TableIndex;
 ///
 /// # Errors
 ///
-/// `Damaged` at the first of these entries whose table is not what the entry vouches for.
+/// `Damaged` at one of these entries, whose table is not what the entry vouches for. They are asked in their order.
 pub fn answer_at<P: Placed>(
     heap: &Heap,
     index: &TableIndex,

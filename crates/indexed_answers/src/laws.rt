@@ -6,7 +6,7 @@ ghost use Rattle.archive_core.specs.Key.{key_bytes};
 ghost use Rattle.archive_core.specs.Lookup.{AnswerRecord, IsAnswerOf};
 ghost use Rattle.archive_core.specs.declared.keys.SliceKey.{SliceKey};
 ghost use Rattle.archive_core.specs.declared.lookup.Where.{Where};
-ghost use Rattle.indexed_answers.specs.Told.{IsAnswerAt, IsToldOf, admits_under};
+ghost use Rattle.indexed_answers.specs.Told.{IsAnswerAt, IsToldOf, answers, has_companion};
 ghost use Rattle.indexed_answers.specs.Asking.{IsUntold};
 ghost use Rattle.indexed_answers.specs.Contents.{IsSliceOf};
 ghost use Rattle.indexed_answers.specs.Views.{AreAnswersAt, answer_of, row_at};
@@ -22,13 +22,14 @@ pub fn each_told()
 {}
 
 /// Where the tables of slices are stored as their entries say, what is told by these is what the slices tell, and no
-/// entry is damaged. Nothing is supposed of SHA-256.
+/// entry that answers is damaged. Nothing is supposed of SHA-256.
 pub fn right_at()
     ensures answer { (text : List ℕ) (asked : Where) (slices entries : List (List ℕ)) (answer : AnswerRecord)
         → AllZip (IsSliceOf text) slices entries → IsToldOf text asked entries answer
         → IsAnswerOf asked slices answer }
     ensures undamaged { (text front : List ℕ) (entries : List (List ℕ)) (number : ℕ) → length text < 2 ^ 64
-        → ((n : ℕ) (e : List ℕ) → slice_get entries n ≡ Some e → admits_under front e ≡ true
+        → ((n : ℕ) (e : List ℕ) → slice_get entries n ≡ Some e
+        → answers front (has_companion front entries) e ≡ true
         → (slice : List ℕ) × IsSliceOf text slice e)
         → IsUntold text front entries (Damaged number) → ⊥ }
 {}

@@ -19,7 +19,7 @@ entries-preserved c = record {
       (record { number = c.entries.number; entry = c.entry-item.result }) c.in_ok-push.ensures.items refl (sym c.answers.ensures ∙ c.if-not-answers.false) c.entries.invariant.picked;
   numbers =
       numbered c.args.entries.now c.entries.entry-index c.entry-item.result c.entries-test.true c.entry-item.is c.args.front.now c.entries.found.items c.push.new.self.items
-      (record { number = c.entries.number; entry = c.entry-item.result }) c.requires.fields c.in_ok-push.ensures.items refl c.entries.invariant.count c.args.companions (sym c.answers.ensures ∙ c.if-not-answers.false)
+      (record { number = c.entries.number; entry = c.entry-item.result }) c.requires.fields c.in_ok-push.ensures.items refl c.entries.invariant.count (rw (sym c.requires.companions) (sym c.answers.ensures ∙ c.if-not-answers.false))
       c.entries.invariant.numbers;
   count = ap (λ n. n + 1) c.entries.invariant.count;
 }

@@ -22,7 +22,7 @@ returns-in-Err-Changed g c = λ front entries is.
     record {
       says = λ text known. (
         entry_bytes c.args.numbered.now.entry,
-        is.under,
+        is.answering,
         λ short slice table is_table stored. read.says text known short slice table is_table (subst (λ claim. AreStored text claim table) is.fields.claim_is stored),
       );
       keeps = read.keeps;
@@ -33,7 +33,7 @@ pub returns-in-Err-Device : goal.returns-in-Err-Device
 returns-in-Err-Device g c = λ front entries is.
     let read = rw c.in-Err-Device.field-0-is at c.in-Err-Device.ensures in
     record {
-      says = λ text known. (c.args.numbered.now.number, entry_bytes c.args.numbered.now.entry, is.under, ap (λ claim. claim.offset) (sym is.fields.claim_is));
+      says = λ text known. (c.args.numbered.now.number, entry_bytes c.args.numbered.now.entry, is.answering, ap (λ claim. claim.offset) (sym is.fields.claim_is));
       keeps = read.keeps;
       counts = read.counts;
     }
