@@ -4,7 +4,9 @@ import unittest
 from pathlib import Path
 from typing import Dict, List, Set
 
+from .model.tables import table_of
 from .support.command_table import TABLE, fault_of_words, program_commands, text_of, those
+from .support.made_images import index, slices_in
 from .support.places import COMMANDS, READING, WRITING
 from .support.program import TOP, call
 
@@ -227,6 +229,18 @@ class Texts(unittest.TestCase):
         for path, listing in listings:
             digits = "".join(it.replace(" ", "") for it in BYTES.findall(listing))
             self.assertIn((TOP / path).read_bytes(), bytes.fromhex(digits), path)
+
+    def test_listed_index(self) -> None:
+        """The index of the first image, and the row of a symbol, are those of the model."""
+        text = text_of("docs/FILES.md")
+        listing = found(r"^Its index has (\d+) bytes\..*?```\n(.*?)```", text, re.M | re.S)
+        wanted = index([(TOP / "examples/first/image").read_bytes()])
+        digits = "".join(it.replace(" ", "") for it in BYTES.findall(listing[2]))
+        self.assertEqual((int(listing[1]), bytes.fromhex(digits)), (len(wanted), wanted))
+        row = found(r"^The row of `_copy_body` .*?, which has ([\d,]+) bytes:\n\n```\n([0-9a-f ]+)", text, re.M | re.S)
+        tables = map(table_of, slices_in((TOP / "examples/crash/spool-1.dSYM").read_bytes()))
+        of_size = [it for it in tables if len(it) == int(row[1].replace(",", ""))]
+        self.assertEqual([bytes.fromhex(row[2]) in it for it in of_size], [True])
 
     def test_no_sentence_stands_in_two(self) -> None:
         seen: Dict[str, str] = {}

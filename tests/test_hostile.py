@@ -12,7 +12,7 @@ from typing import Any, Callable, Dict, Iterable, List, Optional
 from .support import hostile_images as hostile
 from .support.cases import Without, is_done
 from .support.hostile_images import MOST
-from .support.made_images import EMPTY, admission, archive, image, operations
+from .support.made_images import EMPTY, admission, archive, image, index, operations, summary
 from .support.places import AN_OLD_ARCHIVE, ENDS, FRAMES, IMAGE, KEY, MERGED, ONE, ONE_OPS, ONE_SUM, READING, RETIRED
 from .support.places import ROW, UUID, WRITING, PlacesCase, said
 from .support.program import TOP
@@ -230,8 +230,8 @@ class Covered(HostileCase):
             *(it.format("old.sym") for it in MERGED.values()),
         ):
             self.does(words, 1, RETIRED)
-        summary = b"MSYMSUM1" + RETIRED[8:]
-        self.does("summary old.sym out", 1, summary)
+        summary_text = b"MSYMSUM1" + RETIRED[8:]
+        self.does("summary old.sym out", 1, summary_text)
         self.does(f"find old.sym {UUID}", 1)
         self.does("list old.sym", 1)
         self.does(f"symbolicate old.sym {KEY} 0", 1, status=1)
@@ -298,9 +298,9 @@ class Slices(HostileCase):
         self.does(f"symbolicate slice.sym {KEY} 0", 1, status=1)
         self.does("frames one.frames slice.sym", 1, status=1)
         self.does("name slice.sym _a", 0, status=1)
-        for command, size in (("summary", 74), ("index", 91)):
+        for command, wanted in (("summary", summary([made])), ("index", index([made]))):
             self.assertEqual(self.call(command, "slice.sym", "out").status, 0)
-            self.assertEqual((self.folder / "out").stat().st_size, size)
+            self.has_bytes("out", wanted)
             self.put_out()
         self.takes("slice", "0 took 1 0 0")
 

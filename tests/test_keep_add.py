@@ -19,8 +19,6 @@ from .support.made_trees import OUTSIDE, passed_over, refused_files, taken_files
 from .support.program import Word, symarch
 from .support.rooms import Room, RoomCase, bytes_of, keep, today_of
 
-
-
 OTHER_USER = ["setpriv", "--reuid=65534", "--regid=65534", "--groups=65533"]
 
 
@@ -520,7 +518,8 @@ def steps_of(room: Room, trace: pathlib.Path) -> List[str]:
 
 def put_in_place(name: str, *more: str, names: str = "") -> List[str]:
     """The steps by which a file takes the place of one, and those of its names and its log."""
-    steps = laid("site.sym.log.next", *([names] if names else []), f"{name}.idx.sum", f"{name}.idx.next")
+    steps = ["fsync new.idx", *laid("site.sym.log.next", *([names] if names else []))]
+    steps += ["fsync new.idx", f"replace new.idx {name}.idx.next"]
     steps += ["fsync folder", f"replace new {name}", "fsync folder"]
     return steps + [*more, f"replace {name}.idx.next {name}.idx"]
 
@@ -549,7 +548,7 @@ class InPlace(RoomCase):
         self.room.has(archive([image(1), image(2)]))
         builds = "site.sym.builds"
         rest = f"replace {builds}.next {builds}", "fsync folder", "fsync site.sym.log"
-        steps = laid("site.sym.idx.sum", "site.sym.idx")
+        steps = ["fsync main.idx", "replace main.idx site.sym.idx"]
         steps += put_in_place("site.sym.today", *rest, names=f"{builds}.next")
         same("steps of add", steps_of(self.room, trace), steps)
         with open(self.room.archive, "rb") as old, open(today_of(self.room.archive), "rb") as old_today:
@@ -698,7 +697,7 @@ class Faults(RoomCase):
             )
             self.assertTrue(re.fullmatch(told, "\n".join(errors)), errors)
             self.room.has(archive([image(100)]))
-            left = [f"site.sym.{ending}" for ending in ("idx", "idx.sum", "lock")]
+            left = [f"site.sym.{ending}" for ending in ("idx", "lock")]
             same("left", sorted(os.listdir(disk)), ["site.sym", *left])
             self.room.add("many/0000")
             self.room.has(archive([image(100), image(0, more=bytes(100_000))]))

@@ -131,8 +131,9 @@ class Unvouched(AskCase):
         digest, other = ([row[3] for row in rows if row[1] == arch][0] for arch in ("arm64", "x86_64"))
         change(today, today.read_bytes().index(b"_copy_body") + 1)
         told = f"changed since it came in: run symarch-keep check {self.room.archive}"
-        for words in self.words[:2]:
+        for words in (self.words[0], self.words[5]):
             self.refused(words, f"{UUID} arm64 {digest} {told}")
+        same("a name by its table", self.asked(self.words[1]).lines[0], COPY_BODY)
         came = self.asked(["name", "_start"])
         same("status, errors", (came.status, came.error_lines), (2, [f"symarch-keep: {UUID} arm64 {told}"]))
         digests = [it.split(" ")[2] for it in came.lines]
@@ -149,7 +150,7 @@ class Unvouched(AskCase):
 
     def test_a_damaged_index(self) -> None:
         index = pathlib.Path(f"{self.room.archive}.idx")
-        change(index, 20)
+        change(index, index.stat().st_size - 60)
         told = f"{index} is not as symarch-keep wrote it: run symarch-keep check {self.room.archive}"
         for words in self.words[:4]:
             self.refused(words, told)

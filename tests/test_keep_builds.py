@@ -659,7 +659,7 @@ class Listed(BuildsCase):
         same("rows", self.listed(), self.rows)
         self.room.call("fold", self.room.archive)
         same("rows after a fold", self.listed(), self.rows)
-        for ending in ("idx", "idx.sum", "today.idx", "today.idx.sum"):
+        for ending in ("idx", "today.idx"):
             os.unlink(f"{self.room.archive}.{ending}")
         before = state_of(self.folder)
         same("rows without an index", self.listed(), self.rows)

@@ -146,10 +146,10 @@ class TwoSites(RoomCase):
 
     def test_a_file_beside_the_archive_is_lost(self) -> None:
         """While an answer waits, the site asks anew if it has to, and gets all."""
-        made = [image(number) for number in range(8)]
+        made = [image(number) for number in range(6)]
         self.east.add(made[0])
         until_same(self.both, archive(made[:1]))
-        for number, ending in enumerate(("asked", "idx", "idx.sum", "today.idx", "today.idx.sum", "log", "lock"), 1):
+        for number, ending in enumerate(("asked", "idx", "today.idx", "log", "lock"), 1):
             self.west.add(made[number])
             self.west.exchange()
             same("answers that wait", len(self.west.answers(self.east)), 1)

@@ -2,6 +2,7 @@
 there."""
 import json
 import os
+import pathlib
 from typing import Any, Dict, List, Tuple
 
 from .support.cases import same
@@ -153,7 +154,8 @@ class Stated(JsonCase):
         same("good", (found, end["slices"], end["wrong"], end["faults"]), ([], 2, 0, []))
         change(self.room.archive, 8 + 33 + 40)
         change(self.room.archive, self.room.archive.stat().st_size - 1)
-        self.room.file("site.sym.idx.sum", b"damaged")
+        change(pathlib.Path(f"{self.room.archive}.idx"), 8)
+        change(pathlib.Path(f"{self.room.archive}.today.idx"), 20)
         lines, errors = self.room.call("check", self.room.archive, status=2)
         found, end, said = self.objects("check", self.room.archive, status=2)
         file = {"path": str(self.room.archive), "path_hex": None}
@@ -165,7 +167,8 @@ class Stated(JsonCase):
     @staticmethod
     def of_line(line: str) -> List[Any]:
         word, *more = line.split(" ")
-        return [word, "slice", int(more[3])] if len(more) == 5 else [word, None, None]
+        kind = more.pop(0) if more[0] == "table" else "slice"
+        return [word, kind, int(more[3])] if len(more) == 5 else [word, None, None]
 
     def test_list(self) -> None:
         self.room.make_many(2)

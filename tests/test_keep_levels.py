@@ -78,7 +78,7 @@ class LevelCase(RoomCase):
         for path in self.files():
             same(f"index of {path.name}", kept_index(path), index_of(path.read_bytes()))
         same("left", self.room.left(), [])
-        ours = [name for path in self.files() for name in (path.name, f"{path.name}.idx", f"{path.name}.idx.sum")]
+        ours = [name for path in self.files() for name in (path.name, f"{path.name}.idx")]
         others = [name for name in os.listdir(self.folder) if re.match(r"site\.sym\.[0-9]", name)]
         same("files of levels that are none", [name for name in others if name not in ours], [])
 
@@ -570,26 +570,17 @@ class Changed(LevelCase):
         self.is_one(self.wanted)
         del east
 
-    def test_an_index_that_is_lost_or_damaged(self) -> None:
+    def test_an_index_that_is_damaged(self) -> None:
         level = levels_of(self.room.archive)[1]
-        index, kept = (pathlib.Path(f"{level}.idx{ending}") for ending in ("", ".sum"))
-        good = index.read_bytes(), kept.read_bytes()
-        for is_lost, path in ((False, index), (True, index), (False, kept), (True, kept)):
-            index.write_bytes(good[0])
-            kept.write_bytes(good[1])
-            if is_lost:
-                path.unlink()
-            else:
-                change(path, 20)
-            checked, _ = self.room.call("check", self.room.archive, status=0 if is_lost and path == kept else 2)
-            same("check", checked, [] if is_lost and path == kept else [f"damaged {path}"])
-            # A sum that is damaged stays until its file is another one.
-            stays = path == kept and not is_lost
-            self.room.call("status", "--accept", self.room.archive, status=2 if stays else 0)
-            self.has(self.wanted)
-            self.room.call("check", self.room.archive, status=2 if stays else 0)
-        kept.write_bytes(good[1])
-        change(index, 20)
+        index = pathlib.Path(f"{level}.idx")
+        good = index.read_bytes()
+        change(index, len(good) - 100)
+        same("check", self.room.call("check", self.room.archive, status=2)[0], [f"damaged {index}"])
+        self.room.call("status", "--accept", self.room.archive)
+        self.has(self.wanted)
+        same("index", index.read_bytes(), good)
+        self.room.call("check", self.room.archive)
+        change(index, len(good) - 100)
         change(level, level.read_bytes().index(self.parts[2][0]) + 26)
         _, errors = self.fold(status=4)
         told = f"{index} is not as symarch-keep wrote it, and nothing says whether {level} is as it was"
@@ -598,8 +589,7 @@ class Changed(LevelCase):
     def test_a_level_of_which_nothing_is_known(self) -> None:
         """It is named, and left alone until `symarch index` makes it one; as is what somebody called so."""
         level = levels_of(self.room.archive)[1]
-        for ending in ("idx", "idx.sum"):
-            os.unlink(f"{level}.{ending}")
+        os.unlink(f"{level}.idx")
         out, errors = self.room.call("check", self.room.archive, status=2)
         same("check", out, [f"unknown {level}"])
         how = f"give it another name; or, if it is a level, call `symarch index {level} {level}.idx`"

@@ -10,6 +10,7 @@ import subprocess
 import time
 from typing import Callable, Dict, List, Optional, Sequence, Tuple
 
+from .model.indexes import entries_in
 from .support.cases import Without, digest_of, is_done, pieces_in, powerless_over
 from .support.kills import Left, interrupted
 from .support.made_images import EMPTY, archive, image, index_of, retirement, slice_words
@@ -83,9 +84,21 @@ class LossCase(RoomCase):
         self.beside("idx").unlink()
         subprocess.run([symarch, "index", self.room.archive, self.beside("idx")], check=True, capture_output=True)
 
+    def change_entry(self, at: int = 40) -> None:
+        """Changes a byte of the first entry of the index."""
+        text = kept_index(self.room.archive)
+        change(self.beside("idx"), len(text) - 41 - 122 * len(entries_in(text)) + at)
+
+    def change_end(self) -> None:
+        """Changes a byte of the end record of the index."""
+        change(self.beside("idx"), len(kept_index(self.room.archive)) - 10)
+
+    def change_magic(self) -> None:
+        change(self.beside("idx"), 3)
+
 
 class Vouched(LossCase):
-    """No index takes the place of one with other digests, unless its SHA-256 says that it is the same."""
+    """No index takes the place of one with other digests, unless what is left of that says that it is the same."""
 
     RETIRE = ["retire", *slice_words(image(0, more=b"0" * 50))]
     WRITING = (["add", "new"], ["fold"], ["exchange", "shared", "east"], RETIRE)
@@ -98,71 +111,75 @@ class Vouched(LossCase):
         after = state_of(self.folder)
         self.assertEqual(after, before, words)
 
-    def test_an_index_that_was_written_anew_after_a_change(self) -> None:
-        (self.folder / "shared").mkdir()
+    def test_a_damaged_index_of_an_archive_that_changed(self) -> None:
         self.change_slice(self.made[2])
-        self.index_by_hand()
+        self.change_entry()
         index = self.beside("idx")
         out, errors = self.word("check", status=2)
         self.assertEqual(out, [f"damaged {index}", f"unknown {self.room.archive}"])
-        how = f"to take it as it stands, remove {index} and {index}.sum, and call `symarch-keep fold`"
+        how = f"to take it as it stands, remove {index}, and call `symarch-keep fold`"
         self.assertEqual(errors[0], f"symarch-keep: {self.room.archive}: {how}")
-        told = f"{index} is not as symarch-keep wrote it, and nothing says whether {self.room.archive} is as it was"
-        for words in self.WRITING:
-            self.refused(words, f"{told}; `symarch-keep check` says more")
-
-    def test_what_check_says_takes_it_as_it_stands(self) -> None:
-        self.change_slice(self.made[2])
-        self.index_by_hand()
-        for ending in ("idx", "idx.sum"):
-            self.beside(ending).unlink()
+        index.unlink()
         self.word("fold")
         self.assertEqual(kept_index(self.room.archive), index_of(self.room.archive.read_bytes()))
+        self.assertEqual(self.word("check")[0], [])
+
+    def test_an_index_that_was_written_anew_after_a_change(self) -> None:
+        """It takes the archive as it stands."""
+        self.change_slice(self.made[2])
+        self.index_by_hand()
         self.assertEqual(self.word("check")[0], [])
 
     def test_a_change_reaches_no_other_site(self) -> None:
         west = Site(self.room, "west")
         west.exchange()
         self.change_slice(self.made[2])
-        self.index_by_hand()
+        self.change_entry()
         self.word("exchange", west.folder, "east", status=4)
         west.exchange()
         self.assertEqual(west.has(), EMPTY)
 
     def test_a_damaged_index_is_made_anew_if_the_archive_is_as_it_was(self) -> None:
         good = kept_index(self.room.archive)
-        for damage in ("change", "lose"):
-            for words in (["add", "new"], ["fold"]):
+        what = "is not as symarch-keep wrote it, and is made anew"
+        damages: Sequence[Callable[[], None]] = self.change_entry, self.change_end, self.change_magic
+        for damage in damages:
+            for words in (["add", "--dry-run", "new"], ["add", "new"], ["fold"]):
                 self.begin()
-                if damage == "change":
-                    change(self.beside("idx"), 100)
-                else:
-                    self.beside("idx").unlink()
-                _, errors = self.word(*words)
-                what = "is not as symarch-keep wrote it" if damage == "change" else "is lost"
-                made = f"{self.beside('idx')} {what}, and is made anew: {self.room.archive} is as it was"
+                damage()
+                options = [it for it in words if it.startswith("--")]
+                names = [it for it in words[1:] if it not in options]
+                _, errors = self.room.call(words[0], *options, self.room.archive, *names)
+                made = f"{self.beside('idx')} {what}: {self.room.archive} is as it was"
                 self.assertEqual(errors[0], f"symarch-keep: {made}")
                 if words == ["add", "new"]:
                     self.assertEqual(kept_index(self.room.archive), good)
-                self.assertEqual(self.word("check")[0], [])
+                if not options:
+                    self.assertEqual(self.word("check")[0], [])
+
+    def test_an_index_that_is_lost(self) -> None:
+        """The archive is taken as it stands."""
+        self.change_slice(self.made[1])
+        self.beside("idx").unlink()
+        self.assertEqual(self.word("check", status=2)[0], [f"unknown {self.room.archive}"])
+        self.word("fold")
+        self.assertEqual(self.word("check")[0], [])
 
     def test_a_damaged_index_is_left_if_the_archive_changed_too(self) -> None:
-        for damage in ("change", "lose"):
+        damages: List[Callable[[], None]] = [self.change_entry, self.change_end]
+        for damage in damages:
             self.begin()
             (self.folder / "shared").mkdir(exist_ok=True)
             self.change_slice(self.made[1])
-            if damage == "change":
-                change(self.beside("idx"), 100)
-            else:
-                self.beside("idx").unlink()
-            what = "is not as symarch-keep wrote it" if damage == "change" else "is lost"
+            damage()
+            what = "is not as symarch-keep wrote it"
             told = f"{self.beside('idx')} {what}, and nothing says whether {self.room.archive} is as it was"
             for words in self.WRITING:
                 self.refused(words, f"{told}; `symarch-keep check` says more")
 
     def test_a_dry_run_says_so_too(self) -> None:
         self.change_slice(self.made[1])
-        self.beside("idx").unlink()
+        self.change_entry()
         before = state_of(self.folder)
         _, errors = self.room.call("add", "--dry-run", self.room.archive, "new", status=4)
         self.assertIn("nothing says whether", errors[0])
@@ -180,9 +197,9 @@ class Check(LossCase):
     """`check` says what is wrong, ends with 2 then, and changes nothing."""
 
     def test_a_damaged_index(self) -> None:
-        for ending in ("idx", "today.idx", "idx.sum", "today.idx.sum"):
+        for ending in ("idx", "today.idx"):
             self.begin()
-            change(self.beside(ending), 12)
+            change(self.beside(ending), self.beside(ending).stat().st_size - 12)
             before = state_of(self.folder)
             out, errors = self.word("check", status=2)
             self.assertEqual(out, [f"damaged {self.beside(ending)}"])
@@ -237,7 +254,6 @@ class Check(LossCase):
                 if name.startswith("site.sym"):
                     shutil.copy2(self.folder / name, path / name)
             self.room.archive = path / "site.sym"
-            os.unlink(f"{self.room.archive}.idx.sum")
             self.word("fold")
             self.change_slice(self.made[3])
             wanted, _ = self.word("check", status=2)
@@ -294,7 +310,7 @@ class Stated(LossCase):
         """As after a restore of an archive with its index."""
         (self.folder / "shared").mkdir()
         files = [self.room.archive, today_of(self.room.archive)]
-        files += [self.beside(ending) for ending in ("idx", "idx.sum", "today.idx", "today.idx.sum")]
+        files += [self.beside(ending) for ending in ("idx", "today.idx")]
         backup = {path: path.read_bytes() for path in files}
         self.word("add", "new")
         self.word("exchange", "shared", "east")
@@ -311,13 +327,10 @@ class Stated(LossCase):
 
     def test_an_index_that_is_damaged(self) -> None:
         index, more = self.beside("idx"), "`symarch-keep check` says more"
-        change(index, 100)
+        self.change_entry()
         self.stated([], [f"{index} is not as symarch-keep wrote it; {more}"])
         index.unlink()
-        self.stated([], [f"{index} is lost; {more}"])
-        self.begin()
-        change(self.beside("idx.sum"), 30)
-        self.stated([], [f"{self.beside('idx.sum')}: is damaged"])
+        self.stated([], status=0)
 
 
 class Lost(LossCase):

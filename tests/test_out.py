@@ -130,7 +130,8 @@ class FaultyInputs(OutCase):
             status, printed, told = self.run_program(words)
             line, _, second = told.partition("\n")
             # These write OUT as their first input comes, and `merge` with one FILE as both come.
-            is_first = words[0] in ("admit", "apply", "merge", "migrate", "retire", "delta") and words[1] == "input"
+            streamed = ("admit", "apply", "merge", "migrate", "retire", "delta", "index")
+            is_first = words[0] in streamed and words[1] == "input"
             is_out = (is_first or words[0] == "merge" and len(words) == 4) and before == OTHER_FILES[0] and not hint
             same(f"{words}", (status, printed, line[:9], "output" in line), (2, b"", "symarch: ", is_out))
             more = FOREIGN if is_out else hint

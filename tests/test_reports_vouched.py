@@ -3,11 +3,13 @@ import os
 import re
 import shutil
 import struct
+import subprocess
 from pathlib import Path
-from typing import Any, List, Optional
+from typing import Any, List, Optional, Union
 
+from .model.indexes import entries_in, table_place
 from .support.cases import powerless_over
-from .support.made_images import records_in
+from .support.made_images import index_without_tables, records_in
 from .support.program import TOP, call, symarch
 from .support.reports import CRASHES, DYLD, FIXTURES, KERNEL, SPOOL, SPOOL_2, ReportCase, named, source
 from .support.rooms import change
@@ -36,6 +38,13 @@ class VouchedCase(ReportCase):
             self.assertEqual(self.call("index", path, f"{path}.idx").status, 0)
         return path
 
+    def change_table(self, path: Path, uuid: str = SPOOL, of_dsym: bool = True) -> None:
+        """Changes the first byte of the stored table of an arm64 slice, of a companion or of an image."""
+        key, index = bytes.fromhex(uuid.replace("-", "")) + ARM64, Path(f"{path}.idx")
+        for entry in entries_in(index.read_bytes()):
+            if entry[:25] == b"\x02" + key and entry[57] == of_dsym:
+                change(index, table_place(entry))
+
     def change(self, path: Path, uuid: str = SPOOL, arch: bytes = ARM64, of_dsym: bool = True) -> None:
         """Changes the last byte of the slices of a key, of its companion or of its image."""
         at = 8
@@ -56,7 +65,7 @@ class VouchedCase(ReportCase):
 
 
 class ChangedSlices(VouchedCase):
-    """A slice that has not the SHA-256 that it came in with."""
+    """A slice that has not the SHA-256 that it came in with, and is read for lines of the source."""
 
     def test_no_name_is_printed(self) -> None:
         self.says(ALL_NAMED, status=0, printed=named("crash"))
@@ -133,12 +142,6 @@ class ChangedSlices(VouchedCase):
         link = self.folder / "other/link.sym"
         self.says(advice(SPOOL, "other/link.sym"), f"{NONE_NAMED}; {CHANGED}", words=[CRASHES / "arm64.crash", link])
 
-    def test_missing(self) -> None:
-        """The slice is there, so its dSYM is not missing."""
-        self.change(self.site)
-        words = ["--missing", FIXTURES / "metrickit.json", "site.sym"]
-        self.says(advice(SPOOL, "site.sym"), words=words, printed=f"{DYLD} dyld\n".encode())
-
     def test_several_reports(self) -> None:
         self.change(self.site)
         paths = [self.file("one/crash", source("crash")), self.file("one/ips", source("ips"))]
@@ -164,6 +167,64 @@ class ChangedSlices(VouchedCase):
         plain = self.archive("plain.sym", "shipped", is_indexed=False)
         self.change(plain)
         self.says(ALL_NAMED, words=[CRASHES / "arm64.crash", "plain.sym"], status=0, printed=named("crash"))
+
+
+class ChangedTables(VouchedCase):
+    """A slice whose table is not the one that its index has digests of, without lines of the source."""
+
+    words = ["--no-lines", CRASHES / "arm64.crash", "site.sym"]
+
+    def setUp(self) -> None:
+        super().setUp()
+        plain = self.report("--no-lines", CRASHES / "arm64.crash", "shipped")
+        self.assertEqual((plain.status, plain.error_lines), (0, [ALL_NAMED]))
+        self.named = plain.out
+
+    def test_no_name_is_printed(self) -> None:
+        self.says(ALL_NAMED, words=self.words, status=0, printed=self.named)
+        self.change_table(self.site)
+        self.says(advice(SPOOL, "site.sym"), f"{NONE_NAMED}; {CHANGED}", words=self.words)
+
+    def test_a_table_that_is_not_asked(self) -> None:
+        """The dSYM answers, so that of its image is not read."""
+        self.change_table(self.site, of_dsym=False)
+        self.says(ALL_NAMED, words=self.words, status=0, printed=self.named)
+
+    def test_a_slice_that_changed(self) -> None:
+        """Its table is that of the bytes that came in."""
+        self.change(self.site)
+        self.says(ALL_NAMED, words=self.words, status=0, printed=self.named)
+
+    def test_missing(self) -> None:
+        """The slice is there, so its dSYM is not missing."""
+        self.change_table(self.site)
+        words = ["--missing", FIXTURES / "metrickit.json", "site.sym"]
+        self.says(advice(SPOOL, "site.sym"), words=words, printed=f"{DYLD} dyld\n".encode())
+
+    def test_several_at_once(self) -> None:
+        """The program is called once more, however many tables changed."""
+        both = self.archive("both.sym", "both")
+        self.change_table(both)
+        self.change_table(both, SPOOL_2)
+        program = self.script("counting", f'echo >>"{self.folder}/calls"; exec "$symarch" "$@"')
+        words = ["--no-lines", FIXTURES / "spool.spindump.txt", "both.sym"]
+        came = self.report(*words, environment={"SYMARCH": program})
+        self.assertEqual(sorted(came.error_lines[:2]), sorted([advice(SPOOL, "both.sym"), advice(SPOOL_2, "both.sym")]))
+        self.assertEqual((came.status, (self.folder / "calls").read_text().count("\n")), (2, 2))
+
+    def test_an_archive_of_symarch_keep(self) -> None:
+        """From `add` to the word that mends it."""
+        kept, environment = self.folder / "kept.sym", {"SYMARCH": symarch}
+        steps: List[List[Union[str, Path]]] = [["add", kept, CRASHES / "spool-1.dSYM"], ["fold", kept]]
+        for words in steps:
+            self.assertEqual(call([KEEP, *words], environment=environment).status, 0)
+        self.change_table(kept)
+        asked = ["--no-lines", CRASHES / "arm64.crash", "kept.sym"]
+        self.says(advice(SPOOL, "kept.sym"), f"{NONE_NAMED}; {CHANGED}", words=asked)
+        checked = call([KEEP, "check", kept], environment=environment)
+        self.assertEqual((checked.status, checked.out.decode().split(" arm64 ")[0]), (2, f"changed table {SPOOL}"))
+        self.assertEqual(call([KEEP, "repair", kept, "shipped"], environment=environment, cwd=self.archives).status, 0)
+        self.says(ALL_NAMED, words=asked, status=0, printed=self.named)
 
 
 class OtherArchives(VouchedCase):
@@ -212,18 +273,47 @@ class OtherArchives(VouchedCase):
     def test_an_index_that_is_cut(self) -> None:
         index = self.folder / "site.sym.idx"
         index.write_bytes(index.read_bytes()[:-1])
-        self.is_not_asked(f"site.sym.idx is not read: Truncated at {index.stat().st_size - 8}")
+        self.is_not_asked(f"site.sym.idx is not read: Truncated at {index.stat().st_size - 41}")
 
     def test_an_index_of_which_a_byte_changed(self) -> None:
-        """symarch-keep has its SHA-256. By the index alone the dSYM would have another UUID, and the image answer."""
+        """It has the SHA-256 of its entries. By these alone the dSYM would have another UUID, and the image answer."""
         kept = self.folder / "kept.sym"
         files = [CRASHES / "spool-1", CRASHES / "spool-1.dSYM"]
         self.assertEqual(call([KEEP, "add", kept, *files], environment={"SYMARCH": symarch}).status, 0)
         self.assertEqual(call([KEEP, "fold", kept], environment={"SYMARCH": symarch}).status, 0)
         words = [CRASHES / "arm64.crash", "kept.sym"]
         self.says(ALL_NAMED, words=words, status=0, printed=named("crash"))
-        change(Path(f"{kept}.idx"), 8 + 74 * 2 + 9)
-        self.is_not_asked("kept.sym.idx is damaged", "kept.sym")
+        index = Path(f"{kept}.idx")
+        begin = index.stat().st_size - 41 - 122 * len(entries_in(index.read_bytes()))
+        change(index, begin + 122 * 2 + 9)
+        self.is_not_asked(f"kept.sym.idx is not read: BadDigest at {begin}", "kept.sym")
+
+    def test_an_index_without_tables(self) -> None:
+        """As an earlier symarch-keep left it: it says what changed, and the archive is read without it."""
+        index = self.folder / "site.sym.idx"
+        index.write_bytes(index_without_tables(self.site.read_bytes()))
+        self.says(ALL_NAMED, status=0, printed=named("crash"))
+        self.change(self.site)
+        self.says(advice(SPOOL, "site.sym"), f"{NONE_NAMED}; {CHANGED}")
+        shutil.copy(self.archives / "both", self.site)
+        self.is_refused([CRASHES / "arm64.crash", "site.sym"], f"symbolicate-report: {self.since}")
+
+    def test_one_of_two_archives_without_an_index(self) -> None:
+        """It is made elsewhere, also of one of version 1, and nothing is left beside the archives."""
+        old = self.archive("old.sym", "both", is_indexed=False)
+        old.write_bytes(old.read_bytes().replace(b"MSYMARC2", b"MSYMARC1", 1))
+        before = sorted(self.folder.rglob("*"))
+        for others in (["shipped", "site.sym"], ["site.sym", "old.sym"]):
+            self.says(ALL_NAMED, words=[CRASHES / "arm64.crash", *others], status=0, printed=named("crash"))
+        self.assertEqual(sorted(self.folder.rglob("*")), before)
+
+    def test_an_index_that_is_about_to_come(self) -> None:
+        """An archive and its index are renamed one after the other."""
+        both = self.archive("both.sym", "both")
+        os.replace(both, self.site)
+        moving = ["sh", "-c", 'sleep 0.2; mv "$1" "$2"', "sh", f"{both}.idx", f"{self.site}.idx"]
+        with subprocess.Popen(moving):
+            self.says(ALL_NAMED, status=0, printed=named("crash"))
 
 
 class WhatCameLately(VouchedCase):

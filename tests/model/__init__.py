@@ -5,6 +5,7 @@
                     made of them
 - dwarf_frames      the frames of an address
 - contents          the content of archives, and the texts of files
+- tables            the tables of slices, made and asked; indexes, which have them
 - lines             the lines that commands print, and the words that they take
 - worlds            scripts of rehearsals, their sites, and frames
 - plans             the words of commands

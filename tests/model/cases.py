@@ -7,9 +7,10 @@ from typing import Callable, Dict, List, NamedTuple, Optional, Sequence, Tuple, 
 
 from .calls import carried
 from .commands import Left, Limits, NoMemory, run_plan
-from .contents import ADMISSION, ARCHIVES, IDX, OPS, SUM, Source, archive_of, covering, good_front
+from .contents import ADMISSION, ARCHIVES, OPS, SUM, Source, archive_of, covering, good_front
 from .hints import second_line
 from .images import sha
+from .indexes import IDX
 from .parts import Bad, Store, first_word, named, parts_bytes, text_line, words_of
 from .plans import Copy, Plan
 

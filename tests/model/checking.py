@@ -1,6 +1,6 @@
 """The cases of `acceptance` beside what the model computes. Texts of the command line, calls on images alone and
 numbers of refused growths are left as they stand."""
-from typing import List, NamedTuple
+from typing import List, NamedTuple, Tuple
 
 from ..support.program import TOP
 from . import cases
@@ -57,3 +57,30 @@ def check(word: str) -> Checked:
         if asked == name and asked:
             break
     return Checked(differences, told, left)
+
+
+def blocks(text: str) -> List[Tuple[str, List[str]]]:
+    """The lines of a text, each with what has to come of it."""
+    found: List[Tuple[str, List[str]]] = []
+    for line in text.splitlines():
+        if line.startswith("  "):
+            found[-1][1].append(line)
+        else:
+            found.append((line, []))
+    return found
+
+
+def rewritten(subject: str) -> str:
+    """The text of a subject with what comes of its lines by the model; what it uses is carried out, and not told."""
+    bench, told = cases.Bench(), []
+    for line, stands in blocks((DATA / "cases" / subject).read_text(encoding="utf-8")):
+        shared = line[len("use ") :] if line.startswith("use ") else None
+        text = (DATA / "shared" / shared).read_text(encoding="utf-8") if shared else f"{line}\n"
+        came: List[str] = []
+        for each, those in blocks(text):
+            try:
+                came = bench.line(each, stands if not shared else those)
+            except cases.Copy:
+                came = stands
+        told += [line, *([] if shared else came)]
+    return "".join(f"{it}\n" for it in told)

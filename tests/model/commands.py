@@ -1,15 +1,20 @@
 """What commands read, write and print, told a second time by docs/COMMANDS.md."""
 from __future__ import annotations
 
-from typing import Any, Callable, Iterable, List, NamedTuple, Optional, Sequence, Tuple, TypeVar
+import functools
+from typing import Any, Callable, Dict, Iterable, List, NamedTuple, Optional, Sequence, Tuple, TypeVar
 
-from .contents import OLD_ARCHIVE, Content, Fault, MergeFault, Placed, Source, Stale, admission, copy_unnamed, covering
-from .contents import index_text, magic_fault, merge_streams, merged_by_definition, parts_at, read_archive, read_index
-from .contents import read_ops, read_summary, retirement, summary_text, test_length
+from .contents import OLD_ARCHIVE, Content, Fault, MergeFault, Source, admission, copy_unnamed, covering, magic_fault
+from .contents import merge_streams, merged_by_definition, read_archive, read_ops, read_summary, retirement
+from .contents import summary_text
 from .images import parts_of_file, sha
-from .lines import answer_lines, escaped, find_lines, find_rows, index_rows, key_text, name_lines, row_of
+from .indexes import EntryAt, Failed, Placed, Stale, answering, claim_in, index_stream, parts_at, read_index
+from .indexes import test_length
+from .lines import Answer, answer_lines, escaped, find_lines, find_rows, index_rows, key_text, name_lines, row_of
+from .lines import Told, table_text, told_lines
 from .parts import Store
 from .plans import ANY_NUMBER, Plan, takes
+from .tables import Changed, Table
 from .worlds import World, read_frames, read_script
 
 UNLIMITED = 1 << 62
@@ -104,6 +109,25 @@ class Left(NamedTuple):
     notes: Sequence[str] = ()
 
 
+class Indexed(NamedTuple):
+    """An archive with its index: the device of the index, its entries, and the device of the archive."""
+
+    tables: Placed
+    entries: List[bytes]
+    archive: Placed
+
+
+# An address, and the address at which the image was loaded, if it is one of memory.
+Where = Tuple[int, Optional[int]]
+
+
+class Asked(NamedTuple):
+    """A key, and what is asked under it."""
+
+    key: bytes
+    where: Where
+
+
 class Run:
     """A command: what opens its inputs, OUT and the report."""
 
@@ -136,40 +160,91 @@ class Run:
             made.join(self.archive(path, f"archive {number}"))
         return made
 
-    def by_index(self, path: str, index: str, number: int, read: Callable[[List[bytes], Placed], Read]) -> Read:
-        """What is read of the archive of a path by its index, which have this number."""
-        entries = self.read(index, f"index {number}", read_index)
-        placed = Placed(self.opened(path, f"archive {number}"))
+    @staticmethod
+    def by_places(number: int, read: Callable[[], Read]) -> Read:
+        """What is read of the archive of this number, at the places that its index names."""
         try:
-            test_length(entries, placed)
-            return read(entries, placed)
-        except Fault:
+            return read()
+        except Failed:
             raise CommandFault(f"archive {number}", "Device") from None
         except Stale as stale:
             raise CommandFault(f"index {number}", stale.text) from None
 
     @staticmethod
-    def test_indexes(archives: Sequence[str], indexes: Sequence[str]) -> None:
-        if len(indexes) > len(archives):
+    def test_pairs(archives: Sequence[str], indexes: Sequence[str]) -> None:
+        if len(archives) < len(indexes):
             raise CommandFault(f"index {len(archives)}", "NoArchive")
+        if len(indexes) < len(archives):
+            raise CommandFault(f"archive {len(indexes)}", "NoIndex")
+
+    def indexed(self, archives: Sequence[str], indexes: Sequence[str]) -> List[Indexed]:
+        """The archives with their indexes, which are read, each before the length of its archive."""
+        self.test_pairs(archives, indexes)
+        found: List[Indexed] = []
+        for number, (path, index) in enumerate(zip(archives, indexes)):
+            tables = Placed(self.opened(index, f"index {number}"))
+            try:
+                entries = read_index(tables)
+            except Fault as fault:
+                raise CommandFault(f"index {number}", fault.text) from None
+            placed = Placed(self.opened(path, f"archive {number}"))
+            self.by_places(number, functools.partial(test_length, entries, placed))
+            found.append(Indexed(tables, entries, placed))
+        return found
 
     def entries(self, plan: Plan) -> List[bytes]:
-        return self.by_index(plan.one["archive"], plan.indexes[0], 0, lambda entries, placed: entries)
+        return self.indexed([plan.one["archive"]], plan.indexes)[0].entries
 
-    def asked(self, archives: Sequence[str], indexes: Sequence[str], fronts: Sequence[bytes]) -> Content:
-        """The join of archives, of which the first are read by their indexes, and the others whole."""
-        self.test_indexes(archives, indexes)
+    def named(self, indexed: Sequence[Indexed], fronts: Sequence[bytes]) -> Content:
+        """The join of what the indexes name under these fronts in their archives."""
         made = Content()
-        for number, path in enumerate(archives):
-            if number < len(indexes):
-                read: Callable[[List[bytes], Placed], Content] = lambda some, placed: parts_at(some, placed, fronts)
-                made.join(self.by_index(path, indexes[number], number, read))
-            else:
-                made.join(self.archive(path, f"archive {number}"))
+        for number, it in enumerate(indexed):
+            made.join(self.by_places(number, functools.partial(parts_at, it.entries, it.archive, fronts)))
         return made
 
-    def asked_of(self, plan: Plan, front: bytes) -> Content:
-        return self.asked([plan.one["archive"], *plan.more], plan.indexes, [front])
+    def asked(self, plan: Plan, front: bytes) -> Content:
+        """The join of the archives, by their indexes if they have some."""
+        archives = [plan.one["archive"], *plan.more]
+        return self.named(self.indexed(archives, plan.indexes), [front]) if plan.indexes else self.join(archives)
+
+    @staticmethod
+    def told_of(it: EntryAt, table: Placed, places: Sequence[Where]) -> List[str]:
+        """What the table of an entry tells of places."""
+        try:
+            asked = Table(table.take, claim_in(it.entry))
+            return [table_text(asked, address, load) for address, load in places]
+        except Changed:
+            raise CommandFault(f"index {it.input}", f"Damaged at entry {it.number}") from None
+        except Failed:
+            raise CommandFault(f"index {it.input}", f"Device at {claim_in(it.entry).offset}") from None
+
+    def by_tables(self, indexed: Sequence[Indexed], asked: Sequence[Asked]) -> Optional[List[Answer]]:
+        """The answers of tables to places under keys, key by key; None if slices have to be read."""
+        told: Dict[Asked, Answer] = {}
+        for key in sorted({it.key for it in asked}):
+            those = answering(key, [it.entries for it in indexed])
+            if those is None:
+                return None
+            places = sorted({it.where for it in asked if it.key == key}, key=lambda where: (where[1] or 0, where[0]))
+            columns = [self.told_of(it, indexed[it.input].tables, places) for it in those]
+            for number, where in enumerate(places):
+                rows: List[Told] = [(it.entry[25:57], column[number], []) for it, column in zip(those, columns)]
+                told[Asked(key, where)] = told_lines(where[0], rows)
+        return [told[it] for it in asked]
+
+    def answers(self, plan: Plan, archives: Sequence[str], asked: Sequence[Asked]) -> List[Answer]:
+        """The answers to places under keys: of the archives, or by their indexes if they have some."""
+        keys = sorted({it.key for it in asked})
+        if plan.indexes:
+            indexed = self.indexed(archives, plan.indexes)
+            told = None if plan.lines else self.by_tables(indexed, asked)
+            if told is not None:
+                return told
+            content = self.named(indexed, keys)
+        else:
+            content = self.join(archives)
+        images = {key: content.answering(key) for key in keys}
+        return [answer_lines(images[it.key], *it.where, plan.lines) for it in asked]
 
     def whole(self, path: str, place: str) -> bytes:
         source = self.opened(path, place)
@@ -322,7 +397,7 @@ class Run:
         if len(plan.indexes) == 1 and not plan.more:
             rows = index_rows(self.entries(plan), plan.uuid)
         else:
-            rows = find_rows(self.asked_of(plan, plan.uuid), plan.uuid)
+            rows = find_rows(self.asked(plan, plan.uuid), plan.uuid)
         return self.told(find_lines(rows, False))
 
     @takes("archive", indexes=1)
@@ -335,7 +410,7 @@ class Run:
 
     @takes("archive uuid arch out", is_asking=True, indexes=ANY_NUMBER)
     def run_extract(self, plan: Plan) -> int:
-        live = self.asked_of(plan, plan.key).live()
+        live = self.asked(plan, plan.key).live()
         held = sorted(it for it in live if it[1:25] == plan.key)
         if plan.wanted is not None:
             found = [it for it in held if sha(it[33:]) == plan.wanted]
@@ -360,23 +435,22 @@ class Run:
 
     @takes("archive uuid arch address*", is_asking=True, indexes=ANY_NUMBER, is_telling_lines=True)
     def run_symbolicate(self, plan: Plan) -> int:
-        images = self.asked_of(plan, plan.key).answering(plan.key)
-        return self.answered([answer_lines(images, it, plan.load, plan.lines) for it in plan.addresses])
+        asked = [Asked(plan.key, (it, plan.load)) for it in plan.addresses]
+        return self.answered(self.answers(plan, [plan.one["archive"], *plan.more], asked))
 
-    def answered(self, answers: Sequence[Tuple[List[str], bool]]) -> int:
+    def answered(self, answers: Sequence[Answer]) -> int:
         self.tell([line for lines, _ in answers for line in lines])
         return 0 if all(is_one for _, is_one in answers) else 1
 
     @takes("frames archives*", indexes=ANY_NUMBER, is_telling_lines=True)
     def run_frames(self, plan: Plan) -> int:
-        self.test_indexes(plan.archives, plan.indexes)
+        if plan.indexes:
+            self.test_pairs(plan.archives, plan.indexes)
         frames = read_frames(self.whole(plan.one["frames"], "frames"))
         if isinstance(frames, str):
             raise CommandFault("frames", frames)
-        keys = sorted({frame.key for frame in frames})
-        content = self.asked(plan.archives, plan.indexes, keys)
-        images = {key: content.answering(key) for key in keys}
-        return self.answered([answer_lines(images[it.key], it.address, it.load, plan.lines) for it in frames])
+        asked = [Asked(it.key, (it.address, it.load)) for it in frames]
+        return self.answered(self.answers(plan, plan.archives, asked))
 
     @takes("archive out", indexes=1)
     def run_summary(self, plan: Plan) -> int:
@@ -391,13 +465,15 @@ class Run:
 
     @takes("archive out")
     def run_index(self, plan: Plan) -> int:
-        source = self.open(plan.one["archive"])
-        if source and source.data[: source.end][:8] == OLD_ARCHIVE:
+        source = self.opened(plan.one["archive"], "archive 0")
+        if source.data[: source.end][:8] == OLD_ARCHIVE:
             raise CommandFault("archive 0", "OldArchive")
-        content = self.archive(plan.one["archive"], "archive 0")
-        text = index_text(content)
-        self.write(text)
-        self.tell([f"index: {content.len()} entries, {len(text)} bytes"])
+        try:
+            entries = index_stream(source, self.push)
+        except Fault as fault:
+            raise CommandFault("archive 0", fault.text) from None
+        self.out.place()
+        self.tell([f"index: {entries} entries, {len(self.out.data)} bytes"])
         return 0
 
     @takes("archive summary out")

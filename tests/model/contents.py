@@ -1,18 +1,17 @@
-"""The content of archives, and the texts of archives, operations, summaries and indexes, told a second time. Archives
+"""The content of archives, and the texts of archives, operations and summaries, told a second time. Archives
 of both versions are read, and version 2 is written: what the retirements of version 1 cover is dropped."""
 import struct
 from functools import lru_cache
-from typing import Callable, Collection, Dict, Iterable, List, Optional, Sequence, Set, Tuple
+from typing import Callable, Collection, Dict, Iterable, List, Optional, Set, Tuple
 
 from .images import U32_MAX, Image, image_of, sha, slice_of
 
 OLD_ARCHIVE, ARCHIVE = b"MSYMARC1", b"MSYMARC2"
 ARCHIVES = [OLD_ARCHIVE, ARCHIVE]
-OPS, SUM, IDX = b"MSYMOPS1", b"MSYMSUM1", b"MSYMIDX1"
+OPS, SUM = b"MSYMOPS1", b"MSYMSUM1"
 # The tags of records, and how long the head of each is in a text.
 RETIREMENT, ADMISSION, END = 1, 2, 3
 HEADS = {"archive": {1: 57, 2: 33, 3: 9}, "ops": {1: 57, 2: 33}, "summary": {1: 57, 2: 57, 3: 9}}
-ENTRY_LEN = 74
 
 Write = Callable[[bytes], None]
 
@@ -111,21 +110,6 @@ def summary_text(entries: Collection[bytes]) -> bytes:
     return SUM + b"".join(sorted(entries)) + end_record(len(entries))
 
 
-def index_text(content: Content) -> bytes:
-    """Of each record its entry, whether it is a companion's, and where it stands in the text of version 2."""
-    entries, at = [], 8
-    for record in content.records():
-        entries.append(placed_entry(record, at))
-        at += len(record)
-    return IDX + b"".join(sorted(entries)) + end_record(len(entries))
-
-
-def placed_entry(record: bytes, at: int) -> bytes:
-    """The entry of a record that stands at this place."""
-    is_companion = record[0] == ADMISSION and image_of(record[33:]).is_dsym
-    return entry_of(record) + bytes([is_companion]) + struct.pack(">QQ", at, len(record))
-
-
 # ---- readers
 
 
@@ -141,7 +125,7 @@ class Source:
     """First bytes of a file, which fails where it gave so many."""
 
     def __init__(self, data: bytes, fails_after: Optional[int] = None) -> None:
-        self.data, self.pos = data, 0
+        self.data, self.pos, self.limit = data, 0, fails_after
         self.fails = fails_after is not None and fails_after <= len(data)
         self.end = fails_after if fails_after is not None and self.fails else len(data)
 
@@ -271,116 +255,6 @@ def read_summary(source: Source) -> Set[bytes]:
 
 def archive_of(b: bytes) -> Content:
     return read_archive(Source(b))
-
-
-# ---- indexes
-
-
-def read_index(source: Source) -> List[bytes]:
-    """The entries of an index, which is read to its end before it is looked at."""
-    data = source.rest()
-    if source.fails:
-        raise Fault("Device", 0)
-    if not IDX.startswith(data[:8]):
-        raise Fault("BadMagic", 0)
-    if len(data) < 8:
-        raise Fault("Truncated", 0)
-    entries: List[bytes] = []
-    at = 8
-    while True:
-        fault = index_fault(data[at:], entries)
-        if fault:
-            raise Fault(fault, at + 9 if fault == "Trailing" else at)
-        if data[at] == END:
-            return entries
-        entries.append(data[at : at + ENTRY_LEN])
-        at += ENTRY_LEN
-
-
-def index_fault(rest: bytes, entries: Sequence[bytes]) -> Optional[str]:
-    """What is wrong with the entry or the end record that stands first, after these entries."""
-    if not rest:
-        return "Truncated"
-    if rest[0] == END:
-        if len(rest) < 9:
-            return "Truncated"
-        return "BadCount" if rest[:9] != end_record(len(entries)) else "Trailing" if len(rest) > 9 else None
-    if rest[0] not in (RETIREMENT, ADMISSION):
-        return "BadTag"
-    if len(rest) < ENTRY_LEN:
-        return "Truncated"
-    if rest[57] not in ((0,) if rest[0] == RETIREMENT else (0, 1)):
-        return "BadKind"
-    length = int.from_bytes(rest[66:74], "big")
-    if not (length == 57 if rest[0] == RETIREMENT else 33 <= length <= 33 + U32_MAX):
-        return "BadLength"
-    return "NotAscending" if entries and rest[:ENTRY_LEN] <= entries[-1] else None
-
-
-class Placed:
-    """The bytes of a file, from any place, which fails once it gave so many."""
-
-    def __init__(self, source: Source) -> None:
-        self.data, self.left = source.data, source.end if source.fails else 1 << 62
-
-    def size(self) -> int:
-        if self.left == 0:
-            raise Fault("Device", 0)
-        return len(self.data)
-
-    def take(self, at: int, count: int) -> bytes:
-        if self.left < count or self.left == 0:
-            raise Fault("Device", 0)
-        self.left -= count
-        return self.data[at : at + count]
-
-
-class Stale(Exception):
-    """The index is of another archive: of another length, or for what stands at the place of this entry."""
-
-    def __init__(self, number: Optional[int] = None) -> None:
-        super().__init__(number)
-        self.text = "Stale" if number is None else f"Stale at entry {number}"
-
-
-def test_length(entries: Iterable[bytes], placed: Placed) -> None:
-    if placed.size() != 17 + sum(int.from_bytes(it[66:], "big") for it in entries):
-        raise Stale
-
-
-def record_at(entry: bytes, placed: Placed) -> Optional[bytes]:
-    """The record that an entry names, or None where no such stands at its place."""
-    if entry[0] == RETIREMENT:
-        return entry[:57]
-    at, length = struct.unpack(">QQ", entry[58:])
-    if at + length > placed.size():
-        return None
-    record = placed.take(at, length)
-    if record[0] != ADMISSION or int.from_bytes(record[25:33], "big") != length - 33:
-        return None
-    found = slice_of(record[33:])
-    is_its = isinstance(found, Image) and found.key == record[1:25] and placed_entry(record, at) == entry
-    return record if is_its else None
-
-
-def part_at(entries: Iterable[bytes], placed: Placed, front: bytes) -> Content:
-    """The content of the records under a front, at the places that the entries name, if the length was compared."""
-    made = Content()
-    for number, entry in enumerate(entries):
-        if entry[1 : 1 + len(front)] == front:
-            record = record_at(entry, placed)
-            if record is None:
-                raise Stale(number)
-            made.take(record)
-    return made
-
-
-def parts_at(entries: Sequence[bytes], placed: Placed, fronts: Iterable[bytes]) -> Content:
-    """The join of those of several fronts."""
-    made = Content()
-    for front in fronts:
-        made.join(part_at(entries, placed, front))
-    return made
 
 
 # ---- merges

@@ -2,7 +2,8 @@
 like."""
 from typing import Callable, Dict, List, Optional, Protocol, Sequence, Tuple
 
-from .contents import ARCHIVES, IDX, OPS, SUM
+from .contents import ARCHIVES, OPS, SUM
+from .indexes import IDX
 from .lines import address_word, arch_word, digest_word, is_hex, uuid_word
 from .plans import Plan
 
@@ -153,6 +154,8 @@ def what_is_wrong(place: str, text: str, there: Optional[bytes], obstacle: Optio
         return NO_SPACE
     if text == "cannot create" and there is not None:
         return ", the file of an input"
+    if text in ("NoArchive", "NoIndex"):
+        return ""
     if there is None or text in ("cannot create", "cannot open"):
         return NO_FILE
     if text == "OldArchive":
@@ -161,6 +164,8 @@ def what_is_wrong(place: str, text: str, there: Optional[bytes], obstacle: Optio
         return ", not of this archive, of which `index` writes a new one"
     if text.startswith("Stale at entry"):
         return ", of an archive in which a slice changed since it came in: run `symarch-keep check` first"
+    if text.startswith("Damaged at entry"):
+        return ", changed since it was written: `index` writes a new one"
     if place in ("frames", "script"):
         return faulty_line(text, there)
     look = look_of(there)

@@ -55,12 +55,23 @@ class Image:
         self.is_dsym = le(b, 12, 4) == MH_DSYM
         self.made_tables: Optional[Tables] = None
 
+    def strings(self) -> bytes:
+        """The string table."""
+        if not self.symtab:
+            return b""
+        _, _, stroff, strsize = self.symtab
+        return self.bytes[stroff : stroff + strsize]
+
     def candidates(self) -> List[Candidate]:
-        found: List[Candidate] = []
+        return [candidate for candidate, _ in self.placed_candidates()]
+
+    def placed_candidates(self) -> List[Tuple[Candidate, int]]:
+        """The entries that are candidates, each with the place of its name in the string table."""
+        found: List[Tuple[Candidate, int]] = []
         if not self.symtab:
             return found
-        symoff, nsyms, stroff, strsize = self.symtab
-        strings = self.bytes[stroff : stroff + strsize]
+        symoff, nsyms, _, strsize = self.symtab
+        strings = self.strings()
         for number in range(nsyms):
             at = symoff + 16 * number
             strx, typ, sect = le(self.bytes, at, 4), self.bytes[at + 4], self.bytes[at + 5]
@@ -75,7 +86,7 @@ class Image:
             end = strings.find(b"\0", strx)
             name = strings[strx:] if end < 0 else strings[strx:end]
             if name:
-                found.append(Candidate(value, bool(typ & 1), name, sect))
+                found.append((Candidate(value, bool(typ & 1), name, sect), strx))
         return found
 
     def tables(self) -> Tables:

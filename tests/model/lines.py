@@ -6,7 +6,8 @@ from typing import List, Optional, Sequence, Set, Tuple
 
 from .contents import RETIREMENT, Content
 from .dwarf_frames import Frame, frames_of
-from .images import Candidate, Image, image_of, sha
+from .images import Image, image_of, sha
+from .tables import Table
 
 ARCHS = {(0x01000007, 3): "x86_64", (0x01000007, 8): "x86_64h", (0x0100000C, 0): "arm64", (0x0100000C, 2): "arm64e"}
 HEX = set("0123456789abcdefABCDEF")
@@ -14,6 +15,10 @@ AT = re.compile(" (?=at( |$))")
 
 # A key, what stands under it, and its digest.
 Row = Tuple[bytes, str, bytes]
+# The lines of an answer, and whether it is one symbol.
+Answer = Tuple[List[str], bool]
+# The digest of a slice, what it tells of an address, and its source lines.
+Told = Tuple[bytes, str, List[str]]
 
 
 def uuid_text(b: bytes) -> str:
@@ -38,9 +43,13 @@ def address_text(address: int) -> str:
     return f"0x{address:016x}"
 
 
+def names_text(segment: bytes, section: bytes) -> str:
+    return f"({escaped(segment)},{escaped(section)})"
+
+
 def section_text(image: Image, sect: int) -> str:
     section = image.sections[sect - 1]
-    return f"({escaped(section.segment)},{escaped(section.name)})"
+    return names_text(section.segment, section.name)
 
 
 # ---- what is in an archive
@@ -81,26 +90,33 @@ def find_lines(rows: Sequence[Row], whole: bool) -> List[str]:
 # ---- answers
 
 
-def own(image: Image, address: int, load: Optional[int]) -> Tuple[Optional[Candidate], int]:
-    """The symbol of an address in an image, and the address of the file that it stands for."""
+def moved(base: Optional[int], address: int, load: Optional[int]) -> Optional[int]:
+    """The address of a file that an address of memory stands for, by the address of __TEXT; None if there is none."""
     if load is None:
-        return image.nearest(address), address
-    if image.base is None:
-        return None, address
-    moved = address - load + image.base
-    return (image.nearest(moved), moved) if 0 <= moved < 1 << 64 else (None, address)
+        return address
+    place = None if base is None else address - load + base
+    return place if place is not None and 0 <= place < 1 << 64 else None
 
 
-def is_of_file(image: Image, address: int, load: Optional[int]) -> bool:
-    """Whether an address of memory stands for one of the image's file."""
-    return load is None or image.base is not None and 0 <= address - load + image.base < 1 << 64
+def symbol_text(name: bytes, offset: int, section: str) -> str:
+    return f"{escaped(name)} + {offset} {section}"
 
 
 def answer_text(image: Image, address: int, load: Optional[int]) -> str:
-    found, moved = own(image, address, load)
-    if found is None:
+    place = moved(image.base, address, load)
+    found = None if place is None else image.nearest(place)
+    if place is None or found is None:
         return "-"
-    return f"{escaped(found.name)} + {moved - found.value} {section_text(image, found.sect)}"
+    return symbol_text(found.name, place - found.value, section_text(image, found.sect))
+
+
+def table_text(table: Table, address: int, load: Optional[int]) -> str:
+    """The same by a table. One that no slice has may name a symbol above the address."""
+    place = moved(table.base, address, load)
+    found = None if place is None else table.nearest(place)
+    if place is None or found is None:
+        return "-"
+    return symbol_text(found.name, max(0, place - found.value), names_text(found.segment, found.section))
 
 
 def frame_line(frame: Frame) -> str:
@@ -111,26 +127,29 @@ def frame_line(frame: Frame) -> str:
 
 
 def frame_lines(image: Image, address: int, load: Optional[int]) -> List[str]:
-    if not is_of_file(image, address, load):
-        return []
-    return [frame_line(it) for it in frames_of(image.bytes, own(image, address, load)[1])]
+    place = moved(image.base, address, load)
+    return [] if place is None else [frame_line(it) for it in frames_of(image.bytes, place)]
 
 
 def answer_lines(
     images: Sequence[Image], address: int, load: Optional[int] = None, with_frames: bool = False
-) -> Tuple[List[str], bool]:
-    """The lines of an address, with those of its frames after each slice's if they are asked for; and whether its
-    answer is one symbol."""
-    shown = address_text(address)
-    if not images:
-        return [f"{shown} ?"], False
-    texts = [answer_text(it, address, load) for it in images]
+) -> Answer:
+    """The lines of an address, with those of its frames after each slice's if they are asked for."""
     frames = [frame_lines(it, address, load) if with_frames else [] for it in images]
-    if len(images) == 1:
-        return [f"{shown} {texts[0]}", *frames[0]], texts[0] != "-"
-    several = [f"  {sha(it.bytes).hex()} {text}" for it, text in zip(images, texts)]
-    lines = [line for front, those in zip(several, frames) for line in (front, *those)]
-    return [f"{shown} !{len(images)}", *lines], False
+    own = [(sha(it.bytes), answer_text(it, address, load), those) for it, those in zip(images, frames)]
+    return told_lines(address, own)
+
+
+def told_lines(address: int, own: Sequence[Told]) -> Answer:
+    """The same of what each slice tells: its digest, the text of its symbol, and the lines of frames."""
+    shown = address_text(address)
+    if not own:
+        return [f"{shown} ?"], False
+    if len(own) == 1:
+        _, text, frames = own[0]
+        return [f"{shown} {text}", *frames], text != "-"
+    lines = [line for digest, text, frames in own for line in (f"  {digest.hex()} {text}", *frames)]
+    return [f"{shown} !{len(own)}", *lines], False
 
 
 def name_lines(content: Content, name: bytes) -> List[str]:

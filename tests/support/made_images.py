@@ -5,6 +5,8 @@ import struct
 import uuid
 from typing import Dict, Iterable, Iterator, List, Optional, Sequence, Tuple
 
+from ..model.indexes import entries_in, index_of
+
 Arch = Tuple[int, int]
 X86_64, X86_64H = (0x01000007, 3), (0x01000007, 8)
 ARM64, ARM64E, ARM64_32 = (0x0100000C, 0), (0x0100000C, 0x80000002), (0x0200000C, 1)
@@ -143,16 +145,9 @@ def index(images: Iterable[bytes]) -> bytes:
     return index_of(archive(images))
 
 
-def index_of(text: bytes) -> bytes:
-    """The index of an archive."""
-    entries, place = [], 8
-    for record in records_in(text):
-        is_slice = record[0] == 2
-        entry = b"\x02" + record[1:25] + hashlib.sha256(record[33:]).digest() if is_slice else record
-        is_companion = is_slice and record[45:49] == b"\x0a\0\0\0"
-        entries.append(entry + struct.pack(">BQQ", is_companion, place, len(record)))
-        place += len(record)
-    return b"".join(pieces_of_archive(sorted(entries), b"MSYMIDX1"))
+def index_without_tables(text: bytes) -> bytes:
+    """The index of an archive as it was before it had tables: the first 74 bytes of each entry, and a number."""
+    return b"".join(pieces_of_archive((entry[:74] for entry in entries_in(index_of(text))), b"MSYMIDX1"))
 
 
 def digest_of(made: bytes) -> str:

@@ -40,9 +40,9 @@ sys.exit(main())
 # The tool that the environment variable KEEP names, or else that of this tree.
 keep = os.environ.get("KEEP") or compiled()
 # What stays beside an archive.
-INDEXES = ("idx", "idx.sum", "today.idx", "today.idx.sum")
+INDEXES = ("idx", "today.idx")
 BESIDE = ("lock", "log", *INDEXES, "today", "asked", "site", "lost", "builds", "signers", "changed")
-LEVEL = re.compile(r"\.[1-9][0-9]?(\.idx(\.sum)?)?")
+LEVEL = re.compile(r"\.[1-9][0-9]?(\.idx)?")
 
 
 def levelled(folder: pathlib.Path) -> str:

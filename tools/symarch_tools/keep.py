@@ -32,8 +32,8 @@ and `path_hex`, which is null otherwise, has all of them in hex digits. The line
   passed_over                     of `add`, as standard error names it: path, path_hex, part, why
   build                           of `list`: day, app, version, build, name, uuid, arch, bytes, dsym
   changed, lost, damaged, unknown
-                                  of `check`: record, uuid, arch, digest, at, path, path_hex. The record is `slice` or
-                                  `retirement`, or null, as of a file or of its first and last bytes
+                                  of `check`: record, uuid, arch, digest, at, path, path_hex. The record is `slice`,
+                                  `retirement` or `table`, or null, as of a file or of its first and last bytes
   end                             the last one, without which some are missing: status, faults, which is what standard
                                   error says is wrong, and of `add` added, known, retired, refused, passed_over, which
                                   has the number of each kind, made, dry_run; of `list` builds; of `check` slices,
@@ -49,8 +49,8 @@ leaves the old one or the new one. One of them works at a time, by a lock on the
 wait, but for those that ask. The new file is written in a folder ARCHIVE.making-*, so the disk needs room for it. What
 a kill leaves the next call removes.
 
-Beside each stands its index, as ARCHIVE.idx and ARCHIVE.today.idx, with the SHA-256 of each slice as it came in and
-where it stands; and, as ARCHIVE.idx.sum, the SHA-256 of that. There are also ARCHIVE.builds, the names of builds;
+Beside each stands its index, as ARCHIVE.idx and ARCHIVE.today.idx, with the SHA-256 of each slice as it came in, where
+it stands, and the table by which its symbols are found. There are also ARCHIVE.builds, the names of builds;
 ARCHIVE.log, the lines of the words with their dates; ARCHIVE.asked, what `exchange` asked with; ARCHIVE.site, which
 tells this site from another one of its name; ARCHIVE.signers, if it signs; ARCHIVE.lost, what was there and is not, if
 there is such; and ARCHIVE.changed, what `check` found, until that is mended. Keep them with ARCHIVE. An archive of

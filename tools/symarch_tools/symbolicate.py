@@ -102,15 +102,18 @@ Several archives are asked as their join, as `symarch merge` writes it: each las
 ARCHIVE.today and the levels ARCHIVE.1, ARCHIVE.2 and so on, if `symarch-keep` has such beside an archive, are asked
 too, and have to be archives.
 
-If an index stands beside an archive, as ARCHIVE.idx, the archive is read by it, and each name that is printed is one
+If an index stands beside an archive, as ARCHIVE.idx, the archive is asked by it, and each name that is printed is one
 that the index vouches for:
 
-- a slice that has another SHA-256 than the index says answers nothing. Standard error says
+- a slice whose table in the index changed answers nothing, and where lines of the source are printed one that has
+  another SHA-256 than the index says. Standard error says
   `UUID ARCH changed since it came in: run symarch-keep check ARCHIVE`, the other images are named, and the status is 2;
 - an archive that was written since, so that it has another length than the index says, is refused, and so is an index
-  that is damaged: nothing is printed, and the status is 2.
+  that is damaged: nothing is printed, and the status is 2. An index that `symarch-keep` is about to put in place is
+  waited for.
 
-An archive without an index answers by itself, and nothing vouches for its bytes.
+Of an archive without an index beside others that have one an index is made in a folder for temporary files. If none has
+one, they answer by themselves, and nothing vouches for their bytes.
 
 The program is called by `frames`, once for all reports unless a slice changed. It is the one that the environment
 variable SYMARCH names; else the one that ./symarch built, or that was installed with this tool; else `symarch` in PATH.

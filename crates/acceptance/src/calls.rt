@@ -49,6 +49,7 @@ impl<'t> Task<'t> {
                 | Plan::Retire { .. }
                 | Plan::Merge { .. }
                 | Plan::Migrate { .. }
+                | Plan::Index
                 | Plan::Apply { .. }
                 | Plan::Delta { .. } => true,
                 _ => false,

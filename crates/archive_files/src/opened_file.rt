@@ -57,7 +57,7 @@ impl<R: Read + Drop> OpenedFile<R> {
 }
 
 /// Keeps bytes that come behind so many, where they are among the first, and gives how many came then.
-fn keep(front: &mut Front, read: usize, bytes: &[u8]) -> usize {
+pub(crate) fn keep(front: &mut Front, read: usize, bytes: &[u8]) -> usize {
     if read >= FRONT_LEN {
         return read;
     }

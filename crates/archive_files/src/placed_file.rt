@@ -3,6 +3,7 @@
 ghost use Rattle.std.specs.Prelude.{◌≡◌, ◌∷◌, []};
 
 use crate::call_log::CallLog;
+use crate::opened_file::{FRONT_LEN, Front, keep};
 use byte_device::Failed;
 use placed_bytes::{Placed, Placing};
 use std::io::{self, Read, Seek};
@@ -13,6 +14,8 @@ pub struct PlacedFile<R> {
     placing: Placing<R>,
     // Its path, which only clauses read.
     at: CallLog,
+    // Its first bytes, once they were taken.
+    front: Front,
 }
 
 impl<R: Read + Seek + Drop> PlacedFile<R> {
@@ -25,7 +28,13 @@ impl<R: Read + Seek + Drop> PlacedFile<R> {
         PlacedFile {
             placing: Placing::new(reader),
             at,
+            front: [0; FRONT_LEN],
         }
+    }
+
+    /// Its first bytes, if they were taken; else zeros.
+    pub fn front(&self) -> Front {
+        self.front
     }
 
     /// Why it could not be read, if it could not.
@@ -40,7 +49,15 @@ impl<R: Read + Seek + Drop> Placed for PlacedFile<R> {
     ghost failures = { λ file. ⟦<Placing<R> as Placed>⟧.failures file.placing };
 
     fn take_at(&mut self, at: u64, buf: &mut [u8]) -> Result<usize, Failed> {
-        self.placing.take_at(at, buf)
+        match self.placing.take_at(at, buf) {
+            Ok(count) => {
+                if at < FRONT_LEN as u64 {
+                    keep(&mut self.front, at as usize, &buf[..count]);
+                }
+                Ok(count)
+            }
+            Err(Failed) => Err(Failed),
+        }
     }
 
     fn size(&mut self) -> Result<u64, Failed> {

@@ -1,23 +1,21 @@
 -- Entries that ascend, and the set of them.
-use Rattle.std.proofs.Common.{◌≡◌, ℕ, true, List, [], ◌∷◌, ◌++◌, length, refl, sym, ap, ◌∙◌, arith}
+use Rattle.std.proofs.Common.{◌≡◌, ℕ, true, List, [], ◌∷◌, refl, sym, ap, ◌∙◌, arith}
 use Rattle.std.specs.Ordering.{is_lt}
 use Rattle.std.specs.declared.cmp.Ordering.{Ordering}
 use Rattle.std.specs.declared.cmp.Ordering.TheVariants.{Less}
 use Rattle.std.specs.Cmp.Lexicographic.{nat_list_cmp_total}
-use Rattle.std.specs.List.{AllByRecursion, concat}
+use Rattle.std.specs.List.{AllByRecursion}
 use Rattle.std.specs.List.Sorted.{IsStrictlySortedBy}
 use Rattle.std.specs.FinSet as set
 use Rattle.std.proofs.lemmas.List.Elements.{All-from_recursion, recursion_from_All, All-weaker}
 use Rattle.join_core.specs.Listing.{listing}
-use Rattle.join_core.proofs.Listing.{any_listing, listed, listing_ascending}
+use Rattle.join_core.proofs.Listing.{any_listing, listed}
 use Rattle.archive_core.specs.Summary.{Entries}
-use Rattle.archive_records.specs.Text.{end_record}
-use Rattle.archive_records.proofs.Puts.{bytes_same, length_written}
+use Rattle.archive_records.proofs.Puts.{bytes_same}
 use Rattle.archive_records.proofs.Contents.{order, along}
 use Rattle.archive_index.specs.Entry.{IsPlacedEntry}
 use Rattle.archive_index.specs.Index.{AreIndexEntries, AreIndexed}
-use Rattle.archive_index.specs.Text.{AreAscending, IsIndexWhole, index_magic, index_text}
-use Rattle.archive_index.proofs.Kept.{are_listed}
+use Rattle.archive_index.specs.Text.{AreAscending}
 
 along_list : (P Q : List ℕ → Type 0) → ((x : List ℕ) → P x → Q x) → (xs : List (List ℕ)) → AllByRecursion P xs → AllByRecursion Q xs
 along_list P Q f xs h = recursion_from_All Q xs (All-weaker P Q f xs (All-from_recursion P xs h))
@@ -56,18 +54,3 @@ pub ascending_members : (s : Entries) → AreIndexEntries s → AreAscending [] 
 ascending_members s are =
     let each : AllByRecursion IsPlacedEntry (listing s) = along IsPlacedEntry (listing s) (λ q e. are q (sym (any_listing nat_list_cmp_total s q) ∙ e)) in
     ascending_sorted [] (listing s) each (along_list IsPlacedEntry (λ y. order [] y ≡ Less) above_empty (listing s) each) (listed nat_list_cmp_total bytes_same s).ascending
-
--- entries that ascend are the members of their set, in their order
-pub listing_is : (xs : List (List ℕ)) → AreAscending [] xs → listing (set.from_list {R = order} xs) ≡ xs
-listing_is xs a = listing_ascending nat_list_cmp_total bytes_same xs (sorted_entries [] xs a).1
-
-pub entries_of : (xs : List (List ℕ)) → AreAscending [] xs → AreIndexEntries (set.from_list xs)
-entries_of xs a = are_listed xs (entries_are [] xs a)
-
--- the text of a set is that of its members
-pub text_of_listing : (s : Entries) → index_text s ≡ index_magic ++ (concat (listing s) ++ end_record (length (listing s)))
-unfolding index_text
-text_of_listing s = ap (λ n. index_magic ++ (concat (listing s) ++ end_record n)) (sym (length_written s))
-
-pub whole_text : (text : List ℕ) (xs : List (List ℕ)) → IsIndexWhole text xs → text ≡ index_text (set.from_list xs)
-whole_text text xs w = w.whole ∙ ap (λ (ys : List (List ℕ)). index_magic ++ (concat ys ++ end_record (length ys))) (sym (listing_is xs w.ordered)) ∙ sym (text_of_listing (set.from_list xs))

@@ -1,15 +1,11 @@
 pub mod Kept
 pub mod Texts
 pub mod Ascending
-pub mod Fronts
-pub mod Faults
 pub mod Placed
 pub mod Sums
 pub mod Named
 pub mod Summarised
 pub mod Entries
-pub mod Steps
 pub mod Made
 pub mod Versions
-pub mod Read
 pub mod Blamed

@@ -1,38 +1,25 @@
--- An index that is made of the records of an archive that was read.
-use Rattle.std.proofs.Common.{◌≡◌, ℕ, ◌≤◌, List, [], ◌++◌, length, take, map, Option, Some, None, Err, refl, sym, ap, ◌∙◌, subst, inl, inr, arith, length-take}
+-- An archive of which an index is made: its magic, its whole text, and why there is no index.
+use Rattle.std.proofs.Common.{◌≡◌, ℕ, ◌≤◌, List, [], ◌++◌, length, take, Option, Some, None, Err, refl, sym, ap, ◌∙◌, subst, inl, inr, arith, length-take}
 use Rattle.std.specs.Prelude.{IfSome}
-use Rattle.std.specs.List.{concat, AllByRecursion}
-use Rattle.std.specs.FinSet as set
+use Rattle.std.specs.List.{concat}
 use Rattle.std.specs.Io.KnownBytes.{Consumes, IsAtEnd}
-use Rattle.std.specs.Cmp.Lexicographic.{nat_list_cmp_total}
 use Rattle.std.proofs.lemmas.List.{append-nil, take_all}
-use Rattle.join_core.specs.Listing.{listing}
-use Rattle.join_core.proofs.Listing.{listing_ascending}
-use Rattle.archive_core.specs.Content.{Operations}
 use Rattle.archive_records.specs.declared.fault.RecordFaultKind.TheVariants.{OutOfMemory, Truncated}
 use Rattle.archive_records.specs.declared.format.Format.{Format}
 use Rattle.archive_records.specs.declared.format.Format.TheVariants.{Archive}
 use Rattle.archive_records.specs.declared.kind.TextKind.TheVariants.{Archive as Archive_text}
 use Rattle.archive_records.specs.Kind.{kind_of, magic, magic_of, archive_format}
-use Rattle.archive_records.specs.Text.{written, text_of}
-use Rattle.archive_records.specs.Reading.{IsReadWhole}
-use Rattle.archive_records.specs.Reader.{Position, HasRead, HasStopped, set_of}
-use Rattle.archive_records.proofs.Puts.{bytes_same}
+use Rattle.archive_records.specs.Reader.{Position, HasRead, HasStopped}
 use Rattle.archive_records.proofs.Apart.{apart_none}
-use Rattle.archive_records.proofs.Contents.{sorted-InOrder, written-records}
 use Rattle.archive_records.proofs.Formats.{format_magic}
-use Rattle.archive_records.proofs.Inputs.{IsReadTo, read_whole, refused as record_refused}
+use Rattle.archive_records.proofs.Inputs.{refused as record_refused}
 use Rattle.archive_records.proofs.Undecided.{cut_off}
 use Rattle.archive_records.specs.Fault.{next}
 use Rattle.archive_records.specs.Layout.{framed}
-use Rattle.archive_index.specs.declared.entry.PlacedEntry.{PlacedEntry}
 use Rattle.archive_index.specs.declared.fault.IndexingFault.{IndexingFault}
 use Rattle.archive_index.specs.declared.fault.IndexingFault.TheVariants.{Archive as Archive_fault, OldArchive, TooLong}
-use Rattle.archive_index.specs.Entry.{IsPlacedEntry, placed_bytes}
-use Rattle.archive_index.specs.Index.{index, placed_entries}
-use Rattle.archive_index.specs.InnerMaking.{BlamesIndexing, HasStoppedIndexing, IsPlacedText}
-use Rattle.archive_index.specs.Reading.{IsIndexedWhole, RefusesToIndex}
-use Rattle.archive_index.proofs.Placed.{are_placed}
+use Rattle.archive_index.specs.InnerMaking.{BlamesIndexing, HasStoppedIndexing}
+use Rattle.archive_index.specs.Reading.{RefusesToIndex}
 
 -- ---- the magic
 
@@ -85,38 +72,21 @@ wanted a c taken = inr (
   },
 )
 
--- ---- the index of the content
+-- ---- the whole text
 
-set_records : (a b : Option (List ℕ)) (entries : List PlacedEntry) → (p : IsPlacedText a b entries) → listing (set_of p.records) ≡ p.records
-set_records a b entries p = listing_ascending nat_list_cmp_total bytes_same p.records (sorted-InOrder [] p.records p.ordered).1
-
-pub are_entries : (a b : Option (List ℕ)) (entries : List PlacedEntry) → IsPlacedText a b entries → AllByRecursion IsPlacedEntry (map placed_bytes entries)
-are_entries a b entries p = subst (AllByRecursion IsPlacedEntry) (sym p.placed) (are_placed [] 8 p.records p.ordered)
-
-taken_whole : (a b : Option (List ℕ)) (x : List ℕ) → Consumes a b x → IsAtEnd b → IfSome a (λ t. t ≡ x)
+-- what was taken up to the end is all that there was
+pub taken_whole : (a b : Option (List ℕ)) (x : List ℕ) → Consumes a b x → IsAtEnd b → IfSome a (λ t. t ≡ x)
 taken_whole None b x taken end = tt
 taken_whole (Some t) None x taken end = absurd taken
 taken_whole (Some t) (Some ys) x taken end = taken ∙ ap (λ (r : List ℕ). x ++ r) end ∙ append-nil x
 
-text_along : (a : Option (List ℕ)) (x y : List ℕ) → x ≡ y → IfSome a (λ t. t ≡ x) → IfSome a (λ t. t ≡ y)
+-- the same text
+pub text_along : (a : Option (List ℕ)) (x y : List ℕ) → x ≡ y → IfSome a (λ t. t ≡ x) → IfSome a (λ t. t ≡ y)
 text_along None x y e h = tt
 text_along (Some t) x y e h = h ∙ e
 
 module _ {R : Type 0} (left : R → Option (List ℕ)) (failures : R → ℕ) (old new : R) where
-  pub indexed : (entries : List PlacedEntry) (made : Operations) → IsPlacedText (left old) (left new) entries → IsAtEnd (left new) → failures new ≡ failures old → made ≡ set.from_list (map placed_bytes entries) → IsIndexedWhole left failures old new made
-  unfolding index
-  indexed entries made p end unfailed is =
-      let content = set_of p.records in
-      let read : IsReadTo Archive_text (left old) (left new) content = record { format = Archive; kind_is = refl; records = p.records; few = p.few; taken = p.taken; ordered = p.ordered; apart = p.apart; makes = refl } in
-      let whole : IsReadWhole Archive_text content left failures old new = read_whole Archive_text content left failures old new read end unfailed in
-      record {
-        content = content;
-        whole = whole;
-        text = text_along (left old) (text_of Archive p.records) (written content) (sym (written-records p.records p.ordered)) (taken_whole (left old) (left new) (text_of Archive p.records) p.taken end);
-        is_index = is ∙ ap set.from_list (p.placed ∙ ap (placed_entries 8) (sym (set_records (left old) (left new) entries p)));
-      }
-
-  -- or why there is none
+  -- why there is no index
   pub refused : (fault : IndexingFault) → HasStoppedIndexing (left old) (left new) fault → BlamesIndexing left failures old new fault → RefusesToIndex left failures old new fault
   refused (Archive_fault fault) stopped blames = record_refused Archive_text left failures old new fault stopped blames
   refused OldArchive stopped blames = (stopped, blames)

@@ -1,10 +1,10 @@
 -- The entries of records that stand one after another.
-use Rattle.std.proofs.Common.{◌≡◌, ℕ, ◌+◌, ◌<◌, ◌^◌, Bool, true, cond, ◌&&◌, ◌||◌, eqb, List, [], ◌∷◌, ◌++◌, length, map, take, drop, get_or, sym, ap, ◌∙◌, inl, inr, arith, length-append, nat_le}
+use Rattle.std.proofs.Common.{◌≡◌, ℕ, ◌+◌, ◌<◌, ◌^◌, Bool, true, cond, ◌&&◌, ◌||◌, eqb, List, [], ◌∷◌, ◌++◌, length, take, drop, get_or, sym, ap, ◌∙◌, inl, inr, arith, length-append, nat_le}
 use Rattle.std.specs.Int.{w64, to_be_bytes, from_be_bytes}
-use Rattle.std.specs.List.{concat, AllByRecursion}
+use Rattle.std.specs.List.{AllByRecursion}
 use Rattle.std.proofs.Math.ListN.{get_or-append}
 use Rattle.std.proofs.Math.Seq.{take-append_seam, drop-append_seam, drop-append-add}
-use Rattle.std.proofs.lemmas.List.{map-append, take_all, take_at, get_or_at, drop-drop}
+use Rattle.std.proofs.lemmas.List.{take_all, take_at, get_or_at, drop-drop}
 use Rattle.std.proofs.lemmas.Bool.{le-leb, and_from}
 use Rattle.std.proofs.lemmas.Bool.Decides.{nat_tests}
 use Rattle.std.proofs.lemmas.Nat.{from_be_bytes-to_be_bytes_8}
@@ -18,21 +18,8 @@ use Rattle.archive_records.specs.declared.format.Format.TheVariants.{Archive}
 use Rattle.archive_records.specs.Layout.{largest_slice}
 use Rattle.archive_records.specs.Text.{InOrder}
 use Rattle.archive_records.proofs.SliceFacts.{short_slice}
-use Rattle.archive_index.specs.declared.entry.PlacedEntry.{PlacedEntry}
-use Rattle.archive_index.specs.Entry.{kind_byte, placed_entry, placed_bytes, length_in, offset_in, IsPlacedEntry}
+use Rattle.archive_index.specs.Entry.{kind_byte, placed_entry, length_in, offset_in, IsPlacedEntry}
 use Rattle.archive_index.specs.Index.{placed_entries}
-
--- one record more
-pub placed_push : (k : ℕ) (rs : List (List ℕ)) (r : List ℕ) → placed_entries k (rs ++ r ∷ []) ≡ placed_entries k rs ++ placed_entry (k + length (concat rs)) r ∷ []
-placed_push k [] r = ap (λ (n : ℕ). placed_entry n r ∷ []) (omega arith)
-placed_push k (x ∷ rs) r =
-    ap (λ (es : List (List ℕ)). placed_entry k x ∷ es) (placed_push (k + length x) rs r ∙ ap (λ (n : ℕ). placed_entries (k + length x) rs ++ placed_entry n r ∷ []) (omega (arith, length-append x (concat rs))))
-
--- the entry of one record more
-pub entries_more : (before after : List PlacedEntry) (e : PlacedEntry) (records : List (List ℕ)) (r : List ℕ) (offset : ℕ) → after ≡ before ++ e ∷ [] → placed_bytes e ≡ placed_entry offset r → offset ≡ 8 + length (concat records) → map placed_bytes before ≡ placed_entries 8 records
-    → map placed_bytes after ≡ placed_entries 8 (records ++ r ∷ [])
-entries_more before after e records r offset grown of at are =
-    ap (map placed_bytes) grown ∙ map-append placed_bytes before (e ∷ []) ∙ (λ i. are i ++ (of ∙ ap (λ (n : ℕ). placed_entry n r) at) i ∷ []) ∙ sym (placed_push 8 records r)
 
 -- ---- the parts of an entry
 

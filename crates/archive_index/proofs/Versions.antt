@@ -1,8 +1,7 @@
 -- An archive of version 1 is told by its first eight bytes.
-use Rattle.std.proofs.Common.{◌≡◌, ◌≢◌, ℕ, ◌<◌, ◌≤◌, List, [], ◌++◌, length, get_or, take, Option, Some, None, Err, refl, sym, ap, ◌∙◌, inl, inr, arith, length-take, length-append}
-use Rattle.std.specs.Prelude.{IfSome}
+use Rattle.std.proofs.Common.{◌≡◌, ◌≢◌, ℕ, ◌<◌, List, [], ◌++◌, length, take, Option, Some, None, Err, refl, sym, ap, ◌∙◌, inl, inr, arith, length-take, length-append}
 use Rattle.std.specs.Io.KnownBytes.{Consumes, IsAtEnd}
-use Rattle.std.proofs.lemmas.List.{append-nil, take-append-le, take-take}
+use Rattle.std.proofs.lemmas.List.{take-append-le, take-take}
 use Rattle.archive_records.specs.declared.fault.RecordFaultKind.{RecordFaultKind}
 use Rattle.archive_records.specs.declared.fault.RecordFaultKind.TheVariants.{BadMagic, Truncated}
 use Rattle.archive_records.specs.declared.format.Format.TheVariants.{OldArchive as Old_format}
@@ -15,11 +14,6 @@ use Rattle.archive_index.specs.declared.fault.IndexingFault.{IndexingFault}
 use Rattle.archive_index.specs.declared.fault.IndexingFault.TheVariants.{Archive as Archive_fault, OldArchive, TooLong}
 use Rattle.archive_index.specs.InnerMaking.{MagicTested}
 use Rattle.archive_index.specs.Reading.{TellsVersion}
-
--- the machine is at fault
-pub of_machine : (a : Option (List ℕ)) (kind : RecordFaultKind) → IsOfMachine kind → IfSome a (λ text. take 8 text ≡ old_magic → IsOfMachine kind)
-of_machine None kind is = tt
-of_machine (Some text) kind is = λ _. is
 
 -- the magic of version 1 is no fault of it
 no_fault : (text came left : List ℕ) (kind : RecordFaultKind) → text ≡ came ++ left → (length came < 8 → left ≡ []) → take 8 text ≡ old_magic → IsMagicFault Old_format came kind → ⊥
@@ -43,22 +37,6 @@ tells_version a b came TooLong taken ends tested = absurd tested
 tells_version None b came (Archive_fault fault) taken ends tested = tt
 tells_version (Some text) None came (Archive_fault fault) taken ends tested = absurd taken
 tells_version (Some text) (Some left) came (Archive_fault fault) taken ends tested = stops_old text came left fault.kind taken ends tested.1
-
--- what begins with the magic of version 2 does not begin with that of version 1
-pub newer : (a b : Option (List ℕ)) (rest : List ℕ) → Consumes a b (magic ++ rest) → IfSome a (λ text. take 8 text ≢ old_magic)
-newer None b rest taken = tt
-newer (Some text) None rest taken = absurd taken
-newer (Some text) (Some left) rest taken = λ old.
-    let digit : ℕ = get_or (take 8 text) 7 0 in
-    let one : digit ≡ 0x31 = ap (λ (t : List ℕ). get_or t 7 0) old in
-    let two : digit ≡ 0x32 = ap (λ (t : List ℕ). get_or (take 8 t) 7 0) taken in
-    omega (arith, one, two)
-
-pub newer_version : (a b : Option (List ℕ)) (rest : List ℕ) (fault : IndexingFault) → Consumes a b (magic ++ rest) → TellsVersion a fault
-newer_version a b rest OldArchive taken = tt
-newer_version a b rest TooLong taken = newer a b rest taken
-newer_version None b rest (Archive_fault fault) taken = tt
-newer_version (Some text) b rest (Archive_fault fault) taken = λ old. absurd (newer (Some text) b rest taken old)
 
 -- no test of the magic says that something stands too far
 pub never_long : (came : List ℕ) (fault : IndexingFault) → MagicTested came (Err fault) → fault ≢ TooLong

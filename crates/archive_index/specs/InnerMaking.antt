@@ -1,27 +1,14 @@
--- An archive of which an index is made, record by record: the words of the inner functions. Of the public ones
--- `begin_archive` alone has them.
-use Rattle.std.specs.Prelude.{◌≡◌, ◌≢◌, ℕ, ◌^◌, ◌≤◌, ◌<◌, List, [], length, map, Option, Result, Ok, Err}
+-- An archive of which an index is made: the words of the inner functions. Of the public ones `begin_archive` alone has
+-- them.
+use Rattle.std.specs.Prelude.{◌≡◌, ◌≢◌, ℕ, ◌^◌, ◌≤◌, ◌<◌, List, length, Option, Result, Ok, Err}
 use Rattle.std.specs.Io.KnownBytes.{Consumes}
 use Rattle.archive_records.specs.Kind.{magic, old_magic}
-use Rattle.archive_records.specs.Text.{text_of, InOrder, AreApart}
 use Rattle.archive_records.specs.declared.fault.RecordFaultKind.TheVariants.{Truncated, Device}
-use Rattle.archive_records.specs.Reader.{HasStopped, GathersAll, StopsInMagicOf, Position}
+use Rattle.archive_records.specs.Reader.{HasStopped, StopsInMagicOf}
 use Rattle.archive_records.specs.Reading.{Blames}
-use Rattle.archive_records.specs.declared.format.Format.TheVariants.{Archive}
 use Rattle.archive_records.specs.declared.kind.TextKind.TheVariants.{Archive as Archive_text}
-use Rattle.archive_index.specs.Entry.{placed_bytes}
-use Rattle.archive_index.specs.Index.{placed_entries}
-use Rattle.archive_index.specs.declared.entry.PlacedEntry.{PlacedEntry}
 use Rattle.archive_index.specs.declared.fault.IndexingFault.{IndexingFault}
 use Rattle.archive_index.specs.declared.fault.IndexingFault.TheVariants.{Archive as Archive_fault, OldArchive, TooLong}
-
--- these are the entries of the records, where they stand after the magic
-abbrev pub ArePlaced : List (List ℕ) → List PlacedEntry → Type 0
-ArePlaced records entries = map placed_bytes entries ≡ placed_entries 8 records
-
--- the records up to the end record were read, and these are their entries
-abbrev pub PlacesAll : Option (List ℕ) → Option (List ℕ) → List PlacedEntry → Position → Type 0
-PlacesAll a b entries position = GathersAll Archive ArePlaced a b entries position
 
 -- why reading stopped
 abbrev pub HasStoppedIndexing : Option (List ℕ) → Option (List ℕ) → IndexingFault → Type 0
@@ -34,15 +21,6 @@ abbrev pub BlamesIndexing : {R : Type 0} → (R → Option (List ℕ)) → (R �
 BlamesIndexing left failures old new (Archive_fault fault) = Blames left failures old new fault.kind
 BlamesIndexing left failures old new OldArchive = failures new ≡ failures old
 BlamesIndexing left failures old new TooLong = failures new ≡ failures old
-
--- The text of an archive in version 2 was read, and these are the entries of its records.
-pub record IsPlacedText (a b : Option (List ℕ)) (entries : List PlacedEntry) : Type 0 where
-  pub records : List (List ℕ)
-  pub few : length records < 2 ^ 63
-  pub taken : Consumes a b (text_of Archive records)
-  pub ordered : InOrder Archive [] records
-  pub apart : AreApart Archive records
-  pub placed : ArePlaced records entries
 
 -- what the first bytes of an archive say: which of the magics they are
 abbrev pub MagicTested : List ℕ → Result (Unit {0}) IndexingFault → Type 0

@@ -4,4 +4,3 @@ pub mod Text
 pub mod Reading
 pub mod Places
 pub mod InnerMaking
-pub mod InnerReading

@@ -1,25 +1,20 @@
 //! What a record is, and where it stands.
 
-ghost use Rattle.std.specs.Prelude.{◌≡◌, ◌+◌, ◌≤◌, ◌∷◌, ◌++◌, true, length, slice_index, take, drop};
-ghost use Rattle.std.specs.Int.{w64, to_be_bytes, from_be_bytes};
+ghost use Rattle.std.specs.Prelude.{◌≡◌, ◌∷◌, ◌++◌, length};
+ghost use Rattle.std.specs.Int.{w64, to_be_bytes};
 ghost use Rattle.std.specs.Ordering.{nat_cmp};
 ghost use Rattle.std.specs.Cmp.Lexicographic.{slice_cmp};
 ghost use Rattle.archive_core.specs.Key.{key_bytes};
 ghost use Rattle.archive_core.specs.Record.{lent_bytes};
 ghost use Rattle.archive_reading.specs.InnerRows.{IsRowOf};
-ghost use Rattle.archive_index.specs.Entry.{IsPlacedEntry, dsym_byte, has_kind, has_tag};
-ghost use Rattle.archive_index.specs.Entry.{placed_bytes, placed_entry, tag_byte};
+ghost use Rattle.archive_index.specs.Entry.{dsym_byte, placed_bytes, placed_entry, tag_byte};
 
 use archive_core::{FindRow, FindState, Record};
-use archive_records::{Entry, digest_in, key_in};
-use byteorder::{BigEndian, ByteOrder};
+use archive_records::Entry;
 use std::cmp::Ordering;
 
 /// How long an entry is.
-pub const ENTRY_LEN: usize = 74;
-
-/// The tag of a retirement.
-const RETIREMENT: u8 = 1;
+const ENTRY_LEN: usize = 74;
 
 /// An entry of an index.
 #[derive(Clone, Copy, Debug, PartialEq, Eq)]
@@ -30,32 +25,6 @@ pub struct PlacedEntry {
     pub offset: u64,
     /// How many bytes the record has.
     pub length: u64,
-}
-
-// The number in eight bytes at a place.
-pub(crate) fn number_at(bytes: &[u8], at: usize) -> u64
-    requires { at + 8 ≤ length bytes.now }
-    ensures number { result ≡ from_be_bytes w64 (take 8 (drop at bytes.now)) }
-    ensures bytes { to_be_bytes w64 result ≡ take 8 (drop at bytes.now) }
-{
-    BigEndian::read_u64(&bytes[at..])
-}
-
-// What the tag and the kind of an entry say.
-fn state_in(bytes: &[u8]) -> FindState
-    requires long { 58 ≤ length bytes.now }
-    requires tag { has_tag bytes.now ≡ true }
-    requires kind { has_kind bytes.now ≡ true }
-    ensures tag { tag_byte result ≡ slice_index bytes.now 0 }
-    ensures kind { dsym_byte result ≡ slice_index bytes.now 57 }
-{
-    if bytes[0] == RETIREMENT {
-        FindState::Retired
-    } else if bytes[57] == 0 {
-        FindState::Image
-    } else {
-        FindState::Dsym
-    }
 }
 
 // The entry of a summary that a row has.
@@ -101,22 +70,6 @@ impl PlacedEntry {
             row: FindRow::of(record),
             offset,
             length: size,
-        }
-    }
-
-    // The entry that these bytes are.
-    pub(crate) fn of_bytes(bytes: &[u8]) -> PlacedEntry
-        requires { IsPlacedEntry bytes.now }
-        ensures { placed_bytes result ≡ bytes.now }
-    {
-        PlacedEntry {
-            row: FindRow {
-                key: key_in(bytes),
-                digest: digest_in(bytes),
-                state: state_in(bytes),
-            },
-            offset: number_at(bytes, 58),
-            length: number_at(bytes, 66),
         }
     }
 

@@ -38,21 +38,13 @@ impl Model for Index {
 
 impl Index {
     /// The index of these entries, which may stand in any order, and several times.
-    pub(crate) fn of_entries(entries: Vec<PlacedEntry, Heap>) -> Index
+    pub fn of_entries(entries: Vec<PlacedEntry, Heap>) -> Index
         requires { AllByRecursion IsPlacedEntry (map placed_bytes entries.items) }
         ensures { result ≡ set.from_list (map placed_bytes entries.items) }
     {
         let mut entries = entries;
         entries.sort_unstable_by(|a, b| a.compare(b));
         entries.dedup_by(|a, b| a.compare(b).is_eq());
-        Index { entries }
-    }
-
-    // The index of entries that ascend.
-    pub(crate) fn of_ascending(entries: Vec<PlacedEntry, Heap>) -> Index
-        requires { AreIndexed (map placed_bytes entries.items) }
-        ensures { result ≡ set.from_list (map placed_bytes entries.items) }
-    {
         Index { entries }
     }
 

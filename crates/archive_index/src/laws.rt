@@ -6,12 +6,10 @@ ghost use Rattle.std.specs.FinSet as set;
 ghost use Rattle.join_core.specs.Listing.{listing};
 ghost use Rattle.archive_core.specs.Content.{Operations, IsContent};
 ghost use Rattle.archive_core.specs.Part.{is_under, part};
-ghost use Rattle.archive_core.specs.Summary.{Entries, summary};
+ghost use Rattle.archive_core.specs.Summary.{summary};
 ghost use Rattle.archive_records.specs.Text.{written};
-ghost use Rattle.archive_index.specs.Index.{AreIndexEntries, index};
+ghost use Rattle.archive_index.specs.Index.{index};
 ghost use Rattle.archive_index.specs.Places.{AreNamed, HasIndexedLength, TellsFound};
-ghost use Rattle.archive_index.specs.Text.{IsIndexFault, index_text};
-ghost use Rattle.archive_index.specs.declared.fault.IndexFault.{IndexFault};
 
 /// With the index of the archive whose text this is, what is named under a UUID or a key is what the content has there.
 /// Nothing is supposed of SHA-256.
@@ -36,12 +34,4 @@ pub fn right_length()
 /// The entries of a content's summary are those of its index, without their places.
 pub fn summary_of_the_index()
     ensures { (o : Operations) → IsContent o → summary o ≡ set.from_list (map (take 57) (listing (index o))) }
-{}
-
-/// A text is that of entries or has a fault, never both and never two faults; and it is that of one set of entries.
-pub fn one_index_fault()
-    ensures one { (text : List ℕ) (f g : IndexFault) → IsIndexFault text f → IsIndexFault text g → f ≡ g }
-    ensures none { (s : Entries) (text : List ℕ) (f : IndexFault) → AreIndexEntries s → text ≡ index_text s
-        → IsIndexFault text f → ⊥ }
-    ensures alone { (s t : Entries) → AreIndexEntries s → AreIndexEntries t → index_text s ≡ index_text t → s ≡ t }
 {}

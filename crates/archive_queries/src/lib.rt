@@ -24,5 +24,5 @@ pub use find::{run_find, status_of};
 pub use frames::{answer_frames, run_frames};
 pub use list::run_list;
 pub use name::{NameAnswer, answer_name};
-pub use symbolicate::{answer_each, asked_of, run_symbolicate, status_behind};
+pub use symbolicate::{answer_each, asked_of, places_of, run_symbolicate, status_behind};
 pub use together::{join_part, read_parts};

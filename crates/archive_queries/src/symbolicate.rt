@@ -37,7 +37,11 @@ pub fn status_behind(status: Status, answer: &Answer<'_>) -> Status
 }
 
 /// The places that addresses of the words mean.
-fn places_of(heap: Heap, load: Option<u64>, addresses: &[u64]) -> Result<Vec<Where, Heap>, NoMemory>
+pub fn places_of(
+    heap: Heap,
+    load: Option<u64>,
+    addresses: &[u64],
+) -> Result<Vec<Where, Heap>, NoMemory>
     ensures { IfOk result (λ places. places.items ≡ map (asked_of load) addresses.now) }
 {
     addresses

@@ -1,6 +1,7 @@
 -- The printed texts of the faults of commands.
 use Rattle.std.specs.Prelude.{List, ℕ, ◌++◌, codes, Some, None}
 use Rattle.std.specs.Fmt.{decimal}
+use Rattle.index_faults.specs.Text.{fault_text}
 use Rattle.report_text.specs.Texts.{script_fault_text}
 use Rattle.report_text.specs.Texts.{record_fault_text, take_fault_text}
 use Rattle.command_ends.specs.declared.faults.Place.{Place}
@@ -9,10 +10,7 @@ use Rattle.command_ends.specs.declared.faults.Place.TheVariants.{Frames, Index}
 use Rattle.command_ends.specs.declared.faults.Why.{Why}
 use Rattle.command_ends.specs.declared.faults.Why.TheVariants.{CannotOpen, Device, Record, Take, Script, BadFrame}
 use Rattle.command_ends.specs.declared.faults.Why.TheVariants.{OldArchive, TooLong, Index as IndexFaulty, NoArchive}
-use Rattle.command_ends.specs.declared.faults.Why.TheVariants.{Stale}
-use Rattle.archive_index.specs.declared.fault.IndexFault.{IndexFault}
-use Rattle.archive_index.specs.declared.fault.IndexFaultKind.{IndexFaultKind}
-use Rattle.archive_index.specs.declared.fault.IndexFaultKind.TheVariants as index_is
+use Rattle.command_ends.specs.declared.faults.Why.TheVariants.{Stale, Damaged, NoIndex}
 use Rattle.command_ends.specs.declared.faults.CommandFault.{CommandFault}
 use Rattle.command_ends.specs.declared.faults.CommandFault.TheVariants.{Input, Output, Report, OutOfMemory}
 
@@ -26,23 +24,6 @@ place_text ScriptPlace = codes "script"
 place_text Frames = codes "frames"
 place_text (Index number) = codes "index " ++ decimal number
 
--- the kind of a fault of an index
-unfoldable pub index_fault_kind_text : IndexFaultKind → List ℕ
-index_fault_kind_text index_is.BadMagic = codes "BadMagic"
-index_fault_kind_text index_is.Truncated = codes "Truncated"
-index_fault_kind_text index_is.BadTag = codes "BadTag"
-index_fault_kind_text index_is.BadKind = codes "BadKind"
-index_fault_kind_text index_is.BadLength = codes "BadLength"
-index_fault_kind_text index_is.NotAscending = codes "NotAscending"
-index_fault_kind_text index_is.BadCount = codes "BadCount"
-index_fault_kind_text index_is.Trailing = codes "Trailing"
-index_fault_kind_text index_is.Device = codes "Device"
-index_fault_kind_text index_is.OutOfMemory = codes "OutOfMemory"
-
--- the kind, and the offset of the faulty entry
-unfoldable pub index_fault_text : IndexFault → List ℕ
-index_fault_text fault = index_fault_kind_text fault.kind ++ codes " at " ++ decimal fault.offset
-
 -- what is wrong with an input
 unfoldable pub why_text : Why → List ℕ
 why_text CannotOpen = codes "cannot open"
@@ -53,10 +34,12 @@ why_text (Script fault line _) = script_fault_text fault ++ codes " at line " ++
 why_text (BadFrame line _) = codes "BadFrame at line " ++ decimal line
 why_text OldArchive = codes "OldArchive"
 why_text TooLong = codes "TooLong"
-why_text (IndexFaulty fault) = index_fault_text fault
+why_text (IndexFaulty fault) = fault_text fault
 why_text (Stale None) = codes "Stale"
 why_text (Stale (Some entry)) = codes "Stale at entry " ++ decimal entry
+why_text (Damaged entry) = codes "Damaged at entry " ++ decimal entry
 why_text NoArchive = codes "NoArchive"
+why_text NoIndex = codes "NoIndex"
 
 -- where a device failed: the number of bytes that it had taken
 abbrev pub failed_after : ℕ → List ℕ

@@ -13,7 +13,7 @@ use Rattle.archive_records.specs.declared.kind.TextKind.{TextKind}
 use Rattle.archive_records.specs.declared.kind.TextKind.TheVariants.{Archive as ArchiveFile}
 use Rattle.archive_records.specs.declared.kind.TextKind.TheVariants.{Operations as OperationsFile}
 use Rattle.archive_records.specs.declared.kind.TextKind.TheVariants.{Summary as SummaryFile}
-use Rattle.archive_index.specs.declared.fault.IndexFaultKind.TheVariants.{Device as IndexDevice}
+use Rattle.index_faults.specs.declared.fault.IndexFaultKind.TheVariants.{Device as IndexDevice}
 use Rattle.admission.specs.File.{IsAcceptedFile, IsTakeFault}
 use Rattle.admission.specs.declared.fault.TakeFault.{TakeFault}
 use Rattle.admission.specs.declared.fault.TakeFault.TheVariants.{OutOfMemory as TakeOutOfMemory}
@@ -32,7 +32,7 @@ use Rattle.command_ends.specs.declared.faults.Place.TheVariants.{Frames}
 use Rattle.command_ends.specs.declared.faults.Why.{Why}
 use Rattle.command_ends.specs.declared.faults.Why.TheVariants.{Device as CannotRead, Record, Take, Script as Faulty}
 use Rattle.command_ends.specs.declared.faults.Why.TheVariants.{CannotOpen as NotOpened, BadFrame, OldArchive, TooLong}
-use Rattle.command_ends.specs.declared.faults.Why.TheVariants.{Index as IndexFaulty, NoArchive, Stale}
+use Rattle.command_ends.specs.declared.faults.Why.TheVariants.{Index as IndexFaulty, Damaged, NoArchive, NoIndex, Stale}
 
 -- An input in a call, before it and after it: a reader, or that none was opened. The functions tell what a reader has
 -- left, where that is known, and how often it has failed.
@@ -129,7 +129,9 @@ IsUnread input OldArchive = ⊥
 IsUnread input TooLong = ⊥
 IsUnread input (IndexFaulty _) = ⊥
 IsUnread input (Stale _) = ⊥
+IsUnread input (Damaged _) = ⊥
 IsUnread input NoArchive = ⊥
+IsUnread input NoIndex = ⊥
 
 -- why a script is not carried out: its bytes are not read, or they are and this is wrong with their first faulty
 -- line, which has this flaw
@@ -145,7 +147,9 @@ IsScriptRefused input OldArchive = ⊥
 IsScriptRefused input TooLong = ⊥
 IsScriptRefused input (IndexFaulty _) = ⊥
 IsScriptRefused input (Stale _) = ⊥
+IsScriptRefused input (Damaged _) = ⊥
 IsScriptRefused input NoArchive = ⊥
+IsScriptRefused input NoIndex = ⊥
 
 -- why nothing is told of frames: their bytes are not read, or they are and this is their first faulty line, with its
 -- flaw
@@ -161,7 +165,9 @@ IsFramesRefused input OldArchive = ⊥
 IsFramesRefused input TooLong = ⊥
 IsFramesRefused input (IndexFaulty _) = ⊥
 IsFramesRefused input (Stale _) = ⊥
+IsFramesRefused input (Damaged _) = ⊥
 IsFramesRefused input NoArchive = ⊥
+IsFramesRefused input NoIndex = ⊥
 
 -- The input is an archive's text.
 abbrev pub IsArchive : {S : Type 0} → Reader S → Type 0
@@ -308,7 +314,9 @@ IsDeviceFault OldArchive = ⊥
 IsDeviceFault TooLong = ⊥
 IsDeviceFault (IndexFaulty fault) = fault.kind ≡ IndexDevice
 IsDeviceFault (Stale _) = ⊥
+IsDeviceFault (Damaged _) = ⊥
 IsDeviceFault NoArchive = ⊥
+IsDeviceFault NoIndex = ⊥
 
 -- An archive's text is refused for its device alone.
 abbrev pub RefusesDevicesAlone : {R : Type 0} → (Reader R → Place → Why → Type 0) → Type 0

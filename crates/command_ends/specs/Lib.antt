@@ -1,6 +1,5 @@
 pub mod FaultTexts
 pub mod Inputs
-pub mod Indexes
 pub mod Archives
 pub mod InnerSources
 pub mod Outputs

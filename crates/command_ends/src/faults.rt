@@ -1,10 +1,9 @@
 //! How a command ends, and why one is refused, with the text of each fault.
 
-use crate::index_faults::IndexText;
 use admission::TakeFault;
-use archive_index::IndexFault;
 use archive_records::RecordFault;
 use crash_frames::FrameFlaw;
+use index_faults::IndexFault;
 use rehearsal::{ScriptFault, ScriptFlaw};
 use report_text::Text;
 use std::alloc::{AllocError, AllocFailed};
@@ -70,8 +69,12 @@ pub enum Why {
     /// It is an index of another archive: this one has another length, or at the place of this entry, from 0 on, stands
     /// no record that it names.
     Stale(Option<u64>),
+    /// It is an index whose table for this entry, from 0 on, was changed.
+    Damaged(u64),
     /// It is an index with a number that no archive has.
     NoArchive,
+    /// It is an archive with a number that no index has, though there are indexes.
+    NoIndex,
 }
 
 /// Why a command is refused.
@@ -157,13 +160,12 @@ impl fmt::Display for Why {
             Why::BadFrame { line, .. } => write!(f, "BadFrame at line {line}"),
             Why::OldArchive => f.write_str("OldArchive"),
             Why::TooLong => f.write_str("TooLong"),
-            Why::Index(fault) => {
-                let fault = IndexText(*fault);
-                write!(f, "{fault}")
-            }
+            Why::Index(fault) => write!(f, "{fault}"),
             Why::Stale(None) => f.write_str("Stale"),
             Why::Stale(Some(entry)) => write!(f, "Stale at entry {entry}"),
+            Why::Damaged(entry) => write!(f, "Damaged at entry {entry}"),
             Why::NoArchive => f.write_str("NoArchive"),
+            Why::NoIndex => f.write_str("NoIndex"),
         }
     }
 }

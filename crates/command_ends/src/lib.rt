@@ -3,7 +3,7 @@
 //! A command reads its inputs, each opened beforehand and refused in the order of the words, and writes OUT, as its
 //! first input comes or after all were read. OUT is put in place when it is whole, and after that comes the report.
 //!
-//! - `faults`: how a command ends, and why one is refused; `index_faults`: the text of a fault of an index;
+//! - `faults`: how a command ends, and why one is refused;
 //! - `failures`: the line that the program says where it fails;
 //! - `statuses`: the exit status of what was carried out;
 //! - `sources`: the inputs;
@@ -19,7 +19,6 @@
 
 mod failures;
 mod faults;
-mod index_faults;
 mod outputs;
 mod publishing;
 mod sources;

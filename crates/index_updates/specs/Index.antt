@@ -1,21 +1,24 @@
 -- What `index` makes of an archive.
-use Rattle.std.specs.Prelude.{◌≡◌, ◌++◌, ℕ, List, codes, length, Ok, MatchResult}
+use Rattle.std.specs.Prelude.{◌≡◌, ◌++◌, ℕ, List, [], codes, length, Ok, Err, MatchResult}
 use Rattle.std.specs.Fmt.{decimal}
 use Rattle.std.specs.FinSet as set
+use Rattle.byte_device.specs.Devices.{Stream, stream}
 use Rattle.archive_core.specs.Content.{Operations, IsContent}
-use Rattle.archive_core.specs.Summary.{Entries}
 use Rattle.archive_records.specs.Text.{written}
 use Rattle.archive_records.specs.declared.fault.RecordFaultKind.TheVariants.{OutOfMemory as RecordOutOfMemory}
 use Rattle.archive_records.specs.declared.writing.Sizes.{Sizes}
-use Rattle.archive_index.specs.Index as indexes
-use Rattle.archive_index.specs.Reading.{RefusesToIndex}
-use Rattle.archive_index.specs.Text.{index_text}
 use Rattle.archive_index.specs.declared.fault.IndexingFault.{IndexingFault}
 use Rattle.archive_index.specs.declared.fault.IndexingFault.TheVariants.{Archive as OfArchive, OldArchive, TooLong}
+use Rattle.indexed_tables.specs.Content.{IsIndexOf}
+use Rattle.indexed_tables.specs.Making.{Makes}
+use Rattle.indexed_tables.specs.declared.fault.MakingFault.{MakingFault}
+use Rattle.indexed_tables.specs.declared.fault.MakingFault.TheVariants.{Archive as Refused, Write as Wrote}
 use Rattle.report_text.specs.Report.{line}
-use Rattle.command_ends.specs.Ends.{Command}
-use Rattle.command_ends.specs.Inputs.{Reader, Unfailed, IsUntouched, Holds}
-use Rattle.command_ends.specs.declared.faults.Place.{Place}
+use Rattle.command_ends.specs.Ends.{Streamed}
+use Rattle.command_ends.specs.Inputs.{Reader, IsRefusal, IsUntouched, Unfailed, Holds}
+use Rattle.command_ends.specs.Outputs.{Takes, writer}
+use Rattle.command_ends.specs.declared.faults.CommandFault.{CommandFault}
+use Rattle.command_ends.specs.declared.faults.CommandFault.TheVariants.{Input, Output}
 use Rattle.command_ends.specs.declared.faults.Place.TheVariants.{Archive}
 use Rattle.command_ends.specs.declared.faults.Why.{Why}
 use Rattle.command_ends.specs.declared.faults.Why.TheVariants as why_is
@@ -25,16 +28,9 @@ abbrev pub index_line : Sizes → List ℕ
 index_line sizes = line (codes "index: " ++ decimal sizes.records ++ codes " entries, " ++ decimal sizes.bytes
     ++ codes " bytes")
 
--- the report: the number of entries of the index, and the length of its text
-abbrev pub index_report_of : Entries → List ℕ
-index_report_of made = index_line (record { records = set.len made; bytes = length (index_text made) })
-
--- The input is the text of a content in version 2, and this is its index.
-pub record HoldsIndexed {S : Type 0} (input : Reader S) (made : Entries) : Type 0 where
-  pub content : Operations
-  pub is_content : IsContent content
-  pub text : Holds input (written content)
-  pub is_index : made ≡ indexes.index content
+-- the report of a content's index with this text: an entry for each operation, and the length of the text
+abbrev pub index_report_of : Operations → List ℕ → List ℕ
+index_report_of o text = index_line (record { records = set.len o; bytes = length text })
 
 -- why no index is made, as a command reports it
 abbrev pub why_of : IndexingFault → Why
@@ -48,28 +44,48 @@ WantsMemory (OfArchive fault) = fault.kind ≡ RecordOutOfMemory
 WantsMemory OldArchive = ⊥
 WantsMemory TooLong = ⊥
 
--- ARCHIVE is not indexed: it was not opened; or making an index of it, which leaves it open, is refused for this fault,
--- which is not want of memory
-abbrev pub IsNotIndexed : {S : Type 0} → Reader S → Place → Why → Type 0
-IsNotIndexed {S = S} input at why =
-    (at ≡ Archive 0)
-    × MatchResult input.old
-    (λ source. (after : S) × (input.new ≡ Ok after) × (fault : IndexingFault) × (why ≡ why_of fault)
-    × (WantsMemory fault → ⊥) × RefusesToIndex input.left input.failures source after fault)
-    (λ _. (why ≡ why_is.CannotOpen) × IsUntouched input)
+-- what is told of an archive that is refused so
+abbrev pub TellsRefusal : IndexingFault → CommandFault → Type 0
+TellsRefusal fault told =
+    IsRefusal (λ at why. (at ≡ Archive 0) × (why ≡ why_of fault) × (WantsMemory fault → ⊥)) (WantsMemory fault) told
+
+-- what is told where making an index was stopped so: why the archive is refused, or how many bytes OUT took
+abbrev pub TellsStop : MakingFault → CommandFault → Type 0
+TellsStop (Refused fault) told = TellsRefusal fault told
+TellsStop (Wrote fault) told = told ≡ Output fault.written
+
+-- Making the index of the archive was stopped, and this is told of it. The draft has what making one leaves then.
+pub record StopsMaking {R D : Type 0} (archive : Stream R) (draft : Stream D) (told : CommandFault) : Type 0 where
+  pub stopped : MakingFault
+  pub makes : Makes archive draft (Err stopped)
+  pub tells : TellsStop stopped told
+
+-- The archive was not opened: nothing was read, and nothing was written.
+pub record IsUnopened {R D : Type 0} (archive : Reader R) (draft : Stream D) (told : CommandFault) : Type 0 where
+  pub tells : told ≡ Input (Archive 0) why_is.CannotOpen
+  pub untouched : IsUntouched archive
+  pub unwritten : Takes (writer draft.bytes draft.failures draft.old draft.new) []
+
+-- what stops the command: the archive was not opened, or making its index was stopped, which leaves it open
+abbrev pub StopsIndex : {R D : Type 0} → Reader R → Stream D → CommandFault → Type 0
+StopsIndex {R = R} archive draft told =
+    MatchResult archive.old
+    (λ source. (after : R) × (archive.new ≡ Ok after)
+    × StopsMaking (stream archive.left archive.failures source after) draft told)
+    (λ _. IsUnopened archive draft told)
 
 -- ARCHIVE is the text of a content in version 2; these are the text of its index, and the line with its sizes.
-pub record MakesIndex {S : Type 0} (archive : Reader S) (text told : List ℕ) : Type 0 where
+pub record MakesIndex {R : Type 0} (archive : Reader R) (text told : List ℕ) : Type 0 where
   pub content : Operations
   pub is_content : IsContent content
   pub archive_is : Holds archive (written content)
-  pub text_is : text ≡ index_text (indexes.index content)
-  pub told_is : told ≡ index_report_of (indexes.index content)
+  pub text_is : IsIndexOf content text
+  pub told_is : told ≡ index_report_of content text
 
--- `index`, over this archive
-abbrev pub index : {S : Type 0} → Reader S → Command
-index archive = record {
+-- `index`, over this archive and into this draft
+abbrev pub index : {R D : Type 0} → Reader R → Stream D → Streamed
+index archive draft = record {
   Makes = MakesIndex archive;
-  Refuses = IsNotIndexed archive;
+  Stops = StopsIndex archive draft;
   Unfailed = Unfailed archive;
 }

@@ -1,18 +1,19 @@
-//! ARCHIVE, read and indexed.
-ghost use Rattle.std.specs.Prelude.{◌≡◌};
-ghost use Rattle.command_ends.specs.Inputs.{IsRefusal, Reads, reader};
-ghost use Rattle.command_ends.specs.declared.faults.Place.TheVariants.{Archive};
-ghost use Rattle.index_updates.specs.Index.{HoldsIndexed, IsNotIndexed, WantsMemory, why_of};
+//! ARCHIVE's index, made in OUT's draft as ARCHIVE comes.
+ghost use Rattle.byte_device.specs.Devices.{stream};
+ghost use Rattle.command_ends.specs.Inputs.{reader};
+ghost use Rattle.index_updates.specs.Index.{TellsRefusal, TellsStop};
+ghost use Rattle.index_updates.specs.InnerIndexing.{IndexesAmidst};
 
-use archive_index::{Index, IndexingFault, index_archive};
-use byte_device::{CannotOpen, Source};
+use archive_index::IndexingFault;
+use archive_records::Sizes;
+use byte_device::{CannotOpen, Sink, Source};
 use command_ends::{CommandFault, Place, Why, opened, refusal};
+use indexed_tables::{MakingFault, index_into};
 use memory::Heap;
 
-/// The refusal of an archive of which no index is made.
+/// What is told of an archive that is refused so.
 fn refusal_of(fault: IndexingFault) -> CommandFault
-    ensures { IsRefusal (λ at why. (at ≡ Archive 0) × (why ≡ why_of fault) × (WantsMemory fault → ⊥))
-        (WantsMemory fault) result }
+    ensures { TellsRefusal fault result }
 {
     let at = Place::Archive(0);
     match fault {
@@ -22,16 +23,28 @@ fn refusal_of(fault: IndexingFault) -> CommandFault
     }
 }
 
-/// Reads the archive that is indexed, and gives its index.
-pub fn index_input<R: Source>(
-    heap: Heap,
-    input: &mut Result<R, CannotOpen>,
-) -> Result<Index, CommandFault>
-    ensures { Reads (reader R.left R.failures input.old input.new) result HoldsIndexed IsNotIndexed }
+/// What is told where making an index was stopped so.
+fn stop_of(fault: MakingFault) -> CommandFault
+    ensures { TellsStop fault result }
 {
-    let source = opened(input, Place::Archive(0))?;
-    match index_archive(heap, source) {
-        Ok(made) => Ok(made),
-        Err(fault) => Err(refusal_of(fault)),
+    match fault {
+        MakingFault::Archive(fault) => refusal_of(fault),
+        MakingFault::Write(fault) => CommandFault::Output(fault.written),
+    }
+}
+
+/// Makes the index of the archive in the draft.
+pub fn index_input<R: Source, W: Sink>(
+    heap: &Heap,
+    archive: &mut Result<R, CannotOpen>,
+    draft: &mut W,
+) -> Result<Sizes, CommandFault>
+    ensures { IndexesAmidst (reader R.left R.failures archive.old archive.new)
+        (stream W.held W.failures draft.old draft.new) result }
+{
+    let source = opened(archive, Place::Archive(0))?;
+    match index_into(heap.clone()?, source, draft) {
+        Ok(sizes) => Ok(sizes),
+        Err(fault) => Err(stop_of(fault)),
     }
 }

@@ -1,10 +1,8 @@
-//! The end of the command: OUT, and then the report.
-ghost use Rattle.std.specs.Prelude.{◌≡◌, IfOk, string_bytes};
-ghost use Rattle.archive_index.specs.Text.{index_text};
-ghost use Rattle.command_ends.specs.Outputs.{Publishes, out_of, outs, writer};
-ghost use Rattle.index_updates.specs.Index.{index_line, index_report_of};
+//! The end of the command: OUT, which is put in place, and then the report.
+ghost use Rattle.std.specs.Prelude.{◌≡◌, ℕ, List, IfOk, length, string_bytes};
+ghost use Rattle.command_ends.specs.Outputs.{Publishes, Takes, out_of, outs, writer};
+ghost use Rattle.index_updates.specs.Index.{index_line};
 
-use archive_index::{Index, write_index};
 use archive_records::Sizes;
 use byte_device::Sink;
 use command_ends::{CommandFault, Output, Status, Target, publish_report, put_in_place};
@@ -21,21 +19,21 @@ fn index_line(heap: Heap, sizes: Sizes) -> Result<String<Heap>, NoMemory>
     Ok(text)
 }
 
-/// Writes the index to OUT, puts it in place, and then writes its sizes to the report.
+/// Puts OUT in place, whose draft has taken a whole index with these sizes, and then writes them to the report, which
+/// is made whole before that. What is said is of all that the draft took since it was `start`.
 pub fn publish_index<T: Target, P: Sink>(
     heap: Heap,
-    index: &Index,
+    sizes: Sizes,
     out: &mut Output<T::Draft, T>,
     report: &mut P,
 ) -> Result<Status, CommandFault>
-    ensures { Publishes (out_of (outs T.Draft.held T.Draft.failures T.placed T.failures out.old out.new))
-        (writer P.held P.failures report.old report.new)
-        (index_text index.now) (index_report_of index.now) result }
+    ensures { (start : T.Draft) (text : List ℕ)
+        → Takes (writer T.Draft.held T.Draft.failures start out.old.draft) text
+        → sizes.bytes ≡ length text
+        → Publishes (out_of (outs T.Draft.held T.Draft.failures T.placed T.failures
+        (record { draft = start; target = out.old.target }) out.new))
+        (writer P.held P.failures report.old report.new) text (index_line sizes) result }
 {
-    let sizes = match write_index(index, &mut out.draft) {
-        Ok(sizes) => sizes,
-        Err(fault) => return Err(CommandFault::Output(fault.written)),
-    };
     let text = index_line(heap, sizes)?;
     put_in_place(out, sizes.bytes)?;
     publish_report(Status::Done, &text, report)

@@ -1,30 +1,183 @@
--- What a call says that asks an index, said otherwise.
-use Rattle.std.proofs.Common.{◌∙◌, ◌≡◌, ℕ, List, sym, subst}
-use Rattle.std.specs.Prelude.{Option, Some, Result, Ok, Err, MatchResult}
-use Rattle.indexed_answers.specs.Asking.{Asks, Blames}
+-- What came of asking one entry after another.
+use Rattle.std.proofs.Common.{◌≡◌, ℕ, zero, suc, ◌+◌, ◌<◌, List, [], ◌∷◌, ◌++◌, length, map, take, set, get_or, slice_get, refl, sym, subst, ap, ◌∙◌, arith}
+use Rattle.std.specs.Prelude.{Contains, Option, None, Some, Result, Ok, Err, MatchResult}
+use Rattle.std.specs.List.{AllZip}
+use Rattle.std.specs.Option.{option_map}
+use Rattle.std.proofs.lemmas.List.{map-set, set-get_or}
+use Rattle.std.proofs.lemmas.List.Elements.{All-weaker}
+use Rattle.std.proofs.lemmas.Option.{get_or_from_slice_get, none-some, same_Some, slice_get-get_or, slice_get-map, slice_get_within}
+use Rattle.byte_device.specs.declared.disks.CannotOpen.{CannotOpen}
+use Rattle.archive_core.specs.declared.lookup.Where.{Where}
+use Rattle.table_index.specs.Entry.{claim_in}
+use Rattle.indexed_answers.specs.Among.{EntryAt}
+use Rattle.indexed_answers.specs.AmongAsked.{AreOpened, AsksAmong, BlamesAmong, HasText, HaveTexts, IsOpenedAt, IsUntoldAmong, each_known, known_of}
+use Rattle.indexed_answers.specs.InnerAnswering.{AsksOne, BlamesOne, IsColumnOf, IsUntoldOne}
+use Rattle.indexed_answers.specs.Told.{IsToldBy}
+use Rattle.indexed_answers.specs.Views.{IsColumnAt, told_view}
+use Rattle.indexed_answers.specs.declared.answers.EntryAnswers.{EntryAnswers}
 use Rattle.indexed_answers.specs.declared.fault.AnswerFault.{AnswerFault}
+use Rattle.indexed_answers.specs.declared.fault.AnswerFault.TheVariants.{Damaged, Device, OutOfMemory}
+use Rattle.indexed_answers.proofs.Columns.{zip_more}
 
--- what is told is told otherwise
-pub asked_as : {D T : Type 0} (whole : D → Option (List ℕ)) (failures : D → ℕ) (front : List ℕ) (entries : List (List ℕ)) (old new : D) (value : T) (U : Type 0) (other : U)
-    (A : List ℕ → T → Type 0) (A' : List ℕ → U → Type 0)
-    → ((text : List ℕ) → whole old ≡ Some text → A text value → A' text other) → Asks whole failures front entries old new (Ok value) A → Asks whole failures front entries old new (Ok other) A'
-asked_as whole failures front entries old new value U other A A' to h = record { says = λ text is. to text is (h.says text is); keeps = h.keeps; counts = h.counts }
+-- ---- what is known of the devices
 
--- a refusal is passed on
-pub passed_on : {D T U : Type 0} (whole : D → Option (List ℕ)) (failures : D → ℕ) (front : List ℕ) (entries : List (List ℕ)) (old new : D) (f : AnswerFault) (r : Result T AnswerFault) (s : Result U AnswerFault)
-    (A : List ℕ → T → Type 0) (A' : List ℕ → U → Type 0)
-    → r ≡ Err f → s ≡ Err f → Asks whole failures front entries old new r A → Asks whole failures front entries old new s A'
-passed_on whole failures front entries old new f r s A A' was is h =
-    subst (λ t. Asks whole failures front entries old new t A') (sym is) (of_err (subst (λ t. Asks whole failures front entries old new t A) was h))
+module _ {D V : Type 0} (known : D → V) (devices : List (Result D CannotOpen)) (i : ℕ) (before : D) (is : slice_get devices i ≡ Some (Ok before)) where
+  pub known_at : slice_get (each_known known devices) i ≡ Some (Ok (known before))
+  known_at = slice_get-map (known_of known) devices i ∙ ap (option_map (known_of known)) is
+
+  pub known_set : (after : D) → each_known known (set devices i (Ok after)) ≡ set (each_known known devices) i (Ok (known after))
+  known_set after = map-set (known_of known) devices i (Ok after)
+
+  pub known_kept : (after : D) → known after ≡ known before → each_known known (set devices i (Ok after)) ≡ each_known known devices
+  known_kept after same =
+      let none : Result V CannotOpen = Ok (known before) in
+      known_set after ∙ ap (λ (v : V). set (each_known known devices) i (Ok v)) same
+      ∙ ap (λ (r : Result V CannotOpen). set (each_known known devices) i r) (sym (get_or_from_slice_get (each_known known devices) i (Ok (known before)) none known_at))
+      ∙ set-get_or (each_known known devices) i none
+
+-- the text of a device that was opened
+pub text_at : {D : Type 0} (whole : D → Option (List ℕ)) (devices : List (Result D CannotOpen)) (texts : List (List ℕ)) (i : ℕ) (before : D) → slice_get devices i ≡ Some (Ok before) → HaveTexts whole devices texts
+    → (text : List ℕ) × (slice_get texts i ≡ Some text) × (whole before ≡ Some text)
+text_at whole devices texts i before is have =
+    let ks = each_known whole devices in
+    let here = known_at whole devices i before is in
+    let lt : i < length ks = slice_get_within ks i (Ok (whole before)) here in
+    let long : length ks ≡ length texts = zip_length ks texts have in
+    (get_or texts i [], slice_get-get_or texts i [] (omega (arith, lt, long)), subst (λ k. HasText k (get_or texts i [])) (get_or_from_slice_get ks i (Ok (whole before)) (Ok (whole before)) here) (zip_here ks texts i (Ok (whole before)) [] have lt))
   where
-    of_err : Asks whole failures front entries old new (Err f) A → Asks whole failures front entries old new (Err f) A'
-    of_err g = record { says = g.says; keeps = g.keeps; counts = g.counts }
+    zip_length : (ks : List (Result (Option (List ℕ)) CannotOpen)) (ts : List (List ℕ)) → AllZip HasText ks ts → length ks ≡ length ts
+    zip_length [] [] h = refl
+    zip_length [] (t ∷ ts) h = absurd h
+    zip_length (k ∷ ks) [] h = absurd h
+    zip_length (k ∷ ks) (t ∷ ts) h = ap suc (zip_length ks ts h.1)
 
--- what is asked after a call that did not fail
-pub after_ok : {D T : Type 0} (whole : D → Option (List ℕ)) (failures : D → ℕ) (front : List ℕ) (entries : List (List ℕ)) (old mid new : D) (r : Result T AnswerFault) (A : List ℕ → T → Type 0)
-    → whole mid ≡ whole old → failures mid ≡ failures old → Asks whole failures front entries mid new r A → Asks whole failures front entries old new r A
-after_ok whole failures front entries old mid new r A same unfailed h = record {
-  says = λ text is. h.says text (same ∙ is);
-  keeps = h.keeps ∙ same;
-  counts = subst (λ n. MatchResult r (λ _. failures new ≡ n) (Blames n (failures new))) unfailed h.counts;
-}
+    zip_here : (ks : List (Result (Option (List ℕ)) CannotOpen)) (ts : List (List ℕ)) (i : ℕ) (d : Result (Option (List ℕ)) CannotOpen) (e : List ℕ) → AllZip HasText ks ts → i < length ks → HasText (get_or ks i d) (get_or ts i e)
+    zip_here [] ts i d e h lt = absurd (omega (arith, lt))
+    zip_here (k ∷ ks) [] i d e h lt = absurd h
+    zip_here (k ∷ ks) (t ∷ ts) zero d e h lt = h.0
+    zip_here (k ∷ ks) (t ∷ ts) (suc i) d e h lt = zip_here ks ts i d e h.1 (omega (arith, lt))
+
+-- a device stays opened whose bytes are as they were
+pub still_opened : {D : Type 0} (whole : D → Option (List ℕ)) (old new : List (Result D CannotOpen)) (i : ℕ) → each_known whole new ≡ each_known whole old → IsOpenedAt old i → IsOpenedAt new i
+still_opened {D} whole old new i same opened =
+    of (slice_get new i) refl (sym (slice_get-map (known_of whole) new i) ∙ ap (λ ks. slice_get ks i) same ∙ known_at whole old i opened.0 opened.1)
+  where
+    of : (o : Option (Result D CannotOpen)) → slice_get new i ≡ o → option_map (known_of whole) o ≡ Some (Ok (whole opened.0)) → IsOpenedAt new i
+    of None is known = absurd (none-some (Ok (whole opened.0)) known)
+    of (Some (Ok device)) is known = (device, is)
+    of (Some (Err reason)) is known =
+        let other : Err reason ≡ Ok (whole opened.0) = same_Some (Err reason) (Ok (whole opened.0)) known in absurd (cc)
+
+pub all_opened : {D : Type 0} (whole : D → Option (List ℕ)) (old new : List (Result D CannotOpen)) (xs : List EntryAt) → each_known whole new ≡ each_known whole old → AreOpened old xs → AreOpened new xs
+all_opened whole old new xs same opened = All-weaker (λ x. IsOpenedAt old x.input) (λ x. IsOpenedAt new x.input) (λ x h. still_opened whole old new x.input same h) xs opened
+
+-- that of one of the entries
+pub opened_here : {D : Type 0} (whole : D → Option (List ℕ)) (old new : List (Result D CannotOpen)) (xs : List EntryAt) (i : ℕ) (x : EntryAt) → each_known whole new ≡ each_known whole old → AreOpened old xs → i < length xs → x ≡ get_or xs i x → IsOpenedAt new x.input
+opened_here whole old new xs i x same opened lt is = subst (λ z. IsOpenedAt new z.input) (sym is) (all_opened whole old new xs same opened i x lt)
+
+-- ---- one entry, of its device
+
+module _ {D : Type 0} (whole : D → Option (List ℕ)) (failures : D → ℕ) (asked : List Where) (answering : List EntryAt) (x : EntryAt) (answers : Contains answering x) (devices : List (Result D CannotOpen)) (before after : D)
+    (is : slice_get devices x.input ≡ Some (Ok before)) where
+  abbrev news : List (Result D CannotOpen)
+  news = set devices x.input (Ok after)
+
+  named : (input number : ℕ) → input ≡ x.input → number ≡ x.number → Contains answering (record { input = input; number = number; entry = x.entry })
+  named input number a b = subst (Contains answering) (λ i. record { input = sym a i; number = sym b i; entry = x.entry }) answers
+
+  says_of : (r : Result EntryAnswers AnswerFault) (texts : List (List ℕ)) (text : List ℕ) → slice_get texts x.input ≡ Some text
+      → MatchResult r (λ column. IsColumnOf text asked x column) (IsUntoldOne text x) → MatchResult r (λ column. IsColumnAt texts asked x column) (IsUntoldAmong texts answering)
+  says_of (Ok column) texts text at h = record {
+    digest_is = h.digest_is;
+    owns = λ other there. subst (λ t. AllZip (IsToldBy t (claim_in x.entry)) asked (map told_view column.owns.items)) (same_Some text other (sym at ∙ there)) h.owns;
+  }
+  says_of (Err (Damaged input number)) texts text at h = record {
+    entry = x.entry;
+    answers = named input number h.0 h.1;
+    text = text;
+    text_is = ap (slice_get texts) h.0 ∙ at;
+    absent = h.2;
+  }
+  says_of (Err (Device input offset)) texts text at h = tt
+  says_of (Err OutOfMemory) texts text at h = tt
+
+  counts_of : (r : Result EntryAnswers AnswerFault) → MatchResult r (λ _. failures after ≡ failures before) (BlamesOne x (failures before) (failures after))
+      → MatchResult r (λ _. each_known failures news ≡ each_known failures devices) (BlamesAmong answering (each_known failures devices) (each_known failures news))
+  counts_of (Ok column) h = known_kept failures devices x.input before is after h
+  counts_of (Err (Damaged input number)) h = known_kept failures devices x.input before is after h
+  counts_of (Err OutOfMemory) h = known_kept failures devices x.input before is after h
+  counts_of (Err (Device input offset)) h = (
+    record { number = x.number; entry = x.entry; answers = named input x.number h.0 refl; offset_is = h.1 },
+    record {
+      old = failures before;
+      new = failures after;
+      old_is = ap (slice_get (each_known failures devices)) h.0 ∙ known_at failures devices x.input before is;
+      failed = h.2;
+      others = known_set failures devices x.input before is after ∙ ap (λ n. set (each_known failures devices) n (Ok (failures after))) (sym h.0);
+    },
+  )
+
+  pub asked_one : (r : Result EntryAnswers AnswerFault) → ((text : List ℕ) → whole before ≡ Some text → MatchResult r (λ column. IsColumnOf text asked x column) (IsUntoldOne text x)) → whole after ≡ whole before
+      → MatchResult r (λ _. failures after ≡ failures before) (BlamesOne x (failures before) (failures after))
+      → AsksAmong whole failures answering devices news r (λ texts column. IsColumnAt texts asked x column)
+  asked_one r says keeps counts = record {
+    says = λ texts have. let text = text_at whole devices texts x.input before is have in says_of r texts text.0 text.1 (says text.0 text.2);
+    keeps = known_kept whole devices x.input before is after keeps;
+    counts = counts_of r counts;
+  }
+
+-- the same of the device as it is read and written
+pub asked_at : {D : Type 0} (whole : D → Option (List ℕ)) (failures : D → ℕ) (asked : List Where) (answering : List EntryAt) (x : EntryAt) (devices : List (Result D CannotOpen)) (old new : Result D CannotOpen) (r : Result EntryAnswers AnswerFault)
+    → Contains answering x → slice_get devices x.input ≡ Some old → AsksOne whole failures x old new r (λ text column. IsColumnOf text asked x column)
+    → AsksAmong whole failures answering devices (set devices x.input new) r (λ texts column. IsColumnAt texts asked x column)
+asked_at whole failures asked answering x devices old new r answers is one =
+    subst (λ n. AsksAmong whole failures answering devices (set devices x.input n) r (λ texts column. IsColumnAt texts asked x column)) (sym one.new_is)
+    (asked_one whole failures asked answering x answers devices one.before one.after (is ∙ ap Some one.old_is) r one.says one.keeps one.counts)
+
+-- ---- one after another
+
+module _ {D : Type 0} (whole : D → Option (List ℕ)) (failures : D → ℕ) (asked : List Where) (answering : List EntryAt) where
+  -- what the first of the entries tell
+  abbrev pub HaveTold : ℕ → List (Result D CannotOpen) → List (Result D CannotOpen) → List EntryAnswers → Type 0
+  HaveTold i old new columns = AsksAmong whole failures answering old new (Ok columns) (λ texts cs. AllZip (IsColumnAt texts asked) (take i answering) cs)
+
+  pub none_told : (devices : List (Result D CannotOpen)) → HaveTold 0 devices devices []
+  none_told devices = record { says = λ texts have. tt; keeps = refl; counts = refl }
+
+  have_texts : (old mid : List (Result D CannotOpen)) (texts : List (List ℕ)) → each_known whole mid ≡ each_known whole old → HaveTexts whole old texts → HaveTexts whole mid texts
+  have_texts old mid texts same have = subst (λ ks. AllZip HasText ks texts) (sym same) have
+
+  pub one_told : (i : ℕ) (old mid new : List (Result D CannotOpen)) (columns after : List EntryAnswers) (column : EntryAnswers) (x : EntryAt) → i < length answering → x ≡ get_or answering i x → after ≡ columns ++ column ∷ []
+      → HaveTold i old mid columns → AsksAmong whole failures answering mid new (Ok column) (λ texts c. IsColumnAt texts asked x c) → HaveTold (i + 1) old new after
+  one_told i old mid new columns after column x lt is grown so_far told = record {
+    says = λ texts have. zip_more (IsColumnAt texts asked) answering i x columns after column lt is grown (so_far.says texts have) (told.says texts (have_texts old mid texts so_far.keeps have));
+    keeps = told.keeps ∙ so_far.keeps;
+    counts = told.counts ∙ so_far.counts;
+  }
+
+  -- a refusal is passed on
+  pub none_more : {T U : Type 0} (i : ℕ) (old mid new : List (Result D CannotOpen)) (columns : List EntryAnswers) (f : AnswerFault) (r : Result T AnswerFault) (s : Result U AnswerFault) (A : List (List ℕ) → T → Type 0) (B : List (List ℕ) → U → Type 0)
+      → r ≡ Err f → s ≡ Err f → HaveTold i old mid columns → AsksAmong whole failures answering mid new r A → AsksAmong whole failures answering old new s B
+  none_more i old mid new columns f r s A B was is so_far told =
+      subst (λ t. AsksAmong whole failures answering old new t B) (sym is) (of_err (subst (λ t. AsksAmong whole failures answering mid new t A) was told))
+    where
+      of_err : AsksAmong whole failures answering mid new (Err f) A → AsksAmong whole failures answering old new (Err f) B
+      of_err h = record {
+        says = λ texts have. h.says texts (have_texts old mid texts so_far.keeps have);
+        keeps = h.keeps ∙ so_far.keeps;
+        counts = subst (λ ks. BlamesAmong answering ks (each_known failures new) f) so_far.counts h.counts;
+      }
+
+  -- no memory is left for what was told
+  pub no_memory : {T U : Type 0} (i : ℕ) (old mid new : List (Result D CannotOpen)) (columns : List EntryAnswers) (value : T) (A : List (List ℕ) → T → Type 0) (B : List (List ℕ) → U → Type 0)
+      → HaveTold i old mid columns → AsksAmong whole failures answering mid new (Ok value) A → AsksAmong whole failures answering old new (Err OutOfMemory) B
+  no_memory i old mid new columns value A B so_far told = record { says = λ texts have. tt; keeps = told.keeps ∙ so_far.keeps; counts = told.counts ∙ so_far.counts }
+
+-- a refusal of the same entries is passed on
+pub passed_on : {D T U : Type 0} (whole : D → Option (List ℕ)) (failures : D → ℕ) (xs ys : List EntryAt) (old new : List (Result D CannotOpen)) (f : AnswerFault) (r : Result T AnswerFault) (s : Result U AnswerFault) (A : List (List ℕ) → T → Type 0) (B : List (List ℕ) → U → Type 0)
+    → xs ≡ ys → r ≡ Err f → s ≡ Err f → AsksAmong whole failures xs old new r A → AsksAmong whole failures ys old new s B
+passed_on whole failures xs ys old new f r s A B same was is h =
+    subst (λ t. AsksAmong whole failures ys old new t B) (sym is) (of_err (subst (λ zs. AsksAmong whole failures zs old new (Err f) A) same (subst (λ t. AsksAmong whole failures xs old new t A) was h)))
+  where
+    of_err : AsksAmong whole failures ys old new (Err f) A → AsksAmong whole failures ys old new (Err f) B
+    of_err k = record { says = k.says; keeps = k.keeps; counts = k.counts }

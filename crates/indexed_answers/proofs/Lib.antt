@@ -1,4 +1,9 @@
 pub mod Columns
-pub mod Picked
+pub mod Lists
+pub mod Entries
+pub mod Places
+pub mod Tied
+pub mod Retirements
+pub mod Together
 pub mod Asked
-pub mod Right
+pub mod EachTold

@@ -1,26 +1,111 @@
 -- Entries with their numbers: the words of the inner functions. No contract of a public one has them.
-use Rattle.std.specs.Prelude.{ℕ, List, Option}
+use Rattle.std.specs.Prelude.{◌≡◌, ◌≢◌, ◌&&◌, ◌==◌, not, ℕ, ◌+◌, Bool, List, [], ◌∷◌}
+use Rattle.std.specs.Prelude.{◌++◌, Contains, filter, map, slice_index, take, drop}
+use Rattle.std.specs.Prelude.{Option, Some, Result, Ok, MatchResult}
+use Rattle.std.specs.List.{AllZip, list_any}
+use Rattle.std.specs.Str.{bytes_eq}
+use Rattle.byte_device.specs.Devices.{FailedIn}
+use Rattle.byte_device.specs.declared.disks.CannotOpen.{CannotOpen}
 use Rattle.macho_symbols.specs.Found.{FoundRecord}
 use Rattle.symbol_tables.specs.Opened.{IsOpened}
 use Rattle.symbol_tables.specs.Steps.{AreBytes}
 use Rattle.symbol_tables.specs.Table.{IsTableOf, TableParts}
 use Rattle.symbol_tables.specs.declared.table.Table.{Table}
 use Rattle.archive_core.specs.Lookup.{IsOwn}
+use Rattle.archive_core.specs.Part.{is_under}
 use Rattle.archive_core.specs.declared.lookup.Where.{Where}
-use Rattle.table_index.specs.Entry.{HasItsFields, entry_bytes}
-use Rattle.indexed_answers.specs.Asking.{IsAnswering}
-use Rattle.indexed_answers.specs.declared.answering.Numbered.{Numbered}
+use Rattle.archive_index.specs.Entry.{length_in, offset_in}
+use Rattle.table_index.specs.Entry.{claim_in, entry_bytes}
+use Rattle.indexed_answers.specs.Among.{AreOfOneSlice, EntryAt, HaveNoOrder, subject_of}
+use Rattle.indexed_answers.specs.AmongAsked.{HasNoTable}
+use Rattle.indexed_answers.specs.Told.{IsToldBy, admits_under}
+use Rattle.indexed_answers.specs.Views.{told_view}
+use Rattle.indexed_answers.specs.declared.answers.EntryAnswers.{EntryAnswers}
+use Rattle.indexed_answers.specs.declared.fault.AnswerFault.{AnswerFault}
+use Rattle.indexed_answers.specs.declared.fault.AnswerFault.TheVariants.{Damaged, Device, OutOfMemory}
+use Rattle.indexed_answers.specs.declared.numbered.Numbered.{Numbered}
 
--- the bytes of an entry
-abbrev pub numbered_bytes : Numbered → List ℕ
-numbered_bytes n = entry_bytes n.entry
+-- an entry as the definitions have it
+abbrev pub entry_at : Numbered → EntryAt
+entry_at n = record { input = n.input; number = n.number; entry = entry_bytes n.entry }
 
--- an entry that answers under these bytes has its number among all
-pub record IsNumbered (front : List ℕ) (entries : List (List ℕ)) (n : Numbered) : Type 0 where
-  pub answering : IsAnswering front entries n.number (entry_bytes n.entry)
-  pub fields : HasItsFields n.entry
+-- the entries of an index, numbered from this number on
+abbrev pub entries_at : ℕ → ℕ → List (List ℕ) → List EntryAt
+entries_at input number [] = []
+entries_at input number (e ∷ es) =
+    record { input = input; number = number; entry = e } ∷ entries_at input (number + 1) es
+
+-- those of several indexes, which are numbered from this number on
+abbrev pub all_at : ℕ → List (List (List ℕ)) → List EntryAt
+all_at input [] = []
+all_at input (entries ∷ indexes) = entries_at input 0 entries ++ all_at (input + 1) indexes
+
+-- an entry is that of a retirement, and its key begins with these bytes
+abbrev pub retires_under : List ℕ → List ℕ → Bool
+retires_under front e = (slice_index e 0 == 1) && is_under front e
+
+-- what the retirements of these entries under these bytes are of
+abbrev pub retired_of : List ℕ → List (List ℕ) → List (List ℕ)
+retired_of front es = map subject_of (filter (retires_under front) es)
+
+-- what an entry is of is among these
+abbrev pub is_retired : List (List ℕ) → List ℕ → Bool
+is_retired retired e = list_any (λ subject. bytes_eq subject (subject_of e)) retired
+
+-- an entry is that of a slice under these bytes that is not among those which are retired
+abbrev pub lives_by : List ℕ → List (List ℕ) → List ℕ → Bool
+lives_by front retired e = admits_under front e && not (is_retired retired e)
+
+-- by what entries are sorted: the length of the record, the index, and where the record stands in its archive
+abbrev pub place_in : EntryAt → List ℕ
+place_in x = length_in x.entry ∷ (x.input ∷ (offset_in x.entry ∷ []))
+
+-- two entries have one length and stand in two indexes
+unfoldable pub is_elsewhere : EntryAt → EntryAt → Bool
+is_elsewhere x y = (length_in x.entry == length_in y.entry) && not (x.input == y.input)
+
+-- two entries have an order: if they have one length and stand in two archives, they are of one slice
+abbrev pub HaveOrder : EntryAt → EntryAt → Type 0
+HaveOrder x y = length_in x.entry ≡ length_in y.entry → x.input ≢ y.input → AreOfOneSlice x.entry y.entry
+
+-- two of these entries have none
+pub record HaveTie (xs : List EntryAt) : Type 0 where
+  pub one : EntryAt
+  pub other : EntryAt
+  pub one_in : Contains xs one
+  pub other_in : Contains xs other
+  pub unordered : HaveNoOrder one other
 
 -- what a table that is opened tells of a place
 abbrev pub IsOwnOpened : Table → List ℕ → Where → Option FoundRecord → Type 0
 IsOwnOpened table text asked own = (slice : List ℕ) (t : TableParts) → AreBytes slice → IsTableOf slice t
     → IsOpened table text t → IsOwn slice asked own
+
+-- what an entry tells of places, in their order, over these bytes of its index
+pub record IsColumnOf (text : List ℕ) (asked : List Where) (x : EntryAt) (column : EntryAnswers) : Type 0 where
+  pub digest_is : column.digest.0 ≡ take 32 (drop 25 x.entry)
+  pub owns : AllZip (IsToldBy text (claim_in x.entry)) asked (map told_view column.owns.items)
+
+-- why one entry tells nothing
+abbrev pub IsUntoldOne : List ℕ → EntryAt → AnswerFault → Type 0
+IsUntoldOne text x (Damaged input number) = (input ≡ x.input) × (number ≡ x.number) × HasNoTable text x.entry
+IsUntoldOne text x (Device input offset) = Unit {0}
+IsUntoldOne text x OutOfMemory = Unit {0}
+
+-- what a fault of one entry says of the failures of its device
+abbrev pub BlamesOne : EntryAt → ℕ → ℕ → AnswerFault → Type 0
+BlamesOne x old new (Damaged input number) = new ≡ old
+BlamesOne x old new (Device input offset) = (input ≡ x.input) × (offset ≡ (claim_in x.entry).offset) × FailedIn old new
+BlamesOne x old new OutOfMemory = new ≡ old
+
+-- what came of asking one entry of its device, which was opened
+pub record AsksOne {D T : Type 0} (whole : D → Option (List ℕ)) (failures : D → ℕ) (x : EntryAt)
+    (old new : Result D CannotOpen) (result : Result T AnswerFault) (IsTrue : List ℕ → T → Type 0) : Type 0 where
+  pub before : D
+  pub after : D
+  pub old_is : old ≡ Ok before
+  pub new_is : new ≡ Ok after
+  pub says : (text : List ℕ) → whole before ≡ Some text → MatchResult result (IsTrue text) (IsUntoldOne text x)
+  pub keeps : whole after ≡ whole before
+  pub counts : MatchResult result (λ _. failures after ≡ failures before)
+      (BlamesOne x (failures before) (failures after))

@@ -1,5 +1,7 @@
 pub mod Told
-pub mod Asking
+pub mod Among
+pub mod AmongTold
+pub mod AmongAsked
 pub mod Views
 pub mod Contents
 pub mod InnerAnswering

@@ -1,115 +1,72 @@
-//! The entries that answer under a key.
+//! The entries of several indexes that answer under a key.
 
-ghost use Rattle.std.specs.Prelude.{◌≡◌, ◌&&◌, All, IfOk, filter, length, map};
-ghost use Rattle.std.specs.List.Sorted.{IsNonDecreasingBy, IsPermutation};
-ghost use Rattle.archive_index.specs.Entry.{offset_in};
-ghost use Rattle.table_index.specs.Entry.{HasItsFields, entry_bytes};
-ghost use Rattle.indexed_answers.specs.Told.{AreAnsweringUnder, admits_under, answers, has_companion, is_companion};
-ghost use Rattle.indexed_answers.specs.InnerAnswering.{IsNumbered, numbered_bytes};
+ghost use Rattle.std.specs.Prelude.{IfOk, MatchOption, map};
+ghost use Rattle.archive_core.specs.Key.{key_bytes};
+ghost use Rattle.indexed_answers.specs.Among.{AreAnsweringAmong, AreTied};
 
+use crate::live::answering_under;
+use crate::numbered::Numbered;
+use crate::order::{are_tied, keep_once, put_by_place};
+use archive_core::{SliceKey, key_front};
 use memory::{Heap, NoMemory};
-use table_index::TableEntry;
+use std::marker::Model;
+use table_index::TableIndex;
 
-/// The tag of an admission.
-const ADMISSION: u8 = 2;
-
-/// An entry, and its number among all, from 0 on.
-#[derive(Clone, Copy)]
-pub(crate) struct Numbered {
-    pub number: u64,
-    pub entry: TableEntry,
+/// Entries of several indexes that answer together, in the order of their records. A contract sees each with the number
+/// of its index, its own number in that, both from 0 on, and its bytes.
+#[derive(Drop)]
+pub struct Answering {
+    entries: Vec<Numbered, Heap>,
 }
 
-/// Whether an entry is that of an admission, and its key begins with these bytes.
-#[tactic(auto, unfolding(archive_core::specs::Part::is_under))]
-fn admits_under(front: &[u8], entry: &TableEntry) -> bool
-    requires { length front.now ≡ 24 }
-    ensures { result ≡ admits_under front.now (entry_bytes entry.now) }
-{
-    let bytes = entry.bytes();
-    bytes[0] == ADMISSION && front == &bytes[1..25]
+impl Model for Answering {
+    ghost use Rattle.std.specs.Prelude.{List, map};
+    ghost use Rattle.indexed_answers.specs.Among.{EntryAt};
+    ghost use Rattle.indexed_answers.specs.InnerAnswering.{entry_at};
+
+    ghost Value = { List EntryAt };
+
+    ghost view = { λ answering. map entry_at answering.entries.items };
 }
 
-/// Whether an entry is that of a companion.
-fn is_companion(entry: &TableEntry) -> bool
-    ensures { result ≡ is_companion (entry_bytes entry.now) }
-{
-    entry.bytes()[57] == 1
-}
+impl Answering {
+    ghost use Rattle.std.specs.Prelude.{◌≡◌, map};
+    ghost use Rattle.indexed_answers.specs.InnerAnswering.{entry_at};
 
-/// Whether an entry is that of a companion under these bytes.
-fn is_companion_under(front: &[u8], entry: &TableEntry) -> bool
-    requires { length front.now ≡ 24 }
-    ensures { result ≡ (admits_under front.now (entry_bytes entry.now) && is_companion (entry_bytes entry.now)) }
-{
-    admits_under(front, entry) && is_companion(entry)
-}
-
-/// Whether an entry answers, where companions alone do so or any slice does.
-fn answers(front: &[u8], companions: bool, entry: &TableEntry) -> bool
-    requires { length front.now ≡ 24 }
-    ensures { result ≡ answers front.now companions (entry_bytes entry.now) }
-{
-    admits_under(front, entry) && (!companions || is_companion(entry))
-}
-
-/// Whether a companion is under these bytes.
-fn has_companion(front: &[u8], entries: &[TableEntry]) -> bool
-    requires { length front.now ≡ 24 }
-    ensures { result ≡ has_companion front.now (map entry_bytes entries.now) }
-{
-    'entries: for entry in entries {
-        if is_companion_under(front, entry) {
-            return true;
-        }
+    /// These entries.
+    fn of_entries(entries: Vec<Numbered, Heap>) -> Answering
+        ensures { result ≡ map entry_at entries.items }
+    {
+        Answering { entries }
     }
-    false
-}
 
-/// The entries that answer, in their order.
-fn picked(
-    heap: Heap,
-    front: &[u8],
-    companions: bool,
-    entries: &[TableEntry],
-) -> Result<Vec<Numbered, Heap>, NoMemory>
-    requires front { length front.now ≡ 24 }
-    requires fields { All HasItsFields entries.now }
-    requires companions { companions ≡ has_companion front.now (map entry_bytes entries.now) }
-    ensures picked { IfOk result (λ found. map numbered_bytes found.items
-        ≡ filter (answers front.now companions) (map entry_bytes entries.now)) }
-    ensures numbers { IfOk result (λ found. All (IsNumbered front.now (map entry_bytes entries.now)) found.items) }
-{
-    let mut found = Vec::new(heap);
-    let mut number = 0;
-    'entries: for entry in entries {
-        let own = number;
-        number += 1;
-        if !answers(front, companions, entry) {
-            continue 'entries;
-        }
-        found.push(Numbered {
-            number: own,
-            entry: *entry,
-        })?;
+    /// The entries in their order.
+    pub(crate) fn entries(&self) -> &[Numbered]
+        ensures { map entry_at result.now ≡ self.now }
+    {
+        &self.entries
     }
-    Ok(found)
 }
 
-/// The entries that answer under these bytes, in the order of their records.
-pub(crate) fn answering_under(
-    heap: Heap,
-    front: &[u8],
-    entries: &[TableEntry],
-) -> Result<Vec<Numbered, Heap>, NoMemory>
-    requires front { length front.now ≡ 24 }
-    requires fields { All HasItsFields entries.now }
-    ensures answering { IfOk result (λ found. AreAnsweringUnder front.now (map entry_bytes entries.now)
-        (map numbered_bytes found.items)) }
-    ensures numbers { IfOk result (λ found. All (IsNumbered front.now (map entry_bytes entries.now)) found.items) }
+/// The entries of these indexes that answer under a key, in the order of their records. Of the admissions under the key
+/// that no retirement of any index covers the companions answer, or else all of them. Each slice answers once: the entry
+/// of the first index stays.
+///
+/// `None` if the entries do not tell the order: two slices of one length answer that stand in two archives. Refused for
+/// want of memory alone.
+pub fn answering_among(
+    heap: &Heap,
+    key: &SliceKey,
+    indexes: &[TableIndex],
+) -> Result<Option<Answering>, NoMemory>
+    ensures { IfOk result (λ found. MatchOption found (AreTied (key_bytes key.now) indexes.now)
+        (λ answering. AreAnsweringAmong (key_bytes key.now) indexes.now answering)) }
 {
-    let companions = has_companion(front, entries);
-    let mut found = picked(heap, front, companions, entries)?;
-    found.sort_unstable_by_key(|numbered| numbered.entry.placed.offset);
-    Ok(found)
+    let mut entries = answering_under(heap, &key_front(key), indexes)?;
+    put_by_place(&mut entries);
+    if are_tied(&entries) {
+        return Ok(None);
+    }
+    keep_once(&mut entries);
+    Ok(Some(Answering::of_entries(entries)))
 }

@@ -1,13 +1,15 @@
-//! Answers out of an index: by its entries, and by the tables of those that answer.
+//! Answers out of several indexes: by their entries, and by the tables of those that answer.
 //!
-//! Of the index the entries under a key are looked at, and of the tables of those that answer the pages that are
+//! Of the indexes the entries under a key are looked at, and of the tables of those that answer the pages that are
 //! needed, each compared with its digest. No slice is read.
 //!
 //! - `fault`: why nothing is told;
-//! - `answering`: the entries that answer under a key, in the order of their records;
-//! - `own`: what a table tells of a place; `told`: what that of an entry tells of several;
-//! - `answers`: [`Answers`], what all of them tell; `asking`: [`answer_at`].
-//! - [`laws`]: what is told is right of the slices whose tables are stored.
+//! - `numbered`: an entry of one of several indexes; `words`: what it says;
+//! - `retired`: what the retirements under a key are of; `live`: the entries that none of these covers;
+//! - `order`: the order of their records; `answering`: [`answering_among`], those that answer;
+//! - `own`: what a table tells of a place; `told`: what those of entries tell of several;
+//! - `answers`: [`Answers`], what all of them tell; `asking`: [`answer_among`].
+//! - [`laws`]: what is told of several places is told of each.
 #![tactic(auto)]
 
 mod answering;
@@ -15,9 +17,15 @@ mod answers;
 mod asking;
 mod fault;
 pub mod laws;
+mod live;
+mod numbered;
+mod order;
 mod own;
+mod retired;
 mod told;
+mod words;
 
+pub use answering::{Answering, answering_among};
 pub use answers::{Answers, EntryAnswers};
-pub use asking::answer_at;
+pub use asking::answer_among;
 pub use fault::AnswerFault;

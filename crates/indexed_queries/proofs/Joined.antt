@@ -1,5 +1,5 @@
 -- Parts that are joined one after another.
-use Rattle.std.proofs.Common.{◌≡◌, ℕ, ◌+◌, ◌<◌, List, [], ◌∷◌, ◌++◌, length, map, take, get_or, Option, Some, None, Result, Ok, Err, refl, sym, ap, ◌∙◌, subst, arith}
+use Rattle.std.proofs.Common.{◌≡◌, ℕ, ◌+◌, ◌<◌, List, [], ◌∷◌, ◌++◌, length, map, take, get_or, Option, Some, None, Ok, refl, sym, ap, ◌∙◌, subst, inl, inr, arith}
 use Rattle.std.specs.Prelude.{IfSome, flat_map}
 use Rattle.std.specs.List.{AllZip}
 use Rattle.std.specs.FinSet as set
@@ -10,20 +10,19 @@ use Rattle.std.proofs.lemmas.Option.{IfSome_then}
 use Rattle.archive_core.specs.Content.{Operations, IsMade, content_of, joined, with_record, with_records}
 use Rattle.archive_core.proofs.Taken.{made_taken, taken_are_joined}
 use Rattle.archive_core.specs.Summary.{Entries}
-use Rattle.archive_index.specs.Places.{BlamesPlaced, IsNamedBy, IsStale, entries_under}
+use Rattle.archive_index.specs.Places.{BlamesPlaced, HasIndexedLength, IsNamedBy, IsStale, entries_under}
 use Rattle.archive_index.specs.declared.fault.PlaceFault.{PlaceFault}
 use Rattle.archive_index.specs.declared.fault.PlaceFault.TheVariants.{Stale, Device, OutOfMemory}
 use Rattle.command_ends.specs.Archives.{merged}
-use Rattle.command_ends.specs.Indexes.{HoldsIndex, IsRefusedBehindIndex, IsRefusedByIndex}
-use Rattle.command_ends.specs.Inputs.{Reader, IsRefusal, ReadsInputs, Unfailed, reader}
-use Rattle.command_ends.specs.declared.faults.CommandFault.{CommandFault}
+use Rattle.command_ends.specs.Inputs.{Reader, IsRefusal, Unfailed, reader}
 use Rattle.command_ends.proofs.Readers.{pairs_more}
 use Rattle.indexed_parts.specs.Places.{AreGatheredUnder, IsEntryFault}
 use Rattle.indexed_parts.proofs.Gathered.{along_both, known}
 use Rattle.indexed_queries.specs.declared.fronts.Front.{Front}
-use Rattle.indexed_queries.specs.Fronts.{AreNamedUnder, IsStaleFor, front_bytes}
-use Rattle.indexed_queries.specs.InnerParts.{HasJoinedNamed, HasJoinedParts, HaveGathered, IsFaultUnder, IsNamedIn, told_fault}
-use Rattle.indexed_queries.proofs.Refused.{archive_behind}
+use Rattle.table_index.specs.Text.{placed_of}
+use Rattle.indexed_queries.specs.Fronts.{AreNamedUnder, front_bytes}
+use Rattle.indexed_queries.specs.InnerParts.{HasJoinedNamed, HaveGathered, IsFaultAmong, IsFaultUnder, IsNamedIn, told_fault}
+use Rattle.indexed_queries.specs.Together.{IsRefusedAtPlaces}
 
 -- ---- under each front
 
@@ -61,12 +60,12 @@ module _ (whole now : Option (List ℕ)) (fronts : List Front) (i : ℕ) (front 
       }
 
   -- a fault at a front
-  pub fault_at : (old mid : List (List ℕ)) (fault : PlaceFault) → HaveGathered whole (take i (map front_bytes fronts)) entries old mid → IfSome now (λ text. IsEntryFault (front_bytes front) entries text fault) → IfSome whole (λ text. IsFaultUnder (map front_bytes fronts) entries text fault)
+  pub fault_at : (old mid : List (List ℕ)) (fault : PlaceFault) → HaveGathered whole (take i (map front_bytes fronts)) entries old mid → IfSome now (λ text. IsEntryFault (front_bytes front) entries text fault) → IfSome whole (λ text. IsFaultAmong (map front_bytes fronts) entries text fault)
   fault_at old mid fault before h =
-      along_both (AreGroups (take i (map front_bytes fronts)) entries before.groups) (λ text. IsEntryFault (front_bytes front) entries text fault) (λ text. IsFaultUnder (map front_bytes fronts) entries text fault) whole (by fault)
+      along_both (AreGroups (take i (map front_bytes fronts)) entries before.groups) (λ text. IsEntryFault (front_bytes front) entries text fault) (λ text. IsFaultAmong (map front_bytes fronts) entries text fault) whole (by fault)
       before.named (subst (λ (w : Option (List ℕ)). IfSome w (λ text. IsEntryFault (front_bytes front) entries text fault)) keeps h)
     where
-      by : (f : PlaceFault) (text : List ℕ) → AreGroups (take i (map front_bytes fronts)) entries before.groups text → IsEntryFault (front_bytes front) entries text f → IsFaultUnder (map front_bytes fronts) entries text f
+      by : (f : PlaceFault) (text : List ℕ) → AreGroups (take i (map front_bytes fronts)) entries before.groups text → IsEntryFault (front_bytes front) entries text f → IsFaultAmong (map front_bytes fronts) entries text f
       by (Stale None) text a b = absurd b
       by (Stale (Some k)) text a b = (
         i,
@@ -76,6 +75,13 @@ module _ (whole now : Option (List ℕ)) (fronts : List Front) (i : ℕ) (front 
       )
       by Device text a b = tt
       by OutOfMemory text a b = tt
+
+-- the text has the length that the index tells, and an entry names no record of it
+pub fault_then : (fronts : List (List ℕ)) (entries : Entries) (text : List ℕ) (fault : PlaceFault) → HasIndexedLength entries text → IsFaultAmong fronts entries text fault → IsFaultUnder fronts entries text fault
+fault_then fronts entries text (Stale None) long f = absurd f
+fault_then fronts entries text (Stale (Some k)) long f = (long, f)
+fault_then fronts entries text Device long f = tt
+fault_then fronts entries text OutOfMemory long f = tt
 
 -- what was gathered is taken together, as its groups one after another
 taken_groups : (o : Operations) (groups : List (List (List ℕ))) → IsMade o → with_records o (flat_map (λ (records : List (List ℕ)). records) groups) ≡ merged o (map made groups)
@@ -94,18 +100,21 @@ joined_together whole fronts entries old gathered o new is none h taken = record
 
 -- ---- of an input
 
--- what is told where this fault came of an archive that was opened
-pub told_refused : {S : Type 0} (whole : S → Option (List ℕ)) (failures : S → ℕ) (source after : S) (number : ℕ) (fronts : List (List ℕ)) (entries : Entries) (fault : PlaceFault)
-    → IfSome (whole source) (λ text. IsFaultUnder fronts entries text fault) → BlamesPlaced failures source after fault
-    → IsRefusal (IsRefusedBehindIndex number (reader whole failures (Ok source) (Ok after)) (IsStaleFor fronts (reader whole failures (Ok source) (Ok after)) entries)) (Unfailed (reader whole failures (Ok source) (Ok after))) (told_fault number fault)
-told_refused whole failures source after number fronts entries fault h b = grind arith
+-- one that was opened, by what its index says of records
+module _ {S : Type 0} (whole : S → Option (List ℕ)) (failures : S → ℕ) (source after : S) (fronts : List (List ℕ)) (entries : Entries) (tables : List (List ℕ)) (placed : entries ≡ placed_of tables) where
+  abbrev archive : Reader S
+  archive = reader whole failures (Ok source) (Ok after)
 
--- of an index that was read, and its archive
-module _ {R S : Type 0} (number : ℕ) (index : Reader R) (archive : Reader S) (fronts : List (List ℕ)) (entries : Entries) (holds : HoldsIndex index entries) (unfailed : Unfailed index) where
-  pub joined_parts : (o new : Operations) (r : Result (Unit {0}) CommandFault) → ReadsInputs r (λ _. IsNamedIn archive fronts entries o new) (IsRefusedBehindIndex number archive (IsStaleFor fronts archive entries)) (Unfailed archive)
-      → ReadsInputs r (λ _. HasJoinedParts index archive fronts o new) (IsRefusedByIndex number index archive (IsStaleFor fronts archive)) (Unfailed index × Unfailed archive)
-  joined_parts o new (Ok _) n = record {
-    is = record { parts = n.is.parts; content = n.is.content; named = record { entries = entries; index_of = record { index_is = holds; archive_is = n.is.archive_is }; named = n.is.named } };
-    unfailed = (unfailed, n.unfailed);
-  }
-  joined_parts o new (Err fault) n = archive_behind number index archive (IsStaleFor fronts archive) fault entries holds unfailed n
+  pub named_in : (old new : Operations) → IfSome (whole source) (HasIndexedLength entries) → HasJoinedNamed (whole source) fronts entries old new → IsNamedIn archive fronts (placed_of tables) old new
+  named_in old new long h = subst (λ (e : Entries). IsNamedIn archive fronts e old new) placed (record {
+    parts = h.parts;
+    content = h.content;
+    named = along_both (HasIndexedLength entries) (λ text. AreNamedUnder fronts entries text h.parts) (λ text. HasIndexedLength entries text × AreNamedUnder fronts entries text h.parts) (whole source) (λ text l a. (l, a)) long h.named;
+  })
+
+  -- what is told where this fault came of it
+  pub told_refused : (number : ℕ) (fault : PlaceFault) → IfSome (whole source) (λ text. IsFaultUnder fronts entries text fault) → BlamesPlaced failures source after fault
+      → IsRefusal (IsRefusedAtPlaces fronts number archive tables) (Unfailed archive) (told_fault number fault)
+  told_refused number (Stale entry) h b = inr (refl, b, (entry, refl, subst (λ (e : Entries). IfSome (whole source) (λ text. IsFaultUnder fronts e text (Stale entry))) placed h))
+  told_refused number Device h b = inl (refl, b)
+  told_refused number OutOfMemory h b = b

@@ -1,11 +1,11 @@
--- What `find` tells by an index alone, and of several archives, of which the first have indexes.
+-- What `find` tells by an index alone, and of several archives by their indexes.
 use Rattle.std.specs.Prelude.{◌≡◌, ℕ, List, [], ◌∷◌}
 use Rattle.archive_core.specs.Summary.{Entries}
 use Rattle.archive_core.specs.declared.find.FindRow.{FindRow}
 use Rattle.report_text.specs.Finds.{find_lines}
 use Rattle.command_ends.specs.declared.faults.Status.{Status}
 use Rattle.command_ends.specs.Ends.{Query}
-use Rattle.command_ends.specs.Indexes.{HasOtherLength, IsIndexOf, IsRefusedByIndex}
+use Rattle.indexed_queries.specs.Indexes.{IsIndexOf, IsRefusedByIndex}
 use Rattle.command_ends.specs.Inputs.{Reader, Unfailed}
 use Rattle.archive_queries.specs.Find.{TellsFound, find_status}
 use Rattle.indexed_queries.specs.Rows.{AreIndexRows}
@@ -29,11 +29,11 @@ pub record MakesFoundAt {R S : Type 0} (index : Reader R) (archive : Reader S) (
 abbrev pub find_at : {R S : Type 0} → Reader R → Reader S → List ℕ → Query
 find_at index archive uuid = record {
   Makes = MakesFoundAt index archive uuid;
-  Refuses = IsRefusedByIndex 0 index archive (HasOtherLength archive);
+  Refuses = IsRefusedByIndex 0 index archive;
   Unfailed = Unfailed index × Unfailed archive;
 }
 
 -- `find`, over several archives
-abbrev pub find_together : {I P R : Type 0} → List (Reader I) → List (Reader P) → List (Reader R) → List ℕ → Query
-find_together indexes archives others uuid =
-    asks_together (uuid ∷ []) indexes archives others (λ o status text. TellsFound o uuid status text)
+abbrev pub find_together : {I P : Type 0} → List (Reader I) → List (Reader P) → List ℕ → Query
+find_together indexes archives uuid =
+    asks_together (uuid ∷ []) indexes archives (λ o status text. TellsFound o uuid status text)

@@ -5,7 +5,6 @@ use Rattle.archive_core.specs.Content.{Operations}
 use Rattle.archive_core.specs.Key.{key_bytes}
 use Rattle.archive_core.specs.Summary.{Entries}
 use Rattle.archive_index.specs.Places.{AreNamed, HasIndexedLength, IsStale}
-use Rattle.command_ends.specs.Indexes.{IsIndexOf}
 use Rattle.command_ends.specs.Inputs.{Reader, Gives}
 use Rattle.indexed_queries.specs.declared.fronts.Front.{Front}
 use Rattle.indexed_queries.specs.declared.fronts.Front.TheVariants.{Uuid, Key}
@@ -19,22 +18,25 @@ front_bytes (Key key) = key_bytes key
 abbrev pub AreNamedUnder : List (List ℕ) → Entries → List ℕ → List Operations → Type 0
 AreNamedUnder fronts entries text parts = AllZip (λ front part. AreNamed front entries text part) fronts parts
 
--- Why nothing is named so: the text has another length than the index tells; or, at the first of the fronts at which
--- one is, an entry names no record of the text.
-abbrev pub IsStaleUnder : List (List ℕ) → Entries → List ℕ → Option ℕ → Type 0
-IsStaleUnder fronts entries text None = HasIndexedLength entries text → ⊥
-IsStaleUnder fronts entries text (Some entry) =
+-- at the first of these fronts at which one does so, this entry names no record of the text
+abbrev pub IsUnnamedUnder : List (List ℕ) → Entries → List ℕ → ℕ → Type 0
+IsUnnamedUnder fronts entries text entry =
     (number : ℕ) × (number < length fronts)
     × ((parts : List Operations) × AreNamedUnder (take number fronts) entries text parts)
     × IsStale (slice_index_or fronts number []) entries text (Some entry)
 
--- INDEX says entries, ARCHIVE has the length that they tell, and what they name in it under each of these fronts makes
--- these contents.
-pub record HoldsNamed {R S : Type 0} (index : Reader R) (archive : Reader S) (fronts : List (List ℕ))
-    (parts : List Operations) : Type 0 where
-  pub entries : Entries
-  pub index_of : IsIndexOf index archive entries
-  pub named : Gives archive (λ text. AreNamedUnder fronts entries text parts)
+-- Why nothing is named so: the text has another length than the index tells; or it has that length, and this entry
+-- names no record of it.
+abbrev pub IsStaleUnder : List (List ℕ) → Entries → List ℕ → Option ℕ → Type 0
+IsStaleUnder fronts entries text None = HasIndexedLength entries text → ⊥
+IsStaleUnder fronts entries text (Some entry) =
+    HasIndexedLength entries text × IsUnnamedUnder fronts entries text entry
+
+-- ARCHIVE was opened and has the length that the index tells, and what the entries name in it under each of these
+-- fronts makes these contents.
+abbrev pub HoldsNamed : {S : Type 0} → List (List ℕ) → Reader S → Entries → List Operations → Type 0
+HoldsNamed fronts archive entries parts =
+    Gives archive (λ text. HasIndexedLength entries text × AreNamedUnder fronts entries text parts)
 
 -- the index is not of this archive, as far as these fronts tell
 abbrev pub IsStaleFor : {S : Type 0} → List (List ℕ) → Reader S → Entries → Option ℕ → Type 0

@@ -1,29 +1,35 @@
 -- Parts that are joined one after another: the words of inner functions. No contract of a public one has them.
-use Rattle.std.specs.Prelude.{◌≡◌, ℕ, List, ◌++◌, Bool, ◌||◌, ◌==◌, Option, IfSome, flat_map, length}
+use Rattle.std.specs.Prelude.{◌≡◌, ℕ, List, ◌++◌, Option, Some, None, IfSome, flat_map}
 use Rattle.std.specs.List.{AllZip}
 use Rattle.archive_core.specs.Content.{Operations}
 use Rattle.archive_core.specs.Summary.{Entries}
 use Rattle.archive_index.specs.declared.fault.PlaceFault.{PlaceFault}
 use Rattle.archive_index.specs.declared.fault.PlaceFault.TheVariants.{Stale, Device, OutOfMemory}
-use Rattle.archive_index.specs.Places.{HasIndexedLength, IsNamedBy, entries_under}
+use Rattle.archive_index.specs.Places.{IsNamedBy, entries_under}
 use Rattle.command_ends.specs.Archives.{merged}
-use Rattle.command_ends.specs.Inputs.{Reader, Gives}
+use Rattle.command_ends.specs.Inputs.{Reader}
 use Rattle.command_ends.specs.declared.faults.CommandFault.{CommandFault}
 use Rattle.command_ends.specs.declared.faults.CommandFault.TheVariants as command
 use Rattle.command_ends.specs.declared.faults.Place.TheVariants as place
 use Rattle.command_ends.specs.declared.faults.Why.TheVariants as why
-use Rattle.indexed_queries.specs.declared.fronts.Front.{Front}
-use Rattle.indexed_queries.specs.Fronts.{AreNamedUnder, HoldsNamed, IsStaleUnder, front_bytes}
+use Rattle.indexed_queries.specs.Fronts.{AreNamedUnder, HoldsNamed, IsStaleUnder, IsUnnamedUnder}
 use Rattle.indexed_queries.specs.Together.{AreNamedBy, merged_each}
 
 -- each entry under each of these fronts names one of the records of its group, in their order, and the groups stand
--- behind what was gathered
+-- after what was gathered
 pub record HaveGathered (whole : Option (List ℕ)) (fronts : List (List ℕ)) (entries : Entries)
     (old new : List (List ℕ)) : Type 0 where
   pub groups : List (List (List ℕ))
   pub named : IfSome whole (λ text. AllZip (λ front records.
       AllZip (IsNamedBy text) (entries_under front entries) records) fronts groups)
   pub behind : new ≡ old ++ flat_map (λ records. records) groups
+
+-- why nothing was gathered: an entry names no record
+abbrev pub IsFaultAmong : List (List ℕ) → Entries → List ℕ → PlaceFault → Type 0
+IsFaultAmong fronts entries text (Stale None) = ⊥
+IsFaultAmong fronts entries text (Stale (Some entry)) = IsUnnamedUnder fronts entries text entry
+IsFaultAmong fronts entries text Device = Unit {0}
+IsFaultAmong fronts entries text OutOfMemory = Unit {0}
 
 -- what the entries under these fronts name was joined to the content
 pub record HasJoinedNamed (whole : Option (List ℕ)) (fronts : List (List ℕ)) (entries : Entries) (old new : Operations)
@@ -32,20 +38,12 @@ pub record HasJoinedNamed (whole : Option (List ℕ)) (fronts : List (List ℕ))
   pub content : new ≡ merged old parts
   pub named : IfSome whole (λ text. AreNamedUnder fronts entries text parts)
 
--- the same of an input, which was opened and has the length that the index tells
+-- the same of an input, which was opened and has the length that the entries tell
 pub record IsNamedIn {S : Type 0} (archive : Reader S) (fronts : List (List ℕ)) (entries : Entries)
     (old new : Operations) : Type 0 where
   pub parts : List Operations
   pub content : new ≡ merged old parts
-  pub archive_is : Gives archive (HasIndexedLength entries)
-  pub named : Gives archive (λ text. AreNamedUnder fronts entries text parts)
-
--- the same of an index and its archive
-pub record HasJoinedParts {R S : Type 0} (index : Reader R) (archive : Reader S) (fronts : List (List ℕ))
-    (old new : Operations) : Type 0 where
-  pub parts : List Operations
-  pub content : new ≡ merged old parts
-  pub named : HoldsNamed index archive fronts parts
+  pub named : HoldsNamed fronts archive entries parts
 
 -- why it was not
 abbrev pub IsFaultUnder : List (List ℕ) → Entries → List ℕ → PlaceFault → Type 0
@@ -59,13 +57,9 @@ told_fault number (Stale entry) = command.Input (place.Index number) (why.Stale 
 told_fault number Device = command.Input (place.Archive number) why.Device
 told_fault number OutOfMemory = command.OutOfMemory
 
--- each of these indexes named groups in its archive, and they were joined
-pub record HaveJoinedGroups {I P : Type 0} (fronts : List (List ℕ)) (indexes : List (Reader I))
-    (archives : List (Reader P)) (old new : Operations) : Type 0 where
+-- what entries name in each of these archives was joined
+pub record HaveJoinedGroups {P : Type 0} (fronts : List (List ℕ)) (archives : List (Reader P))
+    (all : List (List (List ℕ))) (old new : Operations) : Type 0 where
   pub groups : List (List Operations)
-  pub named : AreNamedBy fronts indexes archives groups
+  pub named : AreNamedBy fronts archives all groups
   pub content : new ≡ merged_each old groups
-
--- the bytes of a front are as many as those of a UUID, or of a key
-abbrev pub is_sized : Front → Bool
-is_sized front = (length (front_bytes front) == 16) || (length (front_bytes front) == 24)

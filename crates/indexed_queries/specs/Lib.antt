@@ -1,11 +1,9 @@
+pub mod Indexes
 pub mod Rows
 pub mod Find
 pub mod List
 pub mod Summary
 pub mod Fronts
 pub mod InnerParts
-pub mod Symbolicate
-pub mod Frames
-pub mod Told
 pub mod Together
 pub mod Several

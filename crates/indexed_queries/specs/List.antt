@@ -5,7 +5,7 @@ use Rattle.archive_core.specs.declared.find.FindRow.{FindRow}
 use Rattle.report_text.specs.Finds.{list_lines}
 use Rattle.command_ends.specs.declared.faults.Status.{Status}
 use Rattle.command_ends.specs.Ends.{Query}
-use Rattle.command_ends.specs.Indexes.{HasOtherLength, IsIndexOf, IsRefusedByIndex}
+use Rattle.indexed_queries.specs.Indexes.{IsIndexOf, IsRefusedByIndex}
 use Rattle.command_ends.specs.Inputs.{Reader, Unfailed}
 use Rattle.archive_queries.specs.Find.{find_status}
 use Rattle.indexed_queries.specs.Rows.{AreIndexRows}
@@ -28,6 +28,6 @@ pub record MakesListedAt {R S : Type 0} (index : Reader R) (archive : Reader S) 
 abbrev pub list_at : {R S : Type 0} → Reader R → Reader S → Query
 list_at index archive = record {
   Makes = MakesListedAt index archive;
-  Refuses = IsRefusedByIndex 0 index archive (HasOtherLength archive);
+  Refuses = IsRefusedByIndex 0 index archive;
   Unfailed = Unfailed index × Unfailed archive;
 }

@@ -1,9 +1,5 @@
 -- The rows that an index tells.
-use Rattle.std.specs.Prelude.{◌≡◌, ℕ, List, Bool, true, take, drop, slice_index}
-use Rattle.std.specs.FinSet as set
-use Rattle.archive_core.specs.Content.{Operations}
-use Rattle.archive_core.specs.Record.{admission_record}
-use Rattle.archive_core.specs.Valid.{key_of}
+use Rattle.std.specs.Prelude.{◌≡◌, List, ℕ, Bool, take, drop, slice_index}
 use Rattle.std.specs.List.{AllZip}
 use Rattle.std.specs.List.Sorted.{IsPermutation, IsSortedBy, IsStableBy}
 use Rattle.std.specs.Ordering.{nat_cmp, is_lt}
@@ -40,7 +36,3 @@ pub record AreIndexRows (front : List ℕ) (entries : Entries) (rows : List Find
   pub each : AllZip IsEntryRow placed told
   pub by_key : IsSortedBy has_lower_key rows
   pub stable : IsStableBy has_lower_key told rows
-
--- each slice of a content is under a key whose parts have their widths, as each slice of bytes is
-abbrev pub HaveKeys : Operations → Type 0
-HaveKeys o = (slice : List ℕ) → set.contains o (admission_record slice) ≡ true → IsKey (key_of slice)

@@ -5,7 +5,7 @@ use Rattle.join_core.specs.Listing.{listing}
 use Rattle.archive_core.specs.Summary.{Entries}
 use Rattle.archive_records.specs.Text.{summary_text}
 use Rattle.command_ends.specs.Ends.{Command}
-use Rattle.command_ends.specs.Indexes.{HasOtherLength, IsIndexOf, IsRefusedByIndex}
+use Rattle.indexed_queries.specs.Indexes.{IsIndexOf, IsRefusedByIndex}
 use Rattle.command_ends.specs.Inputs.{Reader, Unfailed}
 use Rattle.command_ends.specs.Outputs.{summary_report_of}
 
@@ -25,6 +25,6 @@ pub record MakesSummaryAt {R S : Type 0} (index : Reader R) (archive : Reader S)
 abbrev pub summary_at : {R S : Type 0} → Reader R → Reader S → Command
 summary_at index archive = record {
   Makes = MakesSummaryAt index archive;
-  Refuses = IsRefusedByIndex 0 index archive (HasOtherLength archive);
+  Refuses = IsRefusedByIndex 0 index archive;
   Unfailed = Unfailed index × Unfailed archive;
 }

@@ -1,17 +1,19 @@
--- Archives that are asked together, of which the first have indexes.
-use Rattle.std.specs.Prelude.{◌≡◌, ℕ, ◌+◌, List, [], ◌∷◌, Bool, Some, map, fold, take, drop, length, slice_get, ◌⊎◌}
-use Rattle.std.specs.List.{AllByRecursion, AllZip, list_any}
+-- Archives that are asked together by their indexes: read, and which of them is refused first.
+use Rattle.std.specs.Prelude.{◌≡◌, ℕ, ◌+◌, List, [], ◌∷◌, Some, Option, fold, take, drop, slice_get, ◌⊎◌, Result, Ok, Err}
+use Rattle.std.specs.List.{AllZip}
 use Rattle.std.specs.FinSet as set
-use Rattle.archive_core.specs.Content.{Operations, IsContent}
-use Rattle.archive_core.specs.Part.{is_under, part}
+use Rattle.archive_core.specs.Content.{Operations}
+use Rattle.archive_index.specs.Places.{HasIndexedLength}
+use Rattle.byte_device.specs.declared.disks.CannotOpen.{CannotOpen}
+use Rattle.table_index.specs.Text.{placed_of}
 use Rattle.command_ends.specs.Archives.{merged}
-use Rattle.command_ends.specs.Indexes.{IsRefusedByIndex}
-use Rattle.command_ends.specs.Inputs.{Reader, EachUnfailed, EachUntouched, HoldsArchive, IsArchive, IsArchiveRefused}
-use Rattle.command_ends.specs.Inputs.{IsFirstRefused}
+use Rattle.command_ends.specs.Inputs.{Reader, Gives, EachUnfailed, EachUntouched, IsUnread, Unfailed}
 use Rattle.command_ends.specs.declared.faults.Place.{Place}
-use Rattle.command_ends.specs.declared.faults.Place.TheVariants.{Archive}
+use Rattle.command_ends.specs.declared.faults.Place.TheVariants.{Archive, Index}
 use Rattle.command_ends.specs.declared.faults.Why.{Why}
+use Rattle.command_ends.specs.declared.faults.Why.TheVariants.{Stale}
 use Rattle.indexed_queries.specs.Fronts.{HoldsNamed, IsStaleFor}
+use Rattle.indexed_queries.specs.Indexes.{HoldsTables, IsRefusedByIndex}
 
 -- three lists have the same length, and this is true of those at each place
 abbrev pub AllThree : {X Y Z : Type 0} → (X → Y → Z → Type 0) → List X → List Y → List Z → Type 0
@@ -19,60 +21,90 @@ AllThree R [] [] [] = Unit {0}
 AllThree R (x ∷ xs) (y ∷ ys) (z ∷ zs) = R x y z × AllThree R xs ys zs
 AllThree R xs ys zs = ⊥
 
--- each of the indexes names these contents in its archive, under these fronts
-abbrev pub AreNamedBy : {I P : Type 0} → List (List ℕ) → List (Reader I) → List (Reader P) → List (List Operations)
-    → Type 0
-AreNamedBy fronts indexes archives groups =
-    AllThree (λ index archive parts. HoldsNamed index archive fronts parts) indexes archives groups
+-- INDEX says these entries, and ARCHIVE has the length that they tell.
+pub record IsReadWith {I P : Type 0} (index : Reader I) (archive : Reader P) (all : List (List ℕ)) : Type 0 where
+  pub index_is : HoldsTables index all
+  pub archive_is : Gives archive (HasIndexedLength (placed_of all))
 
--- a content with groups of others, one joined after another
-abbrev pub merged_each : Operations → List (List Operations) → Operations
-merged_each o groups = fold merged o groups
+-- the indexes say these entries, and their archives have the lengths that they tell
+abbrev pub AreReadWith : {I P : Type 0} → List (Reader I) → List (Reader P) → List (List (List ℕ)) → Type 0
+AreReadWith indexes archives all = AllThree IsReadWith indexes archives all
 
--- the bytes behind the tag of a record begin with one of these
-abbrev pub is_under_any : List (List ℕ) → List ℕ → Bool
-is_under_any fronts r = list_any (λ front. is_under front r) fronts
-
--- The first archives have these indexes, which name contents in them under these fronts; the others are the texts of
--- contents. The join of what is named, and of the parts of the others under these fronts, is this content.
-pub record HoldNamedTogether {I P R : Type 0} (fronts : List (List ℕ)) (indexes : List (Reader I))
-    (archives : List (Reader P)) (others : List (Reader R)) (p : Operations) : Type 0 where
-  pub groups : List (List Operations)
-  pub named : AreNamedBy fronts indexes archives groups
-  pub contents : List Operations
-  pub are_contents : AllByRecursion IsContent contents
-  pub others_are : AllZip HoldsArchive others contents
-  pub content_is : p ≡ merged (merged_each set.empty groups) (map (λ o. part o (is_under_any fronts)) contents)
-
--- The input of this number: the readers before it did not fail, and those behind it are untouched.
+-- The input of this number: the readers before it did not fail, and those after it are untouched.
 pub record IsOneOf {S : Type 0} (inputs : List (Reader S)) (number : ℕ) (input : Reader S) : Type 0 where
   pub unfailed : EachUnfailed (take number inputs)
   pub is : slice_get inputs number ≡ Some input
   pub behind : EachUntouched (drop (number + 1) inputs)
 
--- One of these indexes, or its archive, is refused; those before it are not.
-pub record IsFirstRefusedByIndex {I P : Type 0} (fronts : List (List ℕ)) (indexes : List (Reader I))
-    (archives : List (Reader P)) (at : Place) (why : Why) : Type 0 where
+-- One of these indexes, or the length of its archive, is refused; those before it are not.
+pub record IsFirstRefusedByIndex {I P : Type 0} (indexes : List (Reader I)) (archives : List (Reader P)) (at : Place)
+    (why : Why) : Type 0 where
   pub number : ℕ
-  pub groups : List (List Operations)
-  pub before : AreNamedBy fronts (take number indexes) (take number archives) groups
+  pub all : List (List (List ℕ))
+  pub before : AreReadWith (take number indexes) (take number archives) all
   pub index : Reader I
   pub archive : Reader P
   pub index_is : IsOneOf indexes number index
   pub archive_is : IsOneOf archives number archive
-  pub refused : IsRefusedByIndex number index archive (IsStaleFor fronts archive) at why
+  pub refused : IsRefusedByIndex number index archive at why
 
--- no reader and no device of theirs failed
-abbrev pub AreUnfailedTogether : {I P R : Type 0} → List (Reader I) → List (Reader P) → List (Reader R) → Type 0
-AreUnfailedTogether indexes archives others =
-    (EachUnfailed indexes × EachUnfailed archives) × EachUnfailed others
+-- ---- after the indexes were read
 
--- The first of them that is refused: an index or its archive, and the others are untouched; or the indexes name
--- contents, nothing of theirs failed, and one of the others is refused.
-abbrev pub AreRefusedTogether : {I P R : Type 0} → List (List ℕ) → List (Reader I) → List (Reader P)
-    → List (Reader R) → Place → Why → Type 0
-AreRefusedTogether fronts indexes archives others at why =
-    (IsFirstRefusedByIndex fronts indexes archives at why × EachUntouched others)
-    ⊎ (((groups : List (List Operations)) × AreNamedBy fronts indexes archives groups)
-    × (EachUnfailed indexes × EachUnfailed archives)
-    × IsFirstRefused (λ number. Archive (length indexes + number)) IsArchive IsArchiveRefused others at why)
+-- an input is open, as it was, with the same bytes and no further failure; or it was not opened
+abbrev pub IsKept : {S : Type 0} → (S → Option (List ℕ)) → (S → ℕ) → Result S CannotOpen → Result S CannotOpen → Type 0
+IsKept left failures (Ok old) (Ok new) = (left new ≡ left old) × (failures new ≡ failures old)
+IsKept left failures (Err old) (Err new) = new ≡ old
+IsKept left failures old new = ⊥
+
+-- so it is with each of these, as many
+abbrev pub AreAllKept : {S : Type 0} → (S → Option (List ℕ)) → (S → ℕ) → List (Result S CannotOpen)
+    → List (Result S CannotOpen) → Type 0
+AreAllKept left failures old new = AllZip (IsKept left failures) old new
+
+-- The same input from a later state on, up to which it was kept.
+pub record IsLater {S : Type 0} (first later : Reader S) : Type 0 where
+  pub left_is : later.left ≡ first.left
+  pub failures_is : later.failures ≡ first.failures
+  pub new_is : later.new ≡ first.new
+  pub kept : IsKept first.left first.failures first.old later.old
+
+-- so it is with each of these
+abbrev pub AreLater : {S : Type 0} → List (Reader S) → List (Reader S) → Type 0
+AreLater firsts laters = AllZip IsLater firsts laters
+
+-- what the entries of each name in its archive under these fronts makes these contents
+abbrev pub AreNamedBy : {P : Type 0} → List (List ℕ) → List (Reader P) → List (List (List ℕ)) → List (List Operations)
+    → Type 0
+AreNamedBy fronts archives all groups =
+    AllThree (λ archive entries parts. HoldsNamed fronts archive (placed_of entries) parts) archives all groups
+
+-- a content with groups of others, one joined after another
+abbrev pub merged_each : Operations → List (List Operations) → Operations
+merged_each o groups = fold merged o groups
+
+-- The join of what these entries name in their archives under these fronts is this content.
+pub record HoldNamed {P : Type 0} (fronts : List (List ℕ)) (archives : List (Reader P)) (all : List (List (List ℕ)))
+    (p : Operations) : Type 0 where
+  pub groups : List (List Operations)
+  pub named : AreNamedBy fronts archives all groups
+  pub content_is : p ≡ merged_each set.empty groups
+
+-- An archive is refused at the places that its index names: it is not open, or its device failed; or it did not, and
+-- an entry names no record; or it has another length by now.
+abbrev pub IsRefusedAtPlaces : {P : Type 0} → List (List ℕ) → ℕ → Reader P → List (List ℕ) → Place → Why → Type 0
+IsRefusedAtPlaces fronts number archive entries at why =
+    ((at ≡ Archive number) × IsUnread archive why)
+    ⊎ ((at ≡ Index number) × Unfailed archive
+    × ((entry : Option ℕ) × (why ≡ Stale entry) × IsStaleFor fronts archive (placed_of entries) entry))
+
+-- One of these archives is refused so; those before it are not.
+pub record IsFirstRefusedAtPlaces {P : Type 0} (fronts : List (List ℕ)) (archives : List (Reader P))
+    (all : List (List (List ℕ))) (at : Place) (why : Why) : Type 0 where
+  pub number : ℕ
+  pub groups : List (List Operations)
+  pub before : AreNamedBy fronts (take number archives) (take number all) groups
+  pub archive : Reader P
+  pub archive_is : IsOneOf archives number archive
+  pub entries : List (List ℕ)
+  pub entries_are : slice_get all number ≡ Some entries
+  pub refused : IsRefusedAtPlaces fronts number archive entries at why

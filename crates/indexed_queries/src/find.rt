@@ -1,5 +1,5 @@
 //! `find ARCHIVE UUID --index INDEX`, over one archive, and over several.
-ghost use Rattle.std.specs.Prelude.{◌≡◌, ◌<◌, ◌+◌, ◌^◌, length};
+ghost use Rattle.std.specs.Prelude.{◌≡◌, length};
 ghost use Rattle.command_ends.specs.Ends.{EndsReport};
 ghost use Rattle.command_ends.specs.Inputs.{reader, readers};
 ghost use Rattle.command_ends.specs.Outputs.{writer};
@@ -8,10 +8,10 @@ ghost use Rattle.indexed_queries.specs.Find.{find_at, find_together};
 use crate::fronts::{Front, uuid_bytes};
 use crate::inputs::read_index_of;
 use crate::rows::rows_under;
-use crate::together::read_fronts;
+use crate::together::read_together;
 use archive_core::Archive;
 use archive_queries::status_of;
-use byte_device::{CannotOpen, Sink, Source};
+use byte_device::{CannotOpen, Sink};
 use command_ends::{CommandFault, Status, publish_report};
 use memory::Heap;
 use placed_bytes::Placed;
@@ -19,52 +19,51 @@ use report_text::find_lines;
 use uuid::Uuid;
 
 /// Writes a row for each retirement and each live slice of the UUID that INDEX names to the report, as `run_find` of
-/// `archive_queries` does. INDEX is read to its end, and of ARCHIVE the length alone.
+/// `archive_queries` does. Of INDEX the entries are read, and of ARCHIVE the length alone.
 ///
 /// # Errors
 ///
 /// `Input` where INDEX or ARCHIVE is refused, or INDEX is not of ARCHIVE; `Report` where the report failed;
 /// `OutOfMemory`.
-pub fn run_find_at<I: Source, P: Placed, W: Sink>(
+pub fn run_find_at<I: Placed, P: Placed, W: Sink>(
     heap: Heap,
     index: &mut Result<I, CannotOpen>,
     archive: &mut Result<P, CannotOpen>,
     uuid: &Uuid,
     report: &mut W,
 ) -> Result<Status, CommandFault>
-    ensures { EndsReport (find_at (reader I.left I.failures index.old index.new)
+    ensures { EndsReport (find_at (reader I.whole I.failures index.old index.new)
         (reader P.whole P.failures archive.old archive.new) uuid.now)
         (writer W.held W.failures report.old report.new) result }
 {
     let front = uuid_bytes(*uuid);
-    let entries = read_index_of(heap.clone()?, 0, index, archive)?;
+    let entries = read_index_of(&heap, index, archive)?;
     let rows = rows_under(&heap, &front, &entries)?;
     let text = find_lines(heap, &rows)?;
     publish_report(status_of(&rows), &text, report)
 }
 
-/// Writes a row for each retirement and each live slice of the UUID in the join of the archives to the report. Of the
-/// first archives the slices that their indexes name under the UUID are read at their places, tested and hashed, since
-/// slices of several archives are told in the order of their bytes; the others are read whole, each to its end.
+/// Writes a row for each retirement and each live slice of the UUID in the join of the archives to the report. The
+/// indexes are read first, and compared with the lengths of their archives; then the slices that they name under the
+/// UUID are read at their places, tested and hashed, since slices of several archives are told in the order of their
+/// bytes.
 ///
 /// # Errors
 ///
 /// `Input` for the first index or archive that is refused; `Report` where the report failed; `OutOfMemory`.
-pub fn run_find_together<A: Archive + Drop, I: Source, P: Placed, R: Source, W: Sink>(
+pub fn run_find_together<A: Archive + Drop, I: Placed, P: Placed, W: Sink>(
     heap: Heap,
     indexes: &mut [Result<I, CannotOpen>],
     archives: &mut [Result<P, CannotOpen>],
-    others: &mut [Result<R, CannotOpen>],
     uuid: &Uuid,
     report: &mut W,
 ) -> Result<Status, CommandFault>
-    requires same { length indexes.old ≡ length archives.old }
-    requires few { length indexes.old + length others.old < 2 ^ 64 }
-    ensures { EndsReport (find_together (readers I.left I.failures indexes.old indexes.new)
-        (readers P.whole P.failures archives.old archives.new) (readers R.left R.failures others.old others.new)
-        uuid.now) (writer W.held W.failures report.old report.new) result }
+    requires { length indexes.old ≡ length archives.old }
+    ensures { EndsReport (find_together (readers I.whole I.failures indexes.old indexes.new)
+        (readers P.whole P.failures archives.old archives.new) uuid.now)
+        (writer W.held W.failures report.old report.new) result }
 {
-    let kept: A = read_fronts(&heap, &[Front::Uuid(*uuid)], indexes, archives, others)?;
+    let kept: A = read_together(&heap, &[Front::Uuid(*uuid)], indexes, archives)?;
     let rows = kept.find(uuid)?;
     let text = find_lines(heap, &rows)?;
     publish_report(status_of(&rows), &text, report)

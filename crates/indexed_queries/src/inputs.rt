@@ -1,22 +1,26 @@
 //! An index that is read, and the archive that it is of.
 
-ghost use Rattle.std.specs.Prelude.{◌≡◌, ◌≢◌};
+ghost use Rattle.std.specs.Prelude.{◌≡◌, ◌≢◌, IfOk, OnOk};
 ghost use Rattle.archive_index.specs.Places.{HasIndexedLength};
-ghost use Rattle.archive_index.specs.declared.fault.IndexFaultKind.TheVariants.{OutOfMemory as IndexOutOfMemory};
-ghost use Rattle.command_ends.specs.Indexes.{HasOtherLength, HoldsIndex, IsIndexOf, IsRefusedBehindIndex};
-ghost use Rattle.command_ends.specs.Indexes.{IsRefusedByIndex, IsUnreadIndex};
+ghost use Rattle.index_faults.specs.declared.fault.IndexFaultKind.TheVariants.{OutOfMemory as IndexOutOfMemory};
+ghost use Rattle.table_index.specs.Text.{placed_of};
 ghost use Rattle.command_ends.specs.Inputs.{Gives, IsRefusal, Reads, ReadsInputs, Unfailed, reader};
 ghost use Rattle.command_ends.specs.declared.faults.Place.TheVariants.{Index as IndexPlace};
 ghost use Rattle.command_ends.specs.declared.faults.Why.TheVariants.{Index as IndexFaulty};
+ghost use Rattle.indexed_queries.specs.Indexes.{HoldsTables, IsIndexOf, IsOfOtherLength, IsRefusedByIndex};
+ghost use Rattle.indexed_queries.specs.Indexes.{IsUnreadIndex};
+ghost use Rattle.indexed_queries.specs.Together.{IsKept, IsReadWith};
 
-use archive_index::{Index, IndexFault, IndexFaultKind, read_index};
-use byte_device::{CannotOpen, Failed, Source};
+use archive_index::Index;
+use byte_device::{CannotOpen, Failed};
 use command_ends::{CommandFault, Place, Why, opened};
+use index_faults::{IndexFault, IndexFaultKind};
 use indexed_parts::has_length;
 use memory::Heap;
 use placed_bytes::Placed;
+use table_index::{TableIndex, read_index};
 
-/// The refusal of an index, whose text has this fault or whose reader failed.
+/// The refusal of an index, whose text has this fault or whose device failed.
 fn refusal(number: u64, fault: IndexFault) -> CommandFault
     ensures { IsRefusal (λ at why. (at ≡ IndexPlace number) × (why ≡ IndexFaulty fault)
         × (fault.kind ≢ IndexOutOfMemory)) (fault.kind ≡ IndexOutOfMemory) result }
@@ -28,17 +32,18 @@ fn refusal(number: u64, fault: IndexFault) -> CommandFault
 }
 
 /// Reads the index with this number among those of the words.
-pub(crate) fn read_entries<I: Source>(
+fn read_tables<I: Placed>(
     heap: Heap,
     number: u64,
     index: &mut Result<I, CannotOpen>,
-) -> Result<Index, CommandFault>
-    ensures { Reads (reader I.left I.failures index.old index.new) result HoldsIndex
+) -> Result<TableIndex, CommandFault>
+    ensures read { Reads (reader I.whole I.failures index.old index.new) result HoldsTables
         (λ index at why. (at ≡ IndexPlace number) × IsUnreadIndex index why) }
+    ensures kept { OnOk result (IsKept I.whole I.failures index.old index.new) }
 {
-    let source = opened(index, Place::Index(number))?;
-    match read_index(heap, source) {
-        Ok(entries) => Ok(entries),
+    let device = opened(index, Place::Index(number))?;
+    match read_index(heap, device) {
+        Ok(tables) => Ok(tables),
         Err(fault) => Err(refusal(number, fault)),
     }
 }
@@ -49,9 +54,10 @@ fn test_length<P: Placed>(
     entries: &Index,
     archive: &mut Result<P, CannotOpen>,
 ) -> Result<(), CommandFault>
-    ensures { Reads (reader P.whole P.failures archive.old archive.new) result
+    ensures tests { Reads (reader P.whole P.failures archive.old archive.new) result
         (λ archive _. Gives archive (HasIndexedLength entries.now))
-        (λ archive. IsRefusedBehindIndex number archive (HasOtherLength archive entries.now)) }
+        (λ archive. IsOfOtherLength number archive entries.now) }
+    ensures kept { OnOk result (IsKept P.whole P.failures archive.old archive.new) }
 {
     let device = opened(archive, Place::Archive(number))?;
     match has_length(entries, device) {
@@ -62,19 +68,39 @@ fn test_length<P: Placed>(
 }
 
 /// Reads the index of an archive, and tests that this has the length that it tells. Both have this number among those
-/// of the words.
-pub(crate) fn read_index_of<I: Source, P: Placed>(
-    heap: Heap,
+/// of the words. The entries are given with their claims, and without them.
+pub(crate) fn read_with_tables<I: Placed, P: Placed>(
+    heap: &Heap,
     number: u64,
     index: &mut Result<I, CannotOpen>,
     archive: &mut Result<P, CannotOpen>,
-) -> Result<Index, CommandFault>
-    ensures { let named = reader I.left I.failures index.old index.new in
+) -> Result<(TableIndex, Index), CommandFault>
+    ensures read { let named = reader I.whole I.failures index.old index.new in
         let known = reader P.whole P.failures archive.old archive.new in
-        ReadsInputs result (IsIndexOf named known) (IsRefusedByIndex number named known (HasOtherLength known))
+        ReadsInputs result (λ read. IsReadWith named known read.0) (IsRefusedByIndex number named known)
         (Unfailed named × Unfailed known) }
+    ensures placed { IfOk result (λ read. read.1 ≡ placed_of read.0) }
+    ensures kept { OnOk result (IsKept I.whole I.failures index.old index.new
+        × IsKept P.whole P.failures archive.old archive.new) }
 {
-    let entries = read_entries(heap, number, index)?;
+    let tables = read_tables(heap.clone()?, number, index)?;
+    let entries = tables.placed(heap.clone()?)?;
+    let _count = entries.len();
     test_length(number, &entries, archive)?;
+    Ok((tables, entries))
+}
+
+/// Reads the index of the first archive, and tests that this has the length that it tells.
+pub(crate) fn read_index_of<I: Placed, P: Placed>(
+    heap: &Heap,
+    index: &mut Result<I, CannotOpen>,
+    archive: &mut Result<P, CannotOpen>,
+) -> Result<Index, CommandFault>
+    ensures { let named = reader I.whole I.failures index.old index.new in
+        let known = reader P.whole P.failures archive.old archive.new in
+        ReadsInputs result (IsIndexOf named known) (IsRefusedByIndex 0 named known) (Unfailed named × Unfailed known) }
+{
+    let (_, entries) = read_with_tables(heap, 0, index, archive)?;
+    let _count = entries.len();
     Ok(entries)
 }

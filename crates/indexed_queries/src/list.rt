@@ -7,29 +7,29 @@ ghost use Rattle.indexed_queries.specs.List.{list_at};
 use crate::inputs::read_index_of;
 use crate::rows::rows_under;
 use archive_queries::status_of;
-use byte_device::{CannotOpen, Sink, Source};
+use byte_device::{CannotOpen, Sink};
 use command_ends::{CommandFault, Status, publish_report};
 use memory::Heap;
 use placed_bytes::Placed;
 use report_text::list_lines;
 
 /// Writes a row for each retirement and each live slice that INDEX names to the report, as `run_list` of
-/// `archive_queries` does. INDEX is read to its end, and of ARCHIVE the length alone.
+/// `archive_queries` does. Of INDEX the entries are read, and of ARCHIVE the length alone.
 ///
 /// # Errors
 ///
 /// Those of `run_find_at`.
-pub fn run_list_at<I: Source, P: Placed, W: Sink>(
+pub fn run_list_at<I: Placed, P: Placed, W: Sink>(
     heap: Heap,
     index: &mut Result<I, CannotOpen>,
     archive: &mut Result<P, CannotOpen>,
     report: &mut W,
 ) -> Result<Status, CommandFault>
-    ensures { EndsReport (list_at (reader I.left I.failures index.old index.new)
+    ensures { EndsReport (list_at (reader I.whole I.failures index.old index.new)
         (reader P.whole P.failures archive.old archive.new))
         (writer W.held W.failures report.old report.new) result }
 {
-    let entries = read_index_of(heap.clone()?, 0, index, archive)?;
+    let entries = read_index_of(&heap, index, archive)?;
     let rows = rows_under(&heap, &[], &entries)?;
     let text = list_lines(heap, &rows)?;
     publish_report(status_of(&rows), &text, report)

@@ -6,24 +6,25 @@ ghost use Rattle.archive_core.specs.Content.{content_of, joined};
 ghost use Rattle.archive_core.specs.Record.{record_bytes};
 ghost use Rattle.placed_bytes.specs.Places.{HasSize};
 ghost use Rattle.archive_index.specs.Places.{HasIndexedLength};
-ghost use Rattle.command_ends.specs.Indexes.{IsRefusedBehindIndex, IsRefusedByIndex};
-ghost use Rattle.command_ends.specs.Inputs.{Reads, ReadsInputs, Unfailed, reader};
+ghost use Rattle.table_index.specs.Text.{placed_of};
+ghost use Rattle.command_ends.specs.Inputs.{Reads, reader};
 ghost use Rattle.indexed_parts.specs.Places.{AreGatheredUnder, IsEntryFault, ReadsPlaces};
-ghost use Rattle.indexed_queries.specs.Fronts.{IsStaleFor, front_bytes};
-ghost use Rattle.indexed_queries.specs.InnerParts.{HasJoinedNamed, HasJoinedParts, HaveGathered, IsFaultUnder};
-ghost use Rattle.indexed_queries.specs.InnerParts.{IsNamedIn, told_fault};
+ghost use Rattle.indexed_queries.specs.Fronts.{front_bytes};
+ghost use Rattle.indexed_queries.specs.InnerParts.{HasJoinedNamed, HaveGathered, IsFaultAmong, IsFaultUnder, IsNamedIn};
+ghost use Rattle.indexed_queries.specs.InnerParts.{told_fault};
+ghost use Rattle.indexed_queries.specs.Together.{IsRefusedAtPlaces};
 
 use crate::fronts::{Front, key_of, uuid_bytes};
-use crate::inputs::read_entries;
 use archive_core::{Archive, Operation, take_all};
 use archive_index::{Index, PlaceFault};
-use byte_device::{CannotOpen, Source};
+use byte_device::CannotOpen;
 use command_ends::{CommandFault, Place, Why, opened};
 use indexed_parts::{archive_of, gather_at, indexed_size};
 use memory::{Heap, NoMemory};
 use placed_bytes::Placed;
+use table_index::TableIndex;
 
-/// Gathers the records under a front, at the places that an index names, behind those that were gathered.
+/// Gathers the records under a front, at the places that an index names, after those that were gathered.
 fn gather_front<P: Placed>(
     heap: &Heap,
     gathered: &mut Vec<Operation, Heap>,
@@ -59,7 +60,7 @@ fn gather_fronts<P: Placed>(
     ensures { ReadsPlaces P.whole P.failures device.old device.new result
         (λ _. HaveGathered (P.whole device.old) (map front_bytes fronts.now) entries.now
         (map record_bytes gathered.old.items) (map record_bytes gathered.new.items))
-        (IsFaultUnder (map front_bytes fronts.now) entries.now) }
+        (IsFaultAmong (map front_bytes fronts.now) entries.now) }
 {
     'fronts: for front in fronts {
         gather_front(heap, gathered, front, entries, device, size)?;
@@ -118,43 +119,25 @@ fn told(number: u64, fault: PlaceFault) -> CommandFault
     }
 }
 
-/// Joins what an index names under each of these fronts in the archive with this number among those of the words.
-fn join_archive<A: Archive + Drop, P: Placed>(
+/// Joins what an index names under each of these fronts in its archive, which have this number among those of the
+/// words.
+pub(crate) fn join_archive<A: Archive + Drop, P: Placed>(
     heap: &Heap,
     kept: &mut A,
     number: u64,
     fronts: &[Front],
-    entries: &Index,
+    tables: &TableIndex,
     archive: &mut Result<P, CannotOpen>,
 ) -> Result<(), CommandFault>
     ensures { let sought = map front_bytes fronts.now in
         Reads (reader P.whole P.failures archive.old archive.new) result
-        (λ archive _. IsNamedIn archive sought entries.now (A.content kept.old) (A.content kept.new))
-        (λ archive. IsRefusedBehindIndex number archive (IsStaleFor sought archive entries.now)) }
+        (λ archive _. IsNamedIn archive sought (placed_of tables.now) (A.content kept.old) (A.content kept.new))
+        (λ archive. IsRefusedAtPlaces sought number archive tables.now) }
 {
+    let entries = tables.placed(heap.clone()?)?;
     let device = opened(archive, Place::Archive(number))?;
-    match join_fronts(heap, kept, fronts, entries, device) {
+    match join_fronts(heap, kept, fronts, &entries, device) {
         Ok(()) => Ok(()),
         Err(fault) => Err(told(number, fault)),
     }
-}
-
-/// Reads the index with this number among those of the words, and joins what it names under each of these fronts in its
-/// archive.
-pub(crate) fn join_named<A: Archive + Drop, I: Source, P: Placed>(
-    heap: &Heap,
-    kept: &mut A,
-    number: u64,
-    fronts: &[Front],
-    index: &mut Result<I, CannotOpen>,
-    archive: &mut Result<P, CannotOpen>,
-) -> Result<(), CommandFault>
-    ensures { let sought = map front_bytes fronts.now in
-        let named = reader I.left I.failures index.old index.new in
-        let known = reader P.whole P.failures archive.old archive.new in
-        ReadsInputs result (λ _. HasJoinedParts named known sought (A.content kept.old) (A.content kept.new))
-        (IsRefusedByIndex number named known (IsStaleFor sought known)) (Unfailed named × Unfailed known) }
-{
-    let entries = read_entries(heap.clone()?, number, index)?;
-    join_archive(heap, kept, number, fronts, &entries, archive)
 }

@@ -6,31 +6,31 @@ ghost use Rattle.indexed_queries.specs.Summary.{summary_at};
 
 use crate::inputs::read_index_of;
 use crate::summaries::summary_of;
-use byte_device::{CannotOpen, Sink, Source};
+use byte_device::{CannotOpen, Sink};
 use command_ends::{CommandFault, Output, Status, Target, publish_summary};
 use memory::Heap;
 use placed_bytes::Placed;
 
 /// Writes the summary that INDEX tells to OUT, and to the report how many entries and bytes it has, as `summary` does
-/// of an archive. INDEX is read to its end, and of ARCHIVE the length alone.
+/// of an archive. Of INDEX the entries are read, and of ARCHIVE the length alone.
 ///
 /// # Errors
 ///
 /// `Input` where INDEX or ARCHIVE is refused, or INDEX is not of ARCHIVE; `Output` and `Report` where that writer
 /// failed; `OutOfMemory`.
-pub fn run_summary_at<I: Source, P: Placed, T: Target, W: Sink>(
+pub fn run_summary_at<I: Placed, P: Placed, T: Target, W: Sink>(
     heap: Heap,
     index: &mut Result<I, CannotOpen>,
     archive: &mut Result<P, CannotOpen>,
     out: &mut Output<T::Draft, T>,
     report: &mut W,
 ) -> Result<Status, CommandFault>
-    ensures { Ends (summary_at (reader I.left I.failures index.old index.new)
+    ensures { Ends (summary_at (reader I.whole I.failures index.old index.new)
         (reader P.whole P.failures archive.old archive.new))
         (out_of (outs T.Draft.held T.Draft.failures T.placed T.failures out.old out.new))
         (writer W.held W.failures report.old report.new) result }
 {
-    let entries = read_index_of(heap.clone()?, 0, index, archive)?;
+    let entries = read_index_of(&heap, index, archive)?;
     let summary = summary_of(heap.clone()?, &entries)?;
     publish_summary(heap, &summary, out, report)
 }

@@ -1,12 +1,12 @@
 -- The index that was made, and the first bytes of one.
-use Rattle.std.proofs.Common.{◌≡◌, ℕ, List, [], ◌++◌, length, map, take, Option, Some, None, Err, Ok, refl, sym, ap, ◌∙◌, subst, inl, inr, arith, append_assoc}
+use Rattle.std.proofs.Common.{◌≡◌, ℕ, List, [], ◌++◌, length, map, take, Option, Some, Err, Ok, refl, sym, ap, ◌∙◌, subst, inl, inr, arith, append_assoc}
 use Rattle.std.specs.Prelude.{IfSome}
 use Rattle.std.specs.List.{AllZip, concat}
 use Rattle.std.specs.FinSet as set
-use Rattle.std.specs.Io.KnownBytes.{Appends, Consumes, IsAtEnd}
+use Rattle.std.specs.Io.KnownBytes.{Appends, IsAtEnd}
 use Rattle.std.specs.Cmp.Lexicographic.{nat_list_cmp_total}
 use Rattle.std.proofs.Math.ListN.{length-map}
-use Rattle.std.proofs.lemmas.List.{append-nil, length-take-le}
+use Rattle.std.proofs.lemmas.List.{length-take-le}
 use Rattle.join_core.specs.Listing.{listing}
 use Rattle.join_core.proofs.Listing.{listing_ascending}
 use Rattle.byte_device.specs.Devices.{stream}
@@ -25,7 +25,7 @@ use Rattle.archive_records.proofs.Inputs.{IsReadTo, read_whole}
 use Rattle.archive_records.proofs.Puts.{bytes_same, length_written}
 use Rattle.archive_index.specs.Text.{index_magic}
 use Rattle.archive_index.specs.declared.fault.IndexingFault.TheVariants.{Archive as Archive_fault, OldArchive, TooLong}
-use Rattle.archive_index.proofs.Made.{refused as indexing_refused}
+use Rattle.archive_index.proofs.Made.{refused as indexing_refused, taken_whole, text_along}
 use Rattle.table_index.specs.Entry.{entry_bytes}
 use Rattle.table_index.specs.Text.{end_of, index_text}
 use Rattle.table_index.specs.declared.entry.TableEntry.{TableEntry}
@@ -38,17 +38,8 @@ use Rattle.indexed_tables.proofs.Apart.{as_many}
 use Rattle.indexed_tables.proofs.Contents.{one_of_content}
 use Rattle.indexed_tables.proofs.First.{first_of}
 
-taken_whole : (a b : Option (List ℕ)) (x : List ℕ) → Consumes a b x → IsAtEnd b → IfSome a (λ t. t ≡ x)
-taken_whole None b x taken end = tt
-taken_whole (Some t) None x taken end = absurd taken
-taken_whole (Some t) (Some ys) x taken end = taken ∙ ap (λ (r : List ℕ). x ++ r) end ∙ append-nil x
-
-text_along : (a : Option (List ℕ)) (x y : List ℕ) → x ≡ y → IfSome a (λ t. t ≡ x) → IfSome a (λ t. t ≡ y)
-text_along None x y e h = tt
-text_along (Some t) x y e h = h ∙ e
-
 -- the bytes that were written
-gained_bytes : (a b c d : Option (List ℕ)) (n : ℕ) → IsBegun a b c d n → (bytes : List ℕ) × Appends c d bytes × (n ≡ length bytes)
+pub gained_bytes : (a b c d : Option (List ℕ)) (n : ℕ) → IsBegun a b c d n → (bytes : List ℕ) × Appends c d bytes × (n ≡ length bytes)
 gained_bytes a b c d n (inl nothing) = ([], nothing.1, nothing.0)
 gained_bytes a b c d n (inr begun) = (take n (front_of begun.tables), begun.gained, sym (length-take-le n (front_of begun.tables) begun.within))
 

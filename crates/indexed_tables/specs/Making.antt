@@ -85,7 +85,8 @@ pub record HasReadWhole {R W : Type 0} (input : Stream R) (out : Stream W) (n : 
   pub is_index : IsIndexOf content index
   pub first : WritesFirst (out.bytes out.old) (out.bytes out.new) index n
 
--- Why no index is made of an archive: as none without tables is made, or a record or a table would stand too far.
+-- Why no index is made of an archive: it is refused as by any reader of archives, it is one of version 1, or a record or
+-- a table would stand too far.
 abbrev pub RefusesToMake : {R W : Type 0} → Stream R → Stream W → IndexingFault → Type 0
 RefusesToMake input out TooLong =
     IsTooFar (input.bytes input.old) (input.bytes input.new) (out.bytes out.old) (out.bytes out.new)

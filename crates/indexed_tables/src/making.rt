@@ -56,8 +56,9 @@ fn put_front<R: Source, W: Sink>(
 ///
 /// # Errors
 ///
-/// Those of `archive_index::index_archive`, in the same order and with the same offsets; `TooLong` also where a table
-/// would stand after more than 2^64 - 1 bytes. `Write` where the writer failed before the archive was refused.
+/// Those of `archive_reading::read_archive`, in the same order and with the same offsets; of an archive of version 1
+/// `OldArchive`, where no more than its magic was taken; `TooLong` where a record of the archive, or a table of the
+/// index, would stand after more than 2^64 - 1 bytes. `Write` where the writer failed before the archive was refused.
 pub fn index_into<R: Source, W: Sink>(
     heap: Heap,
     r: &mut R,

@@ -1,6 +1,6 @@
 -- Archives and indexes that are handed on, and the query that they make.
 use Rattle.std.proofs.Common.{◌≡◌, ◌∙◌, ℕ, ◌<◌, ◌≤◌, suc, List, [], ◌∷◌, ◌++◌, length, take, drop, Option, Result}
-use Rattle.std.proofs.Common.{Bool, false, Err, refl, ap, sym, subst, arith, length-append}
+use Rattle.std.proofs.Common.{Bool, false, Err, refl, ap, sym, subst, arith, inl, inr}
 use Rattle.std.proofs.KnownBytes.{Appends-nil}
 use Rattle.std.proofs.lemmas.Bool.{le-ltb, lt-ltb}
 use Rattle.std.proofs.lemmas.Bool.Decides.{nat_tests}
@@ -14,9 +14,9 @@ use Rattle.byte_device.specs.declared.disks.CannotOpen.{CannotOpen}
 use Rattle.archive_core.specs.declared.keys.SliceKey.{SliceKey}
 use Rattle.command_ends.specs.Inputs.{Reader, reader, readers}
 use Rattle.indexed_queries.specs.Find.{find_together}
-use Rattle.indexed_queries.specs.Frames.{frames_at}
-use Rattle.indexed_queries.specs.Symbolicate.{symbolicate_at}
-use Rattle.plan_commands.specs.Asking.{find_of, frames_of, no_archive, symbolicate_of, unless_more}
+use Rattle.indexed_symbols.specs.Frames.{frames_at}
+use Rattle.indexed_symbols.specs.Symbolicate.{symbolicate_at}
+use Rattle.plan_commands.specs.Asking.{IsAlone, find_of, frames_of, if_paired, paired, symbolicate_of}
 
 -- ---- inputs in two parts
 
@@ -64,8 +64,7 @@ not_none xs is = grind (arith, nat_tests)
 pub symbolicate_by : {S : Type 0} (archives places indexes : List (Reader S)) (key : SliceKey) (load : Option ℕ)
     (lines : Bool) (addresses : List ℕ) → 0 < length indexes
     → symbolicate_of archives places indexes key load lines addresses
-    ≡ unless_more (nat_lt (length archives) (length indexes)) (length archives)
-    (symbolicate_at indexes (take (length indexes) places) (drop (length indexes) archives) key load lines addresses)
+    ≡ if_paired (paired (length archives) (length indexes)) (symbolicate_at indexes places key load lines addresses)
 symbolicate_by archives places [] key load lines addresses some = absurd (omega arith)
 symbolicate_by [] places (i ∷ indexes) key load lines addresses some = refl
 symbolicate_by (a ∷ archives) places (i ∷ indexes) key load lines addresses some = refl
@@ -73,8 +72,7 @@ symbolicate_by (a ∷ archives) places (i ∷ indexes) key load lines addresses 
 pub frames_by : {S : Type 0} (lines : Bool) (crash : Reader S) (archives places indexes : List (Reader S))
     → 0 < length indexes
     → frames_of lines crash archives places indexes
-    ≡ unless_more (nat_lt (length archives) (length indexes)) (length archives)
-    (frames_at lines crash indexes (take (length indexes) places) (drop (length indexes) archives))
+    ≡ if_paired (paired (length archives) (length indexes)) (frames_at lines crash indexes places)
 frames_by lines crash archives places [] some = absurd (omega arith)
 frames_by lines crash [] places (i ∷ indexes) some = refl
 frames_by lines crash (a ∷ archives) places (i ∷ indexes) some = refl
@@ -83,8 +81,7 @@ frames_by lines crash (a ∷ archives) places (i ∷ indexes) some = refl
 pub find_by : {S : Type 0} (archives places indexes : List (Reader S)) (uuid : List ℕ) → 0 < length indexes
     → (length archives ≡ 1 → length indexes ≡ 1 → ⊥)
     → find_of archives places indexes uuid
-    ≡ unless_more (nat_lt (length archives) (length indexes)) (length archives)
-    (find_together indexes (take (length indexes) places) (drop (length indexes) archives) uuid)
+    ≡ if_paired (paired (length archives) (length indexes)) (find_together indexes places uuid)
 find_by archives places [] uuid some several = absurd (omega arith)
 find_by [] places (i ∷ indexes) uuid some several = refl
 find_by (a ∷ b ∷ archives) places (i ∷ indexes) uuid some several = refl
@@ -95,61 +92,60 @@ find_by (a ∷ []) (p ∷ []) (i ∷ []) uuid some several = absurd (several ref
 
 -- ---- how they end
 
--- more indexes than archives
+-- one of them has no fellow
 refused_by : {W : Type 0} (held : W → Option (List ℕ)) (failures : W → ℕ) (report : W) (archives indexes : ℕ)
-    (query : Query) (fault : CommandFault) → archives < indexes → fault ≡ no_archive archives
-    → EndsReport (unless_more (nat_lt archives indexes) archives query) (writer held failures report report) (Err fault)
-refused_by held failures report archives indexes query fault more is =
-    rw (is, lt-ltb archives indexes more) ((refl, refl), (Appends-nil (held report), refl))
+    (query : Query) (fault : CommandFault) → IsAlone archives indexes fault
+    → EndsReport (if_paired (paired archives indexes) query) (writer held failures report report) (Err fault)
+refused_by held failures report archives indexes query fault (inl more) =
+    rw (more.1, lt-ltb archives indexes more.0) (refl, (Appends-nil (held report), refl))
+refused_by held failures report archives indexes query fault (inr fewer) =
+    rw (fewer.1, le-ltb archives indexes (omega (arith, fewer.0)), lt-ltb indexes archives fewer.0)
+    (refl, (Appends-nil (held report), refl))
 
--- no more than archives
+-- they are not one each
+pub apart : (archives indexes : ℕ) (fault : CommandFault) → IsAlone archives indexes fault → archives ≡ 1 → indexes ≡ 1 → ⊥
+apart archives indexes fault (inl more) one single = omega (arith, more.0, one, single)
+apart archives indexes fault (inr fewer) one single = omega (arith, fewer.0, one, single)
+
+-- each has one
 kept_by : (archives indexes : ℕ) (query : Query) (report : Writer) (result : Result Status CommandFault)
-    → indexes ≤ archives → EndsReport query report result
-    → EndsReport (unless_more (nat_lt archives indexes) archives query) report result
-kept_by archives indexes query report result few ends = rw (le-ltb archives indexes few) ends
+    → indexes ≡ archives → EndsReport query report result
+    → EndsReport (if_paired (paired archives indexes) query) report result
+kept_by archives indexes query report result same ends =
+    rw (le-ltb archives indexes (omega (arith, same)), le-ltb indexes archives (omega (arith, same))) ends
 
 -- of any query that is made of indexes and archives so
 module _ {S W : Type 0} (left whole : S → Option (List ℕ)) (failures place_failures : S → ℕ)
-    (held : W → Option (List ℕ)) (write_failures : W → ℕ)
-    (make : List (Reader S) → List (Reader S) → List (Reader S) → Query) where
-  -- there are more indexes than archives
-  pub more_refused : (archives ix : List (Result S CannotOpen)) (query : Query) (report : W) (fault : CommandFault) (n : ℕ)
-      → n ≡ length archives → n < length ix → fault ≡ no_archive n
-      → query ≡ unless_more
-      (nat_lt (length (readers left failures archives archives)) (length (readers left failures ix ix)))
-      (length (readers left failures archives archives))
-      (make (readers left failures ix ix)
-      (take (length (readers left failures ix ix)) (readers whole place_failures archives archives))
-      (drop (length (readers left failures ix ix)) (readers left failures archives archives)))
+    (held : W → Option (List ℕ)) (write_failures : W → ℕ) (make : List (Reader S) → List (Reader S) → Query) where
+  pub alone_refused : (archives ix : List (Result S CannotOpen)) (query : Query) (report : W) (fault : CommandFault)
+      → IsAlone (length archives) (length ix) fault
+      → query ≡ if_paired
+      (paired (length (readers left failures archives archives)) (length (readers whole place_failures ix ix)))
+      (make (readers whole place_failures ix ix) (readers whole place_failures archives archives))
       → EndsReport query (writer held write_failures report report) (Err fault)
-  more_refused archives ix query report fault n is more fault_is by =
+  alone_refused archives ix query report fault alone by =
+      let known = readers left failures archives archives in
+      let named = readers whole place_failures ix ix in
       let many = as_many_readers left failures archives archives refl in
-      let numbered = as_many_readers left failures ix ix refl in
+      let numbered = as_many_readers whole place_failures ix ix refl in
       subst (λ (q : Query). EndsReport q (writer held write_failures report report) (Err fault)) (sym by)
-      (refused_by held write_failures report (length (readers left failures archives archives))
-      (length (readers left failures ix ix)) _ fault (omega (arith, many, numbered, is, more))
-      (fault_is ∙ ap no_archive (is ∙ sym many)))
+      (refused_by held write_failures report (length known) (length named)
+      (make named (readers whole place_failures archives archives)) fault
+      (subst (λ (m : ℕ). IsAlone m (length named) fault) (sym many)
+      (subst (λ (n : ℕ). IsAlone (length archives) n fault) (sym numbered) alone)))
 
-  -- or no more, and those of so many archives, which are handed on first
-  pub few_kept : (a b c d ix iy : List (Result S CannotOpen)) (query : Query) (report : Writer)
-      (result : Result Status CommandFault) → length a ≡ length ix → length c ≡ length a → length d ≡ length b
-      → length iy ≡ length ix
-      → query ≡ unless_more
-      (nat_lt (length (readers left failures (a ++ b) (c ++ d))) (length (readers left failures ix iy)))
-      (length (readers left failures (a ++ b) (c ++ d)))
-      (make (readers left failures ix iy)
-      (take (length (readers left failures ix iy)) (readers whole place_failures (a ++ b) (c ++ d)))
-      (drop (length (readers left failures ix iy)) (readers left failures (a ++ b) (c ++ d))))
-      → EndsReport (make (readers left failures ix iy) (readers whole place_failures a c) (readers left failures b d))
-      report result
+  pub paired_kept : (a c ix iy : List (Result S CannotOpen)) (query : Query) (report : Writer)
+      (result : Result Status CommandFault) → length ix ≡ length a → length c ≡ length a → length iy ≡ length ix
+      → query ≡ if_paired
+      (paired (length (readers left failures a c)) (length (readers whole place_failures ix iy)))
+      (make (readers whole place_failures ix iy) (readers whole place_failures a c))
+      → EndsReport (make (readers whole place_failures ix iy) (readers whole place_failures a c)) report result
       → EndsReport query report result
-  few_kept a b c d ix iy query report result as_many same others indexes by ends =
-      let number = length (readers left failures ix iy) in
-      let numbered : number ≡ length ix = as_many_readers left failures ix iy indexes in
-      let long : length (c ++ d) ≡ length (a ++ b) =
-      omega (arith, same, others, length-append a b, length-append c d) in
-      let many = as_many_readers left failures (a ++ b) (c ++ d) long in
-      let first = taken whole place_failures number a b c d (as_many ∙ sym numbered) same in
-      let last = dropped left failures number a b c d (as_many ∙ sym numbered) same in
-      rw by (kept_by (length (readers left failures (a ++ b) (c ++ d))) number _ report result
-      (omega (arith, many, numbered, as_many, length-append a b)) (rw (first, last) ends))
+  paired_kept a c ix iy query report result as_many same indexes by ends =
+      let known = readers left failures a c in
+      let named = readers whole place_failures ix iy in
+      let many = as_many_readers left failures a c same in
+      let numbered = as_many_readers whole place_failures ix iy indexes in
+      subst (λ (q : Query). EndsReport q report result) (sym by)
+      (kept_by (length known) (length named) (make named (readers whole place_failures a c)) report result
+      (omega (arith, many, numbered, as_many)) ends)

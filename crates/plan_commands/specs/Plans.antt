@@ -33,7 +33,7 @@ use Rattle.archive_updates.specs.Migrate.{migrate_as_it_comes}
 use Rattle.archive_updates.specs.Notes.{NotesMissing, NotesRetired}
 use Rattle.archive_updates.specs.declared.notes.Note.{Note}
 use Rattle.archive_queries.specs.Name.{name}
-use Rattle.command_ends.specs.Outputs.{Outs, Publishes, Writer, out_of, report_of}
+use Rattle.command_ends.specs.Outputs.{Outs, Publishes, Writer, draft_of, out_of, report_of}
 use Rattle.rehearse.specs.Rehearse.{rehearse}
 use Rattle.archive_updates.specs.Retire.{retire_as_it_comes}
 use Rattle.archive_updates.specs.Summary.{summary}
@@ -150,20 +150,20 @@ deed_of plan.Merge (input ∷ files) _ out = streams (merge_as_it_comes input fi
 deed_of plan.Migrate (input ∷ _) _ out = streams (migrate_as_it_comes input (out_of out).draft)
 deed_of plan.Apply (input ∷ ops ∷ _) _ out = streams (apply_as_it_comes input ops (out_of out).draft)
 deed_of (plan.Find uuid others) inputs places out =
-    answers (find_of (take (suc others) inputs) (take (suc others) places) (drop (suc others) inputs) uuid)
-deed_of plan.List (archive ∷ indexes) (place ∷ _) out = answers (list_of archive place indexes)
+    answers (find_of (take (suc others) inputs) (take (suc others) places) (drop (suc others) places) uuid)
+deed_of plan.List (archive ∷ _) (place ∷ indexes) out = answers (list_of archive place indexes)
 deed_of (plan.Extract key digest others) inputs places out =
-    extracts (extract_of (take (suc others) inputs) (take (suc others) places) (drop (suc others) inputs) key digest
+    extracts (extract_of (take (suc others) inputs) (take (suc others) places) (drop (suc others) places) key digest
     (out_of out).draft)
 deed_of (plan.Name sought) (archive ∷ others) _ out = answers (name archive others sought.now)
 deed_of (plan.Symbolicate key load lines others addresses) inputs places out =
-    answers (symbolicate_of (take (suc others) inputs) (take (suc others) places) (drop (suc others) inputs) key load
+    answers (symbolicate_of (take (suc others) inputs) (take (suc others) places) (drop (suc others) places) key load
     lines addresses.now)
 deed_of (plan.Frames lines indexes) (crash ∷ inputs) (_ ∷ places) out =
-    answers (frames_of lines crash (drop indexes inputs) (drop indexes places) (take indexes inputs))
+    answers (frames_of lines crash (drop indexes inputs) (drop indexes places) (take indexes places))
 deed_of plan.Summary (archive ∷ []) _ out = changes (summary archive)
-deed_of plan.Summary (_ ∷ named ∷ _) (place ∷ _) out = changes (summary_at named place)
-deed_of plan.Index (archive ∷ _) _ out = changes (index archive)
+deed_of plan.Summary (_ ∷ _ ∷ _) (place ∷ named ∷ _) out = changes (summary_at named place)
+deed_of plan.Index (archive ∷ _) _ out = streams (index archive (draft_of out))
 deed_of plan.Delta (archive ∷ named ∷ _) _ out = streams (delta_as_it_comes archive named (out_of out).draft)
 deed_of plan.Rehearse (script ∷ _) _ out = answers (rehearse script)
 deed_of _ _ _ _ = none

@@ -1,13 +1,13 @@
-//! Queries of archives, the first of which are read by their indexes, and the others whole.
+//! Queries of archives, which are read by their indexes, or whole.
 
-ghost use Rattle.std.specs.Prelude.{◌≡◌, ◌<◌, ◌≤◌, ◌∷◌, IfErr, OnOk, length};
+ghost use Rattle.std.specs.Prelude.{◌≡◌, ◌<◌, ◌∷◌, IfErr, OnOk, length};
 ghost use Rattle.std.specs.Borrow.{Array, LendsBoth, sem};
 ghost use Rattle.command_ends.specs.Ends.{EndsReport};
 ghost use Rattle.command_ends.specs.Inputs.{reader, readers};
 ghost use Rattle.command_ends.specs.Outputs.{out_of, outs, writer};
 ghost use Rattle.archive_queries.specs.Name.{name as name_of};
 ghost use Rattle.plan_commands.specs.Asking.{AddsUnderscored, NotesUnderscored};
-ghost use Rattle.plan_commands.specs.Asking.{extract_of, find_of, frames_of, list_of, no_archive, symbolicate_of};
+ghost use Rattle.plan_commands.specs.Asking.{IsAlone, extract_of, find_of, frames_of, list_of, symbolicate_of};
 ghost use Rattle.slice_extraction.specs.Extract.{Extracts};
 
 use archive_core::{Archive, Digest, SliceKey};
@@ -15,9 +15,8 @@ use archive_queries::{answer_name, run_find, run_frames, run_list, run_symbolica
 use archive_updates::Note;
 use byte_device::{CannotOpen, Sink, Source};
 use command_ends::{CommandFault, Output, Place, Status, Target, Why, publish_report};
-use indexed_queries::{
-    run_find_at, run_find_together, run_frames_at, run_list_at, run_symbolicate_at,
-};
+use indexed_queries::{run_find_at, run_find_together, run_list_at};
+use indexed_symbols::{run_frames_at, run_symbolicate_at};
 use memory::{Heap, NoMemory};
 use placed_bytes::Placed;
 use slice_extraction::{run_extract, run_extract_at};
@@ -36,18 +35,21 @@ pub fn first_and_rest<T>(items: &mut [T]) -> (&mut T, &mut [T])
     (&mut first[0], rest)
 }
 
-/// Refuses the first index that has no archive, if there are more of them than so many archives.
-fn test_indexes(archives: usize, indexes: usize) -> Result<(), CommandFault>
-    ensures few { OnOk result (indexes ≤ archives) }
-    ensures more { IfErr result (λ fault. (archives < indexes) × (fault ≡ no_archive archives)) }
+/// Refuses the first index that has no archive, or the first archive that has no index.
+fn test_pairs(archives: usize, indexes: usize) -> Result<(), CommandFault>
+    ensures same { OnOk result (indexes ≡ archives) }
+    ensures other { IfErr result (IsAlone archives indexes) }
 {
     if indexes > archives {
         return Err(CommandFault::Input(Place::Index(archives as u64), Why::NoArchive));
     }
+    if indexes < archives {
+        return Err(CommandFault::Input(Place::Archive(indexes as u64), Why::NoIndex));
+    }
     Ok(())
 }
 
-/// `find` over archives, the first of which are read by these indexes: of one archive by its index alone.
+/// `find` over archives, which are read by these indexes, if there are some: of one archive by its index alone.
 pub fn find<A: Archive + Drop, S: Source + Placed, P: Sink>(
     heap: Heap,
     archives: &mut [Input<S>],
@@ -59,22 +61,21 @@ pub fn find<A: Archive + Drop, S: Source + Placed, P: Sink>(
     ensures { EndsReport (find_of
         (readers ⟦<S as Source>⟧.left ⟦<S as Source>⟧.failures archives.old archives.new)
         (readers ⟦<S as Placed>⟧.whole ⟦<S as Placed>⟧.failures archives.old archives.new)
-        (readers ⟦<S as Source>⟧.left ⟦<S as Source>⟧.failures indexes.old indexes.new) uuid.now)
+        (readers ⟦<S as Placed>⟧.whole ⟦<S as Placed>⟧.failures indexes.old indexes.new) uuid.now)
         (writer P.held P.failures report.old report.new) result }
 {
     if indexes.is_empty() {
         let (archive, others) = first_and_rest(archives);
         return run_find::<A, _, _>(heap, archive, others, uuid, report);
     }
-    test_indexes(archives.len(), indexes.len())?;
+    test_pairs(archives.len(), indexes.len())?;
     if archives.len() == 1 {
         return match (indexes, archives) {
             ([index], [archive]) => run_find_at(heap, index, archive, uuid, report),
             _ => unreachable!(),
         };
     }
-    let (archives, others) = archives.split_at_mut(indexes.len());
-    run_find_together::<A, _, _, _, _>(heap, indexes, archives, others, uuid, report)
+    run_find_together::<A, _, _, _>(heap, indexes, archives, uuid, report)
 }
 
 /// `list` over an archive, which is read by its index, if there is one.
@@ -87,7 +88,7 @@ pub fn list<S: Source + Placed, P: Sink>(
     ensures { EndsReport (list_of
         (reader ⟦<S as Source>⟧.left ⟦<S as Source>⟧.failures archive.old archive.new)
         (reader ⟦<S as Placed>⟧.whole ⟦<S as Placed>⟧.failures archive.old archive.new)
-        (readers ⟦<S as Source>⟧.left ⟦<S as Source>⟧.failures indexes.old indexes.new))
+        (readers ⟦<S as Placed>⟧.whole ⟦<S as Placed>⟧.failures indexes.old indexes.new))
         (writer P.held P.failures report.old report.new) result }
 {
     match indexes {
@@ -135,7 +136,7 @@ pub fn name<S: Source, P: Sink>(
     publish_report(answer.status, &answer.text, report)
 }
 
-/// `symbolicate` over archives, the first of which are read by these indexes.
+/// `symbolicate` over archives, which are read by these indexes, if there are some.
 pub fn symbolicate<A: Archive + Drop, S: Source + Placed, P: Sink>(
     heap: Heap,
     archives: &mut [Input<S>],
@@ -150,7 +151,7 @@ pub fn symbolicate<A: Archive + Drop, S: Source + Placed, P: Sink>(
     ensures { EndsReport (symbolicate_of
         (readers ⟦<S as Source>⟧.left ⟦<S as Source>⟧.failures archives.old archives.new)
         (readers ⟦<S as Placed>⟧.whole ⟦<S as Placed>⟧.failures archives.old archives.new)
-        (readers ⟦<S as Source>⟧.left ⟦<S as Source>⟧.failures indexes.old indexes.new) key.now load lines
+        (readers ⟦<S as Placed>⟧.whole ⟦<S as Placed>⟧.failures indexes.old indexes.new) key.now load lines
         addresses.now)
         (writer P.held P.failures report.old report.new) result }
 {
@@ -160,14 +161,11 @@ pub fn symbolicate<A: Archive + Drop, S: Source + Placed, P: Sink>(
             heap, archive, others, key, load, lines, addresses, report,
         );
     }
-    test_indexes(archives.len(), indexes.len())?;
-    let (archives, others) = archives.split_at_mut(indexes.len());
-    run_symbolicate_at::<A, _, _, _, _>(
-        heap, indexes, archives, others, key, load, lines, addresses, report,
-    )
+    test_pairs(archives.len(), indexes.len())?;
+    run_symbolicate_at::<A, _, _, _>(heap, indexes, archives, key, load, lines, addresses, report)
 }
 
-/// `frames` over archives, the first of which are read by these indexes.
+/// `frames` over archives, which are read by these indexes, if there are some.
 pub fn frames<A: Archive + Drop, S: Source + Placed, P: Sink>(
     heap: Heap,
     lines: bool,
@@ -181,19 +179,18 @@ pub fn frames<A: Archive + Drop, S: Source + Placed, P: Sink>(
         (reader ⟦<S as Source>⟧.left ⟦<S as Source>⟧.failures crash.old crash.new)
         (readers ⟦<S as Source>⟧.left ⟦<S as Source>⟧.failures archives.old archives.new)
         (readers ⟦<S as Placed>⟧.whole ⟦<S as Placed>⟧.failures archives.old archives.new)
-        (readers ⟦<S as Source>⟧.left ⟦<S as Source>⟧.failures indexes.old indexes.new))
+        (readers ⟦<S as Placed>⟧.whole ⟦<S as Placed>⟧.failures indexes.old indexes.new))
         (writer P.held P.failures report.old report.new) result }
 {
     if indexes.is_empty() {
         let (archive, others) = first_and_rest(archives);
         return run_frames::<A, _, _>(heap, lines, crash, archive, others, report);
     }
-    test_indexes(archives.len(), indexes.len())?;
-    let (archives, others) = archives.split_at_mut(indexes.len());
-    run_frames_at::<A, _, _, _, _, _>(heap, lines, crash, indexes, archives, others, report)
+    test_pairs(archives.len(), indexes.len())?;
+    run_frames_at::<A, _, _, _, _>(heap, lines, crash, indexes, archives, report)
 }
 
-/// `extract` over archives, the first of which are read by these indexes.
+/// `extract` over archives, which are read by these indexes, if there are some.
 pub fn extract<A: Archive + Drop, S: Source + Placed, T: Target, P: Sink>(
     heap: Heap,
     archives: &mut [Input<S>],
@@ -208,14 +205,13 @@ pub fn extract<A: Archive + Drop, S: Source + Placed, T: Target, P: Sink>(
         Extracts (extract_of
         (readers ⟦<S as Source>⟧.left ⟦<S as Source>⟧.failures archives.old archives.new)
         (readers ⟦<S as Placed>⟧.whole ⟦<S as Placed>⟧.failures archives.old archives.new)
-        (readers ⟦<S as Source>⟧.left ⟦<S as Source>⟧.failures indexes.old indexes.new) key.now digest.now
+        (readers ⟦<S as Placed>⟧.whole ⟦<S as Placed>⟧.failures indexes.old indexes.new) key.now digest.now
         (out_of known).draft) known (writer P.held P.failures report.old report.new) result }
 {
     if indexes.is_empty() {
         let (archive, others) = first_and_rest(archives);
         return run_extract::<A, _, _, _>(heap, archive, others, key, digest, out, report);
     }
-    test_indexes(archives.len(), indexes.len())?;
-    let (archives, others) = archives.split_at_mut(indexes.len());
-    run_extract_at::<A, _, _, _, _, _>(heap, indexes, archives, others, key, digest, out, report)
+    test_pairs(archives.len(), indexes.len())?;
+    run_extract_at::<A, _, _, _, _>(heap, indexes, archives, key, digest, out, report)
 }

@@ -5,9 +5,10 @@ ghost use Rattle.std.specs.Prelude.{◌≡◌, ℕ, codes, IfSome, None, Option,
 ghost use Rattle.command_ends.specs.declared.failures.Failure.TheVariants.{Command};
 ghost use Rattle.command_ends.specs.declared.faults.CommandFault.TheVariants.{Input};
 ghost use Rattle.command_ends.specs.declared.faults.Place.{Place};
-ghost use Rattle.command_ends.specs.declared.faults.Why.TheVariants.{Stale};
+ghost use Rattle.command_ends.specs.declared.faults.Why.TheVariants.{Damaged, Stale};
 ghost use Rattle.command_line.specs.LineView.{line_view};
 ghost use Rattle.command_line.specs.Lines.{out_of};
+ghost use Rattle.plan_commands.specs.declared.hints.Note.TheVariants.{Torn};
 ghost use Rattle.plan_commands.specs.Hints.{IsOfInput, IsOfNoFile, IsOfOut, faulty_line_of, file_of};
 ghost use Rattle.plan_commands.specs.Hints.{stale_note, subject_of, subject_text};
 
@@ -60,7 +61,8 @@ impl Seen {
             (None, _) => match input.places() {
                 Some(file) => Seen {
                     reason: file.reason(),
-                    ..Seen::NOTHING
+                    look: Look::of(&file.front()),
+                    obstacle: None,
                 },
                 None => Seen::NOTHING,
             },
@@ -129,6 +131,7 @@ enum Note {
     Loses(u64),
     OldVersion,
     Stale,
+    Torn,
     Changed,
 }
 
@@ -151,6 +154,7 @@ impl Display for Note {
             Note::SameFile => f.write_str("the file of an input"),
             Note::OldVersion => f.write_str("an archive of version 1, which `migrate` takes"),
             Note::Stale => f.write_str("not of this archive, of which `index` writes a new one"),
+            Note::Torn => f.write_str("changed since it was written: `index` writes a new one"),
             Note::Changed => f.write_str(
                 "of an archive in which a slice changed since it came in: run `symarch-keep check` first",
             ),
@@ -193,12 +197,14 @@ fn look_of(why: Why, look: Option<Look>) -> Option<Look> {
 
 /// What is noted of an input that is refused for this.
 fn note_of(why: Why) -> Option<Note>
-    ensures { (entry : Option ℕ) → why ≡ Stale entry → result ≡ Some (stale_note entry) }
+    ensures stale { (entry : Option ℕ) → why ≡ Stale entry → result ≡ Some (stale_note entry) }
+    ensures torn { (entry : ℕ) → why ≡ Damaged entry → result ≡ Some Torn }
 {
     match why {
         Why::OldArchive => Some(Note::OldVersion),
         Why::Stale(None) => Some(Note::Stale),
         Why::Stale(Some(_)) => Some(Note::Changed),
+        Why::Damaged(_) => Some(Note::Torn),
         _ => None,
     }
 }
@@ -210,6 +216,8 @@ pub fn help_with<'p>(line: &'p Line, failure: &Failure, seen: Seen) -> Option<Hi
     ensures faulty { IfSome result (λ hint. hint.faulty ≡ faulty_line_of failure.now) }
     ensures stale { (place : Place) (entry : Option ℕ) → failure.now ≡ Command (Input place (Stale entry))
         → IfSome result (λ hint. hint.note ≡ Some (stale_note entry)) }
+    ensures torn { (place : Place) (entry : ℕ) → failure.now ≡ Command (Input place (Damaged entry))
+        → IfSome result (λ hint. hint.note ≡ Some Torn) }
 {
     match failure {
         Failure::Command(CommandFault::Input(place, why)) => {

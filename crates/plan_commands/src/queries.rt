@@ -14,7 +14,7 @@ use memory::Heap;
 use placed_bytes::Placed;
 use uuid::Uuid;
 
-/// `find` over an archive, so many others, and the indexes of the first of them.
+/// `find` over an archive, so many others, and their indexes, if they have some.
 pub fn find<A: Archive + Drop, S: Source + Placed, P: Sink>(
     heap: Heap,
     inputs: &mut [Input<S>],
@@ -26,14 +26,14 @@ pub fn find<A: Archive + Drop, S: Source + Placed, P: Sink>(
     ensures { let read = readers ⟦<S as Source>⟧.left ⟦<S as Source>⟧.failures inputs.old inputs.new in
         let placed = readers ⟦<S as Placed>⟧.whole ⟦<S as Placed>⟧.failures inputs.old inputs.new in
         EndsReport
-        (find_of (take (suc others) read) (take (suc others) placed) (drop (suc others) read) uuid.now)
+        (find_of (take (suc others) read) (take (suc others) placed) (drop (suc others) placed) uuid.now)
         (writer P.held P.failures report.old report.new) result }
 {
     let (archives, indexes) = inputs.split_at_mut(others + 1);
     asking::find::<A, _, _>(heap, archives, indexes, uuid, report)
 }
 
-/// `symbolicate` over an archive, so many others, and the indexes of the first of them.
+/// `symbolicate` over an archive, so many others, and their indexes, if they have some.
 pub fn symbolicate<A: Archive + Drop, S: Source + Placed, P: Sink>(
     heap: Heap,
     inputs: &mut [Input<S>],
@@ -47,14 +47,14 @@ pub fn symbolicate<A: Archive + Drop, S: Source + Placed, P: Sink>(
     requires { others < length inputs.old }
     ensures { let read = readers ⟦<S as Source>⟧.left ⟦<S as Source>⟧.failures inputs.old inputs.new in
         let placed = readers ⟦<S as Placed>⟧.whole ⟦<S as Placed>⟧.failures inputs.old inputs.new in
-        EndsReport (symbolicate_of (take (suc others) read) (take (suc others) placed) (drop (suc others) read)
+        EndsReport (symbolicate_of (take (suc others) read) (take (suc others) placed) (drop (suc others) placed)
         key.now load lines addresses.now) (writer P.held P.failures report.old report.new) result }
 {
     let (archives, indexes) = inputs.split_at_mut(others + 1);
     asking::symbolicate::<A, _, _>(heap, archives, indexes, key, load, lines, addresses, report)
 }
 
-/// `frames` over FRAMES, and so many indexes and the archives, of which they are the first ones'.
+/// `frames` over FRAMES, and so many indexes and the archives.
 pub fn frames<A: Archive + Drop, S: Source + Placed, P: Sink>(
     heap: Heap,
     lines: bool,
@@ -67,7 +67,7 @@ pub fn frames<A: Archive + Drop, S: Source + Placed, P: Sink>(
     ensures { let read = readers ⟦<S as Source>⟧.left ⟦<S as Source>⟧.failures inputs.old inputs.new in
         let placed = readers ⟦<S as Placed>⟧.whole ⟦<S as Placed>⟧.failures inputs.old inputs.new in
         EndsReport (frames_of lines (reader ⟦<S as Source>⟧.left ⟦<S as Source>⟧.failures crash.old crash.new)
-        (drop indexes read) (drop indexes placed) (take indexes read))
+        (drop indexes read) (drop indexes placed) (take indexes placed))
         (writer P.held P.failures report.old report.new) result }
 {
     let (indexes, archives) = inputs.split_at_mut(indexes);

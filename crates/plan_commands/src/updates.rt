@@ -114,7 +114,7 @@ pub fn delta<S: Source + Placed, T: Target, P: Sink>(
     run_delta(heap, archive, first_and_rest(summary).0, out, report)
 }
 
-/// `extract` over an archive, so many others, and the indexes of the first of them.
+/// `extract` over an archive, so many others, and their indexes, if they have some.
 pub fn extract<A: Archive + Drop, S: Source + Placed, T: Target, P: Sink>(
     heap: Heap,
     inputs: &mut [Input<S>],
@@ -128,7 +128,7 @@ pub fn extract<A: Archive + Drop, S: Source + Placed, T: Target, P: Sink>(
     ensures { let read = readers ⟦<S as Source>⟧.left ⟦<S as Source>⟧.failures inputs.old inputs.new in
         let placed = readers ⟦<S as Placed>⟧.whole ⟦<S as Placed>⟧.failures inputs.old inputs.new in
         let known = outs T.Draft.held T.Draft.failures T.placed T.failures out.old out.new in
-        Extracts (extract_of (take (suc others) read) (take (suc others) placed) (drop (suc others) read) key.now
+        Extracts (extract_of (take (suc others) read) (take (suc others) placed) (drop (suc others) placed) key.now
         digest.now (out_of known).draft) known (writer P.held P.failures report.old report.new) result }
 {
     let (archives, indexes) = inputs.split_at_mut(others + 1);

@@ -1,15 +1,16 @@
 -- Entries as values and as bytes.
-use Rattle.std.proofs.Common.{◌≡◌, ℕ, ◌+◌, ◌-◌, ◌<◌, ◌^◌, true, ◌||◌, ◌&&◌, eqb, List, ◌++◌, length, take, drop, get_or, sym, ap, ◌∙◌, arith, length-append, length-drop}
+use Rattle.std.proofs.Common.{◌≡◌, ℕ, ◌+◌, ◌-◌, ◌<◌, ◌^◌, true, cond, ◌||◌, ◌&&◌, eqb, nat_le, List, ◌++◌, length, take, drop, get_or, sym, ap, ◌∙◌, arith, length-append, length-drop}
 use Rattle.std.specs.Int.{w64, to_be_bytes, from_be_bytes}
 use Rattle.std.proofs.Math.ListN.{get_or-append}
 use Rattle.std.proofs.Math.Seq.{take-append_seam, drop-append_seam}
-use Rattle.std.proofs.lemmas.List.{drop-append-le, drop-drop, drop-take, drop_at, get_or-take, take-append-drop, take-append-le, take-take}
+use Rattle.std.proofs.lemmas.List.{drop-append-le, drop-drop, drop-take, drop_at, get_or-take, length-take-le, take-append-drop, take-append-le, take-take}
 use Rattle.std.proofs.lemmas.Nat.{from_be_bytes-to_be_bytes_8}
 use borrow.Rule.Slice.PartMut.{put_mid}
 use Rattle.checked_pages.specs.Pages.{Claim}
 use Rattle.checked_pages.specs.Views.{claim_view}
 use Rattle.archive_core.proofs.Heads.{laid_last}
-use Rattle.archive_index.specs.Entry.{has_kind, has_tag, length_in, offset_in, placed_bytes}
+use Rattle.archive_records.specs.Layout.{largest_slice}
+use Rattle.archive_index.specs.Entry.{IsPlacedEntry, has_kind, has_length, has_tag, length_in, offset_in, placed_bytes}
 use Rattle.table_index.specs.Entry.{HasItsFields, claim_bytes, claim_in, entry_bytes}
 use Rattle.table_index.specs.declared.entry.TableEntry.{TableEntry}
 
@@ -23,6 +24,13 @@ laid_two part first second n long p q =
 
 -- ---- the entry that bytes are
 
+-- numbers in the first 74 bytes
+front_number : (at : ℕ) (bytes : List ℕ) → at + 8 < 75 → take 8 (drop at (take 74 bytes)) ≡ take 8 (drop at bytes)
+front_number at bytes within =
+    let rest : ℕ = 74 - at in
+    let whole : 74 ≡ at + rest = omega (arith, within) in
+    ap (λ (n : ℕ). take 8 (drop at (take n bytes))) whole ∙ ap (take 8) (drop-take at rest bytes) ∙ take-take 8 rest (drop at bytes) (omega (arith, within))
+
 pub tag_front : (e : List ℕ) → has_tag e ≡ true → has_tag (take 74 e) ≡ true
 tag_front e h = ap (λ (n : ℕ). eqb n 1 || eqb n 2) (get_or-take 74 e 0 0 (omega arith)) ∙ h
 
@@ -31,6 +39,21 @@ kind_front e h =
     let tag : get_or (take 74 e) 0 0 ≡ get_or e 0 0 = get_or-take 74 e 0 0 (omega arith) in
     let kind : get_or (take 74 e) 57 0 ≡ get_or e 57 0 = get_or-take 74 e 57 0 (omega arith) in
     (λ i. eqb (kind i) 0 || (eqb (kind i) 1 && eqb (tag i) 2)) ∙ h
+
+pub length_front : (e : List ℕ) → has_length e ≡ true → has_length (take 74 e) ≡ true
+length_front e h =
+    let tag : get_or (take 74 e) 0 0 ≡ get_or e 0 0 = get_or-take 74 e 0 0 (omega arith) in
+    let long : length_in (take 74 e) ≡ length_in e = ap (from_be_bytes w64) (front_number 66 e (omega arith)) in
+    (λ i. cond (eqb (tag i) 2) (nat_le 33 (long i) && nat_le (long i) (33 + largest_slice)) (eqb (long i) 57)) ∙ h
+
+-- the first 74 bytes of an entry that passes its tests
+pub placed_front : (e : List ℕ) → length e ≡ 122 → has_tag e ≡ true → has_kind e ≡ true → has_length e ≡ true → IsPlacedEntry (take 74 e)
+placed_front e long tag kind length_is = record {
+  long = length-take-le 74 e (omega (arith, long));
+  tag = tag_front e tag;
+  kind = kind_front e kind;
+  length_is = length_front e length_is;
+}
 
 pub claim_parts : (e : List ℕ) (c : Claim) → to_be_bytes w64 c.offset ≡ take 8 (drop 74 e) → to_be_bytes w64 c.size ≡ take 8 (drop 82 e) → c.root ≡ drop 90 e → claim_bytes c ≡ drop 74 e
 unfolding claim_bytes
@@ -85,17 +108,11 @@ module _ (front : List ℕ) (c : Claim) (long : length front ≡ 74) where
 pub long_with : (front : List ℕ) (c : Claim) → length front ≡ 74 → length c.root ≡ 32 → length (front ++ claim_bytes c) ≡ 122
 long_with front c long root = omega (arith, long, root, length-append front (claim_bytes c), length-claim c)
 
--- numbers in the first 74 bytes
-front_number : (at : ℕ) (bytes : List ℕ) → at + 8 < 75 → take 8 (drop at (take 74 bytes)) ≡ take 8 (drop at bytes)
-front_number at bytes within =
-    let rest : ℕ = 74 - at in
-    let whole : 74 ≡ at + rest = omega (arith, within) in
-    ap (λ (n : ℕ). take 8 (drop at (take n bytes))) whole ∙ ap (take 8) (drop-take at rest bytes) ∙ take-take 8 rest (drop at bytes) (omega (arith, within))
-
-pub fields_of : (bytes : List ℕ) (e : TableEntry) → length bytes ≡ 122 → entry_bytes e ≡ bytes → offset_in (take 74 bytes) ≡ e.placed.offset → length_in (take 74 bytes) ≡ e.placed.length → claim_view e.claim ≡ claim_in bytes → HasItsFields e
-fields_of bytes e long same offset len claim = record {
+pub fields_of : (bytes : List ℕ) (e : TableEntry) → length bytes ≡ 122 → entry_bytes e ≡ bytes → offset_in (take 74 bytes) ≡ e.placed.offset → length_in (take 74 bytes) ≡ e.placed.length → claim_view e.claim ≡ claim_in bytes → IsPlacedEntry (placed_bytes e.placed) → HasItsFields e
+fields_of bytes e long same offset len claim placed = record {
   long = ap length same ∙ long;
   offset_is = ap offset_in same ∙ ap (from_be_bytes w64) (sym (front_number 58 bytes (omega arith))) ∙ offset;
   length_is = ap length_in same ∙ ap (from_be_bytes w64) (sym (front_number 66 bytes (omega arith))) ∙ len;
   claim_is = ap claim_in same ∙ sym claim;
+  placed = placed;
 }

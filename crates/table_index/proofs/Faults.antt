@@ -6,7 +6,7 @@ use Rattle.std.proofs.lemmas.List.{append-nil}
 use Rattle.archive_records.specs.Text.{last_of}
 use Rattle.table_index.specs.Fault.{FailsAfter, FailsAtEnd, FailsDigest, FailsInEntries, FailsInFront, FailsInPlaces, HasDigest, IsIndexFault, front_offset, test_end, test_front}
 use Rattle.table_index.specs.Text.{AreLaid, IsIndexText, PassTests, entries_in, start_in, test_entry}
-use Rattle.table_index.specs.declared.fault.IndexFault.{IndexFault}
+use Rattle.index_faults.specs.declared.fault.IndexFault.{IndexFault}
 use Rattle.table_index.proofs.Tests.{IsStop, long_entries, one_front}
 use Rattle.table_index.proofs.Texts.{entries_are, has_digest, start_is}
 

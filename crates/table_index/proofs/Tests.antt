@@ -11,8 +11,8 @@ use Rattle.archive_records.proofs.Puts.{concat-push}
 use Rattle.archive_index.specs.Entry.{has_kind, has_length, has_tag}
 use Rattle.table_index.specs.Entry.{has_claim}
 use Rattle.table_index.specs.Text.{PassTests, test_entry}
-use Rattle.table_index.specs.declared.fault.IndexFaultKind.{IndexFaultKind}
-use Rattle.table_index.specs.declared.fault.IndexFaultKind.TheVariants.{BadTag, BadKind, BadLength, NotAscending, BadTable}
+use Rattle.index_faults.specs.declared.fault.IndexFaultKind.{IndexFaultKind}
+use Rattle.index_faults.specs.declared.fault.IndexFaultKind.TheVariants.{BadTag, BadKind, BadLength, NotAscending, BadTable}
 
 abbrev fine : Result (Unit {0}) IndexFaultKind
 fine = Ok tt

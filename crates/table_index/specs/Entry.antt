@@ -7,7 +7,7 @@ use Rattle.sha2.specs.Sha256.{sha256}
 use Rattle.checked_pages.specs.Pages.{Claim, page_digests, pages_in}
 use Rattle.checked_pages.specs.Views.{claim_view}
 use Rattle.archive_core.specs.Content.{is_admission}
-use Rattle.archive_index.specs.Entry.{length_in, offset_in, placed_bytes}
+use Rattle.archive_index.specs.Entry.{IsPlacedEntry, length_in, offset_in, placed_bytes}
 use Rattle.table_index.specs.declared.entry.TableEntry.{TableEntry}
 
 -- so many zeros
@@ -49,9 +49,10 @@ has_claim end e =
     if is_admission e then nat_le ((claim_in e).offset + stored_size (claim_in e)) end
     else bytes_eq (drop 74 e) (zeros 48)
 
--- the fields of an entry are what its bytes say
+-- The fields of an entry are what its bytes say, and what it says of its record is a placed entry.
 pub record HasItsFields (e : TableEntry) : Type 0 where
   pub long : length (entry_bytes e) ≡ 122
   pub offset_is : offset_in (entry_bytes e) ≡ e.placed.offset
   pub length_is : length_in (entry_bytes e) ≡ e.placed.length
   pub claim_is : claim_in (entry_bytes e) ≡ claim_view e.claim
+  pub placed : IsPlacedEntry (placed_bytes e.placed)

@@ -7,10 +7,10 @@ use Rattle.sha2.specs.Sha256.{sha256}
 use Rattle.archive_records.specs.Text.{last_of}
 use Rattle.archive_index.specs.Text.{index_magic}
 use Rattle.table_index.specs.Text.{AreLaid, PassTests, count_in, digest_in, entries_in, start_in, test_entry}
-use Rattle.table_index.specs.declared.fault.IndexFault.{IndexFault}
-use Rattle.table_index.specs.declared.fault.IndexFaultKind.{IndexFaultKind}
-use Rattle.table_index.specs.declared.fault.IndexFaultKind.TheVariants.{BadMagic, Truncated, BadCount, BadDigest}
-use Rattle.table_index.specs.declared.fault.IndexFaultKind.TheVariants.{BadPlace, Device, OutOfMemory}
+use Rattle.index_faults.specs.declared.fault.IndexFault.{IndexFault}
+use Rattle.index_faults.specs.declared.fault.IndexFaultKind.{IndexFaultKind}
+use Rattle.index_faults.specs.declared.fault.IndexFaultKind.TheVariants.{BadMagic, Truncated, BadCount, BadDigest}
+use Rattle.index_faults.specs.declared.fault.IndexFaultKind.TheVariants.{BadPlace, Device, OutOfMemory}
 
 -- What the front of a text must be: the magic, and 41 bytes more for an end record.
 unfoldable pub test_front : List ℕ → Result (Unit {0}) IndexFaultKind

@@ -8,7 +8,7 @@ use Rattle.table_index.specs.Fault.{HasEnds, IsOfMachine, test_front}
 use Rattle.table_index.specs.Text.{AreLaid, PassTests, count_in, digest_in, entries_in, start_in}
 use Rattle.table_index.specs.declared.ends.Ends.{Ends}
 use Rattle.table_index.specs.declared.entry.TableEntry.{TableEntry}
-use Rattle.table_index.specs.declared.fault.IndexFault.{IndexFault}
+use Rattle.index_faults.specs.declared.fault.IndexFault.{IndexFault}
 
 -- why so many bytes from an offset on were not read: the machine's fault, or there are fewer
 abbrev pub IsUnread : ℕ → ℕ → List ℕ → IndexFault → Type 0

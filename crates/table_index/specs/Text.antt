@@ -1,19 +1,21 @@
 -- The text of an index: the magic, the stored tables, the entries and the end record.
-use Rattle.std.specs.Prelude.{◌≡◌, ◌<◌, ℕ, ◌+◌, ◌-◌, ◌*◌, ◌^◌, true, not, List, [], ◌∷◌, ◌++◌, length, take, drop}
+use Rattle.std.specs.Prelude.{◌≡◌, ◌<◌, ℕ, ◌+◌, ◌-◌, ◌*◌, ◌^◌, true, not, List, [], ◌∷◌, ◌++◌, length, map, take, drop}
 use Rattle.std.specs.Prelude.{if◌then◌else◌, Result, Ok, Err}
 use Rattle.std.specs.Int.{w64, to_be_bytes, from_be_bytes}
 use Rattle.std.specs.List.{concat}
 use Rattle.std.specs.List.Sorted.{IsPermutation}
 use Rattle.std.specs.Ordering.{nat_cmp, is_lt}
 use Rattle.std.specs.Cmp.Lexicographic.{slice_cmp}
+use Rattle.std.specs.FinSet as set
 use Rattle.sha2.specs.Sha256.{sha256}
 use Rattle.archive_core.specs.Content.{is_admission}
+use Rattle.archive_core.specs.Summary.{Entries}
 use Rattle.archive_index.specs.Entry.{has_kind, has_length, has_tag, length_in, offset_in}
 use Rattle.archive_index.specs.Text.{index_magic}
 use Rattle.table_index.specs.Entry.{claim_in, has_claim, stored_size}
-use Rattle.table_index.specs.declared.fault.IndexFaultKind.{IndexFaultKind}
-use Rattle.table_index.specs.declared.fault.IndexFaultKind.TheVariants.{BadTag, BadKind, BadLength, NotAscending}
-use Rattle.table_index.specs.declared.fault.IndexFaultKind.TheVariants.{BadTable}
+use Rattle.index_faults.specs.declared.fault.IndexFaultKind.{IndexFaultKind}
+use Rattle.index_faults.specs.declared.fault.IndexFaultKind.TheVariants.{BadTag, BadKind, BadLength, NotAscending}
+use Rattle.index_faults.specs.declared.fault.IndexFaultKind.TheVariants.{BadTable}
 
 -- what an entry must be after this last one, where the tables end at this offset
 unfoldable pub test_entry : ℕ → List ℕ → List ℕ → Result (Unit {0}) IndexFaultKind
@@ -75,3 +77,7 @@ entries_in text = take (122 * count_in text) (drop (start_in text) text)
 -- the SHA-256 in its end record
 abbrev pub digest_in : List ℕ → List ℕ
 digest_in text = drop (length text - 32) text
+
+-- what entries say of their records, without the claims
+abbrev pub placed_of : List (List ℕ) → Entries
+placed_of entries = set.from_list (map (take 74) entries)

@@ -8,11 +8,11 @@ ghost use Rattle.archive_index.specs.Text.{index_magic};
 ghost use Rattle.table_index.specs.Fault.{FailsInFront, FailsAtEnd, test_front};
 ghost use Rattle.table_index.specs.InnerReading.{AreEndsOf, FailsInEnds, IsFronted, IsUnread};
 ghost use Rattle.table_index.specs.Reading.{IsRefused, ReadsText};
-ghost use Rattle.table_index.specs.declared.fault.IndexFaultKind.TheVariants.{Device};
+ghost use Rattle.index_faults.specs.declared.fault.IndexFaultKind.TheVariants.{Device};
 
 use crate::entry::{ENTRY_LEN, number_at};
-use crate::{IndexFault, IndexFaultKind};
 use byte_device::{Failed, ReadFault};
+use index_faults::{IndexFault, IndexFaultKind};
 use memory::Heap;
 use placed_bytes::{Placed, read_at};
 

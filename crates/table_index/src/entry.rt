@@ -5,7 +5,8 @@ ghost use Rattle.std.specs.Int.{w64, to_be_bytes, from_be_bytes};
 ghost use Rattle.std.specs.Ordering.{nat_cmp};
 ghost use Rattle.std.specs.Cmp.Lexicographic.{slice_cmp};
 ghost use Rattle.checked_pages.specs.Views.{claim_view};
-ghost use Rattle.archive_index.specs.Entry.{dsym_byte, has_kind, has_tag, length_in, offset_in, placed_bytes, tag_byte};
+ghost use Rattle.archive_index.specs.Entry.{dsym_byte, has_kind, has_length, has_tag};
+ghost use Rattle.archive_index.specs.Entry.{length_in, offset_in, placed_bytes, tag_byte};
 ghost use Rattle.table_index.specs.Entry.{HasItsFields, claim_bytes, claim_in, entry_bytes, no_claim};
 
 use archive_core::{FindRow, FindState};
@@ -133,6 +134,7 @@ impl TableEntry {
         requires long { length bytes.now ≡ 122 }
         requires tag { has_tag bytes.now ≡ true }
         requires kind { has_kind bytes.now ≡ true }
+        requires length_is { has_length bytes.now ≡ true }
         ensures bytes { entry_bytes result ≡ bytes.now }
         ensures fields { HasItsFields result }
     {

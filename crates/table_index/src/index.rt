@@ -1,10 +1,12 @@
 //! The entries of an index that was read.
 
-ghost use Rattle.std.specs.Prelude.{◌≡◌, All, length, map};
+ghost use Rattle.std.specs.Prelude.{◌≡◌, All, IfOk, length, map};
 ghost use Rattle.table_index.specs.Entry.{HasItsFields, entry_bytes};
+ghost use Rattle.table_index.specs.Text.{placed_of};
 
 use crate::TableEntry;
-use memory::Heap;
+use archive_index::{Index, PlacedEntry};
+use memory::{Heap, NoMemory};
 use std::marker::Model;
 
 /// The entries of an index, in ascending byte order. A contract sees it as the list of their bytes.
@@ -22,6 +24,13 @@ impl Model for TableIndex {
     ghost view = { λ index. map entry_bytes index.entries.items };
 
     ghost invariant = { λ index. All HasItsFields index.entries.items };
+}
+
+/// What entries say of their records.
+fn placed_in(heap: Heap, entries: &[TableEntry]) -> Result<Vec<PlacedEntry, Heap>, NoMemory>
+    ensures { IfOk result (λ placed. placed.items ≡ map (λ entry. entry.placed) entries.now) }
+{
+    entries.iter().map(|entry| entry.placed).collect(heap)
 }
 
 impl TableIndex {
@@ -46,5 +55,13 @@ impl TableIndex {
         ensures fields { All HasItsFields result.now }
     {
         &self.entries
+    }
+
+    /// What the entries say of their records, without the claims. It is refused for want of memory alone.
+    pub fn placed(&self, heap: Heap) -> Result<Index, NoMemory>
+        ensures { IfOk result (λ index. index ≡ placed_of self.now) }
+    {
+        let entries = placed_in(heap, &self.entries)?;
+        Ok(Index::of_entries(entries))
     }
 }

@@ -8,7 +8,6 @@
 //!
 //! - `entry`: [`TableEntry`], what a record is, where it stands, and where its table is stored;
 //! - `index`: [`TableIndex`], the entries of an index that was read;
-//! - `fault`: why bytes are no index;
 //! - `ends`: the magic and the end record; `testing`: the tests of an entry; `places`: whether records and tables
 //!   follow one another; `reading`: [`read_index`];
 //! - [`laws`]: a text is the index with one list of entries, or has one fault.
@@ -22,7 +21,6 @@
 
 mod ends;
 mod entry;
-mod fault;
 mod index;
 pub mod laws;
 mod places;
@@ -31,6 +29,5 @@ mod testing;
 
 pub use ends::{END_LEN, MAGIC_LEN, magic};
 pub use entry::{ENTRY_LEN, TableEntry, no_claim};
-pub use fault::{IndexFault, IndexFaultKind};
 pub use index::TableIndex;
 pub use reading::read_index;

@@ -6,13 +6,14 @@ ghost use Rattle.table_index.specs.Entry.{HasItsFields};
 ghost use Rattle.table_index.specs.InnerReading.{AreEndsOf, AreEntriesOf, AreReadOf, FailsBehindEnds};
 ghost use Rattle.table_index.specs.Fault.{FailsDigest, FailsInEntries, FailsInPlaces};
 ghost use Rattle.table_index.specs.Reading.{IsRefused, ReadsIndex, ReadsText};
-ghost use Rattle.table_index.specs.declared.fault.IndexFaultKind.TheVariants.{Device, OutOfMemory};
+ghost use Rattle.index_faults.specs.declared.fault.IndexFaultKind.TheVariants.{Device, OutOfMemory};
 
 use crate::ends::{Ends, read_ends, read_part};
 use crate::entry::ENTRY_LEN;
 use crate::places::are_laid;
 use crate::testing::entries_in;
-use crate::{IndexFault, IndexFaultKind, TableEntry, TableIndex};
+use crate::{TableEntry, TableIndex};
+use index_faults::{IndexFault, IndexFaultKind};
 use memory::{Heap, NoMemory};
 use placed_bytes::Placed;
 use sha2::{Digest, Sha256};

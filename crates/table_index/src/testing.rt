@@ -7,11 +7,12 @@ ghost use Rattle.table_index.specs.Entry.{has_claim, stored_size};
 ghost use Rattle.table_index.specs.Fault.{FailsAfter};
 ghost use Rattle.table_index.specs.InnerReading.{AreTested};
 ghost use Rattle.table_index.specs.Text.{test_entry};
-ghost use Rattle.table_index.specs.declared.fault.IndexFaultKind.TheVariants.{Device, OutOfMemory};
+ghost use Rattle.index_faults.specs.declared.fault.IndexFaultKind.TheVariants.{Device, OutOfMemory};
 
+use crate::TableEntry;
 use crate::entry::{ADMISSION, ENTRY_LEN, RETIREMENT, claim_in, number_at};
-use crate::{IndexFault, IndexFaultKind, TableEntry};
 use checked_pages::{Claim, pages_in};
+use index_faults::{IndexFault, IndexFaultKind};
 use memory::Heap;
 
 /// How many bytes stand before the slice of an admission.

@@ -60,7 +60,7 @@ import sys
 import tempfile
 from typing import Dict, List, Sequence, Set, Union
 
-from .archive import Archive
+from .archive import Archive, News
 from .archive_file import NO_UUID
 from .builds import rest_of, today
 from .contents import Content
@@ -158,7 +158,7 @@ def put_new(
             return []
         news = Content((), {one.entry(): one.length for one in new})
         with archive.room() as room:
-            archive.put(room, program, news, lines, screen, new)
+            archive.put(room, program, News(news, new), lines, screen)
         return []
     except SliceRefused as first:
         return [first, *refusals(program, [one for one in new if one is not first.one])]

@@ -1,6 +1,7 @@
 """An archive: ARCHIVE, its levels and ARCHIVE.today, which are asked as their join; what they have, and what is lost;
 and how more comes in, by the rules of `levels`."""
 import os
+import tempfile
 from typing import Callable, List, Optional, Sequence, Tuple
 
 from ..signals import signals
@@ -10,7 +11,7 @@ from .archive_file import size_of, write_synced
 from .builds import Builds
 from .contents import EMPTY, Content, archive_of_retirements, heads_in, join_of
 from .file_names import INDEX, INDEX_SUM, NEXT_INDEX, archive_of_level
-from .indexes import Index, Row, held_against, index_by, index_in, index_of
+from .indexes import Index, Row, held_against, index_at, index_by, index_of
 from .json_lines import line_of, path_members, record_members
 from .levels import Files, joined_by_fold
 from .lock import Lock
@@ -19,10 +20,39 @@ from .losing import LOST, Lost, counted, lost_lines
 from .program import Program
 from .screen import Failed, Screen, shown
 from .slices import Slice
+from .tables import Tables, write_index
 
 ASKED = b".asked"
 # ARCHIVE.today has grown if it has more than one of so many parts of ARCHIVE.
 PARTS = 10
+
+
+class News:
+    """What comes in: a content, the slices that have it or an archive of a room, and indexes that have the tables of
+    its slices."""
+
+    def __init__(
+        self,
+        content: Content,
+        slices: Sequence[Slice] = (),
+        path: Optional[bytes] = None,
+        indexes: Sequence[Optional[Index]] = (),
+    ) -> None:
+        self.content, self.slices, self.path, self.indexes = content, slices, path, list(indexes)
+
+    def paths(self) -> List[bytes]:
+        return [self.path] if self.path else []
+
+    def index(self, room: bytes, program: Program, screen: Screen) -> None:
+        """Has the program make the tables of its slices, unless an index has them."""
+        if self.indexes or not self.content.held:
+            return
+        if self.path:
+            self.indexes.append(index_made(self.path, room, b"came", program, screen))
+            return
+        screen.begin("indexing: {} slices", sum(one.length for one in self.slices))
+        program.run(["index", "/dev/stdin", "came"], self.slices, folder=room, moved=screen.progress)
+        self.indexes.append(index_at(os.path.join(room, b"came")))
 
 
 class Archive(Files):
@@ -91,10 +121,12 @@ class Archive(Files):
         if not self.writes:
             for file in others:
                 file.read(program, screen)
-                if file.index or file.doubt:
+                if file.index:
                     file.vouch(index_by(file.content, file.path), screen)
+                elif file.doubt:
+                    file.vouch(self.made_elsewhere(file, program, screen), screen)
             return self.joined()
-        self.see_anew(others, program, screen)
+        self.see_anew([file for file in self.files if file in others or is_to_be_indexed(file)], program, screen)
         self.levels = [level for level in self.levels if level.exists()]
         superfluous = self.superfluous()
         if superfluous:
@@ -121,39 +153,47 @@ class Archive(Files):
         lines: List[str] = []
         lost = Content()
         for file in others:
-            made = self.indexed(file, room, program, screen)
+            made, before = self.indexed(file, room, program, screen), file.index
             file.vouch(made, screen)
             file.index, changed, more = held_against(file.content, made)
+            if changed:
+                path = os.path.join(room, file.name + b".held")
+                file.index = write_index(path, file.index, Tables([before, made]))
             file.content, lost = file.index.content(), lost.joined(more)
             lines += [changed_line(row, file.path) for row in changed]
         return lines, lost.beyond(self.joined())
+
+    def made_elsewhere(self, file: ArchiveFile, program: Program, screen: Screen) -> Index:
+        """The index of a file beside which nothing may be written."""
+        with tempfile.TemporaryDirectory(prefix="symarch-keep.") as room:
+            return self.indexed(file, os.fsencode(room), program, screen)
 
     @staticmethod
     def indexed(file: ArchiveFile, room: bytes, program: Program, screen: Screen) -> Index:
         """The index of a file; of one of version 1 that of version 2 of it, which is made in the room."""
         if not file.exists():
-            return index_of([])
+            return write_index(os.path.join(room, file.name + b".idx"), index_of([]), Tables([]))
         path = file.path
         if file.is_of_version_1():
             screen.begin("migrating", file.size())
             moved = watched(screen, room)
             program.run_over(path, "migrate", os.fsdecode(file.name), folder=room, moved=moved)
             path = os.path.join(room, file.name)
-        return index_made(path, room, program, screen)
+        return index_made(path, room, file.name + b".idx", program, screen)
 
     def keep(self, others: Sequence[ArchiveFile], room: bytes, screen: Screen) -> None:
         """Keeps the indexes of files, and puts version 2 of those of version 1 in their place."""
         for file in others:
-            new, index = os.path.join(room, file.name), file.index or index_of([])
-            if os.path.exists(new):
+            new, index = os.path.join(room, file.name), file.index
+            if index and os.path.exists(new):
                 os.replace(new, os.path.join(room, b"new"))
                 self.replace(room, file, index, [], screen)
                 screen.line(f"{shown(file.path)}: was of version 1, and is of version 2 now")
-            elif file.exists():
-                self.lay_index(room, file, INDEX, index, file.path)
+            elif index and file.exists():
+                self.lay_index(file, INDEX, index, file.path)
             else:
-                file.drop(INDEX, INDEX_SUM)
-            file.drop(upgrading.SUM)
+                file.drop(INDEX)
+            file.drop(INDEX_SUM, upgrading.SUM)
 
     # ---- what is lost
 
@@ -183,25 +223,21 @@ class Archive(Files):
 
     # ---- what comes in
 
-    def put(
-        self,
-        room: bytes,
-        program: Program,
-        news: Content,
-        lines: Sequence[str],
-        screen: Screen,
-        slices: Sequence[Slice] = (),
-        more: Optional[bytes] = None,
-    ) -> None:
-        """Joins news, which slices or an archive of the room have, to ARCHIVE.today; or to a level or ARCHIVE, with all
-        of ARCHIVE.today."""
+    def put(self, room: bytes, program: Program, news: News, lines: Sequence[str], screen: Screen) -> None:
+        """Joins news to ARCHIVE.today; or to a level or ARCHIVE, with all of ARCHIVE.today."""
         if not self.is_to_be_folded():
-            self.join(room, program, self.today, news, lines, screen, slices, more)
+            self.merge(room, program, [self.today], b"new", screen, news.slices, news.paths())
+            news.index(room, program, screen)
+            content = self.today.content.joined(news.content)
+            index = self.new_index(room, self.today, content, [self.today.index, *news.indexes], screen)
+            self.replace(room, self.today, index, lines, screen)
             return
-        if more is None or len(self.today.content):
-            self.merge(room, program, [self.today], b"grown", screen, slices, [more] if more else [])
-            news, more = self.today.content.joined(news), os.path.join(room, b"grown")
-        self.join_by_fold(room, program, news, more, lines, screen)
+        if news.path is None or len(self.today.content):
+            self.merge(room, program, [self.today], b"grown", screen, news.slices, news.paths())
+            news.index(room, program, screen)
+            indexes = [self.today.index, *news.indexes]
+            news = News(self.today.content.joined(news.content), (), os.path.join(room, b"grown"), indexes)
+        self.join_by_fold(room, program, news, lines, screen)
 
     def is_to_be_folded(self) -> bool:
         """Whether ARCHIVE.today has grown, or there is no ARCHIVE."""
@@ -212,29 +248,29 @@ class Archive(Files):
     ) -> None:
         """Joins ARCHIVE.today and the files before it that are alike in size, or all; and takes out of the others what
         is retired, if that has waited long or has to go."""
-        self.join_by_fold(room, program, self.today.content, self.today.path, [], screen, is_whole)
+        news = News(self.today.content, (), self.today.path, [self.today.index])
+        self.join_by_fold(room, program, news, [], screen, is_whole)
         for file in self.files:
             retired = self.waiting().get(file.path, [])
             if retired and (is_purge or self.log.is_old(retired, file.path)):
-                self.join_all(room, program, [file], Content(), None, [], screen)
+                self.join_all(room, program, [file], News(Content()), [], screen)
 
     def join_by_fold(
         self,
         room: bytes,
         program: Program,
-        news: Content,
-        more: bytes,
+        news: News,
         lines: Sequence[str],
         screen: Screen,
         is_whole: bool = False,
     ) -> None:
         """Joins news, which an archive has, with the files before ARCHIVE.today that are alike in size, or with all;
         and ARCHIVE.today has nothing then."""
-        files = [*reversed(self.levels), self.main]
-        sizes = [*[news.size()] * bool(len(news)), *(file.size() for file in files)]
-        count = len(files) if is_whole else joined_by_fold(sizes) - bool(len(news))
-        if len(news) or count > 1 or not self.main.exists():
-            self.join_all(room, program, files[:count], news, more, lines, screen)
+        files, is_new = [*reversed(self.levels), self.main], bool(len(news.content))
+        sizes = [*[news.content.size()] * is_new, *(file.size() for file in files)]
+        count = len(files) if is_whole else joined_by_fold(sizes) - is_new
+        if is_new or count > 1 or not self.main.exists():
+            self.join_all(room, program, files[:count], news, lines, screen)
         self.empty_today(room, screen)
 
     def join_all(
@@ -242,16 +278,15 @@ class Archive(Files):
         room: bytes,
         program: Program,
         files: Sequence[ArchiveFile],
-        news: Content,
-        more: Optional[bytes],
+        news: News,
         lines: Sequence[str],
         screen: Screen,
     ) -> None:
         """Puts the join of files, the largest one last, and of news, which an archive has, in the place of the largest
         file, or makes a level of it if there is none; and removes the others. What a further file retires goes."""
-        content = join_of([news, *(file.content for file in files)])
+        content = join_of([news.content, *(file.content for file in files)])
         retired = self.retired().intersection(content.held)
-        paths = [more] if more and len(news) else []
+        paths = news.paths() if len(news.content) else []
         if retired:
             paths.append(os.path.join(room, b"withdrawn"))
             write_synced(paths[-1], archive_of_retirements(retired))
@@ -259,34 +294,27 @@ class Archive(Files):
         is_alone = len(paths) == 1 and not any(it.exists() for it in files)
         if not is_alone or not linked(paths[0], os.path.join(room, b"new")):
             self.merge(room, program, [file, *reversed(others)], b"new", screen, more=paths)
-        self.replace(room, file, self.new_index(room, file, content.joined(Content(retired))), lines, screen)
+        news.index(room, program, screen)
+        indexes = [*(it.index for it in files), *news.indexes]
+        index = self.new_index(room, file, content.joined(Content(retired)), indexes, screen)
+        self.replace(room, file, index, lines, screen)
         self.levels += [] if files else [file]
         self.remove(others, room, screen)
 
-    def join(
-        self,
-        room: bytes,
-        program: Program,
-        file: ArchiveFile,
-        news: Content,
-        lines: Sequence[str],
-        screen: Screen,
-        slices: Sequence[Slice] = (),
-        more: Optional[bytes] = None,
-    ) -> None:
-        """Puts the join of a file with news in its place."""
-        self.merge(room, program, [file], b"new", screen, slices, [more] if more else [])
-        self.replace(room, file, self.new_index(room, file, file.content.joined(news)), lines, screen)
-
     @staticmethod
-    def new_index(room: bytes, file: ArchiveFile, content: Content) -> Index:
+    def new_index(
+        room: bytes, file: ArchiveFile, content: Content, indexes: Sequence[Optional[Index]], screen: Screen
+    ) -> Index:
         """The index of the new file of a room, which has a content but for slices that changed in the files of which it
-        was made: these keep their entries, so that `check` finds them. No other slice is read for it."""
+        was made: these keep their entries, so that `check` finds them. No other slice is read for it, and tables are
+        copied out of the indexes of these files."""
         new = os.path.join(room, b"new")
         with open(new, "rb") as written:
             if heads_in(written) != content.heads():
                 raise Failed(f"something in {shown(file.path)} changed; `symarch-keep check` says what")
-        return index_by(content, new)
+        index = index_by(content, new)
+        screen.begin("copying tables")
+        return write_index(os.path.join(room, b"new.idx"), index, Tables(indexes), screen.moved)
 
     def merge(
         self,
@@ -328,7 +356,8 @@ class Archive(Files):
             return
         try:
             write_synced(os.path.join(room, b"new"), [EMPTY])
-            self.replace(room, self.today, index_of([]), [], screen)
+            index = write_index(os.path.join(room, b"new.idx"), index_of([]), Tables([]))
+            self.replace(room, self.today, index, [], screen)
         except OSError as error:
             self.say_what_is_left(self.today, error, screen)
 
@@ -355,22 +384,14 @@ class Archive(Files):
         for level in [one for one in self.levels if not one.exists() and not os.path.exists(one.beside(INDEX))]:
             # It was not put in place, or is being removed.
             self.forget(level)
-        self.upgrade(screen)
-
-    def upgrade(self, screen: Screen) -> None:
-        """Makes the indexes of files of which symarch-keep kept sums. Version 1 has none."""
         for file in self.files:
-            if upgrading.has_sum(file) and not file.is_of_version_1():
-                if file.kept_index(INDEX) is None:
-                    self.index_by_sum(file, screen)
-                file.drop(upgrading.SUM)
+            upgrading.drop_sums(file)
 
-    def index_by_sum(self, file: ArchiveFile, screen: Screen) -> None:
-        content = upgrading.old_content(file, screen)
-        if content is not None:
-            with self.room() as room:
-                # Nothing says whether the file is still that of its sum, so its heads are compared.
-                self.lay_index(room, file, INDEX, index_by(content, file.path))
+
+def is_to_be_indexed(file: ArchiveFile) -> bool:
+    """Whether a file has no index with tables, as an earlier symarch-keep left it."""
+    return file.exists() and not file.has_index()
+
 
 def linked(path: bytes, new: bytes) -> bool:
     """Gives a file a second name, if the file system has such."""
@@ -381,18 +402,23 @@ def linked(path: bytes, new: bytes) -> bool:
         return False
 
 
-def index_made(path: bytes, room: bytes, program: Program, screen: Screen) -> Index:
-    """The index of an archive, by the program."""
-    screen.begin("indexing")
-    program.run_over(path, "index", "index", folder=room, moved=screen.progress)
-    with open(os.path.join(room, b"index"), "rb") as file:
-        return index_in(file.read())
+def index_made(path: bytes, room: bytes, name: bytes, program: Program, screen: Screen) -> Index:
+    """The index of an archive, by the program, under a name in a room."""
+    screen.begin("indexing", size_of(path))
+    program.run_over(path, "index", os.fsdecode(name), folder=room, moved=screen.progress)
+    return index_at(os.path.join(room, name))
 
 
 def changed_line(row: Row, path: bytes, word: str = "changed") -> str:
     """The line of a record that changed: what it was, and where in which file it stands."""
     members = {**record_members(row.entry[1:], not row.is_slice()), "at": row.at, **path_members(path)}
     return line_of(f"{word} {row.words()} {row.at} {shown(path)}", word, **members)
+
+
+def table_line(row: Row, path: bytes, word: str = "changed") -> str:
+    """The line of a table that changed: of which slice it is, and where in which index it stands."""
+    members = {**record_members(row.entry[1:]), "record": "table", "at": row.table, **path_members(path)}
+    return line_of(f"{word} table {row.words()} {row.table} {shown(path)}", word, **members)
 
 
 def file_line(word: str, path: bytes, is_of_ends: bool = False) -> str:

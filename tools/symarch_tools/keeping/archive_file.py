@@ -1,17 +1,17 @@
-"""An archive file, and what is known of it: FILE.idx beside it is the index that the last word left, FILE.idx.next that
-of a new file which takes its place, by the steps of `Archive.replace`, and FILE.idx.sum has the SHA-256 of each."""
+"""An archive file, and what is known of it: FILE.idx beside it is the index that the last word left, and FILE.idx.next
+that of a new file which takes its place, by the steps of `Archive.replace`. Each has the time of the file of which it
+was made, so that another file is told from that one."""
 import contextlib
-import hashlib
 import operator
 import os
 from typing import Iterable, List, Optional, Tuple
 
+from . import upgrading
 from .contents import MAGIC, MAGICS, RETIREMENT, Content, Kept, Malformed, content_in, heads_in
-from .file_names import INDEX, INDEX_SUM, NEXT_INDEX
-from .indexes import Index, changes, index_in
+from .file_names import INDEX, NEXT_INDEX
+from .indexes import Index, changes, index_at
 from .program import Program
 from .screen import Failed, Screen, about, shown, write
-from .upgrading import old_content
 
 NO_UUID = "00000000-0000-0000-0000-000000000000"
 # So many bytes of a retirement may differ where it changed: half of its digest.
@@ -61,54 +61,22 @@ class ArchiveFile:
 
     # ---- what is known of it
 
-    def kept(self, ending: bytes, screen: Optional[Screen] = None) -> Optional[Kept]:
+    def kept(self, ending: bytes) -> Optional[Kept]:
         """What a file beside it has; None where it is not there, or is damaged."""
-        try:
-            with open(self.beside(ending), "rb") as file:
-                return Kept(file.read())
-        except FileNotFoundError:
-            return None
-        except Malformed as fault:
-            if screen:
-                screen.line(f"{shown(self.beside(ending))}: {fault}, and is passed over")
-            return None
-
-    def notes(self, screen: Optional[Screen] = None) -> List[str]:
-        """What FILE.idx.sum has of each index: its SHA-256, and which file it is of."""
-        kept = self.kept(INDEX_SUM, screen)
-        return kept.notes if kept else []
-
-    def has_damaged_sum(self) -> bool:
-        return os.path.exists(self.beside(INDEX_SUM)) and self.kept(INDEX_SUM) is None
-
-    def has_note_of(self, index: Index) -> bool:
-        """Whether FILE.idx.sum has the SHA-256 of an index."""
-        begins = note_of(index.text)
-        return any(note.startswith(begins) for note in self.notes())
+        return upgrading.kept_beside(self, ending)
 
     def kept_index(self, ending: bytes) -> Optional[Index]:
-        """The index that a file beside it is; None where it is not there, or is another one than FILE.idx.sum says."""
-        with contextlib.suppress(FileNotFoundError, Malformed), open(self.beside(ending), "rb") as file:
-            text = file.read()
-            if not self.notes():
-                return index_in(text)
-            return Index(text) if self.has_note_of(Index(text)) else None
-        return None
-
-    def notes_of_index(self) -> List[str]:
-        """The notes of FILE.idx as it is."""
-        with contextlib.suppress(FileNotFoundError), open(self.beside(INDEX), "rb") as file:
-            begins = note_of(file.read())
-            return [note for note in self.notes() if note.startswith(begins)]
-        return []
+        """The index that a file beside it is; None where it is not there, or is none."""
+        with contextlib.suppress(FileNotFoundError, Malformed):
+            return index_at(self.beside(ending))
+        return upgrading.old_index(self, ending)
 
     def following(self) -> Optional[Index]:
         """The index that FILE.idx.next is, where the file is the one of which that was made; else None."""
-        index = self.kept_index(NEXT_INDEX)
-        if not index or not self.exists() or index.size() != self.size():
-            return None
-        # The last note is of the new file. One that was mended has the same index as before.
-        return index if self.notes()[-1:] == [note_of(index.text, self.path)] else None
+        with contextlib.suppress(FileNotFoundError, Malformed):
+            index = index_at(self.beside(NEXT_INDEX))
+            return index if self.is_stamped(index) and index.size() == self.size() else None
+        return upgrading.old_following(self)
 
     def known(self) -> Tuple[Optional[Index], bool]:
         """The index that the last word left, or None; and whether the file is the one that it is of."""
@@ -123,39 +91,53 @@ class ArchiveFile:
         wrote to it since; else by its heads too."""
         if not self.exists() or self.size() != index.size():
             return False
-        is_that = note_of(index.text, self.path) in self.notes() and time_of(self.path) <= time_of(self.beside(INDEX))
-        return is_that or self.heads() == index.heads()
+        return self.is_stamped(index) or self.heads() == index.heads()
+
+    def is_stamped(self, index: Index) -> bool:
+        """Whether an index has the time of the file."""
+        return bool(index.path) and self.exists() and time_of(index.path) == time_of(self.path)
 
     def recall(self, screen: Optional[Screen] = None) -> bool:
         """Takes what the last word left, and returns whether the file has that still."""
-        self.notes(screen)
+        upgrading.notes_of(self, screen)
         self.index, is_same = self.known()
         if self.index:
             self.content, self.is_known, self.doubt = self.index.content(), True, None
             return is_same
-        content = old_content(self, screen)
+        content = upgrading.old_content(self, screen)
         self.doubt = self.fault_of_index() if content is None else None
         self.is_known = content is not None or self.doubt is None and not self.exists()
         self.content = content or Content()
         return self.is_known and self.content.heads() == self.heads()
+
+    def has_index(self) -> bool:
+        """Whether its index is one with tables."""
+        return self.index is not None and bool(self.index.path)
 
     def fault_of_index(self) -> Optional[str]:
         """What is wrong with FILE.idx, which says nothing; None if nobody made one."""
         path = shown(self.beside(INDEX))
         if os.path.exists(self.beside(INDEX)):
             return f"{path} is not as symarch-keep wrote it"
-        # What was killed before the file was put in place leaves the sum of its index alone.
-        return f"{path} is lost" if self.notes() and self.exists() else None
+        return f"{path} is lost" if upgrading.notes_of(self) and self.exists() else None
+
+    def says(self, made: Index) -> bool:
+        """Whether FILE.idx, which is damaged, says all the same that the file is as it was: that this is its index."""
+        with contextlib.suppress(FileNotFoundError), open(self.beside(INDEX), "rb") as file:
+            if made.is_in(file):
+                return True
+        return upgrading.has_note_of(self, made)
 
     def vouch(self, made: Index, screen: Screen) -> None:
         """Fails if the index by the bytes of the file, which were read, has other digests than the last word left, and
         nothing says which bytes changed: so no index takes the place of one that has others."""
-        if self.doubt and not self.has_note_of(made):
+        if self.doubt and not self.says(made):
             told = f"nothing says whether {shown(self.path)} is as it was; `symarch-keep check` says more"
             raise Failed(f"{self.doubt}, and {told}")
+        heads = self.index.heads() if self.index else self.content.heads()
         if self.doubt:
             screen.line(f"{self.doubt}, and is made anew: {shown(self.path)} is as it was")
-        elif self.index and self.exists() and is_same_but_for_retirements(self.index.heads(), made.heads()):
+        elif self.is_known and self.exists() and is_same_but_for_retirements(heads, made.heads()):
             raise Failed(f"something in {shown(self.path)} changed; `symarch-keep check` says what")
 
     def drop(self, *endings: bytes) -> None:
@@ -197,10 +179,23 @@ def is_same_but_for_retirements(heads: List[bytes], others: List[bytes]) -> bool
     )
 
 
-def note_of(text: bytes, path: Optional[bytes] = None) -> str:
-    """What is noted of an index, and of the file that it is of, so that a new archive is told from one that is the
-    same but for bytes that changed."""
-    return f"index {hashlib.sha256(text).hexdigest()} file {os.stat(path).st_ino if path else ''}"
+def stamp(path: bytes, of: bytes) -> None:
+    """Gives a file the time of another one. It is synced."""
+    time = time_of(of)
+    descriptor = os.open(path, os.O_RDONLY)
+    try:
+        os.utime(descriptor, ns=(time, time))
+        os.fsync(descriptor)
+    finally:
+        os.close(descriptor)
+
+
+def tell_apart(new: bytes, old: bytes) -> None:
+    """Gives a new file another time than the one has that it replaces, if they have one time."""
+    if os.path.exists(old) and time_of(new) == time_of(old):
+        # Some file systems have even seconds alone.
+        later = time_of(new) + 2 * 10**9
+        os.utime(new, ns=(later, later))
 
 
 def write_synced(path: bytes, chunks: Iterable[bytes]) -> None:

@@ -1,32 +1,34 @@
-"""What the words that ask have alike: ARCHIVE, its levels and ARCHIVE.today are opened, and are asked as their join,
-each by its index. They take no lock, so they never wait for a word that writes."""
+"""What the words that ask have alike: ARCHIVE, its levels and ARCHIVE.today are opened, and are asked as their join, by
+their indexes if each has one. They take no lock, so they never wait for a word that writes."""
 import argparse
 import contextlib
 import os
 import re
 import time
+import uuid
 from typing import BinaryIO, Dict, Iterator, List, NamedTuple, Optional, Sequence, Tuple
 
 from .archive import Archive
 from .archive_file import ArchiveFile
-from .contents import EMPTY, entry_in, join_of
+from .contents import DIGEST, EMPTY, digest_in, entry_in, join_of
 from .file_names import INDEX
 from .forms import HELP
-from .indexes import Index
+from .indexes import HEAD, Index
 from .program import DESCRIPTORS, Moved, Program, not_moved
-from .screen import Failed, Screen, shown, system_text, write
+from .screen import Failed, Screen, shown, system_text
 
 # How often a file is looked at again that a word of symarch-keep may just be replacing, and after how many seconds.
 TRIES, PAUSE = 10, 0.05
-AT_ENTRY = re.compile("symarch: index ([0-9]+): Stale at entry ([0-9]+)")
+AT_ENTRY = re.compile("symarch: index ([0-9]+): (?:Stale|Damaged) at entry ([0-9]+)")
 
 
 class Opened(NamedTuple):
-    """An archive file that is open, and the index that it is of, if it has one."""
+    """An archive file that is open, the index that it is of, if it has one, and the file of that, if it has tables."""
 
     file: ArchiveFile
     opened: BinaryIO
     its_index: Optional[Index]
+    index_file: Optional[BinaryIO]
 
 
 class Asked:
@@ -34,8 +36,6 @@ class Asked:
 
     def __init__(self, path: bytes, ends: contextlib.ExitStack) -> None:
         self.archive, self.ends, self.program = Archive(path, writes=False), ends, Program()
-        # The descriptors of the files in memory that have indexes.
-        self.in_memory: Dict[Index, int] = {}
         # A fold removes a file once one that stands before it has all of it, so who opens the last one first misses
         # nothing.
         files = [self.opened(self.archive.today)] if self.archive.today.size() > len(EMPTY) else []
@@ -43,9 +43,7 @@ class Asked:
         for level in reversed(self.archive.levels):
             with contextlib.suppress(FileNotFoundError):
                 files.append(self.opened(level))
-        files.append(self.opened(self.archive.main))
-        # The first index is that of the first archive, and so on.
-        self.files = sorted(files, key=lambda it: it.its_index is None)
+        self.files = [*files, self.opened(self.archive.main)]
 
     def opened(self, file: ArchiveFile) -> Opened:
         """A file with its index. A word that is replacing it gives it one soon."""
@@ -53,11 +51,22 @@ class Asked:
             with contextlib.ExitStack() as closing:
                 opened = closing.enter_context(open(file.path, "rb"))
                 index, is_same = file.known()
-                if self.is_still(file, opened) and (is_same or not index and not file.fault_of_index()):
+                index_file = self.index_file(index, closing)
+                is_whole = not index or not index.path or index_file is not None
+                if is_whole and self.is_still(file, opened) and (is_same or not index and not file.fault_of_index()):
                     self.ends.push(closing.pop_all())
-                    return Opened(file, opened, index)
+                    return Opened(file, opened, index, index_file)
             time.sleep(PAUSE)
         raise self.unvouched(file)
+
+    @staticmethod
+    def index_file(index: Optional[Index], closing: contextlib.ExitStack) -> Optional[BinaryIO]:
+        """The file of an index, if it has tables and stands there still."""
+        with contextlib.suppress(FileNotFoundError):
+            if index and index.path:
+                file = closing.enter_context(open(index.path, "rb"))
+                return file if index.is_in(file) else None
+        return None
 
     @staticmethod
     def is_still(file: ArchiveFile, opened: BinaryIO) -> bool:
@@ -87,23 +96,27 @@ class Asked:
         archives: List[str] = []
         indexes: List[str] = []
         names: Dict[str, str] = {}
+        is_by_tables = is_by_index and all(one.index_file for one in self.files)
+        if is_by_index and not is_by_tables:
+            self.test_slices(uuid.UUID(words[0]).bytes)
         for one in self.files:
             archives.append(f"{DESCRIPTORS}/{one.opened.fileno()}")
             names[archives[-1]] = shown(one.file.path)
-            if one.its_index and is_by_index:
-                indexes.append(f"{DESCRIPTORS}/{self.laid(one.its_index)}")
+            if one.index_file and is_by_tables:
+                indexes.append(f"{DESCRIPTORS}/{one.index_file.fileno()}")
                 names[indexes[-1]] = shown(one.file.beside(INDEX))
         more = [it for path in archives[1:] for it in ("--with", path)]
         more += [it for path in indexes for it in ("--index", path)]
         return self.run([command, *more, *options, "--", archives[0], *words], names, folder, moved)
 
-    def laid(self, index: Index) -> int:
-        """A file in memory that has an index."""
-        if index not in self.in_memory:
-            self.in_memory[index] = descriptor = os.memfd_create("index")
-            self.ends.callback(os.close, descriptor)
-            write(descriptor, index.text)
-        return self.in_memory[index]
+    def test_slices(self, number: bytes) -> None:
+        """Fails if a slice under a UUID changed since it came in, by the indexes that there are: the archives are read
+        without them."""
+        for one in self.files:
+            for row in one.its_index.rows() if one.its_index else ():
+                if row.is_slice() and row.entry[1:].startswith(number):
+                    if digest_in(one.opened, row.at + HEAD, row.length - HEAD) != row.entry[-DIGEST:]:
+                        raise self.changed(row.words())
 
     def run(
         self, words: Sequence[str], names: Dict[str, str], folder: Optional[bytes], moved: Moved
@@ -117,7 +130,7 @@ class Asked:
             found = AT_ENTRY.fullmatch(failed.text)
             index = self.files[int(found[1])].its_index if found else None
             if found and index:
-                raise self.changed(list(index.rows())[int(found[2])].words()) from None
+                raise self.changed(index.row(int(found[2])).words()) from None
             raise
         return printed.decode().splitlines(), status
 

@@ -70,7 +70,7 @@ import time
 import uuid
 from typing import BinaryIO, Callable, Dict, Iterator, List, Optional, Sequence, Set, Tuple
 
-from .archive import ASKED, Archive, watched
+from .archive import ASKED, Archive, News, watched
 from .archive_file import size_of
 from .contents import ADMISSION, Content, Malformed, chunks_in
 from .contents import content_in, content_of, digest_in, entries_in, kept_text, summary_of, words_of
@@ -286,7 +286,7 @@ class Exchange:
         lines += [f"retired {words_of(entry)} {origins[entry]}" for entry in sorted(news.retired)]
         if lines or not self.archive.main.exists():
             more = os.path.join(room, b"missing")
-            self.archive.put(room, self.program, missing, lines, self.screen, more=more)
+            self.archive.put(room, self.program, News(missing, (), more), lines, self.screen)
             self.content = content
             self.lines += lines
 

@@ -1,4 +1,5 @@
-"""The names of the files of an archive. A level is a file ARCHIVE.N beside which an index, or the sum of one, stands.
+"""The names of the files of an archive. A level is a file ARCHIVE.N beside which an index stands, or the sum of one as
+an earlier symarch-keep left it.
 Another file of such a name, as a copy that somebody made, is left alone, and so is one with a lock: an archive of its
 own."""
 import os

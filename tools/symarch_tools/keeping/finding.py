@@ -10,8 +10,8 @@ For example, which slices a build has under this UUID, and by which SHA-256 one 
   ARCH conflict N        so many slices answer for this UUID and ARCH
 
 They are read by their indexes: if one of them has all, no slice is read, and else those of UUID. If one that is read
-changed since it came in, nothing is printed but that. An archive without an index is read whole. No
-lock is taken, and nothing is written.
+changed since it came in, nothing is printed but that. If an archive has no index, all are read whole. No lock is taken,
+and nothing is written.
 
 Status:
   0    it is printed

@@ -29,7 +29,7 @@ other bytes stays, and is said: give builds of one NAME a FOLDER each. Each file
 room for the slices, and for the largest one twice.
 
 They are read by their indexes, so that of slices only those are read that are written. One that changed since it came
-in is not written. An archive without an index is read whole. No lock is taken.
+in is not written. If an archive has no index, all are read whole. No lock is taken.
 
 Status:
   0    all is there

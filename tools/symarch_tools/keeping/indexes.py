@@ -1,5 +1,7 @@
-"""Indexes of archives: of each record its entry in the summary, whether it is a companion's, and where it stands.
-docs/FILES.md has the bytes."""
+"""Indexes of archives: of each record its entry in the summary, whether it is a companion's, where it stands, and where
+the table of its slice is stored in the index. An index is read from its end: its tables are not read for that, and are
+copied from one index into another. docs/FILES.md has the bytes."""
+import hashlib
 import io
 import os
 import struct
@@ -9,30 +11,34 @@ from .contents import ADMISSION, DIGEST, END, ENTRY, KEY, LENGTH, MAGIC, RETIREM
 from .contents import digest_in, head_of, record_size, words_of
 
 INDEX = b"MSYMIDX1"
-ROW = struct.Struct(f">{len(ADMISSION) + ENTRY}sBQQ")
+ROW = struct.Struct(f">{len(ADMISSION) + ENTRY}sBQQQQ{DIGEST}s")
+# How long the end record of an archive is, and that of an index, which has the SHA-256 of the entries.
 TAIL = len(END) + LENGTH
+INDEX_TAIL = TAIL + DIGEST
 # How many bytes of an admission stand before its slice.
 HEAD = len(ADMISSION) + KEY + LENGTH
 # mach-o/loader.h: the file type of a companion, and where it stands.
 MH_DSYM, FILETYPE = b"\x0a\0\0\0", 12
+# How many bytes a page of a table has.
+PAGE = 1 << 14
+# The SHA-256 of no page digests, which a slice without a table has; and what a retirement has in its place.
+NO_TABLE, NO_ROOT = hashlib.sha256().digest(), bytes(DIGEST)
 
 
 class Row(NamedTuple):
-    """What an index has of a record: its entry in the summary, whether it is a companion's, its place and length."""
+    """What an index has of a record: its entry in the summary, whether it is a companion's, its place and length; and
+    of a slice where its table is stored in the index, how many bytes that has, and the SHA-256 of its page digests."""
 
     entry: bytes
     is_companion: int
     at: int
     length: int
+    table: int = 0
+    size: int = 0
+    root: bytes = NO_ROOT
 
     def is_slice(self) -> bool:
         return self.entry[:1] == ADMISSION
-
-    def is_right(self) -> bool:
-        """Whether a record may be so long."""
-        if self.is_slice():
-            return self.is_companion <= 1 and self.length >= HEAD
-        return self.entry[:1] == RETIREMENT and self.is_companion == 0 and self.length == len(self.entry)
 
     def head(self) -> bytes:
         return head_of(self.entry[1 : 1 + KEY], self.length - HEAD) if self.is_slice() else self.entry
@@ -40,15 +46,36 @@ class Row(NamedTuple):
     def words(self) -> str:
         return f"{'' if self.is_slice() else 'retired '}{words_of(self.entry[1:])}"
 
+    def stored(self) -> int:
+        """How many bytes its table takes in an index."""
+        return stored_size(self.size)
+
+
+def pages_in(size: int) -> int:
+    return -(-size // PAGE)
+
+
+def stored_size(size: int) -> int:
+    """How many bytes a table of so many takes in an index."""
+    return pages_in(size) * DIGEST + size
+
 
 class Index:
-    """The index of an archive, by its bytes."""
+    """The index of an archive, by its entries. Its tables are in the file of a path, if there are any."""
 
-    def __init__(self, text: bytes) -> None:
-        self.text = text
+    def __init__(self, entries: bytes, path: bytes = b"") -> None:
+        self.entries, self.path = entries, path
+        # The SHA-256 of the entries, once it is known.
+        self.known_digest = b""
+
+    def count(self) -> int:
+        return len(self.entries) // ROW.size
+
+    def row(self, number: int) -> Row:
+        return Row._make(ROW.unpack_from(self.entries, number * ROW.size))
 
     def rows(self) -> Iterator[Row]:
-        return map(Row._make, ROW.iter_unpack(self.text[MAGIC:-TAIL]))
+        return map(Row._make, ROW.iter_unpack(self.entries))
 
     def in_places(self) -> List[Row]:
         """The rows, as their records stand in the archive."""
@@ -56,7 +83,7 @@ class Index:
 
     def content(self) -> Content:
         content = Content()
-        for entry, _, _, length in ROW.iter_unpack(self.text[MAGIC:-TAIL]):
+        for entry, _, _, length, *_ in ROW.iter_unpack(self.entries):
             if entry[:1] == ADMISSION:
                 content.held[entry[1:]] = length - HEAD
             else:
@@ -68,28 +95,60 @@ class Index:
 
     def size(self) -> int:
         """How long its archive is."""
-        return MAGIC + sum(length for *_, length in ROW.iter_unpack(self.text[MAGIC:-TAIL])) + TAIL
+        return MAGIC + sum(length for _, _, _, length, *_ in ROW.iter_unpack(self.entries)) + TAIL
+
+    def without_table(self) -> List[Row]:
+        """The rows of slices that have no table."""
+        return [row for row in self.rows() if row.is_slice() and not row.size]
+
+    def digest(self) -> bytes:
+        """The SHA-256 of its entries."""
+        self.known_digest = self.known_digest or hashlib.sha256(self.entries).digest()
+        return self.known_digest
+
+    def end(self) -> bytes:
+        """Its end record."""
+        return END + self.count().to_bytes(LENGTH, "big") + self.digest()
+
+    def is_in(self, file: BinaryIO) -> bool:
+        """Whether a file that is no index, or another one, has its end record or its entries all the same."""
+        size, end = file.seek(0, os.SEEK_END), self.end()
+        return last_of(file, size, len(end)) == end or self.entries == last_of(
+            file, max(size - len(end), 0), len(self.entries)
+        )
+
+
+def last_of(file: BinaryIO, end: int, size: int) -> bytes:
+    """So many bytes of a file that stand before a place, or what there is of them."""
+    file.seek(max(end - size, 0))
+    return file.read(min(size, end))
 
 
 def index_of(rows: Iterable[Row]) -> Index:
-    rows = sorted(rows)
-    return Index(INDEX + b"".join(ROW.pack(*row) for row in rows) + END + len(rows).to_bytes(LENGTH, "big"))
+    """The index of rows, in no file."""
+    return Index(b"".join(ROW.pack(*row) for row in sorted(rows)))
 
 
-def index_in(text: bytes) -> Index:
-    """The index that a text is."""
-    index, count = Index(text), (len(text) - MAGIC - TAIL) // ROW.size
-    if count < 0 or text[:MAGIC] != INDEX or text[-TAIL:] != END + count.to_bytes(LENGTH, "big"):
+def index_in(file: BinaryIO, path: bytes = b"") -> Index:
+    """The index that a file is, by its first bytes and from its end: its entries are those of which the end record has
+    the SHA-256, and its tables fill what stands before them."""
+    file.seek(0)
+    begins, size = file.read(MAGIC), file.seek(0, os.SEEK_END)
+    end = last_of(file, size, INDEX_TAIL)
+    count = int.from_bytes(end[len(END) : TAIL], "big")
+    if begins != INDEX or end[: len(END)] != END or MAGIC + count * ROW.size + INDEX_TAIL > size:
         raise Malformed("is no index")
-    try:
-        at = MAGIC
-        for row in index.in_places():
-            if row.at != at or not row.is_right():
-                raise Malformed("is no index")
-            at += row.length
-    except struct.error:
-        raise Malformed("is no index") from None
+    index = Index(last_of(file, size - INDEX_TAIL, count * ROW.size), path)
+    tables = sum(stored_size(table) for *_, table, _ in ROW.iter_unpack(index.entries))
+    if index.end() != end or size != MAGIC + tables + len(index.entries) + len(end):
+        raise Malformed("is no index")
     return index
+
+
+def index_at(path: bytes) -> Index:
+    """The index that the file of a path is."""
+    with open(path, "rb") as file:
+        return index_in(file, path)
 
 
 def is_companion(file: BinaryIO, at: int) -> int:
@@ -110,7 +169,7 @@ def placed(file: BinaryIO, head: bytes, entries: List[bytes], places: List[int])
 
 
 def index_by(content: Content, path: bytes) -> Index:
-    """The index of the archive of a content, which a file has but for bytes that changed."""
+    """The index of the archive of a content, which a file has but for bytes that changed. It has no tables."""
     rows: List[Row] = []
     entries: Dict[bytes, List[bytes]] = {}
     places: Dict[bytes, List[int]] = {}
@@ -147,7 +206,7 @@ def changes(known: Content, came: Content) -> Tuple[Dict[bytes, bytes], Content]
 
 def held_against(known: Content, index: Index) -> Tuple[Index, List[Row], Content]:
     """The index of what an archive is taken to have of which something is known: slices that changed in their places
-    keep their entries. Also the rows of these, and what is lost."""
+    keep their entries, and such an index is in no file. Also the rows of these, and what is lost."""
     changed, lost = changes(known, index.content())
     if not changed:
         return index, [], lost

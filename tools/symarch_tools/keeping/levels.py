@@ -8,7 +8,7 @@ grown by half or more. Files of less than LEAST bytes are joined whatever the si
 levels.
 
 The join takes the place of the largest file of which it is made, by the steps of `Placing`. Then the other levels are
-removed, each before its index and the sum of this, and ARCHIVE.today is emptied. So a kill leaves each record in the
+removed, each before its index, and ARCHIVE.today is emptied. So a kill leaves each record in the
 files that had it, or in the join, or in both. The next word sees by the indexes that the files before a level, or
 before ARCHIVE.today, have all that it has, and goes on. Who opens the files from the last one to ARCHIVE finds each
 record, since a fold moves them only to files that stand before."""

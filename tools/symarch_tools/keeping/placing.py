@@ -1,23 +1,23 @@
 """The folder of an archive: the rooms in which a word works there, the files that are kept beside the archive, and how
 a new file takes the place of one.
 
-That goes by five steps: ARCHIVE.log.next, FILE.idx.sum, FILE.idx.next and, if names came in, ARCHIVE.builds.next are
-written, the archive is renamed, ARCHIVE.builds.next becomes ARCHIVE.builds, the lines are added to ARCHIVE.log, and
-FILE.idx.next becomes FILE.idx. Whoever comes after a kill sees by the file which of these were done, and does the
-others."""
+That goes by five steps: ARCHIVE.log.next, FILE.idx.next and, if names came in, ARCHIVE.builds.next are written, the
+archive is renamed, ARCHIVE.builds.next becomes ARCHIVE.builds, the lines are added to ARCHIVE.log, and FILE.idx.next
+becomes FILE.idx. FILE.idx.next has the time of the new archive. So whoever comes after a kill sees by the file which of
+these were done, and does the others."""
 import contextlib
 import os
 import shutil
 import stat
 import tempfile
-from typing import Iterator, List, Optional, Sequence
+from typing import Iterator, List, Sequence
 
 from ..signals import signals
+from . import upgrading
 from .archive_file import ArchiveFile
-from .archive_file import note_of, sync_folder, write_synced
+from .archive_file import stamp, sync_folder, tell_apart, write_synced
 from .builds import Builds
-from .contents import Content, kept_text
-from .file_names import INDEX, INDEX_SUM, NEXT_INDEX
+from .file_names import INDEX, NEXT_INDEX
 from .indexes import Index
 from .log import Log, dated
 from .screen import Screen, shown, system_text
@@ -61,23 +61,34 @@ class Placing:
 
     def replace(self, room: bytes, file: ArchiveFile, index: Index, lines: Sequence[str], screen: Screen) -> None:
         """Gives the new file of a room, which is synced, the name of a file, and what it may have of the archive's
-        owner and rights. Syncs the name. A signal waits until that is done."""
+        owner and rights; its index is in the room too. Syncs the name. A signal waits until that is done."""
         with signals.later():
             self.put_in_place(os.path.join(room, b"new"), room, file, index, lines)
             file.index, file.content = index, index.content()
             self.finish(file, screen)
 
+    def replace_index(self, room: bytes, file: ArchiveFile, index: Index, lines: Sequence[str], screen: Screen) -> None:
+        """Gives a new index of a room the name of that of a file, which stays."""
+        with signals.later():
+            self.put_in_place(file.path, room, file, index, lines)
+            file.index = index
+            self.finish(file, screen)
+
     def put_in_place(self, new: bytes, room: bytes, file: ArchiveFile, index: Index, lines: Sequence[str]) -> None:
-        before = self.log.pending()
+        before, is_new = self.log.pending(), new != file.path
         try:
             self.lay(room, self.log.next, before + dated(lines))
             if self.builds.is_changed():
                 self.lay(room, self.builds.next, self.builds.new_text())
-            self.lay_index(room, file, NEXT_INDEX, index, new)
-            self.give_rights(new)
+            if is_new:
+                tell_apart(new, file.path)
+            self.lay_index(file, NEXT_INDEX, index, new)
+            if is_new:
+                self.give_rights(new)
             # What is known of the new archive is there before it.
             sync_folder(self.folder)
-            os.replace(new, file.path)
+            if is_new:
+                os.replace(new, file.path)
         except OSError:
             file.drop(NEXT_INDEX)
             self.builds.drop_next()
@@ -104,6 +115,9 @@ class Placing:
                 self.builds = Builds(self.path)
             self.log.add_pending()
             os.replace(file.beside(following), file.beside(last))
+            if file.index and file.index.path == file.beside(following):
+                file.index.path = file.beside(last)
+            upgrading.drop_sums(file)
         except OSError as error:
             screen.fail(f"{shown(self.log.path)}: {error.strerror}; the archive has all, and the next call goes on")
 
@@ -125,14 +139,12 @@ class Placing:
         self.give_rights(kept)
         os.replace(kept, path)
 
-    def lay_index(
-        self, room: bytes, file: ArchiveFile, ending: bytes, index: Index, path: Optional[bytes] = None
-    ) -> None:
-        """Makes an index beside a file, after what is noted of it and of the index before it: its SHA-256, and of which
-        file it was made."""
-        notes = [*file.notes_of_index(), note_of(index.text, path)]
-        self.lay(room, file.beside(INDEX_SUM), kept_text(Content(), notes))
-        self.lay(room, file.beside(ending), index.text)
+    def lay_index(self, file: ArchiveFile, ending: bytes, index: Index, path: bytes) -> None:
+        """Puts an index of a room beside a file, with the time of the file of which it was made."""
+        stamp(index.path, path)
+        self.give_rights(index.path)
+        os.replace(index.path, file.beside(ending))
+        index.path = file.beside(ending)
 
     def drop(self, *endings: bytes) -> None:
         for ending in endings:

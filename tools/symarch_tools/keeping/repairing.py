@@ -6,6 +6,8 @@ FROM may also be an archive that you made of the dSYM by `symarch-keep add`. Of 
 and last bytes the index of each has all, so FROM need not have them. FROM is only read, and what else it has is left
 there. A slice that it does not have stays as it is; another FROM may have it.
 
+A table that changed, or that is lacking, is made anew of its slice, once that is good.
+
 The lines, which are kept in ARCHIVE.log with the date, are those of `check` with `repaired` in the place of `changed`;
 what could not be mended is printed with `changed`.
 
@@ -22,17 +24,18 @@ import hashlib
 import os
 from typing import Dict, Iterable, List, NamedTuple, Optional, Sequence
 
-from .archive import Archive
+from .archive import Archive, index_made, is_to_be_indexed
 from .archive_file import ArchiveFile, size_of
 from .changing import Found, forget_changed
 from .checking import Findings, told_apart
 from .contents import CHUNK, END, KEY, LENGTH, MAGICS, Malformed, Moved
 from .contents import digest_in, head_of, heads_in, record_size, records_in
 from .file_names import INDEX, TODAY, level_ending, numbers_beside
-from .indexes import HEAD, TAIL, Index, Row, index_by
+from .indexes import HEAD, TAIL, Index, Row, index_at, index_by
 from .program import Program
-from .screen import Failed, Screen, about, screen_of, shown, system_text, write
+from .screen import Failed, Screen, SliceRefused, about, screen_of, shown, system_text, write
 from .slices import Slice, compared
+from .tables import Tables, write_index
 
 USAGE = "symarch-keep repair [--quiet] ARCHIVE FROM"
 ABOUT = "mend what changed, out of another archive"
@@ -146,37 +149,68 @@ def put(written: int, at: int, data: bytes) -> None:
     write(written, data)
 
 
-def replace(
-    archive: Archive,
-    file: ArchiveFile,
-    findings: Findings,
-    places: Dict[Row, Place],
-    lines: Sequence[str],
-    screen: Screen,
-) -> None:
-    """Puts a copy of a file in its place, in which slices are those of some places, and all else is as its index has
-    it. Nothing else is read for that."""
-    with archive.room() as room:
-        screen.begin("writing", file.size())
-        new = os.path.join(room, b"new")
-        with about(new), open(file.path, "rb") as old, open(new, "wb", buffering=0) as written:
+class Mending:
+    """How a file of an archive is mended, and the tables of its index, in a room."""
+
+    def __init__(self, archive: Archive, file: ArchiveFile, findings: Findings, room: bytes, program: Program) -> None:
+        self.archive, self.file, self.findings, self.room, self.program = archive, file, findings, room, program
+
+    def mend(self, places: Dict[Row, Place], lacking: Sequence[Row], lines: Sequence[str], screen: Screen) -> None:
+        """Puts a copy of the file in its place, in which slices are those of some places, and all else is as its index
+        has it. Nothing else is read for that but what lacks a table."""
+        screen.begin("writing", self.file.size())
+        new = os.path.join(self.room, b"new")
+        with about(new), open(self.file.path, "rb") as old, open(new, "wb", buffering=0) as written:
             copy_all(old.fileno(), written.fileno(), screen.moved)
-            mend(written.fileno(), findings, places)
+            mend(written.fileno(), self.findings, places)
             os.fsync(written.fileno())
         with open(new, "rb") as made:
-            if heads_in(made) != file.content.heads():
-                raise Failed(f"what was to be written is not {shown(file.path)} as it was")
-        archive.replace(room, file, index_by(file.content, new), lines, screen)
+            if heads_in(made) != self.file.content.heads():
+                raise Failed(f"what was to be written is not {shown(self.file.path)} as it was")
+        self.archive.replace(self.room, self.file, self.new_index(new, lacking, screen), lines, screen)
+
+    def mend_tables(self, lacking: Sequence[Row], lines: Sequence[str], screen: Screen) -> None:
+        """Puts an index in its place whose tables are good, but for those of slices that changed."""
+        index = self.new_index(self.file.path, lacking, screen)
+        self.archive.replace_index(self.room, self.file, index, lines, screen)
+
+    def new_index(self, path: bytes, lacking: Sequence[Row], screen: Screen) -> Index:
+        """The index of a file that was mended, but for slices that are lacking."""
+        index = index_by(self.file.content, path)
+        if not self.findings.index.path:
+            # An earlier symarch-keep made no tables.
+            made = index_made(path, self.room, b"made.idx", self.program, screen)
+            return write_index(os.path.join(self.room, b"new.idx"), index, Tables([made]), screen.moved)
+        bad, entries = set(lacking), {row.entry for row in self.findings.tables}
+        entries |= {row.entry for row in self.findings.index.without_table()} - {row.entry for row in bad}
+        rows = [row for row in index.in_places() if row.entry in entries]
+        tables = Tables([self.made(path, rows, screen), self.findings.index])
+        return write_index(os.path.join(self.room, b"new.idx"), index, tables, screen.moved)
+
+    def made(self, path: bytes, rows: Sequence[Row], screen: Screen) -> Optional[Index]:
+        """The index of an archive of some slices, by the program. Their tables are those of before."""
+        if not rows:
+            return None
+        slices = [slice_at(Place(path, row.at + HEAD), row) for row in rows]
+        screen.begin("making {} tables", sum(one.length for one in slices))
+        try:
+            self.program.run(["index", "/dev/stdin", "tables.idx"], slices, folder=self.room, moved=screen.progress)
+        except SliceRefused as refused:
+            raise Failed(f"{shown(self.file.path)}: {refused}") from None
+        index = index_at(os.path.join(self.room, b"tables.idx"))
+        had = {row.entry: row.root for row in self.findings.rows if row.size}
+        for row in index.rows():
+            if had.get(row.entry, row.root) != row.root:
+                raise Failed(f"{row.words()}: the table that {self.program.path} makes is another one")
+        return index
 
 
 def repair(
-    archive: Archive, file: ArchiveFile, index: Index, others: Sequence[bytes], screen: Screen
+    archive: Archive, file: ArchiveFile, index: Index, others: Sequence[bytes], program: Program, screen: Screen
 ) -> List[str]:
-    """Mends what can be of a file, and returns the lines. What `check` found need not be looked for."""
-    findings = Findings(file.path, index)
-    with open(file.path, "rb") as opened:
-        screen.begin("reading", os.fstat(opened.fileno()).st_size)
-        findings.look_through(opened, screen.moved, Found(archive.path).rows(file, index, opened))
+    """Mends what can be of a file and of its tables, and returns the lines. What `check` found need not be looked
+    for."""
+    findings = looked_through(archive, file, index, screen)
     if not findings.lines():
         return []
     bad = [row for row in findings.changed if row.is_slice() and row.entry not in findings.good]
@@ -185,20 +219,41 @@ def repair(
     if lacking and file.size() < findings.size:
         raise Failed(f"{shown(file.path)} ends early, and {shown(others[0])} does not have all that it lacks")
     lines = findings.lines_of("repaired", set(findings.changed).difference(lacking), findings.has_ends)
-    if lines:
-        places = {row: found[row.entry[1:]] for row in bad if row not in lacking}
-        places.update(in_order(findings, file.path, found, lacking))
-        replace(archive, file, findings, places, lines, screen)
-    return lines + findings.lines_of("changed", lacking)
+    is_of_file = bool(lines)
+    left = [row for row in findings.tables if row in lacking]
+    findings.tables = [row for row in findings.tables if row not in left]
+    lines += findings.lines_of_tables("repaired", findings.tables)
+    with archive.room() as room:
+        mending = Mending(archive, file, findings, room, program)
+        if is_of_file:
+            places = {row: found[row.entry[1:]] for row in bad if row not in lacking}
+            places.update(in_order(findings, file.path, found, lacking))
+            mending.mend(places, lacking, lines, screen)
+        elif lines:
+            mending.mend_tables(lacking, lines, screen)
+    return lines + findings.lines_of("changed", lacking) + findings.lines_of_tables("changed", left)
+
+
+def looked_through(archive: Archive, file: ArchiveFile, index: Index, screen: Screen) -> Findings:
+    """What changed in a file and in its index, by what `check` found, or by all of both."""
+    findings, known = Findings(file.path, index), Found(archive.path)
+    with contextlib.ExitStack() as ends:
+        opened = ends.enter_context(open(file.path, "rb"))
+        tables = ends.enter_context(open(index.path, "rb")) if index.path else None
+        screen.begin("reading", sum(os.fstat(it.fileno()).st_size for it in (opened, tables) if it))
+        findings.look_through(opened, screen.moved, known.rows(file, index, opened))
+        if tables:
+            findings.look_at_tables(tables, screen.moved, known.rows(file, index, opened, "table"))
+    return findings
 
 
 def tried(
-    archive: Archive, file: ArchiveFile, others: Sequence[bytes], screen: Screen, is_first: bool
+    archive: Archive, file: ArchiveFile, others: Sequence[bytes], program: Program, screen: Screen, is_first: bool
 ) -> List[str]:
     """The lines of a file that is mended. What keeps it from being mended ends the word only if none was before."""
     failed: Optional[Failed] = None
     try:
-        return repair(archive, file, file.index, others, screen) if file.index else []
+        return repair(archive, file, file.index, others, program, screen) if file.index else []
     except OSError as error:
         failed = Failed(system_text(error, file.path))
     except Failed as fault:
@@ -223,7 +278,8 @@ def carry_out(words: argparse.Namespace) -> int:
     archive.see_anew(others, program, screen)
     lines: List[str] = []
     for file in filter(ArchiveFile.exists, [*same, *others]):
-        lines += tried(archive, file, files_of(other), screen, is_first=not lines)
+        lines += tried(archive, file, files_of(other), program, screen, is_first=not lines)
+    archive.see_anew([file for file in archive.files if is_to_be_indexed(file)], program, screen)
     forget_changed(archive.path)
     screen.show(lines)
     still = sum(line.startswith("changed ") for line in lines)

@@ -34,7 +34,7 @@ import argparse
 import os
 from typing import Dict, Iterable, List, NamedTuple, Optional, Sequence, Tuple
 
-from .archive import Archive
+from .archive import Archive, News
 from .archive_file import write_synced
 from .builds import UNKNOWN, Lines, Named, field_shown
 from .contents import KEY, Content, archive_of_retirements, words_of
@@ -105,7 +105,7 @@ def retire(
     with archive.room() as room:
         path = os.path.join(room, b"retirements")
         write_synced(path, archive_of_retirements(entries))
-        archive.put(room, program, Content(entries), lines, screen, more=path)
+        archive.put(room, program, News(Content(entries), (), path), lines, screen)
 
 
 # ---- many of an app

@@ -24,8 +24,8 @@ more: it is not looked for then, and no word ends with 2 for it. Its lines are k
 
 Status:
   0    it is printed, and nothing of what is looked at is lost or damaged
-  2    something is lost; an index, its sum, ARCHIVE.lost or names of builds are damaged; or some line could not be
-       printed or kept
+  2    something is lost; an index, ARCHIVE.lost or names of builds are damaged; a slice has no table, since it was
+       another one when the tables were made; or some line could not be printed or kept
   3    the words have another form
   4    ARCHIVE, a level or ARCHIVE.today could not be read, or ARCHIVE.lost not be written
   126  there is no program"""
@@ -39,7 +39,7 @@ from .archive_file import ArchiveFile
 from .builds import NEXT_BUILDS
 from .contents import DIGEST, KEY, RETIREMENT, Content, Malformed, digest_in, head_of, record_size, records_in
 from .exchanging import Asked
-from .file_names import INDEX_SUM, NEXT_INDEX
+from .file_names import NEXT_INDEX
 from .indexes import HEAD, is_companion
 from .json_lines import Line, Members, path_members
 from .log import NEXT_LOG
@@ -152,8 +152,9 @@ def see(file: ArchiveFile, screen: Screen) -> Seen:
     is_same, index = file.recall(), file.index
     if file.doubt:
         screen.fail(f"{file.doubt}; `symarch-keep check` says more")
-    if file.has_damaged_sum():
-        screen.fail(f"{shown(file.beside(INDEX_SUM))}: is damaged")
+    lacking = len(index.without_table()) if index and file.has_index() else 0
+    if index and lacking:
+        screen.fail(f"{shown(index.path)}: slices without a table: {lacking}; `symarch-keep check` says more")
     if not index or not is_same:
         return Seen(file, read(file) if file.exists() else [], is_same)
     rows = ((row.head(), bool(row.is_companion), file.path, row.at, row.entry[-DIGEST:]) for row in index.rows())

@@ -17,8 +17,9 @@ With --lines the answer of a slice has the source lines below it, as `symarch sy
 A number is hexadecimal, with 0x or without. Where - stands in the place of ADDRESS, the addresses are those of standard
 input, between which white space stands.
 
-All are read by their indexes, so that only the slices of UUID and ARCH are read of them, and one that changed
-since it came in gives no name. An archive without an index is read whole. No lock is taken, and nothing is written.
+All are asked by the tables in their indexes, and with --lines the slices of UUID and ARCH are read. A table or a slice
+that is read and changed since it came in gives no name. If an archive has no index, all are read whole. No lock is
+taken, and nothing is written.
 
 Status:
   0    each address has one symbol

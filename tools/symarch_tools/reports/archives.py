@@ -3,26 +3,31 @@ by the SHA-256 that each slice came in with."""
 from __future__ import annotations
 
 import os
+import shutil
+import stat
+import tempfile
+import time
 from array import array
 from typing import Dict, Iterable, List, Optional, Sequence, Tuple
 
 from ..keeping import file_names
-from ..keeping.contents import EMPTY, KEY, MAGICS
+from ..keeping.contents import EMPTY, KEY, MAGIC, MAGICS
 from .answers import Answers, Key, Origin
 from .faults import Failure, Status
 from .images import Image, unique
-from .kept import IndexFile, Kept, changed_keys, is_damaged, key_in
+from .kept import IndexFile, Kept, changed_keys, has_tables, is_of, key_in
 from .names import Names
 from .program import IndexFault, Program
 from .source_lines import Chains
 from .streams import note, noted, say
 
-# What `symarch-keep` has beside an archive: what came in lately, the index, the index of a file that takes the place of
-# the archive just now, and the SHA-256 of both.
-NAMES = file_names.TODAY, file_names.INDEX, file_names.NEXT_INDEX, file_names.INDEX_SUM
-TODAY, INDEX, NEXT_INDEX, SUMS = map(os.fsdecode, NAMES)
-# How often archives are asked again that a fold changed meanwhile.
-TRIES = 10
+# What `symarch-keep` has beside an archive: what came in lately, the index, and the index of a file that takes the
+# place of the archive just now.
+NAMES = file_names.TODAY, file_names.INDEX, file_names.NEXT_INDEX
+TODAY, INDEX, NEXT_INDEX = map(os.fsdecode, NAMES)
+# How often archives are asked again that a fold changed meanwhile; how often, and after how many seconds, an index is
+# looked for that is about to take the place of one.
+TRIES, PAUSE = 10, 0.05
 
 
 def beside(path: str, ending: str) -> str:
@@ -35,25 +40,47 @@ class ArchiveFile:
 
     def __init__(self, path: str, kept: str) -> None:
         self.path, self.kept, self.index = path, kept, ""
-        # A word of symarch-keep that ends just now has put a new archive in place, and then the index of that.
-        self.others = [beside(path, INDEX), beside(path, NEXT_INDEX)]
-        if os.path.lexists(self.others[0]):
-            self.index = self.others[0]
-            if is_damaged(self.index, beside(path, SUMS)):
-                self.refuse(f"{self.index} is damaged")
+        # An index without tables, as an earlier symarch-keep left it: it says what changed, and is not asked by.
+        self.old_index = ""
+        self.tries_left = TRIES
+        index = beside(path, INDEX)
+        if os.path.lexists(index):
+            self.take_index(index)
+
+    def take_index(self, index: str) -> None:
+        self.index, self.old_index = (index, "") if has_tables(index) else ("", index)
 
     def refuse(self, why: str, more: str = "") -> None:
         raise Failure(f"{why}: run symarch-keep check {self.kept}{more}", Status.REFUSED)
 
     def take_other_index(self) -> None:
-        """Takes another index, since the archive has not the length that this one says."""
-        while self.others:
-            other = self.others.pop()
-            if os.path.exists(other):
-                self.index = other
-                return
+        """Takes another index, since the archive has not the length that this one says, or it is gone. A word of
+        symarch-keep that ends just now has put a new archive in place, and then puts the index of that."""
+        while self.tries_left:
+            self.tries_left -= 1
+            for index in (beside(self.path, NEXT_INDEX), beside(self.path, INDEX)):
+                if is_of(index, self.path):
+                    self.take_index(index)
+                    return
+            time.sleep(PAUSE)
         why = f"{self.path} was written since {beside(self.path, INDEX)} was, which does not vouch for it"
         self.refuse(why, f", and if that ends with 0 symarch-keep fold {self.kept}, which indexes it anew")
+
+    def make_index(self, program: Program, folder: str) -> None:
+        """Has the program make an index in a folder. What can be read once alone, or is of version 1, is copied."""
+        made = tempfile.mkdtemp(dir=folder)
+        if not stat.S_ISREG(os.stat(self.path).st_mode):
+            copy = os.path.join(made, "copy")
+            with open(self.path, "rb") as file, open(copy, "wb") as written:
+                shutil.copyfileobj(file, written)
+            self.path = copy
+        with open(self.path, "rb") as file:
+            is_of_version_1 = file.read(MAGIC) == MAGICS[1]
+        if is_of_version_1:
+            program.make("migrate", self.path, os.path.join(made, "archive"))
+            self.path = os.path.join(made, "archive")
+        self.index = os.path.join(made, "index")
+        program.make("index", self.path, self.index)
 
     def key_of(self, entry: int) -> Key:
         with IndexFile(self.index) as rows:
@@ -116,48 +143,76 @@ class Archives:
         offsets = {key: offsets_of(some, once) for key, some in wanted.items()}
         for image in images:
             image.asked = array("Q")
-        for tries_left in reversed(range(TRIES)):
-            answers = {key: Answers(key, its, self.names, self.chains) for key, its in offsets.items()}
-            places = self.places()
-            self.files = with_levels(self.paths)
-            if self.ask(list(answers.values()), places if tries_left else None):
-                break
-        for image in images:
-            found = {arch: answers[image.uuid, arch] for arch in image.architectures()}
-            image.take({arch: one for arch, one in found.items() if one.origin is not Origin.ABSENT})
-        self.look_into_files(images, [one for one in answers.values() if one.origin is Origin.UNKNOWN])
+        with tempfile.TemporaryDirectory(prefix="symbolicate-report.") as folder:
+            for tries_left in reversed(range(TRIES)):
+                answers = {key: Answers(key, its, self.names, self.chains) for key, its in offsets.items()}
+                places = self.places()
+                self.files = with_levels(self.paths)
+                if self.ask(list(answers.values()), places if tries_left else None, folder):
+                    break
+            for image in images:
+                found = {arch: answers[image.uuid, arch] for arch in image.architectures()}
+                image.take({arch: one for arch, one in found.items() if one.origin is not Origin.ABSENT})
+            self.look_into_files(images, [one for one in answers.values() if one.origin is Origin.UNKNOWN])
 
     def places(self) -> List[Tuple[str, Optional[int]]]:
         """Which files the archives and their levels are. A fold makes others; what comes in lately does not."""
         return [place_of(path) for one in self.paths for path in (one, *levels_of(one))]
 
-    def ask(self, answers: List[Answers], places: Optional[List[Tuple[str, Optional[int]]]]) -> bool:
-        """Asks the archives, by the index beside each that has one, and again without what these do not vouch for.
-        Returns False if others stand in these places meanwhile: what was asked may have missed what a fold moved."""
+    def ask(self, answers: List[Answers], places: Optional[List[Tuple[str, Optional[int]]]], folder: str) -> bool:
+        """Asks the archives, by the index of each if one of them has one, and again without what these do not vouch
+        for. Returns False if others stand in these places meanwhile: what was asked may have missed what a fold
+        moved."""
+        answers = self.without_old_changes(answers)
         while True:
-            indexed = [file for file in self.files if file.index]
-            plain = [file.path for file in self.files if not file.index]
-            reply = self.program.frames([(file.path, file.index) for file in indexed], plain, answers)
+            self.make_indexes(folder)
+            reply = self.program.frames([(file.path, file.index) for file in self.files], answers)
             if places is not None and places != self.places():
                 return False
             fault = reply.fault_of_index()
-            if fault is None or fault.number >= len(indexed):
+            if fault is None or fault.number >= len(self.files):
                 break
-            answers = self.without_changed(indexed[fault.number], fault, answers)
+            answers = self.without_changed(self.files[fault.number], fault, answers)
         said = reply.said.decode(errors="surrogateescape")
         noted.extend(line.strip() for line in said.splitlines())
         say(said)
         self.program.judge(reply)
         return True
 
+    def make_indexes(self, folder: str) -> None:
+        """Makes the indexes of files that have none, where others have: the program takes as many as archives."""
+        if any(file.index for file in self.files):
+            for file in self.files:
+                if not file.index:
+                    file.make_index(self.program, folder)
+
+    def without_old_changes(self, answers: List[Answers]) -> List[Answers]:
+        """What is asked of archives by whose indexes they cannot be asked: all but the slices that changed."""
+        changed: Dict[Key, ArchiveFile] = {}
+        for file in self.files:
+            if file.old_index and not is_of(file.old_index, file.path):
+                file.take_other_index()
+            if file.old_index:
+                keys = changed_keys(file.old_index, file.path, [one.key for one in answers])
+                changed.update(dict.fromkeys(keys, file))
+        return self.without(changed, answers) if changed else answers
+
     def without_changed(self, file: ArchiveFile, fault: IndexFault, answers: List[Answers]) -> List[Answers]:
-        """What is asked again after a fault of an index: all, by another index, or all but the slices that changed."""
-        if fault.is_of_length():
+        """What is asked again after a fault of an index: all, by another index, or all but the slices that changed, or
+        whose tables did."""
+        if fault.is_of_another():
             file.take_other_index()
             return answers
         if fault.entry is None:
             file.refuse(f"{file.index} is not read: {fault.text}")
-        changed = self.changed(answers) or {file.key_of(fault.entry or 0): file}
+        changed = self.changed(answers, fault.is_of_table()) or {file.key_of(fault.entry or 0): file}
+        left = self.without(changed, answers)
+        if len(left) == len(answers):
+            file.refuse(f"{file.path} is not that of {file.index}")
+        return left
+
+    def without(self, changed: Dict[Key, ArchiveFile], answers: List[Answers]) -> List[Answers]:
+        """The answers but for those of slices that changed, which are said."""
         for one in answers:
             if one.key in changed:
                 uuid, arch = one.key
@@ -165,16 +220,13 @@ class Archives:
                 note(f"{uuid} {arch} {why} {changed[one.key].kept}")
                 one.origin = Origin.CHANGED
         left = [one for one in answers if one.key not in changed]
-        if len(left) == len(answers):
-            file.refuse(f"{file.path} is not that of {file.index}")
-        self.has_changed = True
+        self.has_changed = self.has_changed or len(left) < len(answers)
         return left
 
-    def changed(self, answers: Iterable[Answers]) -> Dict[Key, ArchiveFile]:
-        """The keys of which a slice changed since it came in, and where."""
+    def changed(self, answers: Iterable[Answers], is_of_tables: bool) -> Dict[Key, ArchiveFile]:
+        """The keys of which a slice changed since it came in, or a table, and where."""
         keys = [one.key for one in answers]
-        indexed = [file for file in self.files if file.index]
-        return {key: file for file in indexed for key in changed_keys(file.index, file.path, keys)}
+        return {key: file for file in self.files for key in changed_keys(file.index, file.path, keys, is_of_tables)}
 
     def look_into_files(self, images: Sequence[Image], asked: Sequence[Answers]) -> None:
         """Finds out whether a companion answered for each key that has an answer, and whether the UUIDs of images
@@ -182,7 +234,7 @@ class Archives:
         absent = [image for image in images if image.origin() is Origin.ABSENT]
         kept = Kept([*(one.key[0] for one in asked), *(image.uuid for image in absent)])
         for file in self.files:
-            kept.take(file.path, file.index)
+            kept.take(file.path, file.index or file.old_index)
         for one in asked:
             if kept.has_companion(one.key):
                 one.origin = Origin.DSYM

@@ -3,19 +3,18 @@ are companions. Of an archive with an index that is looked up, of another one th
 from __future__ import annotations
 
 import collections
-import hashlib
 import os
 import stat
 import uuid
 from typing import BinaryIO, DefaultDict, Dict, Iterable, Iterator, List, NamedTuple, Optional, Sequence, Set
 
-from ..keeping.contents import ADMISSION, DIGEST, KEY, MAGIC, RETIREMENT, Malformed, arch_in, digest_in, numbers_of
+from ..keeping.contents import ADMISSION, DIGEST, END, KEY, MAGIC, RETIREMENT, Malformed, arch_in, digest_in, numbers_of
 from ..keeping.contents import record_size, records_in
-from ..keeping.indexes import FILETYPE, HEAD, MH_DSYM, ROW, TAIL, Row
+from ..keeping.indexes import FILETYPE, HEAD, INDEX_TAIL, MH_DSYM, ROW, TAIL, Row
 from ..keeping.screen import about
+from ..keeping.tables import is_good
+from ..keeping.upgrading import PLACED, has_old_end
 from .answers import Key
-
-CHUNK = 1 << 20
 
 
 def key_bytes(key: Key) -> bytes:
@@ -39,11 +38,20 @@ class Slice(NamedTuple):
 
 
 class IndexFile:
-    """The index of an archive, of which the rows under a key are found by halving."""
+    """The index of an archive, of which the rows under a key are found by halving. `has_tables` says whether it is one
+    of those that the program reads."""
 
     def __init__(self, path: str) -> None:
         self.path, self.descriptor = os.fsencode(path), os.open(path, os.O_RDONLY)
-        self.count = (os.fstat(self.descriptor).st_size - MAGIC - TAIL) // ROW.size
+        size = os.fstat(self.descriptor).st_size
+        self.has_tables = not has_old_end(self.descriptor)
+        if self.has_tables:
+            self.form = ROW
+            end = self.read(max(size - INDEX_TAIL, 0), TAIL)
+            self.count = int.from_bytes(end[len(END) :], "big")
+        else:
+            self.form, self.count = PLACED, (size - MAGIC - TAIL) // PLACED.size
+        self.begin = size - INDEX_TAIL - self.count * ROW.size if self.has_tables else MAGIC
 
     def __enter__(self) -> IndexFile:
         return self
@@ -51,12 +59,15 @@ class IndexFile:
     def __exit__(self, *_: object) -> None:
         os.close(self.descriptor)
 
-    def row(self, number: int) -> Row:
+    def read(self, at: int, size: int) -> bytes:
         with about(self.path):
-            data = os.pread(self.descriptor, ROW.size, MAGIC + number * ROW.size)
-        if len(data) < ROW.size:
+            data = os.pread(self.descriptor, size, at) if at >= 0 else b""
+        if len(data) < size:
             raise Malformed("ends early")
-        return Row._make(ROW.unpack(data))
+        return data
+
+    def row(self, number: int) -> Row:
+        return Row(*self.form.unpack(self.read(self.begin + number * self.form.size, self.form.size)))
 
     def rows_under(self, begins: bytes) -> Iterator[Row]:
         """The rows whose entries begin with these bytes."""
@@ -71,28 +82,36 @@ class IndexFile:
             yield self.row(low)
             low += 1
 
+    def size(self) -> int:
+        """How long its archive is."""
+        return MAGIC + sum(self.row(number).length for number in range(self.count)) + TAIL
 
-def is_damaged(index: str, sums: str) -> bool:
-    """Whether a file has the SHA-256 of an index, but another one. An index of which none is noted may be any."""
+
+def is_of(index: str, archive: str) -> bool:
+    """Whether an index is there that an archive of this length has."""
     try:
-        with open(sums, "rb") as file:
-            noted = file.read()
-    except FileNotFoundError:
+        with IndexFile(index) as rows:
+            return rows.size() == os.stat(archive).st_size
+    except (FileNotFoundError, Malformed):
         return False
-    digest = hashlib.sha256()
-    with open(index, "rb") as file:
-        for chunk in iter(lambda: file.read(CHUNK), b""):
-            digest.update(chunk)
-    return f"\nindex {digest.hexdigest()} ".encode() not in noted
 
 
-def changed_keys(index: str, archive: str, keys: Iterable[Key]) -> Set[Key]:
-    """The keys of which a slice is another one in an archive than its index has."""
+def has_tables(index: str) -> bool:
+    """Whether a file is no index that an earlier symarch-keep left. What it is the program says."""
+    try:
+        with IndexFile(index) as rows:
+            return rows.has_tables
+    except (OSError, Malformed):
+        return True
+
+
+def changed_keys(index: str, archive: str, keys: Iterable[Key], is_of_tables: bool = False) -> Set[Key]:
+    """The keys of which a slice is another one in an archive than its index has; or of which a table is."""
     found = set()
-    with IndexFile(index) as rows, open(archive, "rb") as file:
+    with IndexFile(index) as rows, open(index if is_of_tables else archive, "rb") as file:
         for key in keys:
             admitted = rows.rows_under(ADMISSION + key_bytes(key))
-            if any(not is_as_it_came(file, row) for row in admitted):
+            if any(not (has_good_table if is_of_tables else is_as_it_came)(file, row) for row in admitted):
                 found.add(key)
     return found
 
@@ -102,6 +121,10 @@ def is_as_it_came(file: BinaryIO, row: Row) -> bool:
     file.seek(row.at)
     head = file.read(HEAD)
     return head == row.head() and digest_in(file, row.at + HEAD, row.length - HEAD) == row.entry[-DIGEST:]
+
+
+def has_good_table(file: BinaryIO, row: Row) -> bool:
+    return row.size > 0 and is_good(file, row)
 
 
 class Kept:

@@ -12,27 +12,32 @@ from ..program import found_program, named
 from ..signals import signals
 from .answers import Answers, Said
 from .faults import Failure, Status
+from .streams import noted, say
 
 # The lines of so many questions are written at once.
 MOST_LINES = 10_000
 # The program begins its first line on standard error so; more than this of all is not read.
 OWN_WORDS = b"symarch: "
 MOST_SAID = 100_000
-# What it says of an index; and of an entry of one at whose place the archive has something else.
+# What it says of an index; and of an entry of one, whose table is damaged or at whose place the archive has something
+# else.
 OF_AN_INDEX = re.compile(rb"symarch: index ([0-9]{1,9}): ([^\n]*)")
-AT_ENTRY = re.compile("Stale at entry ([0-9]{1,18})")
+AT_ENTRY = re.compile("(?:Stale|Damaged) at entry ([0-9]{1,18})")
 
 
 class IndexFault(NamedTuple):
-    """What the program says of an index: of which of those it was given, what, and at which entry it is stale."""
+    """What the program says of an index: of which of those it was given, what, and of which entry."""
 
     number: int
     text: str
     entry: Optional[int]
 
-    def is_of_length(self) -> bool:
-        """Whether the archive has another length than the index says."""
-        return self.text == "Stale"
+    def is_of_another(self) -> bool:
+        """Whether the archive has another length than the index says, or that is not there any more."""
+        return self.text in ("Stale", "cannot open")
+
+    def is_of_table(self) -> bool:
+        return self.text.startswith("Damaged ")
 
 
 class Reply(NamedTuple):
@@ -59,11 +64,11 @@ class Program:
         self.path, self.named = found_program(), named()
         self.options = ["--lines"] if has_lines else []
 
-    def frames(self, indexed: Sequence[Tuple[str, str]], plain: Sequence[str], answers: Sequence[Answers]) -> Reply:
-        """Asks archives with their indexes and archives without. The questions are in a file of their own: a standard
+    def frames(self, files: Sequence[Tuple[str, str]], answers: Sequence[Answers]) -> Reply:
+        """Asks archives, with their indexes if they have such. The questions are in a file of their own: a standard
         input has no path where /proc is not mounted."""
-        options = [*self.options, *(word for _, index in indexed for word in ("--index", index))]
-        archives = [path for path, _ in indexed] + list(plain)
+        options = [*self.options, *(word for _, index in files if index for word in ("--index", index))]
+        archives = [path for path, _ in files]
         with tempfile.NamedTemporaryFile(prefix="symbolicate-report.") as asked, tempfile.TemporaryFile() as errors:
             with about(asked.name.encode()):
                 write_questions(asked, answers)
@@ -81,6 +86,21 @@ class Program:
             return subprocess.Popen(words, stdin=subprocess.DEVNULL, stdout=subprocess.PIPE, stderr=errors)
         except OSError as error:
             raise self.not_started(error) from None
+
+    def make(self, command: str, archive: str, out: str) -> None:
+        """Has a command make a file of an archive. Its refusal is that of the archive."""
+        with tempfile.TemporaryFile() as errors, contextlib.ExitStack() as ends:
+            with signals.later():
+                run = ends.enter_context(self.start([self.path, command, archive, out], errors))
+                ends.push(lambda failed, *_: run.kill() if failed else None)
+            run.communicate()
+            errors.seek(0)
+            reply = Reply(errors.read(MOST_SAID), run.returncode, None if run.returncode else True)
+        if reply.status:
+            said = reply.said.decode(errors="surrogateescape")
+            noted.extend(line.strip() for line in said.splitlines())
+            say(said)
+            self.judge(reply)
 
     def judge(self, reply: Reply) -> None:
         """Refuses what is not all answers, after what the program said on standard error."""

@@ -1,18 +1,16 @@
-use Rattle.std.proofs.Common.{ap}
-use Rattle.archive_index.specs.Text.{index_text}
-use Rattle.command_ends.proofs.Endings.{given_out}
-use Rattle.index_updates.specs.Index.{index_report_of}
+use Rattle.std.proofs.Common.{refl}
+use Rattle.std.proofs.lemmas.Result.{err_from_is_err_and}
+use Rattle.byte_device.proofs.Known.{Appends-none}
+use Rattle.index_updates.proofs.Ended.{ends_published, ends_stopped}
 use Rattle.index_updates.proofs.index.run_index.Goals as goal
+
+pub returns-in_err-sizes : goal.returns-in_err-sizes
+returns-in_err-sizes g c =
+    let p = err_from_is_err_and c.from_residual.result c.from_residual.ensures.1 in
+    rw (p.1, p.2) (ends_stopped _ _ _ _ _ _ _ _ c.in_err-sizes.ensures (refl, refl) (Appends-none _, refl))
 
 pub returns : goal.returns
 returns g c =
-    let held = c.in_ok-made.ensures.is in
-    given_out _ _ _ _ _ c.publish_index.result _ _ c.in_ok-made.ensures.unfailed
-    (record {
-      content = held.content;
-      is_content = held.is_content;
-      archive_is = held.text;
-      text_is = ap index_text held.is_index;
-      told_is = ap index_report_of held.is_index;
-    })
-    c.publish_index.ensures
+    let made = c.in_ok-sizes.ensures in
+    ends_published _ _ _ _ _ _ _ _ _ made c.publish_index.result
+    (c.publish_index.ensures c.args.out.now.draft made.text (made.written_is.written, made.written_is.unfailed) made.written_is.bytes_are)

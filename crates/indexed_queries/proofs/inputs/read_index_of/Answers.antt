@@ -1,12 +1,17 @@
-use Rattle.std.proofs.lemmas.Result.{err_from_is_err_and}
-use Rattle.command_ends.specs.Indexes.{HasOtherLength}
-use Rattle.command_ends.specs.Inputs.{reader}
-use Rattle.indexed_queries.proofs.Refused.{archive_behind}
+use Rattle.std.proofs.Common.{subst, sym}
+use Rattle.archive_index.specs.Places.{HasIndexedLength}
+use Rattle.command_ends.specs.Inputs.{Gives, reader}
 use Rattle.indexed_queries.proofs.inputs.read_index_of.Goals as goal
 
-pub returns-in_err-test_length : goal.returns-in_err-test_length
-returns-in_err-test_length g c =
-    let p = err_from_is_err_and c.from_residual-in_err-test_length.result c.from_residual-in_err-test_length.ensures.1 in
-    let index = reader g.I.Source.left g.I.Source.failures c.args.index.now c.read_entries.new.index in
-    let archive = reader g.P.Placed.whole g.P.Placed.failures c.args.archive.now c.test_length.new.archive in
-    rw (p.1, p.2) (archive_behind c.args.number index archive (HasOtherLength archive) c.in_err-test_length.field-0.0 c.in_ok-entries.entries c.in_ok-entries.ensures.is c.in_ok-entries.ensures.unfailed c.in_err-test_length.ensures)
+pub returns : goal.returns
+returns g c =
+    let archive = reader g.P.Placed.whole g.P.Placed.failures c.args.archive.now c.read_with_tables.new.archive in
+    let read = c.in_ok-entries.ensures.read in
+    let placed = c.in_ok-entries.ensures.placed in
+    record {
+      is = record {
+        index_is = record { are = c.len-count.ensures.entries; all = _; holds = read.is.index_is; placed = placed };
+        archive_is = subst (λ e. Gives archive (HasIndexedLength e)) (sym placed) read.is.archive_is;
+      };
+      unfailed = read.unfailed;
+    }

@@ -1,20 +1,23 @@
 use Rattle.std.proofs.Common.{ℕ, List, Option, ap, map, subst, ◌∙◌}
 use Rattle.std.specs.Prelude.{IfSome}
 use Rattle.archive_core.specs.Record.{record_bytes}
+use Rattle.archive_index.specs.Places.{HasIndexedLength}
 use Rattle.archive_records.proofs.Blamed.{failed}
-use Rattle.indexed_parts.proofs.Gathered.{refused_behind}
+use Rattle.indexed_parts.proofs.Gathered.{along_both, refused_behind}
 use Rattle.indexed_queries.specs.Fronts.{front_bytes}
-use Rattle.indexed_queries.specs.InnerParts.{HaveGathered, IsFaultUnder}
-use Rattle.indexed_queries.proofs.Joined.{joined_together}
+use Rattle.indexed_queries.specs.InnerParts.{HaveGathered, IsFaultAmong, IsFaultUnder}
+use Rattle.indexed_queries.proofs.Joined.{fault_then, joined_together}
 use Rattle.indexed_queries.proofs.parts.join_fronts.Goals as goal
 
 pub returns-in_err-gather_fronts : goal.returns-in_err-gather_fronts
 returns-in_err-gather_fronts g c =
     let fault = c.in_err-gather_fronts.field-0.0 in
+    let fronts = map front_bytes c.args.fronts.now in
     let first = c.in_ok-size.ensures in
     rw (failed c.from_residual-in_err-gather_fronts.result fault c.from_residual-in_err-gather_fronts.ensures.1)
     (refused_behind g.P.Placed.whole g.P.Placed.failures c.args.device.now c.indexed_size.new.archive _ first.1 first.2 fault
-    (λ h. subst (λ (w : Option (List ℕ)). IfSome w (λ text. IsFaultUnder (map front_bytes c.args.fronts.now) c.args.entries.now text fault)) first.1 h) c.in_err-gather_fronts.ensures)
+    (λ h. along_both (HasIndexedLength c.args.entries.now) (λ text. IsFaultAmong fronts c.args.entries.now text fault) (λ text. IsFaultUnder fronts c.args.entries.now text fault) (g.P.Placed.whole c.args.device.now)
+    (λ text long among. fault_then fronts c.args.entries.now text fault long among) first.0.1 (subst (λ (w : Option (List ℕ)). IfSome w (λ text. IsFaultAmong fronts c.args.entries.now text fault)) first.1 h)) c.in_err-gather_fronts.ensures)
 
 pub returns-in-Ok-join_gathered : goal.returns-in-Ok-join_gathered
 returns-in-Ok-join_gathered g c =

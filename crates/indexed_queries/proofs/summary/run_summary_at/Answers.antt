@@ -1,8 +1,20 @@
-use Rattle.std.proofs.Common.{ap}
+use Rattle.std.proofs.Common.{ap, inl, refl}
+use Rattle.std.proofs.lemmas.Result.{err_from_is_err_and}
+use Rattle.byte_device.proofs.Known.{Appends-none}
 use Rattle.archive_records.specs.Text.{summary_text}
 use Rattle.command_ends.specs.Outputs.{summary_report_of}
 use Rattle.command_ends.proofs.Endings.{given_out}
 use Rattle.indexed_queries.proofs.summary.run_summary_at.Goals as goal
+
+pub returns-in_err-clone : goal.returns-in_err-clone
+returns-in_err-clone g c =
+    let p = err_from_is_err_and c.from_residual-in_err-clone.result c.from_residual-in_err-clone.ensures.1 in
+    rw (p.1, p.2) (c.in_ok-entries.ensures.unfailed, inl (((Appends-none _, refl), (refl, refl)), (Appends-none _, refl)))
+
+pub returns-in_err-summary : goal.returns-in_err-summary
+returns-in_err-summary g c =
+    let p = err_from_is_err_and c.from_residual-in_err-summary.result c.from_residual-in_err-summary.ensures.1 in
+    rw (p.1, p.2) (c.in_ok-entries.ensures.unfailed, inl (((Appends-none _, refl), (refl, refl)), (Appends-none _, refl)))
 
 pub returns : goal.returns
 returns g c =

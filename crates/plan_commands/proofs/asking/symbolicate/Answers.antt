@@ -1,31 +1,29 @@
-use Rattle.std.proofs.Common.{arith, length, refl}
-use Rattle.indexed_queries.specs.Symbolicate.{symbolicate_at}
+use Rattle.std.proofs.Common.{arith, length, refl, sym}
 use Rattle.std.proofs.lemmas.Result.{err_from_is_err_and}
-use Rattle.plan_commands.proofs.Asked.{few_kept, more_refused, not_none, some_read, symbolicate_by}
+use Rattle.indexed_symbols.specs.Symbolicate.{symbolicate_at}
+use Rattle.plan_commands.proofs.Asked.{alone_refused, not_none, paired_kept, some_read, symbolicate_by}
 use Rattle.plan_commands.proofs.asking.symbolicate.Goals as goal
 
-pub returns-in_err-test_indexes : goal.returns-in_err-test_indexes
-returns-in_err-test_indexes g c =
-    let left = g.S.Source.left in
-    let failures = g.S.Source.failures in
-    let some = some_read left failures c.args.indexes.now c.args.indexes.now refl
-    (omega (arith, c.in_err-test_indexes.ensures.more.0)) in
+pub returns-in_err-test_pairs : goal.returns-in_err-test_pairs
+returns-in_err-test_pairs g c =
+    let whole = g.S.Placed.whole in
+    let failures = g.S.Placed.failures in
+    let some = some_read whole failures c.args.indexes.now c.args.indexes.now refl
+    (not_none c.args.indexes.now c.if-is_empty.ensures) in
     let refused = err_from_is_err_and c.from_residual.result c.from_residual.ensures.1 in
-    rw (refused.1, refused.2) (more_refused left g.S.Placed.whole failures g.S.Placed.failures g.P.Sink.held g.P.Sink.failures
-    (λ i p o. symbolicate_at i p o c.args.key.now c.args.load c.args.lines c.args.addresses.now) c.args.archives.now
-    c.args.indexes.now _ _ _ (length c.args.archives.now) refl c.in_err-test_indexes.ensures.more.0 c.in_err-test_indexes.ensures.more.1
+    rw (refused.1, refused.2) (alone_refused g.S.Source.left whole g.S.Source.failures failures g.P.Sink.held
+    g.P.Sink.failures (λ i p. symbolicate_at i p c.args.key.now c.args.load c.args.lines c.args.addresses.now)
+    c.args.archives.now c.args.indexes.now _ _ _ c.in_err-test_pairs.ensures.other
     (symbolicate_by _ _ _ _ _ _ _ some))
 
 pub returns : goal.returns
 returns g c =
-    let left = g.S.Source.left in
-    let failures = g.S.Source.failures in
-    let some = some_read left failures c.args.indexes.now c.run_symbolicate_at.new.indexes
+    let whole = g.S.Placed.whole in
+    let failures = g.S.Placed.failures in
+    let some = some_read whole failures c.args.indexes.now c.run_symbolicate_at.new.indexes
     c.run_symbolicate_at.auto.indexes (not_none c.args.indexes.now c.if-is_empty.ensures) in
-    rw (c.split_at_mut-archives.ensures.value)
-    (few_kept left g.S.Placed.whole failures g.S.Placed.failures g.P.Sink.held g.P.Sink.failures
-    (λ i p o. symbolicate_at i p o c.args.key.now c.args.load c.args.lines c.args.addresses.now)
-    c.split_at_mut-archives.result.0.now c.split_at_mut-archives.result.1.now c.run_symbolicate_at.new.archives
-    c.run_symbolicate_at.new.others c.args.indexes.now c.run_symbolicate_at.new.indexes _ _ _
-    c.split_at_mut-archives.ensures.front_len c.run_symbolicate_at.auto.archives c.run_symbolicate_at.auto.others
-    c.run_symbolicate_at.auto.indexes (symbolicate_by _ _ _ _ _ _ _ some) c.run_symbolicate_at.ensures)
+    paired_kept g.S.Source.left whole g.S.Source.failures failures g.P.Sink.held g.P.Sink.failures
+    (λ i p. symbolicate_at i p c.args.key.now c.args.load c.args.lines c.args.addresses.now)
+    c.args.archives.now c.run_symbolicate_at.new.archives c.args.indexes.now c.run_symbolicate_at.new.indexes _ _ _
+    c.in_ok-test_pairs.ensures.same c.run_symbolicate_at.auto.archives c.run_symbolicate_at.auto.indexes
+    (symbolicate_by _ _ _ _ _ _ _ some) c.run_symbolicate_at.ensures

@@ -12,7 +12,8 @@ returns g c =
     let same = c.frames.auto.indexes in
     rw (
       c.split_at_mut-indexes.ensures.value,
-      taken left failures number indexes archives c.frames.new.indexes c.frames.new.archives long same,
+      taken g.S.Placed.whole g.S.Placed.failures number indexes archives c.frames.new.indexes c.frames.new.archives
+          long same,
       dropped left failures number indexes archives c.frames.new.indexes c.frames.new.archives long same,
       dropped g.S.Placed.whole g.S.Placed.failures number indexes archives c.frames.new.indexes c.frames.new.archives
           long same,

@@ -16,5 +16,6 @@ returns g c =
       taken left failures number archives indexes c.extract.new.archives c.extract.new.indexes long same,
       taken g.S.Placed.whole g.S.Placed.failures number archives indexes c.extract.new.archives c.extract.new.indexes
           long same,
-      dropped left failures number archives indexes c.extract.new.archives c.extract.new.indexes long same,
+      dropped g.S.Placed.whole g.S.Placed.failures number archives indexes c.extract.new.archives
+          c.extract.new.indexes long same,
     ) c.extract.ensures

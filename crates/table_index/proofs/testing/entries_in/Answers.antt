@@ -45,6 +45,7 @@ of_bytes-requires c =
       long = ap length (part_is bytes (122 * k) 122) ∙ long_part bytes k c.args.count c.requires.whole (omega arith);
       tag = p.tag;
       kind = p.kind;
+      length_is = p.length_is;
     }
 
 pub reading-preserved : goal.reading-preserved

@@ -1,6 +1,7 @@
-use Rattle.std.proofs.Common.{sym, arith}
+use Rattle.std.proofs.Common.{subst, sym, arith}
 use Rattle.std.proofs.lemmas.List.{length-take-le}
-use Rattle.table_index.proofs.Entries.{entry_of_parts, fields_of, kind_front, tag_front}
+use Rattle.archive_index.specs.Entry.{IsPlacedEntry}
+use Rattle.table_index.proofs.Entries.{entry_of_parts, fields_of, kind_front, placed_front, tag_front}
 use Rattle.table_index.proofs.entry.TableEntry.of_bytes.Goals as goal
 
 pub slice_bounds-placed_in-end : goal.slice_bounds-placed_in-end
@@ -21,3 +22,4 @@ returns-clause-bytes c = entry_of_parts c.args.bytes.now _ c.placed_in.ensures.b
 pub returns-clause-fields : goal.returns-clause-fields
 returns-clause-fields c =
     fields_of c.args.bytes.now _ c.requires.long (entry_of_parts c.args.bytes.now _ c.placed_in.ensures.bytes c.claim_in.ensures.bytes) c.placed_in.ensures.offset_is c.placed_in.ensures.length_is c.claim_in.ensures.is
+    (subst IsPlacedEntry (sym c.placed_in.ensures.bytes) (placed_front c.args.bytes.now c.requires.long c.requires.tag c.requires.kind c.requires.length_is))

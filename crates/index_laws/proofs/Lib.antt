@@ -1,0 +1,5 @@
+pub mod Records
+pub mod OfContent
+pub mod Joined
+pub mod Among
+pub mod Right

@@ -1,0 +1,302 @@
+-- What several indexes tell together is right of the content that their archives make together.
+use Rattle.std.proofs.Common.{◌≡◌, ◌≢◌, ℕ, suc, ◌<◌, ◌≤◌, true, List, [], ◌∷◌, ◌++◌, length, drop, get_or, refl, sym, ap, ◌∙◌, subst, inl, inr, arith, Option, Some, slice_get, ◌^◌}
+use Rattle.std.specs.List.{AllByRecursion, AllZip, Contains}
+use Rattle.std.specs.List.Sorted.{IsStrictlySortedBy}
+use Rattle.std.specs.Ordering.{nat_cmp, on}
+use Rattle.std.specs.declared.cmp.Ordering.TheVariants.{Less}
+use Rattle.std.specs.Cmp.Lexicographic.{slice_cmp}
+use Rattle.std.proofs.lemmas.Bool.{and_parts}
+use Rattle.std.proofs.lemmas.List.Elements.{All-contains, recursion_from_All}
+use Rattle.std.proofs.lemmas.Option.{get_or_from_slice_get, slice_get_within}
+use Rattle.std.proofs.lemmas.Slice.Zip.{AllZip-long}
+use Rattle.sha2.specs.Sha256.{sha256}
+use Rattle.macho_symbols.specs.Found.{FoundRecord}
+use Rattle.checked_pages.proofs.PageLemmas.{may_be}
+use Rattle.join_core.specs.Listing.{listing}
+use Rattle.archive_core.specs.Content.{IsAnswering, Operations, is_admission}
+use Rattle.archive_core.specs.Find.{AreAnswering}
+use Rattle.archive_core.specs.Key.{IsKey, key_bytes}
+use Rattle.archive_core.specs.Lookup.{AnswerRecord, IsAnswer, IsAnswerOf, IsOwn, IsOwnRow, OwnRow, Unanswered, Alone, Disputed}
+use Rattle.archive_core.specs.Record.{admission_record}
+use Rattle.archive_core.specs.Valid.{key_of}
+use Rattle.archive_core.specs.declared.keys.SliceKey.{SliceKey}
+use Rattle.archive_core.specs.declared.lookup.Where.{Where}
+use Rattle.archive_core.proofs.Entries.{slice_of}
+use Rattle.archive_core.proofs.Members.{in_cons, in_front, in_rest}
+use Rattle.archive_core.proofs.Records.{length-key_of, same_parts}
+use Rattle.archive_records.proofs.Contents.{order}
+use Rattle.archive_index.specs.Entry.{offset_in}
+use Rattle.table_index.specs.Entry.{claim_in}
+use Rattle.table_index.specs.Text.{IsIndexText}
+use Rattle.indexed_answers.specs.Among.{AreAnsweringAmong, AreTied, EntryAt, IsAmong, IsRepeatOf, StandsBefore, all_of, answers_among, lives_under}
+use Rattle.indexed_answers.specs.AmongTold.{IsAnswerAmong, IsToldOfAmong, IsToldRowAt}
+use Rattle.indexed_answers.specs.AmongAsked.{HasNoTable, IsDamagedAt}
+use Rattle.indexed_answers.specs.Contents.{IsSliceOf}
+use Rattle.indexed_answers.specs.Told.{IsToldBy}
+use Rattle.index_laws.specs.Indexes.{AreIndexes, AreTiedSlices, DigestsTell, IsIndexFile, all_joined}
+use Rattle.index_laws.proofs.Among.{IsOfSlice, IsRecordOf, answers_if, answers_then, entry_if_live, find, held, slice_of_entry}
+use Rattle.index_laws.proofs.Joined.{joined_alone}
+use Rattle.index_laws.proofs.OfContent.{AreEntriesOf, IsAt, in_turn, one_place}
+use Rattle.index_laws.proofs.Records.{shorter_first}
+
+-- ---- lists place by place
+
+zip_left : {X Y : Type 0} (R : X → Y → Type 0) (xs : List X) (ys : List Y) (x : X) → AllZip R xs ys → Contains xs x → (y : Y) × Contains ys y × R x y
+zip_left R [] ys x all c = absurd (omega (arith, c.1))
+zip_left R (z ∷ xs) [] x all c = absurd all
+zip_left R (z ∷ xs) (y ∷ ys) x all c = elim (in_cons z xs x c) [
+  | inl e ↦ (y, in_front y ys, subst (λ w. R w y) e all.0)
+  | inr there ↦ let f = zip_left R xs ys x all.1 there in (f.0, in_rest y ys f.0 f.1, f.2)
+]
+
+zip_right : {X Y : Type 0} (R : X → Y → Type 0) (xs : List X) (ys : List Y) (y : Y) → AllZip R xs ys → Contains ys y → (x : X) × R x y
+zip_right R xs [] y all c = absurd (omega (arith, c.1))
+zip_right R [] (z ∷ ys) y all c = absurd all
+zip_right R (x ∷ xs) (z ∷ ys) y all c = elim (in_cons z ys y c) [
+  | inl e ↦ (x, subst (λ w. R x w) e all.0)
+  | inr there ↦ zip_right R xs ys y all.1 there
+]
+
+-- ---- what is told of slices
+
+own_right : (text slice e : List ℕ) (asked : Where) (own : Option FoundRecord) → IsSliceOf text slice e → IsToldBy text (claim_in e) asked own → IsOwn slice asked own
+own_right text slice e asked own is told = told slice is.table is.bytes is.is_table (may_be text is.table (claim_in e) is.stored)
+
+module _ (os : List Operations) (texts : List (List ℕ)) (indexes : List (List (List ℕ))) where
+  -- ---- two entries of one index
+
+  -- two entries of one index, and their records
+  record AreTogether (x y : EntryAt) (r s : List ℕ) : Type 0 where
+    o : Operations
+    text : List ℕ
+    entries : List (List ℕ)
+    i : ℕ
+    j : ℕ
+    are : AreEntriesOf o text entries
+    entry_one : slice_get entries x.number ≡ Some x.entry
+    entry_two : slice_get entries y.number ≡ Some y.entry
+    one : IsAt o text x.entry i
+    two : IsAt o text y.entry j
+    record_one : get_or (listing o) i [] ≡ r
+    record_two : get_or (listing o) j [] ≡ s
+
+  together : (x y : EntryAt) (r s : List ℕ) → IsRecordOf os texts indexes x r → IsRecordOf os texts indexes y s → x.input ≡ y.input → AreTogether x y r s
+  together x y r s a b same =
+      let contents : b.o ≡ a.o = cc (a.file.content_at, b.file.content_at, same) in
+      let text : b.text ≡ a.text = cc (a.file.text_at, b.file.text_at, same) in
+      let entries : b.entries ≡ a.entries = cc (a.file.index_at, b.file.index_at, same) in
+      record {
+        o = a.o;
+        text = a.text;
+        entries = a.entries;
+        i = a.place;
+        j = b.place;
+        are = a.file.are;
+        entry_one = a.entry_at;
+        entry_two = subst (λ (es : List (List ℕ)). slice_get es y.number ≡ Some y.entry) entries b.entry_at;
+        one = a.is;
+        two = subst (λ o. IsAt o a.text y.entry b.place) contents (subst (λ (t : List ℕ). IsAt b.o t y.entry b.place) text b.is);
+        record_one = a.record_is;
+        record_two = ap (λ o. get_or (listing o) b.place []) (sym contents) ∙ b.record_is;
+      }
+
+  -- an entry has one record
+  one_record : (x : EntryAt) (r s : List ℕ) → IsRecordOf os texts indexes x r → IsRecordOf os texts indexes x s → r ≡ s
+  one_record x r s a b =
+      let t = together x x r s a b refl in
+      sym t.record_one ∙ ap (λ (k : ℕ). get_or (listing t.o) k []) (one_place t.o t.are.content t.text x.entry t.i t.j t.one t.two) ∙ t.record_two
+
+  -- entries of one index at different numbers stand in the order of their records
+  in_one_index : (x y : EntryAt) (r s : List ℕ) → IsRecordOf os texts indexes x r → IsRecordOf os texts indexes y s → x.input ≡ y.input → x.number ≢ y.number → offset_in x.entry ≤ offset_in y.entry → order r s ≡ Less
+  in_one_index x y r s a b same apart le =
+      let t = together x y r s a b same in
+      elim (in_turn t.o t.are.content t.text x.entry y.entry t.i t.j t.one t.two le) [
+        | inl e ↦
+            let also : IsAt t.o t.text y.entry t.i = subst (IsAt t.o t.text y.entry) (sym e) t.two in
+            let one : (k : ℕ) (z : List ℕ) → slice_get t.entries k ≡ Some z → get_or t.entries k [] ≡ z = λ k z h. get_or_from_slice_get t.entries k z [] h in
+            let entry : x.entry ≡ y.entry = t.are.same x.entry y.entry t.i
+            (x.number, slice_get_within t.entries x.number x.entry t.entry_one, get_or_from_slice_get t.entries x.number x.entry x.entry t.entry_one)
+            (y.number, slice_get_within t.entries y.number y.entry t.entry_two, get_or_from_slice_get t.entries y.number y.entry y.entry t.entry_two)
+            t.one also in
+            absurd (apart (t.are.numbers x.number y.number (slice_get_within t.entries x.number x.entry t.entry_one) (slice_get_within t.entries y.number y.entry t.entry_two)
+            (one x.number x.entry t.entry_one ∙ entry ∙ sym (one y.number y.entry t.entry_two))))
+        | inr less ↦ (λ k. order (sym t.record_one k) (sym t.record_two k)) ∙ less
+      ]
+
+  -- ---- two entries of slices under one key
+
+  -- the entry is that of a slice that answers
+  record IsAnsweringSlice (key : SliceKey) (x : EntryAt) (slice : List ℕ) : Type 0 where
+    of : IsOfSlice os texts indexes x slice
+    answers : IsAnswering (all_joined os) key slice
+
+  before : (key : SliceKey) (x y : EntryAt) (a b : List ℕ) → IsAnsweringSlice key x a → IsAnsweringSlice key y b → StandsBefore x y → order (admission_record a) (admission_record b) ≡ Less
+  before key x y a b is_x is_y (inl shorter) =
+      shorter_first a b is_x.of.is.valid is_y.of.is.valid (ap key_bytes (is_x.answers.live.under ∙ sym is_y.answers.live.under)) (omega (arith, shorter, is_x.of.is.length_is, is_y.of.is.length_is))
+  before key x y a b is_x is_y (inr rest) =
+      in_one_index x y (admission_record a) (admission_record b) is_x.of.of is_y.of.of rest.1 rest.2 rest.3
+
+  -- slices of entries that stand in order are strictly ascending
+  all_before : (key : SliceKey) (x : EntryAt) (a : List ℕ) (xs : List EntryAt) (ss : List (List ℕ)) → IsAnsweringSlice key x a → AllZip (IsAnsweringSlice key) xs ss → ((k : ℕ) → k < length xs → StandsBefore x (get_or xs k x))
+      → AllByRecursion (λ s. on admission_record (slice_cmp nat_cmp) a s ≡ Less) ss
+  all_before key x a [] [] is all stands = tt
+  all_before key x a [] (s ∷ ss) is all stands = absurd all
+  all_before key x a (y ∷ xs) [] is all stands = absurd all
+  all_before key x a (y ∷ xs) (s ∷ ss) is all stands =
+      (before key x y a s is all.0 (stands 0 (omega arith)), all_before key x a xs ss is all.1 (λ k lt. stands (suc k) (omega (arith, lt))))
+
+  ascending : (key : SliceKey) (xs : List EntryAt) (ss : List (List ℕ)) → AllZip (IsAnsweringSlice key) xs ss → ((i j : ℕ) (none : EntryAt) → i < j → j < length xs → StandsBefore (get_or xs i none) (get_or xs j none))
+      → IsStrictlySortedBy (on admission_record (slice_cmp nat_cmp)) ss
+  unfolding IsStrictlySortedBy
+  ascending key [] [] all stands = tt
+  ascending key [] (s ∷ ss) all stands = absurd all
+  ascending key (x ∷ xs) [] all stands = absurd all
+  ascending key (x ∷ xs) (s ∷ ss) all stands = (
+    all_before key x s xs ss all.0 all.1 (λ k lt. stands 0 (suc k) x (omega arith) (omega (arith, lt))),
+    ascending key xs ss all.1 (λ i j none lt within. stands (suc i) (suc j) none (omega (arith, lt)) (omega (arith, within))),
+  )
+
+  -- ---- what is told of them
+
+  row_right : (key : SliceKey) (asked : Where) (x : EntryAt) (slice : List ℕ) (row : OwnRow) → IsAnsweringSlice key x slice → IsToldRowAt texts asked x row → IsOwnRow asked slice row
+  row_right key asked x slice row is told = record {
+    digest_is = told.digest_is ∙ is.of.is.is.digest_is;
+    own_is = own_right is.of.of.text slice x.entry asked row.own is.of.is.is (told.own_is is.of.of.text is.of.of.file.text_at);
+  }
+
+  rows_right : (key : SliceKey) (asked : Where) (xs : List EntryAt) (ss : List (List ℕ)) (rows : List OwnRow) → AllZip (IsAnsweringSlice key) xs ss → AllZip (IsToldRowAt texts asked) xs rows → AllZip (IsOwnRow asked) ss rows
+  rows_right key asked [] [] [] all told = tt
+  rows_right key asked [] [] (row ∷ rows) all told = absurd told
+  rows_right key asked [] (s ∷ ss) rows all told = absurd all
+  rows_right key asked (x ∷ xs) [] rows all told = absurd all
+  rows_right key asked (x ∷ xs) (s ∷ ss) [] all told = absurd told
+  rows_right key asked (x ∷ xs) (s ∷ ss) (row ∷ rows) all told = (row_right key asked x s row all.0 told.0, rows_right key asked xs ss rows all.1 told.1)
+
+  no_slice : (key : SliceKey) (ss : List (List ℕ)) → AllZip (IsAnsweringSlice key) [] ss → ss ≡ []
+  no_slice key [] all = refl
+  no_slice key (s ∷ ss) all = absurd all
+
+  one_slice : (key : SliceKey) (asked : Where) (x : EntryAt) (row : OwnRow) (own : Option FoundRecord) (ss : List (List ℕ)) → AllZip (IsAnsweringSlice key) (x ∷ []) ss → row.own ≡ own → IsToldRowAt texts asked x row
+      → (slice : List ℕ) × (ss ≡ slice ∷ []) × IsOwn slice asked own
+  one_slice key asked x row own [] all is told = absurd all
+  one_slice key asked x row own (s ∷ []) all is told = (s, refl, subst (IsOwn s asked) is (row_right key asked x s row all.0 told).own_is)
+  one_slice key asked x row own (s ∷ (r ∷ ss)) all is told = absurd all.1
+
+  told_right : (key : SliceKey) (asked : Where) (xs : List EntryAt) (ss : List (List ℕ)) (answer : AnswerRecord) → AllZip (IsAnsweringSlice key) xs ss → IsToldOfAmong texts asked xs answer → IsAnswerOf asked ss answer
+  told_right key asked xs ss Unanswered all is = no_slice key ss (subst (λ (ys : List EntryAt). AllZip (IsAnsweringSlice key) ys ss) is all)
+  told_right key asked xs ss (Alone own) all is =
+      one_slice key asked is.0 is.1 own ss (subst (λ (ys : List EntryAt). AllZip (IsAnsweringSlice key) ys ss) is.2 all) is.3 is.4
+  told_right key asked xs ss (Disputed rows) all is =
+      (omega (arith, is.0, AllZip-long (IsAnsweringSlice key) xs ss all), rows_right key asked xs ss rows all is.1)
+
+  module _ (all : AreIndexes os texts indexes) where
+    -- ---- nothing is damaged
+
+    tagged : (front : List ℕ) (x : EntryAt) → answers_among front (all_of indexes) x.entry ≡ true → is_admission x.entry ≡ true
+    tagged front x h =
+        let lives = (and_parts (lives_under front (all_of indexes) x.entry) _ h).0 in
+        (and_parts (is_admission x.entry) _ (and_parts _ _ lives).0).0
+
+    pub undamaged : (front text : List ℕ) (x : EntryAt) → IsAmong indexes x → answers_among front (all_of indexes) x.entry ≡ true → slice_get texts x.input ≡ Some text → HasNoTable text x.entry → ⊥
+    undamaged front text x among h here none =
+        let r = find os texts indexes all x among in
+        let s = slice_of_entry os texts indexes x r.0 r.1 (tagged front x h) in
+        let same : s.1.of.text ≡ text = cc (s.1.of.file.text_at, here) in
+        let is : IsSliceOf text s.0 x.entry = subst (λ (t : List ℕ). IsSliceOf t s.0 x.entry) same s.1.is.is in
+        none (subst (λ (t : List ℕ). length t < 2 ^ 64) same s.1.of.file.are.short) s.0 is.table is.is_table is.stored
+
+    pub none_damaged : (front : List ℕ) (answering : List EntryAt) (input number : ℕ) → AreAnsweringAmong front indexes answering → IsDamagedAt texts answering input number → ⊥
+    none_damaged front answering input number are damaged =
+        let x : EntryAt = record { input = input; number = number; entry = damaged.entry } in
+        let answers : answers_among front (all_of indexes) x.entry ≡ true = All-contains (λ y. answers_among front (all_of indexes) y.entry ≡ true) answering x are.each damaged.answers in
+        undamaged front damaged.text x (All-contains (IsAmong indexes) answering x are.among damaged.answers) answers damaged.text_is damaged.absent
+
+    module _ (key : SliceKey) (is_key : IsKey key) where
+      abbrev every : List (List ℕ)
+      every = all_of indexes
+
+      -- an entry that answers is that of a slice that does
+      slice_at : (x : EntryAt) → IsAmong indexes x → answers_among (key_bytes key) every x.entry ≡ true → (slice : List ℕ) × IsAnsweringSlice key x slice
+      slice_at x among h =
+          let r = find os texts indexes all x among in
+          let s = slice_of_entry os texts indexes x r.0 r.1 (tagged (key_bytes key) x h) in
+          (s.0, record { of = s.1; answers = answers_if os texts indexes all key is_key x s.0 s.1 h })
+
+      slices_at : (xs : List EntryAt) → AllByRecursion (IsAmong indexes) xs → AllByRecursion (λ x. answers_among (key_bytes key) every x.entry ≡ true) xs → (ss : List (List ℕ)) × AllZip (IsAnsweringSlice key) xs ss
+      slices_at [] among answers = ([], tt)
+      slices_at (x ∷ xs) among answers =
+          let s = slice_at x among.0 answers.0 in
+          let rest = slices_at xs among.1 answers.1 in
+          (s.0 ∷ rest.0, (s.1, rest.1))
+
+      -- ---- tied slices
+
+      pub tied : AreTied (key_bytes key) indexes → AreTiedSlices os key
+      tied t =
+          let a = slice_at t.one t.one_among t.one_answers in
+          let b = slice_at t.other t.other_among t.other_answers in
+          record {
+            one = a.0;
+            other = b.0;
+            place = t.one.input;
+            other_place = t.other.input;
+            one_is = record { o = a.1.of.of.o; there = a.1.of.of.file.content_at; has = held os texts indexes t.one (admission_record a.0) a.1.of.of; answers = a.1.answers };
+            other_is = record { o = b.1.of.of.o; there = b.1.of.of.file.content_at; has = held os texts indexes t.other (admission_record b.0) b.1.of.of; answers = b.1.answers };
+            places = t.unordered.inputs;
+            lengths = omega (arith, a.1.of.is.length_is, b.1.of.is.length_is, t.unordered.same_length);
+            differ = λ same. t.unordered.slices (a.1.of.is.front ∙ ap (λ (s : List ℕ). 2 ∷ (key_bytes (key_of s) ++ sha256 s)) same ∙ sym b.1.of.is.front);
+          }
+
+      -- ---- the answer
+
+      -- two entries of one slice of different indexes are of the same slice, as far as digests tell
+      one_of_two : (x y : EntryAt) (a b : List ℕ) → DigestsTell os → IsOfSlice os texts indexes x a → IsOfSlice os texts indexes y b → IsRepeatOf y x → a ≡ b
+      one_of_two x y a b tell of_x of_y repeat =
+          let fronts : key_bytes (key_of a) ++ sha256 a ≡ key_bytes (key_of b) ++ sha256 b = ap (drop 1) (sym of_x.is.front ∙ sym repeat.slices ∙ of_y.is.front) in
+          let digests = (same_parts (key_bytes (key_of a)) (key_bytes (key_of b)) (sha256 a) (sha256 b) (length-key_of a of_x.is.valid ∙ sym (length-key_of b of_y.is.valid)) fronts).1 in
+          let lt_x : x.input < length os = slice_get_within os x.input of_x.of.o of_x.of.file.content_at in
+          let lt_y : y.input < length os = slice_get_within os y.input of_y.of.o of_y.of.file.content_at in
+          tell (omega (arith, lt_x, repeat.earlier)) a b
+          (of_x.of.o, (x.input, lt_x, get_or_from_slice_get os x.input of_x.of.o of_x.of.o of_x.of.file.content_at), held os texts indexes x (admission_record a) of_x.of)
+          (of_y.of.o, (y.input, lt_y, get_or_from_slice_get os y.input of_y.of.o of_y.of.o of_y.of.file.content_at), held os texts indexes y (admission_record b) of_y.of)
+          digests
+
+      module _ (tell : DigestsTell os) (answering : List EntryAt) (are : AreAnsweringAmong (key_bytes key) indexes answering) (ss : List (List ℕ)) (zip : AllZip (IsAnsweringSlice key) answering ss) where
+        -- each slice that answers is there
+        to_slices : (slice : List ℕ) → IsAnswering (all_joined os) key slice → Contains ss slice
+        to_slices slice answers =
+            let x = entry_if_live os texts indexes all key is_key slice answers.live in
+            elim (are.whole x.0 x.1 (answers_then os texts indexes all key is_key x.0 slice x.2 answers)) [
+              | inl here ↦
+                  let s = zip_left (IsAnsweringSlice key) answering ss x.0 zip here in
+                  let records = one_record x.0 (admission_record s.0) (admission_record slice) s.2.of.of x.2.of in
+                  let same : s.0 ≡ slice = sym (slice_of s.0 s.2.of.is.valid) ∙ ap (drop 33) records ∙ slice_of slice x.2.is.valid in
+                  subst (Contains ss) same s.1
+              | inr other ↦
+                  let s = zip_left (IsAnsweringSlice key) answering ss other.0 zip other.1 in
+                  subst (Contains ss) (sym (one_of_two x.0 other.0 slice s.0 tell x.2 s.2.of other.2)) s.1
+            ]
+
+        are_slices : AreAnswering (all_joined os) key ss
+        are_slices = record {
+          ascending = ascending key answering ss zip are.ordered;
+          exactly = λ slice. (λ c. (zip_right (IsAnsweringSlice key) answering ss slice zip c).1.answers, to_slices slice);
+        }
+
+      pub right : (asked : Where) (answer : AnswerRecord) → DigestsTell os → IsAnswerAmong texts indexes (key_bytes key) asked answer → IsAnswer (all_joined os) key asked answer
+      right asked answer tell is =
+          let ss = slices_at is.answering (recursion_from_All (IsAmong indexes) is.answering is.are.among) (recursion_from_All (λ x. answers_among (key_bytes key) every x.entry ≡ true) is.answering is.are.each) in
+          record {
+            slices = ss.0;
+            answering = are_slices tell is.answering is.are ss.0 ss.1;
+            answer_is = told_right key asked is.answering ss.0 answer ss.1 is.answer_is;
+          }
+
+-- ---- one index
+
+pub right_alone : (o : Operations) (text : List ℕ) (entries : List (List ℕ)) (key : SliceKey) (asked : Where) (answer : AnswerRecord) → IsIndexFile o text → IsIndexText text entries → IsKey key
+    → IsAnswerAmong (text ∷ []) (entries ∷ []) (key_bytes key) asked answer → IsAnswer o key asked answer
+right_alone o text entries key asked answer file read is_key is =
+    let all : AreIndexes (o ∷ []) (text ∷ []) (entries ∷ []) = record { files = (file, tt); read = (read, tt) } in
+    let tell : DigestsTell (o ∷ []) = λ several. absurd (omega (arith, several)) in
+    subst (λ made. IsAnswer made key asked answer) (joined_alone o file.content.itself) (right (o ∷ []) (text ∷ []) (entries ∷ []) all key is_key asked answer tell is)

@@ -1,0 +1,158 @@
+-- The entries of several indexes with their numbers.
+use Rattle.std.proofs.Common.{◌≡◌, ◌≢◌, ℕ, zero, suc, ◌+◌, ◌<◌, Bool, true, false, List, [], ◌∷◌, ◌++◌, length, map, take, get_or, slice_get, Some, refl, sym, subst, ap, ◌∙◌, arith}
+use Rattle.std.specs.Prelude.{All, Contains, filter}
+use Rattle.std.specs.List.{AllPairs}
+use Rattle.std.proofs.lemmas.List.{append-nil, append_assoc, length-take-le, map-append, take_more}
+use Rattle.std.proofs.lemmas.List.Elements.{All-append, All-cons, All-nil, All-weaker, Contains-append_left, Contains-append_right, filter-append}
+use Rattle.std.proofs.lemmas.List.Kept.{AllPairs-cons}
+use Rattle.std.proofs.lemmas.Option.{none-some, same_Some}
+use Rattle.indexed_answers.specs.Among.{EntryAt, IsAmong, all_of}
+use Rattle.indexed_answers.specs.InnerAnswering.{all_at, entries_at}
+use Rattle.indexed_answers.proofs.Lists.{contains_head, contains_tail, filter_passed, filter_pushed, pairs_append}
+
+-- ---- one index
+
+abbrev at : ℕ → ℕ → List ℕ → EntryAt
+at input number e = record { input = input; number = number; entry = e }
+
+pub length-entries_at : (input k : ℕ) (es : List (List ℕ)) → length (entries_at input k es) ≡ length es
+length-entries_at input k [] = refl
+length-entries_at input k (e ∷ es) = ap suc (length-entries_at input (k + 1) es)
+
+-- an entry with its numbers
+pub get_or-entries_at : (input k : ℕ) (es : List (List ℕ)) (i : ℕ) (d : EntryAt) (e : List ℕ) → i < length es → get_or (entries_at input k es) i d ≡ at input (k + i) (get_or es i e)
+get_or-entries_at input k [] i d e lt = absurd (omega (arith, lt))
+get_or-entries_at input k (x ∷ es) zero d e lt = let same : k ≡ k + 0 = omega arith in ap (λ n. at input n x) same
+get_or-entries_at input k (x ∷ es) (suc i) d e lt =
+    let same : k + 1 + i ≡ k + suc i = omega arith in
+    get_or-entries_at input (k + 1) es i d e (omega (arith, lt)) ∙ ap (λ n. at input n (get_or es i e)) same
+
+pub map-entries_at : (input k : ℕ) (es : List (List ℕ)) → map (λ x. x.entry) (entries_at input k es) ≡ es
+map-entries_at input k [] = refl
+map-entries_at input k (e ∷ es) = ap (λ (zs : List (List ℕ)). e ∷ zs) (map-entries_at input (k + 1) es)
+
+has_entry : (input k : ℕ) (es : List (List ℕ)) (i : ℕ) (e : List ℕ) → slice_get es i ≡ Some e → Contains (entries_at input k es) (at input (k + i) e)
+has_entry input k [] i e is = absurd (none-some e is)
+has_entry input k (x ∷ es) zero e is =
+    let same : k ≡ k + 0 = omega arith in
+    subst (λ z. Contains (at input k x ∷ entries_at input (k + 1) es) z) (ap (λ n. at input n x) same ∙ ap (λ b. at input (k + 0) b) (same_Some x e is)) (contains_head (at input k x) (entries_at input (k + 1) es))
+has_entry input k (x ∷ es) (suc i) e is =
+    let same : k + 1 + i ≡ k + suc i = omega arith in
+    subst (λ z. Contains (at input k x ∷ entries_at input (k + 1) es) z) (ap (λ n. at input n e) same) (contains_tail (at input k x) (entries_at input (k + 1) es) (at input (k + 1 + i) e) (has_entry input (k + 1) es i e is))
+
+-- where an entry stands in its index
+record StandsAt (input k : ℕ) (es : List (List ℕ)) (x : EntryAt) : Type 0 where
+  place : ℕ
+  input_is : x.input ≡ input
+  number_is : x.number ≡ k + place
+  entry_is : slice_get es place ≡ Some x.entry
+
+stands : (input k : ℕ) (es : List (List ℕ)) → All (StandsAt input k es) (entries_at input k es)
+stands input k [] = All-nil (StandsAt input k [])
+stands input k (e ∷ es) =
+    All-cons (StandsAt input k (e ∷ es)) (at input k e) (entries_at input (k + 1) es) (record { place = 0; input_is = refl; number_is = omega arith; entry_is = refl })
+    (All-weaker (StandsAt input (k + 1) es) (StandsAt input k (e ∷ es)) (λ x s. let p = s.place in let n = s.number_is in record { place = suc p; input_is = s.input_is; number_is = omega (arith, n); entry_is = s.entry_is }) (entries_at input (k + 1) es) (stands input (k + 1) es))
+
+-- ---- several
+
+pub map-all_at : (j : ℕ) (indexes : List (List (List ℕ))) → map (λ x. x.entry) (all_at j indexes) ≡ all_of indexes
+map-all_at j [] = refl
+map-all_at j (es ∷ indexes) =
+    map-append (λ (x : EntryAt). x.entry) (entries_at j 0 es) (all_at (j + 1) indexes) ∙ (λ i. map-entries_at j 0 es i ++ map-all_at (j + 1) indexes i)
+
+-- one index more
+pub all_at_push : (j : ℕ) (indexes : List (List (List ℕ))) (es : List (List ℕ)) → all_at j (indexes ++ es ∷ []) ≡ all_at j indexes ++ entries_at (j + length indexes) 0 es
+all_at_push j [] es =
+    let same : j ≡ j + 0 = omega arith in append-nil (entries_at j 0 es) ∙ ap (λ n. entries_at n 0 es) same
+all_at_push j (first ∷ indexes) es =
+    let same : j + 1 + length indexes ≡ j + suc (length indexes) = omega arith in
+    ap (λ (zs : List EntryAt). entries_at j 0 first ++ zs) (all_at_push (j + 1) indexes es ∙ ap (λ n. all_at (j + 1) indexes ++ entries_at n 0 es) same)
+    ∙ sym (append_assoc (entries_at j 0 first) (all_at (j + 1) indexes) (entries_at (j + suc (length indexes)) 0 es))
+
+has_entry_of : (j : ℕ) (indexes : List (List (List ℕ))) (i number : ℕ) (es : List (List ℕ)) (e : List ℕ) → slice_get indexes i ≡ Some es → slice_get es number ≡ Some e
+    → Contains (all_at j indexes) (at (j + i) number e)
+has_entry_of j [] i number es e index is = absurd (none-some es index)
+has_entry_of j (first ∷ indexes) zero number es e index is =
+    let same : j ≡ j + 0 = omega arith in
+    let none : 0 + number ≡ number = omega arith in
+    Contains-append_left (entries_at j 0 first) (all_at (j + 1) indexes) (at (j + 0) number e)
+    (subst (λ z. Contains (entries_at j 0 first) z) (ap (λ n. at n (0 + number) e) same ∙ ap (λ n. at (j + 0) n e) none) (has_entry j 0 first number e (ap (λ (zs : List (List ℕ)). slice_get zs number) (same_Some first es index) ∙ is)))
+has_entry_of j (first ∷ indexes) (suc i) number es e index is =
+    let same : j + 1 + i ≡ j + suc i = omega arith in
+    Contains-append_right (entries_at j 0 first) (all_at (j + 1) indexes) (at (j + suc i) number e)
+    (subst (λ z. Contains (all_at (j + 1) indexes) z) (ap (λ n. at n number e) same) (has_entry_of (j + 1) indexes i number es e index is))
+
+-- an entry that stands there is among all
+pub has_among : (indexes : List (List (List ℕ))) (x : EntryAt) → IsAmong indexes x → Contains (all_at 0 indexes) x
+has_among indexes x h =
+    let none : 0 + x.input ≡ x.input = omega arith in
+    subst (λ z. Contains (all_at 0 indexes) z) (ap (λ n. at n x.number x.entry) none) (has_entry_of 0 indexes x.input x.number h.entries x.entry h.index_is h.entry_is)
+
+-- where an entry stands among several indexes
+record StandsIn (j : ℕ) (indexes : List (List (List ℕ))) (x : EntryAt) : Type 0 where
+  place : ℕ
+  entries : List (List ℕ)
+  input_is : x.input ≡ j + place
+  index_is : slice_get indexes place ≡ Some entries
+  entry_is : slice_get entries x.number ≡ Some x.entry
+
+stand_in : (j : ℕ) (indexes : List (List (List ℕ))) → All (StandsIn j indexes) (all_at j indexes)
+stand_in j [] = All-nil (StandsIn j [])
+stand_in j (es ∷ indexes) =
+    All-append (StandsIn j (es ∷ indexes)) (entries_at j 0 es) (all_at (j + 1) indexes)
+    (All-weaker (StandsAt j 0 es) (StandsIn j (es ∷ indexes)) (λ x s. let n = s.input_is in record { place = 0; entries = es; input_is = omega (arith, n); index_is = refl; entry_is = ap (slice_get es) (let m = s.number_is in omega (arith, m)) ∙ s.entry_is }) (entries_at j 0 es) (stands j 0 es))
+    (All-weaker (StandsIn (j + 1) indexes) (StandsIn j (es ∷ indexes)) (λ x s. let p = s.place in let n = s.input_is in record { place = suc p; entries = s.entries; input_is = omega (arith, n); index_is = s.index_is; entry_is = s.entry_is }) (all_at (j + 1) indexes) (stand_in (j + 1) indexes))
+
+-- each of all stands there
+pub are_among : (indexes : List (List (List ℕ))) → All (IsAmong indexes) (all_at 0 indexes)
+are_among indexes =
+    All-weaker (StandsIn 0 indexes) (IsAmong indexes) (λ x s. let n = s.input_is in let same : x.input ≡ s.place = omega (arith, n) in record { entries = s.entries; index_is = ap (slice_get indexes) same ∙ s.index_is; entry_is = s.entry_is }) (all_at 0 indexes) (stand_in 0 indexes)
+
+-- ---- two entries have other numbers
+
+abbrev pub AreApart : EntryAt → EntryAt → Type 0
+AreApart x y = x.input ≡ y.input → x.number ≢ y.number
+
+pub apart_both : (x y : EntryAt) → AreApart x y → AreApart y x
+apart_both x y h = λ e n. h (sym e) (sym n)
+
+apart_in : (input k : ℕ) (es : List (List ℕ)) → AllPairs AreApart (entries_at input k es)
+apart_in input k [] = λ i j d lt le. absurd (omega (arith, lt, le))
+apart_in input k (e ∷ es) =
+    AllPairs-cons AreApart (at input k e) (entries_at input (k + 1) es)
+    (All-weaker (StandsAt input (k + 1) es) (AreApart (at input k e)) (λ x s same number. let n = s.number_is in omega (arith, n, number)) (entries_at input (k + 1) es) (stands input (k + 1) es)) (apart_in input (k + 1) es)
+
+apart_from : (j : ℕ) (indexes : List (List (List ℕ))) → AllPairs AreApart (all_at j indexes)
+apart_from j [] = λ i k d lt le. absurd (omega (arith, lt, le))
+apart_from j (es ∷ indexes) =
+    pairs_append AreApart (entries_at j 0 es) (all_at (j + 1) indexes) (apart_in j 0 es) (apart_from (j + 1) indexes)
+    (All-weaker (StandsAt j 0 es) (λ x. All (AreApart x) (all_at (j + 1) indexes)) (λ x s.
+    All-weaker (StandsIn (j + 1) indexes) (AreApart x) (λ y t same number. let a = s.input_is in let b = t.input_is in omega (arith, a, b, same)) (all_at (j + 1) indexes) (stand_in (j + 1) indexes)) (entries_at j 0 es) (stands j 0 es))
+
+pub are_apart : (indexes : List (List (List ℕ))) → AllPairs AreApart (all_at 0 indexes)
+are_apart indexes = apart_from 0 indexes
+
+-- ---- those that pass, one after another
+
+module _ (p : EntryAt → Bool) (input : ℕ) (es : List (List ℕ)) (i : ℕ) (e : List ℕ) (lt : i < length es) (is : e ≡ get_or es i e) where
+  within : i < length (entries_at input 0 es)
+  within = omega (arith, lt, length-entries_at input 0 es)
+
+  this : at input i e ≡ get_or (entries_at input 0 es) i (at input i e)
+  this =
+      let same : i ≡ 0 + i = omega arith in
+      ap (λ n. at input n e) same ∙ ap (λ b. at input (0 + i) b) is ∙ sym (get_or-entries_at input 0 es i (at input i e) e lt)
+
+  pub passed_by : p (at input i e) ≡ false → filter p (take (i + 1) (entries_at input 0 es)) ≡ filter p (take i (entries_at input 0 es))
+  passed_by other = filter_passed p (entries_at input 0 es) i (at input i e) within this other
+
+  pub picked : p (at input i e) ≡ true → filter p (take (i + 1) (entries_at input 0 es)) ≡ filter p (take i (entries_at input 0 es)) ++ at input i e ∷ []
+  picked here = filter_pushed p (entries_at input 0 es) i (at input i e) within this here
+
+pub picked_more : (p : EntryAt → Bool) (indexes : List (List (List ℕ))) (i : ℕ) (es : List (List ℕ)) → i < length indexes → es ≡ get_or indexes i es
+    → filter p (all_at 0 (take (i + 1) indexes)) ≡ filter p (all_at 0 (take i indexes)) ++ filter p (entries_at i 0 es)
+picked_more p indexes i es lt is =
+    let long : 0 + length (take i indexes) ≡ i = omega (arith, length-take-le i indexes (omega (arith, lt))) in
+    ap (λ z. filter p (all_at 0 z)) (take_more indexes i es lt) ∙ ap (filter p) (all_at_push 0 (take i indexes) (get_or indexes i es)) ∙ filter-append p (all_at 0 (take i indexes)) (entries_at (0 + length (take i indexes)) 0 (get_or indexes i es))
+    ∙ ap (λ n. filter p (all_at 0 (take i indexes)) ++ filter p (entries_at n 0 (get_or indexes i es))) long
+    ∙ ap (λ z. filter p (all_at 0 (take i indexes)) ++ filter p (entries_at i 0 z)) (sym is)

@@ -1,0 +1,189 @@
+-- Entries in the order of their records.
+use Rattle.std.proofs.Common.{◌≡◌, ◌≢◌, ℕ, zero, suc, ◌<◌, ◌≤◌, true, false, cond, not, List, [], ◌∷◌, length, get_or, refl, sym, subst, ap, ◌∙◌, inl, inr, ◌⊎◌, arith, eqb}
+use Rattle.std.specs.Prelude.{All, Contains}
+use Rattle.std.specs.List.{AllPairs, dedup, dedup_from}
+use Rattle.std.specs.List.Sorted.{IsSortedByKey}
+use Rattle.std.specs.Ordering.{nat_cmp, is_lt, ordering_then}
+use Rattle.std.specs.declared.cmp.Ordering.TheVariants.{Less, Equal, Greater}
+use Rattle.std.specs.Cmp.Lexicographic.{slice_cmp, nat_list_cmp_total}
+use Rattle.std.proofs.lemmas.Bool.{and_cases, and_parts, cases_Bool, cases_order, eq-eqb, eqb-false, eqb-true, false≢true, le-ltb, lt-ltb, not-false, not-true}
+use Rattle.std.proofs.lemmas.List.Elements.{All-cons, All-weaker}
+use Rattle.std.proofs.lemmas.List.Filters.{All-dedup}
+use Rattle.std.proofs.lemmas.List.Kept.{AllPairs-cons}
+use Rattle.std.proofs.lemmas.List.MinMax.{ranks_by}
+use Rattle.std.proofs.lemmas.List.Sorted.{sorted_far}
+use Rattle.archive_index.specs.Entry.{length_in, offset_in}
+use Rattle.indexed_answers.specs.Among.{EntryAt, IsRepeatOf, StandsBefore}
+use Rattle.indexed_answers.specs.InnerAnswering.{HaveOrder, is_elsewhere, place_in}
+use Rattle.indexed_answers.proofs.Entries.{AreApart}
+use Rattle.indexed_answers.proofs.Lists.{contains_head, contains_tail, pairs_head, pairs_skip, pairs_tail}
+
+-- ---- by their places
+
+-- the first is not after the second
+abbrev pub IsNotAfter : EntryAt → EntryAt → Type 0
+IsNotAfter x y = (length_in x.entry < length_in y.entry)
+    ⊎ ((length_in x.entry ≡ length_in y.entry) × ((x.input < y.input) ⊎ ((x.input ≡ y.input) × (offset_in x.entry ≤ offset_in y.entry))))
+
+lower : (a b : ℕ) → a < b → nat_cmp a b ≡ Less
+lower a b lt = ap (λ t. cond t Less (cond (eqb a b) Equal Greater)) (lt-ltb a b lt)
+
+equal : (a b : ℕ) → a ≡ b → nat_cmp a b ≡ Equal
+equal a b e = let le : b ≤ a = omega (arith, e) in ap (λ t. cond t Less (cond (eqb a b) Equal Greater)) (le-ltb a b le) ∙ ap (λ t. cond t Equal Greater) (eq-eqb a b e)
+
+-- three numbers in a row that are not below three others
+not_lower : (a b c d e f : ℕ) → is_lt (slice_cmp nat_cmp (d ∷ (e ∷ (f ∷ []))) (a ∷ (b ∷ (c ∷ [])))) ≡ false → (a < d) ⊎ ((a ≡ d) × ((b < e) ⊎ ((b ≡ e) × (c ≤ f))))
+not_lower a b c d e f h = elim (cases_order a d) [
+  | inr (inl lt) ↦ inl lt
+  | inr (inr gt) ↦ absurd (false≢true (sym h ∙ ap (λ o. is_lt (ordering_then o (slice_cmp nat_cmp (e ∷ (f ∷ [])) (b ∷ (c ∷ []))))) (lower d a gt)))
+  | inl same ↦
+      let rest : is_lt (slice_cmp nat_cmp (e ∷ (f ∷ [])) (b ∷ (c ∷ []))) ≡ false = sym (ap (λ o. is_lt (ordering_then o (slice_cmp nat_cmp (e ∷ (f ∷ [])) (b ∷ (c ∷ []))))) (equal d a (sym same))) ∙ h in
+      inr (
+        same,
+        elim (cases_order b e) [
+          | inr (inl lt) ↦ inl lt
+          | inr (inr gt) ↦ absurd (false≢true (sym rest ∙ ap (λ o. is_lt (ordering_then o (slice_cmp nat_cmp (f ∷ []) (c ∷ [])))) (lower e b gt)))
+          | inl here ↦
+              let last : is_lt (slice_cmp nat_cmp (f ∷ []) (c ∷ [])) ≡ false = sym (ap (λ o. is_lt (ordering_then o (slice_cmp nat_cmp (f ∷ []) (c ∷ [])))) (equal e b (sym here))) ∙ rest in
+              inr (
+                here,
+                elim (cases_order c f) [
+                  | inl e ↦ omega (arith, e)
+                  | inr (inl lt) ↦ omega (arith, lt)
+                  | inr (inr gt) ↦ absurd (false≢true (sym last ∙ ap (λ o. is_lt (ordering_then o Equal)) (lower f c gt)))
+                ],
+              )
+        ],
+      )
+]
+
+-- what a sort by places says
+pub in_places : (xs : List EntryAt) → IsSortedByKey place_in (slice_cmp nat_cmp) xs → (i j : ℕ) (d : EntryAt) → i ≤ j → j < length xs → IsNotAfter (get_or xs i d) (get_or xs j d)
+in_places xs sorted i j d le lt =
+    let x = get_or xs i d in
+    let y = get_or xs j d in
+    not_lower (length_in x.entry) x.input (offset_in x.entry) (length_in y.entry) y.input (offset_in y.entry)
+    (sorted_far (λ a b. is_lt (slice_cmp nat_cmp (place_in a) (place_in b))) (ranks_by nat_list_cmp_total place_in) xs sorted i j d le lt)
+
+-- ---- each slice once
+
+-- what is known of entries that stand by their places and of which none are tied
+pub record ArePlaced (xs : List EntryAt) : Type 0 where
+  pub rise : AllPairs IsNotAfter xs
+  pub apart : AllPairs AreApart xs
+  pub agree : AllPairs HaveOrder xs
+
+placed_tail : (x : EntryAt) (xs : List EntryAt) → ArePlaced (x ∷ xs) → ArePlaced xs
+placed_tail x xs h = record { rise = pairs_tail IsNotAfter x xs h.rise; apart = pairs_tail AreApart x xs h.apart; agree = pairs_tail HaveOrder x xs h.agree }
+
+placed_skip : (k x : EntryAt) (xs : List EntryAt) → ArePlaced (k ∷ (x ∷ xs)) → ArePlaced (k ∷ xs)
+placed_skip k x xs h = record { rise = pairs_skip IsNotAfter k x xs h.rise; apart = pairs_skip AreApart k x xs h.apart; agree = pairs_skip HaveOrder k x xs h.agree }
+
+kept_head : (k : EntryAt) (xs : List EntryAt) → Contains (dedup_from is_elsewhere k xs) k
+kept_head k [] = contains_head k []
+kept_head k (x ∷ xs) = elim (cases_Bool (is_elsewhere x k)) [
+  | inl t ↦ subst (λ (zs : List EntryAt). Contains zs k) (sym (ap (λ b. cond b (dedup_from is_elsewhere k xs) (k ∷ dedup_from is_elsewhere x xs)) t)) (kept_head k xs)
+  | inr f ↦ subst (λ (zs : List EntryAt). Contains zs k) (sym (ap (λ b. cond b (dedup_from is_elsewhere k xs) (k ∷ dedup_from is_elsewhere x xs)) f)) (contains_head k (dedup_from is_elsewhere x xs))
+]
+
+-- an entry is kept, or it is a repeat of one that is
+abbrev pub IsCovered : List EntryAt → EntryAt → Type 0
+IsCovered kept x = Contains kept x ⊎ ((y : EntryAt) × Contains kept y × IsRepeatOf y x)
+
+covered_more : (k : EntryAt) (kept : List EntryAt) (x : EntryAt) → IsCovered kept x → IsCovered (k ∷ kept) x
+covered_more k kept x (inl h) = inl (contains_tail k kept x h)
+covered_more k kept x (inr h) = inr (h.0, contains_tail k kept h.0 h.1, h.2)
+
+pub elsewhere_parts : (x k : EntryAt) → is_elsewhere x k ≡ true → (length_in x.entry ≡ length_in k.entry) × (x.input ≢ k.input)
+unfolding is_elsewhere
+elsewhere_parts x k t =
+    let p = and_parts (eqb (length_in x.entry) (length_in k.entry)) (not (eqb x.input k.input)) t in
+    (eqb-true (length_in x.entry) (length_in k.entry) p.0, eqb-false x.input k.input (not-true (eqb x.input k.input) p.1))
+
+repeat : (k x : EntryAt) → is_elsewhere x k ≡ true → IsNotAfter k x → HaveOrder k x → IsRepeatOf k x
+repeat k x t rise agree =
+    let p = elsewhere_parts x k t in
+    let same : length_in k.entry ≡ length_in x.entry = sym p.0 in
+    record { same_length = same; earlier = earlier rise; slices = agree same (λ e. p.1 (sym e)) }
+  where
+    earlier : IsNotAfter k x → k.input < x.input
+    earlier (inl lt) = let e = (elsewhere_parts x k t).0 in absurd (omega (arith, e, lt))
+    earlier (inr (_, inl lt)) = lt
+    earlier (inr (_, inr (e, _))) = absurd ((elsewhere_parts x k t).1 (sym e))
+
+-- an entry of the same length that is not elsewhere
+pub same_index : (x k : EntryAt) → is_elsewhere x k ≡ false → length_in x.entry ≡ length_in k.entry → x.input ≡ k.input
+unfolding is_elsewhere
+same_index x k f same = elim (and_cases (eqb (length_in x.entry) (length_in k.entry)) (not (eqb x.input k.input)) f) [
+  | inl a ↦ absurd (eqb-false (length_in x.entry) (length_in k.entry) a same)
+  | inr b ↦ eqb-true x.input k.input (not-false (eqb x.input k.input) b)
+]
+
+-- what one that stays next to another says of the two
+near : (k x : EntryAt) → is_elsewhere x k ≡ false → IsNotAfter k x → (length_in k.entry < length_in x.entry) ⊎ ((length_in k.entry ≡ length_in x.entry) × (k.input ≡ x.input) × (offset_in k.entry ≤ offset_in x.entry))
+near k x f (inl lt) = inl lt
+near k x f (inr (same, inr (e, le))) = inr (same, e, le)
+near k x f (inr (same, inl lt)) = let e = same_index x k f (sym same) in absurd (omega (arith, e, lt))
+
+before : (k x y : EntryAt) → (length_in k.entry < length_in x.entry) ⊎ ((length_in k.entry ≡ length_in x.entry) × (k.input ≡ x.input) × (offset_in k.entry ≤ offset_in x.entry)) → (y ≡ x) ⊎ StandsBefore x y → AreApart k y → StandsBefore k y
+before k x y (inl lt) (inl e) apart = inl (subst (λ z. length_in k.entry < length_in z.entry) (sym e) lt)
+before k x y (inr (a, b, c)) (inl e) apart =
+    subst (λ z. StandsBefore k z) (sym e) (inr (a, b, subst (λ z. AreApart k z) e apart b, c))
+before k x y (inl lt) (inr (inl more)) apart = inl (omega (arith, lt, more))
+before k x y (inl lt) (inr (inr (same, _, _, _))) apart = inl (omega (arith, lt, same))
+before k x y (inr (a, b, c)) (inr (inl more)) apart = inl (omega (arith, a, more))
+before k x y (inr (a, b, c)) (inr (inr (same, e, other, le))) apart = inr (a ∙ same, b ∙ e, apart (b ∙ e), omega (arith, c, le))
+
+-- what is kept of a list that begins with k
+record KeptFrom (k : EntryAt) (xs : List EntryAt) : Type 0 where
+  first : All (λ y. (y ≡ k) ⊎ StandsBefore k y) (dedup_from is_elsewhere k xs)
+  ordered : AllPairs StandsBefore (dedup_from is_elsewhere k xs)
+  covered : All (IsCovered (dedup_from is_elsewhere k xs)) (k ∷ xs)
+
+kept_from : (k : EntryAt) (xs : List EntryAt) → ArePlaced (k ∷ xs) → KeptFrom k xs
+kept_from k [] h = record {
+  first = All-cons (λ y. (y ≡ k) ⊎ StandsBefore k y) k [] (inl refl) (λ i d lt. absurd (omega (arith, lt)));
+  ordered = λ i j d lt le. absurd (omega (arith, lt, le));
+  covered = All-cons (IsCovered (k ∷ [])) k [] (inl (contains_head k [])) (λ i d lt. absurd (omega (arith, lt)));
+}
+kept_from k (x ∷ xs) h = elim (cases_Bool (is_elsewhere x k)) [
+  | inl t ↦ skipped t (kept_from k xs (placed_skip k x xs h))
+  | inr f ↦ stays f (kept_from x xs (placed_tail k (x ∷ xs) h))
+]
+  where
+    skipped : is_elsewhere x k ≡ true → KeptFrom k xs → KeptFrom k (x ∷ xs)
+    skipped t rest =
+        let same : dedup_from is_elsewhere k xs ≡ dedup_from is_elsewhere k (x ∷ xs) = sym (ap (λ b. cond b (dedup_from is_elsewhere k xs) (k ∷ dedup_from is_elsewhere x xs)) t) in
+        let rise : IsNotAfter k x = h.rise zero (suc zero) k (omega arith) (omega arith) in
+        let agree : HaveOrder k x = h.agree zero (suc zero) k (omega arith) (omega arith) in
+        let covered = rest.covered in
+        record {
+          first = subst (All (λ y. (y ≡ k) ⊎ StandsBefore k y)) same rest.first;
+          ordered = subst (AllPairs StandsBefore) same rest.ordered;
+          covered = subst (λ (zs : List EntryAt). All (IsCovered zs) (k ∷ (x ∷ xs))) same
+              (All-cons (IsCovered (dedup_from is_elsewhere k xs)) k (x ∷ xs) (inl (kept_head k xs))
+              (All-cons (IsCovered (dedup_from is_elsewhere k xs)) x xs (inr (k, kept_head k xs, repeat k x t rise agree)) (λ i d lt. covered (suc i) d (omega (arith, lt)))));
+        }
+
+    stays : is_elsewhere x k ≡ false → KeptFrom x xs → KeptFrom k (x ∷ xs)
+    stays f rest =
+        let same : k ∷ dedup_from is_elsewhere x xs ≡ dedup_from is_elsewhere k (x ∷ xs) = sym (ap (λ b. cond b (dedup_from is_elsewhere k xs) (k ∷ dedup_from is_elsewhere x xs)) f) in
+        let rise : IsNotAfter k x = h.rise zero (suc zero) k (omega arith) (omega arith) in
+        let apart : All (AreApart k) (dedup_from is_elsewhere x xs) = All-dedup is_elsewhere (AreApart k) (x ∷ xs) (pairs_head AreApart k (x ∷ xs) h.apart) in
+        let first = rest.first in
+        let after : All (StandsBefore k) (dedup_from is_elsewhere x xs) = λ i d lt. before k x (get_or (dedup_from is_elsewhere x xs) i d) (near k x f rise) (first i d lt) (apart i d lt) in
+        record {
+          first = subst (All (λ y. (y ≡ k) ⊎ StandsBefore k y)) same (All-cons (λ y. (y ≡ k) ⊎ StandsBefore k y) k (dedup_from is_elsewhere x xs) (inl refl) (λ i d lt. inr (after i d lt)));
+          ordered = subst (AllPairs StandsBefore) same (AllPairs-cons StandsBefore k (dedup_from is_elsewhere x xs) after rest.ordered);
+          covered = subst (λ (zs : List EntryAt). All (IsCovered zs) (k ∷ (x ∷ xs))) same
+              (All-cons (IsCovered (k ∷ dedup_from is_elsewhere x xs)) k (x ∷ xs) (inl (contains_head k (dedup_from is_elsewhere x xs)))
+              (All-weaker (IsCovered (dedup_from is_elsewhere x xs)) (IsCovered (k ∷ dedup_from is_elsewhere x xs)) (covered_more k (dedup_from is_elsewhere x xs)) (x ∷ xs) rest.covered));
+        }
+
+pub once_ordered : (xs : List EntryAt) → ArePlaced xs → AllPairs StandsBefore (dedup is_elsewhere xs)
+once_ordered [] h = λ i j d lt le. absurd (omega (arith, lt, le))
+once_ordered (x ∷ xs) h = (kept_from x xs h).ordered
+
+pub once_covered : (xs : List EntryAt) → ArePlaced xs → All (IsCovered (dedup is_elsewhere xs)) xs
+once_covered [] h = λ i d lt. absurd (omega (arith, lt))
+once_covered (x ∷ xs) h = (kept_from x xs h).covered

@@ -1,0 +1,134 @@
+-- What is retired under a key, and by halving.
+use Rattle.std.proofs.Common.{◌≡◌, ℕ, ◌+◌, ◌<◌, ◌≤◌, Bool, true, false, cond, ◌||◌, ◌&&◌, ◌==◌, not, List, [], ◌∷◌, ◌++◌, length, map, take, drop, get_or, Result, Ok, Err, is_ok, refl, sym, ap, ◌∙◌, subst, inl, inr, arith}
+use Rattle.std.specs.Prelude.{filter, slice_index}
+use Rattle.std.specs.Ordering.{nat_cmp, is_lt, ordering_reverse}
+use Rattle.std.specs.declared.cmp.Ordering.{Ordering}
+use Rattle.std.specs.declared.cmp.Ordering.TheVariants.{Less, Equal, Greater}
+use Rattle.std.specs.Cmp.{tied_itself}
+use Rattle.std.specs.Cmp.Lexicographic.{slice_cmp, nat_list_cmp_total}
+use Rattle.std.specs.List.{HoldsAt, list_any}
+use Rattle.std.specs.List.Sorted.{IsBinarySearchResult, IsPartitionPoint, IsPermutation, IsSearchInRange, IsSortedByKey}
+use Rattle.std.specs.Str.{bytes_eq}
+use Rattle.std.proofs.lemmas.Bool.{and_parts, cases_Bool, cases_lt, false_from_ne_true, false≢true}
+use Rattle.std.proofs.lemmas.List.{append-nil, map-append, take-take, take_more}
+use Rattle.std.proofs.lemmas.List.Concat.{flat_map-append}
+use Rattle.std.proofs.lemmas.List.Elements.{filter-append}
+use Rattle.std.proofs.lemmas.List.Folds.{Any-from_list_any, list_any_at}
+use Rattle.std.proofs.lemmas.List.Sorted.{list_any-IsPermutation, searchable_from_sorted}
+use Rattle.std.proofs.lemmas.Slice.Eq.{bytes_eq-Decides}
+use Rattle.archive_core.specs.Part.{is_under}
+use Rattle.archive_core.proofs.Made.{bytes_same}
+use Rattle.indexed_answers.specs.Among.{all_of, covers, lives_under, subject_of}
+use Rattle.indexed_answers.specs.Told.{admits_under}
+use Rattle.indexed_answers.specs.InnerAnswering.{is_retired, lives_by, retired_of, retires_under}
+use Rattle.indexed_answers.proofs.Lists.{filter_passed, filter_pushed}
+
+-- ---- in another order
+
+pub retired_sorted : (retired sorted : List (List ℕ)) → IsPermutation retired sorted → is_retired sorted ≡ is_retired retired
+retired_sorted retired sorted permuted = λ i e. sym (list_any-IsPermutation (λ subject. bytes_eq subject (subject_of e)) retired sorted permuted) i
+
+pub retired_append : (front : List ℕ) (es fs : List (List ℕ)) → retired_of front (es ++ fs) ≡ retired_of front es ++ retired_of front fs
+retired_append front es fs =
+    ap (map subject_of) (filter-append (retires_under front) es fs) ∙ map-append subject_of (filter (retires_under front) es) (filter (retires_under front) fs)
+
+-- one entry more that retires nothing here, or does
+pub retired_passed : (front : List ℕ) (es : List (List ℕ)) (i : ℕ) (e : List ℕ) → i < length es → e ≡ get_or es i e → retires_under front e ≡ false → retired_of front (take (i + 1) es) ≡ retired_of front (take i es)
+retired_passed front es i e lt is other = ap (map subject_of) (filter_passed (retires_under front) es i e lt is other)
+
+pub retired_pushed : (front : List ℕ) (es : List (List ℕ)) (i : ℕ) (e : List ℕ) → i < length es → e ≡ get_or es i e → retires_under front e ≡ true
+    → retired_of front (take (i + 1) es) ≡ retired_of front (take i es) ++ subject_of e ∷ []
+retired_pushed front es i e lt is here =
+    ap (map subject_of) (filter_pushed (retires_under front) es i e lt is here) ∙ map-append subject_of (filter (retires_under front) (take i es)) (e ∷ [])
+
+-- one index more
+pub all_of_more : (indexes : List (List (List ℕ))) (i : ℕ) (es : List (List ℕ)) → i < length indexes → es ≡ get_or indexes i es → all_of (take (i + 1) indexes) ≡ all_of (take i indexes) ++ es
+all_of_more indexes i es lt is =
+    ap all_of (take_more indexes i es lt) ∙ flat_map-append (λ (zs : List (List ℕ)). zs) (take i indexes) (get_or indexes i es ∷ [])
+    ∙ ap (λ (zs : List (List ℕ)). all_of (take i indexes) ++ zs) (append-nil (get_or indexes i es) ∙ sym is)
+
+pub retired_more : (front : List ℕ) (indexes : List (List (List ℕ))) (i : ℕ) (es : List (List ℕ)) → i < length indexes → es ≡ get_or indexes i es
+    → retired_of front (all_of (take (i + 1) indexes)) ≡ retired_of front (all_of (take i indexes)) ++ retired_of front es
+retired_more front indexes i es lt is = ap (retired_of front) (all_of_more indexes i es lt is) ∙ retired_append front (all_of (take i indexes)) es
+
+-- ---- by halving
+
+module _ (bytes : List ℕ) where
+  abbrev pub place_of : List ℕ → Ordering
+  place_of subject = slice_cmp nat_cmp subject bytes
+
+  abbrev has : List ℕ → Bool
+  has subject = bytes_eq subject bytes
+
+  tied : (subject : List ℕ) → has subject ≡ true → place_of subject ≡ Equal
+  tied subject is = ap (λ (b : List ℕ). slice_cmp nat_cmp b bytes) ((bytes_eq-Decides subject bytes).0 is) ∙ tied_itself nat_list_cmp_total bytes
+
+  not_less : (subject : List ℕ) → has subject ≡ true → place_of subject ≡ Less → ⊥
+  not_less subject is less = false≢true (ap is_lt (sym (tied subject is)) ∙ ap is_lt less)
+
+  not_greater : (subject : List ℕ) → has subject ≡ true → place_of subject ≡ Greater → ⊥
+  not_greater subject is greater = false≢true (ap is_lt (ap ordering_reverse (sym (tied subject is))) ∙ ap is_lt (ap ordering_reverse greater))
+
+  found_at : (subjects : List (List ℕ)) (i : ℕ) → i < length subjects → HoldsAt (λ (subject : List ℕ). place_of subject ≡ Equal) subjects i → list_any has subjects ≡ true
+  found_at [] i lt at = absurd (omega (arith, lt))
+  found_at (subject ∷ subjects) i lt at = list_any_at has (subject ∷ subjects) i subject lt ((bytes_eq-Decides _ bytes).1 (bytes_same _ bytes (at subject)))
+
+  found_nowhere : (subjects : List (List ℕ)) (i : ℕ) → IsPartitionPoint (λ (subject : List ℕ). place_of subject ≡ Less) (λ (subject : List ℕ). place_of subject ≡ Greater) subjects i → list_any has subjects ≡ false
+  found_nowhere subjects i parts = by (list_any has subjects) refl
+    where
+      by : (b : Bool) → list_any has subjects ≡ b → b ≡ false
+      by false is = refl
+      by true is =
+          let any = Any-from_list_any has subjects is in
+          absurd (elim (cases_lt any.0 i) [
+            | inl below ↦ not_less any.1 any.4 (subst (λ (subject : List ℕ). place_of subject ≡ Less) any.3 (parts.0 any.0 any.1 (omega arith) below))
+            | inr above ↦ not_greater any.1 any.4 (subst (λ (subject : List ℕ). place_of subject ≡ Greater) any.3 (parts.1 any.0 any.1 above any.2))
+          ])
+
+  -- what a search among keys in their order finds
+  pub found : (subjects : List (List ℕ)) (r : Result ℕ ℕ) → IsSortedByKey (λ subject. subject) (slice_cmp nat_cmp) subjects → IsSearchInRange r (length subjects) → IsBinarySearchResult place_of subjects r → is_ok r ≡ list_any has subjects
+  found subjects (Ok i) sorted lt at = sym (found_at subjects i lt at)
+  found subjects (Err i) sorted le parted = sym (found_nowhere subjects i (parted (searchable_from_sorted nat_list_cmp_total (λ subject. subject) subjects bytes sorted)))
+
+-- ---- of an admission under the same key
+
+module _ (front e : List ℕ) (long : length front ≡ 24) (under : admits_under front e ≡ true) where
+  same_key : (r : List ℕ) → subject_of r ≡ subject_of e → is_under front r ≡ true
+  unfolding is_under
+  same_key r same =
+      let here : bytes_eq front (take (length front) (drop 1 e)) ≡ true = (and_parts (slice_index e 0 == 2) (bytes_eq front (take (length front) (drop 1 e))) under).1 in
+      let shorter : length front ≤ 56 = omega (arith, long) in
+      let key : take (length front) (drop 1 r) ≡ take (length front) (drop 1 e) =
+      sym (take-take (length front) 56 (drop 1 r) shorter) ∙ ap (take (length front)) same ∙ take-take (length front) 56 (drop 1 e) shorter in
+      ap (bytes_eq front) key ∙ here
+
+  covers_under : (r : List ℕ) → retires_under front r ≡ false → covers e r ≡ false
+  covers_under r other =
+      false_from_ne_true (covers e r)
+      (λ is.
+      let p = and_parts (slice_index r 0 == 1) (bytes_eq (subject_of r) (subject_of e)) is in
+      let key = same_key r ((bytes_eq-Decides (subject_of r) (subject_of e)).0 p.1) in
+      false≢true (sym other ∙ (λ i. p.0 i && key i)))
+
+  covers_here : (r : List ℕ) → retires_under front r ≡ true → bytes_eq (subject_of r) (subject_of e) ≡ covers e r
+  covers_here r is = ap (λ b. b && bytes_eq (subject_of r) (subject_of e)) (sym (and_parts (slice_index r 0 == 1) (is_under front r) is).0)
+
+  -- it is retired where a retirement of these covers it
+  pub retired_is : (all : List (List ℕ)) → is_retired (retired_of front all) e ≡ list_any (covers e) all
+  retired_is [] = refl
+  retired_is (r ∷ all) = elim (cases_Bool (retires_under front r)) [
+    | inl t ↦
+        ap (λ b. is_retired (map subject_of (cond b (r ∷ filter (retires_under front) all) (filter (retires_under front) all))) e) t
+        ∙ (λ i. covers_here r t i || retired_is all i)
+    | inr f ↦
+        ap (λ b. is_retired (map subject_of (cond b (r ∷ filter (retires_under front) all) (filter (retires_under front) all))) e) f
+        ∙ retired_is all
+        ∙ sym (ap (λ b. b || list_any (covers e) all) (covers_under r f))
+  ]
+
+-- what lives is the same by what is retired and by all entries
+pub lives_is : (front : List ℕ) (all retired : List (List ℕ)) → length front ≡ 24 → is_retired retired ≡ is_retired (retired_of front all) → (e : List ℕ) → lives_by front retired e ≡ lives_under front all e
+lives_is front all retired long same e = elim (cases_Bool (admits_under front e)) [
+  | inl t ↦ ap (λ b. admits_under front e && not b) ((λ i. same i e) ∙ retired_is front e long t all)
+  | inr f ↦ ap (λ b. b && not (is_retired retired e)) f ∙ sym (ap (λ b. b && not (list_any (covers e) all)) f)
+]

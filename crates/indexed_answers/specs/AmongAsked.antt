@@ -1,0 +1,89 @@
+-- What comes of asking entries of several indexes.
+use Rattle.std.specs.Prelude.{◌≡◌, ◌<◌, ◌^◌, ℕ, List, All, Contains, length, map, slice_get, slice_set}
+use Rattle.std.specs.Prelude.{Option, Some, Result, Ok, Err, MatchResult}
+use Rattle.std.specs.List.{AllZip}
+use Rattle.byte_device.specs.Devices.{FailedIn}
+use Rattle.byte_device.specs.declared.disks.CannotOpen.{CannotOpen}
+use Rattle.checked_pages.specs.Pages.{AreStored}
+use Rattle.symbol_tables.specs.Table.{IsTableText}
+use Rattle.table_index.specs.Entry.{claim_in}
+use Rattle.indexed_answers.specs.Among.{EntryAt}
+use Rattle.indexed_answers.specs.declared.fault.AnswerFault.{AnswerFault}
+use Rattle.indexed_answers.specs.declared.fault.AnswerFault.TheVariants.{Damaged, Device, OutOfMemory}
+
+-- what is known of a device, if it was opened
+abbrev pub known_of : {D V : Type 0} → (D → V) → Result D CannotOpen → Result V CannotOpen
+known_of known (Ok device) = Ok (known device)
+known_of known (Err reason) = Err reason
+
+-- what is known of each
+abbrev pub each_known : {D V : Type 0} → (D → V) → List (Result D CannotOpen) → List (Result V CannotOpen)
+each_known known devices = map (known_of known) devices
+
+-- a device that was opened is known to have these bytes
+abbrev pub HasText : Result (Option (List ℕ)) CannotOpen → List ℕ → Type 0
+HasText (Ok known) text = known ≡ Some text
+HasText (Err reason) text = Unit {0}
+
+-- the device of each index has its bytes
+abbrev pub HaveTexts : {D : Type 0} → (D → Option (List ℕ)) → List (Result D CannotOpen) → List (List ℕ) → Type 0
+HaveTexts whole devices texts = AllZip HasText (each_known whole devices) texts
+
+-- the device of this number is there, and was opened
+abbrev pub IsOpenedAt : {D : Type 0} → List (Result D CannotOpen) → ℕ → Type 0
+IsOpenedAt {D} devices input = (device : D) × (slice_get devices input ≡ Some (Ok device))
+
+-- those of the indexes in which these entries stand are
+abbrev pub AreOpened : {D : Type 0} → List (Result D CannotOpen) → List EntryAt → Type 0
+AreOpened devices xs = All (λ x. IsOpenedAt devices x.input) xs
+
+-- no table of a slice is stored where the entry says
+abbrev pub HasNoTable : List ℕ → List ℕ → Type 0
+HasNoTable text e = length text < 2 ^ 64 → (slice table : List ℕ) → IsTableText slice table
+    → AreStored text (claim_in e) table → ⊥
+
+-- the entry of these numbers is among those that answer, and no table is stored where it says
+pub record IsDamagedAt (texts : List (List ℕ)) (answering : List EntryAt) (input number : ℕ) : Type 0 where
+  pub entry : List ℕ
+  pub answers : Contains answering (record { input = input; number = number; entry = entry })
+  pub text : List ℕ
+  pub text_is : slice_get texts input ≡ Some text
+  pub absent : HasNoTable text entry
+
+-- the table of one of the entries that answer is to be read in this index, from this offset on
+pub record IsAskedAt (answering : List EntryAt) (input offset : ℕ) : Type 0 where
+  pub number : ℕ
+  pub entry : List ℕ
+  pub answers : Contains answering (record { input = input; number = number; entry = entry })
+  pub offset_is : offset ≡ (claim_in entry).offset
+
+-- what a fault says of the texts
+abbrev pub IsUntoldAmong : List (List ℕ) → List EntryAt → AnswerFault → Type 0
+IsUntoldAmong texts answering (Damaged input number) = IsDamagedAt texts answering input number
+IsUntoldAmong texts answering (Device input offset) = Unit {0}
+IsUntoldAmong texts answering OutOfMemory = Unit {0}
+
+-- the device of this number failed once, and no other did
+pub record FailedAt (input : ℕ) (olds news : List (Result ℕ CannotOpen)) : Type 0 where
+  pub old : ℕ
+  pub new : ℕ
+  pub old_is : slice_get olds input ≡ Some (Ok old)
+  pub failed : FailedIn old new
+  pub others : news ≡ slice_set olds input (Ok new)
+
+-- what a fault says of the failures of the devices
+abbrev pub BlamesAmong : List EntryAt → List (Result ℕ CannotOpen) → List (Result ℕ CannotOpen) → AnswerFault → Type 0
+BlamesAmong answering olds news (Damaged input number) = news ≡ olds
+BlamesAmong answering olds news (Device input offset) = IsAskedAt answering input offset × FailedAt input olds news
+BlamesAmong answering olds news OutOfMemory = news ≡ olds
+
+-- What came of asking these entries: what is told is true of the texts that the devices are known to have. Each device
+-- stays opened or not, and keeps its bytes.
+pub record AsksAmong {D T : Type 0} (whole : D → Option (List ℕ)) (failures : D → ℕ) (answering : List EntryAt)
+    (old new : List (Result D CannotOpen)) (result : Result T AnswerFault) (IsTrue : List (List ℕ) → T → Type 0)
+    : Type 0 where
+  pub says : (texts : List (List ℕ)) → HaveTexts whole old texts
+      → MatchResult result (IsTrue texts) (IsUntoldAmong texts answering)
+  pub keeps : each_known whole new ≡ each_known whole old
+  pub counts : MatchResult result (λ _. each_known failures new ≡ each_known failures old)
+      (BlamesAmong answering (each_known failures old) (each_known failures new))

@@ -1,0 +1,117 @@
+//! The entries that live under a key.
+
+ghost use Rattle.std.specs.Prelude.{◌≡◌, ◌++◌, ◌<◌, ◌^◌, All, IfOk, OnOk, filter, length, map};
+ghost use Rattle.std.specs.List.{list_any};
+ghost use Rattle.std.specs.List.Sorted.{IsSortedByKey};
+ghost use Rattle.std.specs.Ordering.{nat_cmp};
+ghost use Rattle.std.specs.Cmp.Lexicographic.{slice_cmp};
+ghost use Rattle.table_index.specs.Entry.{HasItsFields, entry_bytes};
+ghost use Rattle.indexed_answers.specs.Among.{all_of, answers_among, lives_under};
+ghost use Rattle.indexed_answers.specs.Told.{is_companion};
+ghost use Rattle.indexed_answers.specs.InnerAnswering.{all_at, entries_at, entry_at, lives_by};
+
+use crate::numbered::Numbered;
+use crate::retired::{is_retired, retired_under};
+use crate::words::{admits_under, is_companion};
+use memory::{Heap, NoMemory};
+use table_index::{TableEntry, TableIndex};
+
+/// Whether an entry is that of a slice under these bytes that is not among those which are retired.
+fn lives(front: &[u8], retired: &[[u8; 56]], entry: &TableEntry) -> bool
+    requires front { length front.now ≡ 24 }
+    requires sorted { IsSortedByKey (λ subject. subject) (slice_cmp nat_cmp) retired.now }
+    ensures { result ≡ lives_by front.now retired.now (entry_bytes entry.now) }
+{
+    admits_under(front, entry) && !is_retired(retired, entry)
+}
+
+/// Adds the entries of the index of this number that live under these bytes, in their order.
+fn gather(
+    front: &[u8],
+    retired: &[[u8; 56]],
+    input: u64,
+    entries: &[TableEntry],
+    live: &mut Vec<Numbered, Heap>,
+) -> Result<(), NoMemory>
+    requires front { length front.now ≡ 24 }
+    requires sorted { IsSortedByKey (λ subject. subject) (slice_cmp nat_cmp) retired.now }
+    requires fields { All HasItsFields entries.now }
+    ensures { OnOk result (map entry_at live.new.items ≡ map entry_at live.old.items
+        ++ filter (λ x. lives_by front.now retired.now x.entry) (entries_at input 0 (map entry_bytes entries.now))) }
+{
+    'entries: for (number, entry) in entries.iter().enumerate() {
+        if !lives(front, retired, entry) {
+            continue 'entries;
+        }
+        live.push(Numbered {
+            input,
+            number: number as u64,
+            entry: *entry,
+        })?;
+    }
+    Ok(())
+}
+
+/// The entries of several indexes that live under these bytes, by what is retired.
+fn live_besides(
+    heap: Heap,
+    front: &[u8],
+    retired: &[[u8; 56]],
+    indexes: &[TableIndex],
+) -> Result<Vec<Numbered, Heap>, NoMemory>
+    requires front { length front.now ≡ 24 }
+    requires sorted { IsSortedByKey (λ subject. subject) (slice_cmp nat_cmp) retired.now }
+    ensures { IfOk result (λ live. map entry_at live.items
+        ≡ filter (λ x. lives_by front.now retired.now x.entry) (all_at 0 indexes.now)) }
+{
+    let mut live = Vec::new(heap);
+    'indexes: for (input, index) in indexes.iter().enumerate() {
+        gather(front, retired, input as u64, index.entries(), &mut live)?;
+    }
+    Ok(live)
+}
+
+/// The entries of several indexes that live under these bytes, in their order.
+pub(crate) fn live_under(
+    heap: &Heap,
+    front: &[u8],
+    indexes: &[TableIndex],
+) -> Result<Vec<Numbered, Heap>, NoMemory>
+    requires { length front.now ≡ 24 }
+    ensures { IfOk result (λ live. map entry_at live.items
+        ≡ filter (λ x. lives_under front.now (all_of indexes.now) x.entry) (all_at 0 indexes.now)) }
+{
+    let retired = retired_under(heap.clone()?, front, indexes)?;
+    live_besides(heap.clone()?, front, &retired, indexes)
+}
+
+/// Whether one of these entries is that of a companion.
+fn has_companion(live: &[Numbered]) -> bool
+    ensures { result ≡ list_any (λ n. is_companion (entry_bytes n.entry)) live.now }
+{
+    live.iter().any(|numbered| is_companion(&numbered.entry))
+}
+
+/// Leaves the companions.
+fn keep_companions(live: &mut Vec<Numbered, Heap>)
+    ensures { live.new.items ≡ filter (λ n. is_companion (entry_bytes n.entry)) live.old.items }
+{
+    live.retain(|numbered| is_companion(&numbered.entry));
+}
+
+/// The entries of several indexes that answer under these bytes, in their order.
+pub(crate) fn answering_under(
+    heap: &Heap,
+    front: &[u8],
+    indexes: &[TableIndex],
+) -> Result<Vec<Numbered, Heap>, NoMemory>
+    requires { length front.now ≡ 24 }
+    ensures { IfOk result (λ found. map entry_at found.items
+        ≡ filter (λ x. answers_among front.now (all_of indexes.now) x.entry) (all_at 0 indexes.now)) }
+{
+    let mut live = live_under(heap, front, indexes)?;
+    if has_companion(&live) {
+        keep_companions(&mut live);
+    }
+    Ok(live)
+}

@@ -1,0 +1,76 @@
+//! The order of the records of entries, and whether the entries tell it.
+
+ghost use Rattle.std.specs.Prelude.{◌≡◌, ◌&&◌, ◌||◌, not, map, take};
+ghost use Rattle.std.specs.Str.{bytes_eq};
+ghost use Rattle.std.specs.Bool.{MatchBool};
+ghost use Rattle.std.specs.List.{AllPairs, dedup};
+ghost use Rattle.std.specs.List.Sorted.{IsPermutation, IsSortedByKey};
+ghost use Rattle.std.specs.Ordering.{nat_cmp};
+ghost use Rattle.std.specs.Cmp.Lexicographic.{slice_cmp};
+ghost use Rattle.indexed_answers.specs.InnerAnswering.{HaveOrder, HaveTie, entry_at, is_elsewhere, place_in};
+
+use crate::numbered::Numbered;
+use crate::words::{are_of_one_slice, have_one_length, is_elsewhere, place_of};
+use memory::Heap;
+use std::cmp::Ordering;
+
+/// Compares two entries by their places.
+fn compare(numbered: &Numbered, other: &Numbered) -> Ordering
+    ensures { result ≡ slice_cmp nat_cmp (place_in (entry_at numbered.now)) (place_in (entry_at other.now)) }
+{
+    place_of(numbered)[..].cmp(&place_of(other)[..])
+}
+
+/// Sorts entries by the lengths of their records, then by their indexes, and then by where the records stand.
+pub(crate) fn put_by_place(entries: &mut Vec<Numbered, Heap>)
+    ensures moved { IsPermutation (map entry_at entries.old.items) (map entry_at entries.new.items) }
+    ensures sorted { IsSortedByKey place_in (slice_cmp nat_cmp) (map entry_at entries.new.items) }
+{
+    entries.sort_unstable_by(|a, b| compare(a, b));
+}
+
+/// Whether two of the entries of one length are of two slices: two before this one, or it and the first.
+fn differ_now(differ: bool, first: &Numbered, next: &Numbered) -> bool
+    ensures { result ≡ (differ
+        || not (bytes_eq (take 57 (entry_at first.now).entry) (take 57 (entry_at next.now).entry))) }
+{
+    differ || !are_of_one_slice(&first.entry, &next.entry)
+}
+
+/// Whether an entry that differs stands in another index than the first of its length.
+fn ties(differ: bool, first: &Numbered, next: &Numbered) -> bool
+    ensures { result ≡ (differ && is_elsewhere (entry_at next.now) (entry_at first.now)) }
+{
+    differ && is_elsewhere(next, first)
+}
+
+/// Whether two entries of one length stand in two indexes and are of two slices.
+pub(crate) fn are_tied(entries: &[Numbered]) -> bool
+    requires { IsSortedByKey place_in (slice_cmp nat_cmp) (map entry_at entries.now) }
+    ensures { MatchBool result (HaveTie (map entry_at entries.now)) (AllPairs HaveOrder (map entry_at entries.now)) }
+{
+    let Some(first) = entries.first() else {
+        return false;
+    };
+    let mut first = *first;
+    let mut differ = false;
+    'entries: for next in entries {
+        if !have_one_length(next, &first) {
+            first = *next;
+            differ = false;
+            continue 'entries;
+        }
+        differ = differ_now(differ, &first, next);
+        if ties(differ, &first, next) {
+            return true;
+        }
+    }
+    false
+}
+
+/// Leaves of the entries of one length those of the first index.
+pub(crate) fn keep_once(entries: &mut Vec<Numbered, Heap>)
+    ensures { map entry_at entries.new.items ≡ dedup is_elsewhere (map entry_at entries.old.items) }
+{
+    entries.dedup_by(|next, kept| is_elsewhere(next, kept));
+}

@@ -1,0 +1,83 @@
+//! What the retirements under a key are of.
+
+ghost use Rattle.std.specs.Prelude.{◌≡◌, ◌++◌, All, IfOk, OnOk, length, map};
+ghost use Rattle.std.specs.List.Sorted.{IsPermutation, IsSortedByKey};
+ghost use Rattle.std.specs.Ordering.{nat_cmp};
+ghost use Rattle.std.specs.Cmp.Lexicographic.{slice_cmp};
+ghost use Rattle.table_index.specs.Entry.{entry_bytes};
+ghost use Rattle.indexed_answers.specs.Among.{all_of};
+ghost use Rattle.indexed_answers.specs.InnerAnswering.{is_retired, retired_of};
+
+use crate::words::{retires_under, subject_of};
+use memory::{Heap, NoMemory};
+use std::cmp::Ordering;
+use table_index::{TableEntry, TableIndex};
+
+/// Compares two keys with their digests.
+fn compare(subject: &[u8; 56], other: &[u8; 56]) -> Ordering
+    ensures { result ≡ slice_cmp nat_cmp subject.now other.now }
+{
+    subject[..].cmp(&other[..])
+}
+
+/// Adds what the retirements of an index under these bytes are of.
+fn gather(
+    front: &[u8],
+    entries: &[TableEntry],
+    retired: &mut Vec<[u8; 56], Heap>,
+) -> Result<(), NoMemory>
+    requires { length front.now ≡ 24 }
+    ensures { OnOk result (retired.new.items
+        ≡ retired.old.items ++ retired_of front.now (map entry_bytes entries.now)) }
+{
+    'entries: for entry in entries {
+        if !retires_under(front, entry) {
+            continue 'entries;
+        }
+        retired.push(subject_of(entry))?;
+    }
+    Ok(())
+}
+
+/// What the retirements of several indexes under these bytes are of, in the order of their entries.
+fn gathered(
+    heap: Heap,
+    front: &[u8],
+    indexes: &[TableIndex],
+) -> Result<Vec<[u8; 56], Heap>, NoMemory>
+    requires { length front.now ≡ 24 }
+    ensures { IfOk result (λ retired. retired.items ≡ retired_of front.now (all_of indexes.now)) }
+{
+    let mut retired = Vec::new(heap);
+    'indexes: for index in indexes {
+        gather(front, index.entries(), &mut retired)?;
+    }
+    Ok(retired)
+}
+
+/// What the retirements of several indexes under these bytes are of, in the order of its bytes.
+pub(crate) fn retired_under(
+    heap: Heap,
+    front: &[u8],
+    indexes: &[TableIndex],
+) -> Result<Vec<[u8; 56], Heap>, NoMemory>
+    requires { length front.now ≡ 24 }
+    ensures same { IfOk result (λ retired.
+        is_retired retired.items ≡ is_retired (retired_of front.now (all_of indexes.now))) }
+    ensures sorted { IfOk result (λ retired. IsSortedByKey (λ subject. subject) (slice_cmp nat_cmp) retired.items) }
+{
+    let mut retired = gathered(heap, front, indexes)?;
+    retired.sort_unstable_by(|a, b| compare(a, b));
+    Ok(retired)
+}
+
+/// Whether what an entry is of is among these. It is found by halving.
+pub(crate) fn is_retired(retired: &[[u8; 56]], entry: &TableEntry) -> bool
+    requires { IsSortedByKey (λ subject. subject) (slice_cmp nat_cmp) retired.now }
+    ensures { result ≡ is_retired retired.now (entry_bytes entry.now) }
+{
+    let sought = subject_of(entry);
+    retired
+        .binary_search_by(|subject| compare(subject, &sought))
+        .is_ok()
+}

@@ -1,0 +1,94 @@
+//! What an entry says.
+
+ghost use Rattle.std.specs.Prelude.{◌≡◌, ◌==◌, ◌&&◌, length, take};
+ghost use Rattle.std.specs.Str.{bytes_eq};
+ghost use Rattle.archive_index.specs.Entry.{length_in};
+ghost use Rattle.table_index.specs.Entry.{entry_bytes};
+ghost use Rattle.indexed_answers.specs.Among.{subject_of};
+ghost use Rattle.indexed_answers.specs.Told.{admits_under, is_companion};
+ghost use Rattle.indexed_answers.specs.InnerAnswering.{entry_at, is_elsewhere, place_in, retires_under};
+
+use crate::numbered::Numbered;
+use table_index::TableEntry;
+
+/// The tag of a retirement.
+const RETIREMENT: u8 = 1;
+
+/// The tag of an admission.
+const ADMISSION: u8 = 2;
+
+/// How many bytes the tag, the key and the digest of an entry are.
+const SLICE_LEN: usize = 57;
+
+/// Whether an entry is that of an admission, and its key begins with these bytes.
+#[tactic(auto, unfolding(archive_core::specs::Part::is_under))]
+pub(crate) fn admits_under(front: &[u8], entry: &TableEntry) -> bool
+    requires { length front.now ≡ 24 }
+    ensures { result ≡ admits_under front.now (entry_bytes entry.now) }
+{
+    let bytes = entry.bytes();
+    bytes[0] == ADMISSION && front == &bytes[1..25]
+}
+
+/// Whether an entry is that of a retirement, and its key begins with these bytes.
+#[tactic(auto, unfolding(archive_core::specs::Part::is_under))]
+pub(crate) fn retires_under(front: &[u8], entry: &TableEntry) -> bool
+    requires { length front.now ≡ 24 }
+    ensures { result ≡ retires_under front.now (entry_bytes entry.now) }
+{
+    let bytes = entry.bytes();
+    bytes[0] == RETIREMENT && front == &bytes[1..25]
+}
+
+/// The key and the digest of an entry.
+pub(crate) fn subject_of(entry: &TableEntry) -> [u8; 56]
+    ensures { result ≡ subject_of (entry_bytes entry.now) }
+{
+    let mut subject = [0; 56];
+    subject.copy_from_slice(&entry.bytes()[1..SLICE_LEN]);
+    subject
+}
+
+/// Whether an entry is that of a companion.
+pub(crate) fn is_companion(entry: &TableEntry) -> bool
+    ensures { result ≡ is_companion (entry_bytes entry.now) }
+{
+    entry.bytes()[57] == 1
+}
+
+/// Whether the fronts of two entries are the same: they are of one slice.
+fn have_one_front(bytes: &[u8; 122], other: &[u8; 122]) -> bool
+    ensures { result ≡ bytes_eq (take 57 bytes.now) (take 57 other.now) }
+{
+    bytes[..SLICE_LEN].cmp(&other[..SLICE_LEN]).is_eq()
+}
+
+/// Whether two entries are of one slice.
+pub(crate) fn are_of_one_slice(entry: &TableEntry, other: &TableEntry) -> bool
+    ensures { result ≡ bytes_eq (take 57 (entry_bytes entry.now)) (take 57 (entry_bytes other.now)) }
+{
+    have_one_front(&entry.bytes(), &other.bytes())
+}
+
+/// By what entries are sorted: the length of the record, the index, and where the record stands.
+pub(crate) fn place_of(numbered: &Numbered) -> [u64; 3]
+    ensures { result ≡ place_in (entry_at numbered.now) }
+{
+    let placed = &numbered.entry.placed;
+    [placed.length, numbered.input, placed.offset]
+}
+
+/// Whether the records of two entries have one length.
+pub(crate) fn have_one_length(numbered: &Numbered, other: &Numbered) -> bool
+    ensures { result ≡ (length_in (entry_at numbered.now).entry == length_in (entry_at other.now).entry) }
+{
+    numbered.entry.placed.length == other.entry.placed.length
+}
+
+/// Whether the records of two entries have one length, and stand in two archives.
+#[tactic(auto, unfolding(crate::specs::InnerAnswering::is_elsewhere))]
+pub(crate) fn is_elsewhere(numbered: &Numbered, other: &Numbered) -> bool
+    ensures { result ≡ is_elsewhere (entry_at numbered.now) (entry_at other.now) }
+{
+    have_one_length(numbered, other) && numbered.input != other.input
+}

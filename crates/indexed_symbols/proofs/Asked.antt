@@ -1,0 +1,112 @@
+-- What comes of asking tables, key by key.
+use Rattle.std.proofs.Common.{◌≡◌, ℕ, zero, suc, ◌+◌, ◌<◌, Bool, false, List, [], ◌∷◌, length, map, get_or, Option, Some, None, Result, Ok, Err, refl, sym, ap, ◌∙◌, subst, arith, inl, inr}
+use Rattle.std.specs.Prelude.{MatchResult, slice_get}
+use Rattle.std.specs.List.{All, AllZip, Contains}
+use Rattle.std.proofs.lemmas.Option.{get_or_from_slice_get, slice_get_within}
+use Rattle.byte_device.specs.declared.disks.CannotOpen.{CannotOpen}
+use Rattle.archive_core.specs.Key.{key_bytes}
+use Rattle.archive_core.specs.declared.keys.SliceKey.{SliceKey}
+use Rattle.archive_core.specs.declared.lookup.Where.{Where}
+use Rattle.archive_core.proofs.Members.{in_map, to_map}
+use Rattle.crash_frames.specs.declared.frame.Frame.{Frame}
+use Rattle.command_ends.specs.Inputs.{IsRefusal}
+use Rattle.command_ends.specs.declared.faults.CommandFault.{CommandFault}
+use Rattle.command_ends.specs.declared.faults.CommandFault.TheVariants.{Input, Output, Report, OutOfMemory}
+use Rattle.indexed_answers.specs.Among.{AreAnsweringAmong, AreTied, EntryAt}
+use Rattle.indexed_answers.specs.AmongAsked.{AsksAmong, BlamesAmong, HasText, HaveTexts, IsUntoldAmong, each_known}
+use Rattle.indexed_answers.specs.AmongTold.{IsAnswerAmong}
+use Rattle.indexed_answers.specs.Views.{IsColumnAt, answer_of, row_at}
+use Rattle.indexed_answers.specs.declared.answers.Answers.{Answers}
+use Rattle.indexed_answers.specs.declared.answers.EntryAnswers.{EntryAnswers}
+use Rattle.indexed_answers.specs.declared.fault.AnswerFault.{AnswerFault}
+use Rattle.indexed_answers.specs.declared.fault.AnswerFault.TheVariants as answer
+use Rattle.indexed_symbols.specs.Asking.{AreTiedUnder, WantsSlices}
+use Rattle.indexed_symbols.specs.Frames.{keys_of}
+use Rattle.indexed_symbols.specs.InnerAsking.{IsUntoldBy, NoneFailed, command_fault}
+use Rattle.indexed_symbols.specs.InnerPlaces.{AreAskedOf}
+use Rattle.indexed_symbols.specs.InnerTold.{AreToldOf, IsToldUnder, answer_at}
+use Rattle.indexed_symbols.specs.declared.places.AskedPlace.{AskedPlace}
+use Rattle.indexed_symbols.specs.declared.told.KeyAnswers.{KeyAnswers}
+
+-- one key is among one
+pub one_key : (key : List ℕ) → Contains (key ∷ []) key
+one_key key = (0, omega arith, refl)
+
+only_key : (key other : List ℕ) → Contains (key ∷ []) other → key ≡ other
+only_key key other (zero, lt, e) = e
+only_key key other (suc n, lt, e) = absurd (omega (arith, lt))
+
+-- ---- under one key
+
+module _ {D : Type 0} (whole : D → Option (List ℕ)) (failures : D → ℕ) (key : SliceKey) (all : List (List (List ℕ))) (answering : List EntryAt) (are : AreAnsweringAmong (key_bytes key) all answering) (old new : List (Result D CannotOpen)) (places : List Where) where
+  abbrev AreColumns : List (List ℕ) → Answers → Type 0
+  AreColumns texts answers = AllZip (IsColumnAt texts places) answering answers.columns.items
+
+  -- each column tells of each place
+  pub told_of : (answers : Answers) → AsksAmong whole failures answering old new (Ok answers) AreColumns
+      → ((texts : List (List ℕ)) (indexes : List (List (List ℕ))) (front : List ℕ) (answering : List EntryAt) (asked : List Where) (columns : List EntryAnswers) (number : ℕ) (none : Where)
+      → AreAnsweringAmong front indexes answering → AllZip (IsColumnAt texts asked) answering columns → number < length asked → IsAnswerAmong texts indexes front (get_or asked number none) (answer_of (map (row_at number) columns)))
+      → AreToldOf (HaveTexts whole old) all key places answers
+  told_of answers asks law = λ texts have number place at.
+      let is : get_or places number place ≡ place = get_or_from_slice_get places number place place at in
+      subst (λ (p : Where). IsAnswerAmong texts all (key_bytes key) p (answer_at answers number)) is
+      (law texts all (key_bytes key) answering places answers.columns.items number place are (asks.says texts have) (slice_get_within places number place at))
+
+  -- a fault is told
+  pub fault_told : (fault : AnswerFault) → AsksAmong whole failures answering old new (Err fault) AreColumns → IsRefusal (IsUntoldBy whole failures (key_bytes key ∷ []) all old new) (NoneFailed failures old new) (command_fault fault)
+  fault_told (answer.Damaged input number) asks = record { key = key_bytes key; key_is = one_key (key_bytes key); answering = answering; are = are; fault = answer.Damaged input number; told_as = refl; says = asks.says; counts = asks.counts }
+  fault_told (answer.Device input offset) asks = record { key = key_bytes key; key_is = one_key (key_bytes key); answering = answering; are = are; fault = answer.Device input offset; told_as = refl; says = asks.says; counts = asks.counts }
+  fault_told answer.OutOfMemory asks = asks.counts
+
+-- ---- key by key
+
+module _ {D : Type 0} (whole : D → Option (List ℕ)) (failures : D → ℕ) (all : List (List (List ℕ))) (first mid : List (Result D CannotOpen)) (texts_kept : each_known whole mid ≡ each_known whole first) where
+  -- what is true of later states is true of the first
+  pub true_first : (one : KeyAnswers) → IsToldUnder (HaveTexts whole mid) all one → IsToldUnder (HaveTexts whole first) all one
+  true_first one told = λ texts have. told texts (subst (λ (ds : List (Result (Option (List ℕ)) CannotOpen)). AllZip HasText ds texts) (sym texts_kept) have)
+
+  pub untold_first : (counts_kept : each_known failures mid ≡ each_known failures first) (new : List (Result D CannotOpen)) (key : List ℕ) (keys : List (List ℕ)) (fault : CommandFault) → Contains keys key
+      → IsRefusal (IsUntoldBy whole failures (key ∷ []) all mid new) (NoneFailed failures mid new) fault → IsRefusal (IsUntoldBy whole failures keys all first new) (NoneFailed failures first new) fault
+  untold_first counts_kept new key keys (Input at why) there r = record {
+    key = r.key;
+    key_is = subst (Contains keys) (only_key key r.key r.key_is) there;
+    answering = r.answering;
+    are = r.are;
+    fault = r.fault;
+    told_as = r.told_as;
+    says = λ texts have. r.says texts (subst (λ (ds : List (Result (Option (List ℕ)) CannotOpen)). AllZip HasText ds texts) (sym texts_kept) have);
+    counts = subst (λ (olds : List (Result ℕ CannotOpen)). BlamesAmong r.answering olds (each_known failures new) r.fault) counts_kept r.counts;
+  }
+  untold_first counts_kept new key keys (Output n) there r = absurd r
+  untold_first counts_kept new key keys (Report n) there r = absurd r
+  untold_first counts_kept new key keys OutOfMemory there r = r ∙ counts_kept
+
+-- ---- the keys of frames
+
+abbrev keys_asked : List AskedPlace → List (List ℕ)
+keys_asked asked = map (λ (one : AskedPlace). key_bytes one.key) asked
+
+module _ (frames : List Frame) (asked : List AskedPlace) (of : AreAskedOf frames asked) where
+  among_frames : (key : List ℕ) → Contains (keys_asked asked) key → Contains (keys_of frames) key
+  among_frames key there =
+      let one = in_map (λ (a : AskedPlace). key_bytes a.key) asked key there in
+      let frame = of.of_frames one.0 one.1 in
+      let same : key ≡ key_bytes frame.0.key = one.2 ∙ ap (λ (a : AskedPlace). key_bytes a.key) frame.2 in
+      subst (Contains (keys_of frames)) (sym same) (to_map (λ (f : Frame). key_bytes f.key) frames frame.0 frame.1)
+
+  pub tied_of_frames : (lines : Bool) (all : List (List (List ℕ))) → AreTiedUnder (keys_asked asked) all → WantsSlices lines (keys_of frames) all
+  tied_of_frames lines all (key, there, tied) = inr (key, among_frames key there, tied)
+
+  pub untold_of_frames : {D : Type 0} (whole : D → Option (List ℕ)) (failures : D → ℕ) (lines : Bool) (all : List (List (List ℕ))) (old new : List (Result D CannotOpen)) (fault : CommandFault) → lines ≡ false
+      → IsRefusal (IsUntoldBy whole failures (keys_asked asked) all old new) (NoneFailed failures old new) fault → IsRefusal (λ at why. (lines ≡ false) × IsUntoldBy whole failures (keys_of frames) all old new at why) (NoneFailed failures old new) fault
+  untold_of_frames whole failures lines all old new (Input at why) none r = (none, record { key = r.key; key_is = among_frames r.key r.key_is; answering = r.answering; are = r.are; fault = r.fault; told_as = r.told_as; says = r.says; counts = r.counts })
+  untold_of_frames whole failures lines all old new (Output n) none r = absurd r
+  untold_of_frames whole failures lines all old new (Report n) none r = absurd r
+  untold_of_frames whole failures lines all old new OutOfMemory none r = r
+
+pub untold_of_key : {D : Type 0} (whole : D → Option (List ℕ)) (failures : D → ℕ) (lines : Bool) (keys : List (List ℕ)) (all : List (List (List ℕ))) (old new : List (Result D CannotOpen)) (fault : CommandFault) → lines ≡ false
+    → IsRefusal (IsUntoldBy whole failures keys all old new) (NoneFailed failures old new) fault → IsRefusal (λ at why. (lines ≡ false) × IsUntoldBy whole failures keys all old new at why) (NoneFailed failures old new) fault
+untold_of_key whole failures lines keys all old new (Input at why) none r = (none, r)
+untold_of_key whole failures lines keys all old new (Output n) none r = absurd r
+untold_of_key whole failures lines keys all old new (Report n) none r = absurd r
+untold_of_key whole failures lines keys all old new OutOfMemory none r = r

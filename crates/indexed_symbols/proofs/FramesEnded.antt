@@ -1,0 +1,107 @@
+-- How `frames` ends, by tables or by slices.
+use Rattle.std.proofs.Common.{◌≡◌, ℕ, ◌⊎◌, Bool, false, List, [], ◌∷◌, length, Option, Result, Ok, Err, inl, inr}
+use Rattle.std.specs.List.{AllZip}
+use Rattle.byte_device.specs.declared.disks.CannotOpen.{CannotOpen}
+use Rattle.archive_core.specs.Content.{HaveSameMembers}
+use Rattle.archive_queries.specs.Frames.{TellsFrames}
+use Rattle.archive_queries.specs.Symbolicate.{Answered}
+use Rattle.crash_frames.specs.Frames.{frames_of}
+use Rattle.crash_frames.specs.declared.frame.Frame.{Frame}
+use Rattle.command_ends.specs.Ends.{EndsReport}
+use Rattle.command_ends.specs.Inputs.{Reader, readers, EachUnfailed, EachUntouched, Gives, IsRefusal, IsRefusedFrames, Unfailed}
+use Rattle.command_ends.specs.Outputs.{Takes, Writer}
+use Rattle.command_ends.specs.declared.faults.CommandFault.{CommandFault}
+use Rattle.command_ends.specs.declared.faults.CommandFault.TheVariants.{Input, Output, Report, OutOfMemory}
+use Rattle.command_ends.specs.declared.faults.Status.{Status}
+use Rattle.indexed_answers.specs.AmongAsked.{HaveTexts}
+use Rattle.indexed_queries.specs.Several.{AreUnfailedTogether}
+use Rattle.indexed_queries.specs.Together.{AreAllKept, AreReadWith, IsFirstRefusedByIndex}
+use Rattle.indexed_symbols.specs.Asking.{WantsSlices}
+use Rattle.indexed_symbols.specs.Frames.{AreRefusedAt, AreToldAt, IsFrameByTables, TellTablesOfFrames, frames_at, keys_of}
+use Rattle.indexed_symbols.specs.InnerAsking.{AreHeldUnder, AreRefusedUnder, IsUntoldBy, NoneFailed}
+use Rattle.indexed_symbols.proofs.Ended.{asked_refused, given_texts, read_all, slices_make, wants_same}
+
+-- ---- refused
+
+module _ {C I P : Type 0} (lines : Bool) (frames : Reader C) (indexes : List (Reader I)) (archives : List (Reader P)) (report : Writer) where
+  -- the frames are refused, before anything else is touched
+  pub frames_first : (fault : CommandFault) → IsRefusal (IsRefusedFrames frames) (Unfailed frames) fault → EachUntouched indexes → EachUntouched archives → AreUnfailedTogether indexes archives → Takes report []
+      → EndsReport (frames_at lines frames indexes archives) report (Err fault)
+  frames_first (Input at why) r named known unfailed t = (inl (r, named, known), t)
+  frames_first (Output n) r named known unfailed t = absurd r
+  frames_first (Report n) r named known unfailed t = absurd r
+  frames_first OutOfMemory r named known unfailed t = ((r, unfailed), t)
+
+  -- after the frames were read another is refused
+  pub refused_after : (said : List Frame) (fault : CommandFault) → Gives frames (λ bytes. frames_of bytes ≡ Ok said) → Unfailed frames → IsRefusal (AreRefusedAt lines indexes archives said) (AreUnfailedTogether indexes archives) fault → Takes report []
+      → EndsReport (frames_at lines frames indexes archives) report (Err fault)
+  refused_after said (Input at why) gives unfailed r t = (inr (said, gives, unfailed, r), t)
+  refused_after said (Output n) gives unfailed r t = absurd r
+  refused_after said (Report n) gives unfailed r t = absurd r
+  refused_after said OutOfMemory gives unfailed r t = ((unfailed, r), t)
+
+same_members : (keys : List (List ℕ)) → HaveSameMembers keys keys
+same_members keys = λ b. (λ there. there, λ there. there)
+
+-- an index is refused, whatever the frames
+pub index_refused_at : {I P : Type 0} (lines : Bool) (indexes : List (Reader I)) (archives : List (Reader P)) (said : List Frame) (fault : CommandFault)
+    → IsRefusal (IsFirstRefusedByIndex indexes archives) (AreUnfailedTogether indexes archives) fault → IsRefusal (AreRefusedAt lines indexes archives said) (AreUnfailedTogether indexes archives) fault
+index_refused_at lines indexes archives said (Input at why) r = (keys_of said, same_members (keys_of said), inl r)
+index_refused_at lines indexes archives said (Output n) r = absurd r
+index_refused_at lines indexes archives said (Report n) r = absurd r
+index_refused_at lines indexes archives said OutOfMemory r = r
+
+-- ---- told
+
+-- what tables tell whatever bytes these are, they tell whatever bytes those are
+module _ (AreTexts AreOthers : List (List ℕ) → Type 0) (from : (texts : List (List ℕ)) → AreOthers texts → AreTexts texts) (all : List (List (List ℕ))) where
+  each_from : (frames : List Frame) (rows : List Answered) → AllZip (IsFrameByTables AreTexts all) frames rows → AllZip (IsFrameByTables AreOthers all) frames rows
+  each_from [] [] a = tt
+  each_from [] (_ ∷ _) a = absurd a
+  each_from (_ ∷ _) [] a = absurd a
+  each_from (frame ∷ frames) (row ∷ rows) a = ((a.0.0, record { answer_is = λ texts are. a.0.1.answer_is texts (from texts are); frames_are = a.0.1.frames_are }), each_from frames rows a.1)
+
+  pub tell_from : (frames : List Frame) (status : Status) (text : List ℕ) → TellTablesOfFrames AreTexts all frames status text → TellTablesOfFrames AreOthers all frames status text
+  tell_from frames status text told = record {
+    rows = told.rows;
+    answered = each_from frames told.rows told.answered;
+    status_is = told.status_is;
+    text_is = told.text_is;
+  }
+
+-- after the indexes were read
+module _ {I P : Type 0} (left : I → Option (List ℕ)) (failures : I → ℕ) (whole : P → Option (List ℕ)) (failures_at : P → ℕ)
+    (old mid new : List (Result I CannotOpen)) (before seen after : List (Result P CannotOpen)) (all : List (List (List ℕ)))
+    (long : length mid ≡ length old) (more : length new ≡ length old) (long_at : length seen ≡ length before) (more_at : length after ≡ length before)
+    (read : AreReadWith (readers left failures old mid) (readers whole failures_at before seen) all)
+    (unfailed : EachUnfailed (readers left failures old mid) × EachUnfailed (readers whole failures_at before seen))
+    (kept : AreAllKept left failures old mid × AreAllKept whole failures_at before seen)
+    (lines : Bool) (said : List Frame) where
+  abbrev IsSought : List (List ℕ) → Type 0
+  IsSought keys = HaveSameMembers keys (keys_of said)
+
+  still_wants : (others : List (List ℕ)) → IsSought others → WantsSlices lines (keys_of said) all → WantsSlices lines others all
+  still_wants others sought wants = wants_same lines (keys_of said) others all sought wants
+
+  pub told_at : (status : Status) (text : List ℕ)
+      → ((lines ≡ false) × TellTablesOfFrames (HaveTexts left mid) all said status text)
+      ⊎ (WantsSlices lines (keys_of said) all × AreHeldUnder IsSought all (readers whole failures_at seen after) (λ content. TellsFrames lines content said status text))
+      → AreToldAt lines (readers left failures old new) (readers whole failures_at before after) said status text
+  told_at status text (inl (none, told)) = inl (
+    none,
+    record {
+      all = all;
+      read = read_all left failures whole failures_at old mid new before seen after all long more long_at more_at read unfailed kept;
+      tells = tell_from _ _ (given_texts left failures whole failures_at old mid new before seen after all long more long_at more_at read unfailed kept) all said status text told;
+    },
+  )
+  told_at status text (inr (wants, held)) =
+      let made = slices_make left failures whole failures_at old mid new before seen after all long more long_at more_at read unfailed kept lines (keys_of said) IsSought (same_members (keys_of said)) still_wants
+      (λ o s t. TellsFrames lines o said s t) status text wants held in
+      inr (record { keys = made.0; are_keys = made.1; makes = made.2.0; wants = made.2.1 })
+
+  pub refused_at : (fault : CommandFault)
+      → IsRefusal (λ at why. ((lines ≡ false) × EachUnfailed (readers whole failures_at seen after) × IsUntoldBy left failures (keys_of said) all mid new at why) ⊎ (WantsSlices lines (keys_of said) all × NoneFailed failures mid new × AreRefusedUnder IsSought all (readers whole failures_at seen after) at why)) (NoneFailed failures mid new × EachUnfailed (readers whole failures_at seen after)) fault
+      → IsRefusal (AreRefusedAt lines (readers left failures old new) (readers whole failures_at before after) said) (AreUnfailedTogether (readers left failures old new) (readers whole failures_at before after)) fault
+  refused_at fault r =
+      asked_refused left failures whole failures_at old mid new before seen after all long more long_at more_at read unfailed kept lines (keys_of said) IsSought (same_members (keys_of said)) still_wants fault r

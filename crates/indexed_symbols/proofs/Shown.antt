@@ -1,0 +1,142 @@
+-- What is shown of places, one after another.
+use Rattle.std.proofs.Common.{◌≡◌, ℕ, zero, suc, ◌+◌, ◌<◌, ◌⊎◌, Bool, if◌then◌else◌, List, [], ◌∷◌, ◌++◌, length, take, map, get_or, Option, Some, refl, sym, ap, ◌∙◌, subst, arith, inl, inr}
+use Rattle.std.specs.Prelude.{slice_get}
+use Rattle.std.specs.List.{All, AllZip, Contains}
+use Rattle.std.proofs.Math.ListN.{length-map}
+use Rattle.std.proofs.lemmas.List.{flat_map_more, get_or-map, length-take, map-append, take_more}
+use Rattle.std.proofs.lemmas.List.Elements.{All-contains}
+use Rattle.std.proofs.lemmas.Option.{get_or_from_slice_get, slice_get_within, slice_get-get_or}
+use Rattle.archive_core.specs.Key.{key_bytes}
+use Rattle.archive_core.specs.Lookup.{AnswerRecord, answer_view}
+use Rattle.archive_core.specs.declared.keys.SliceKey.{SliceKey}
+use Rattle.archive_core.specs.declared.lookup.Answer.{Answer}
+use Rattle.archive_core.specs.declared.lookup.Where.{Where}
+use Rattle.crash_frames.specs.declared.frame.Frame.{Frame}
+use Rattle.report_text.specs.Answers.{answer_lines}
+use Rattle.command_ends.specs.declared.faults.Status.{Status}
+use Rattle.command_ends.specs.declared.faults.Status.TheVariants.{Done, Partial}
+use Rattle.command_ends.proofs.Readers.{pairs_more}
+use Rattle.archive_queries.proofs.Answered.{status_more}
+use Rattle.archive_queries.specs.Symbolicate.{Answered, answers_status, asked_of, is_symbol}
+use Rattle.indexed_answers.specs.AmongTold.{IsAnswerAmong}
+use Rattle.indexed_answers.specs.declared.answers.Answers.{Answers}
+use Rattle.indexed_symbols.specs.Asking.{IsAnsweredByTables, TellTables}
+use Rattle.indexed_symbols.specs.Frames.{IsFrameByTables, TellTablesOfFrames}
+use Rattle.indexed_symbols.specs.InnerPlaces.{AreAskedOf}
+use Rattle.indexed_symbols.specs.InnerTold.{AreTold, AreToldOf, HasTold, HaveToldEach, IsFrameTold, IsToldIn, IsToldUnder, ShowsAddresses, ShowsFrames, answer_at}
+use Rattle.indexed_symbols.specs.declared.places.AskedPlace.{AskedPlace}
+use Rattle.indexed_symbols.specs.declared.told.KeyAnswers.{KeyAnswers}
+
+-- ---- frames
+
+pub no_frames : (told : List KeyAnswers) → ShowsFrames told [] Done []
+no_frames told = record { rows = []; answered = tt; status_is = refl; text_is = refl }
+
+pub more_frames : (told : List KeyAnswers) (frames : List Frame) (i : ℕ) (frame : Frame) (status next : Status) (text printed : List ℕ) (answer : Answer) → i < length frames → frame ≡ get_or frames i frame
+    → ShowsFrames told (take i frames) status text → IsToldIn told (key_bytes frame.key) (asked_of frame.load frame.address) (answer_view answer)
+    → next ≡ (if is_symbol answer then status else Partial) → printed ≡ text ++ answer_lines frame.address answer [] → ShowsFrames told (take (i + 1) frames) next printed
+more_frames told frames i frame status next text printed answer lt is shown told_is next_is printed_is =
+    let row : Answered = record { address = frame.address; answer = answer; frames = [] } in
+    let seen : take (i + 1) frames ≡ take i frames ++ frame ∷ [] = take_more frames i frame lt ∙ ap (λ (f : Frame). take i frames ++ f ∷ []) (sym is) in
+    record {
+      rows = shown.rows ++ row ∷ [];
+      answered = subst (λ (fs : List Frame). AllZip (IsFrameTold told) fs (shown.rows ++ row ∷ [])) (sym seen) (pairs_more (IsFrameTold told) (take i frames) shown.rows frame row shown.answered (refl, refl, told_is));
+      status_is = next_is ∙ ap (λ (s : Status). if is_symbol answer then s else Partial) shown.status_is ∙ status_more shown.rows row;
+      text_is = printed_is ∙ ap (λ (t : List ℕ). t ++ answer_lines frame.address answer []) shown.text_is ∙ flat_map_more (λ (row : Answered). answer_lines row.address row.answer row.frames) [] shown.rows row;
+    }
+
+-- something is told of each
+pub told_each : (AreTexts : List (List ℕ) → Type 0) (all : List (List (List ℕ))) (frames : List Frame) (asked : List AskedPlace) (told : List KeyAnswers) → AreTold AreTexts all asked told → AreAskedOf frames asked → HaveToldEach told frames
+told_each AreTexts all frames asked told are of frame there =
+    let one = of.whole frame there in
+    let has = are.whole one.0 one.1 in
+    subst (λ (p : Where). HasTold told (key_bytes frame.key) p) one.3 (subst (λ (b : List ℕ). HasTold told b one.0.place) one.2 has)
+
+module _ (AreTexts : List (List ℕ) → Type 0) (all : List (List (List ℕ))) (told : List KeyAnswers) (are_true : All (IsToldUnder AreTexts all) told) where
+  by_tables : (frame : Frame) (row : Answered) → IsFrameTold told frame row → IsFrameByTables AreTexts all frame row
+  by_tables frame row (address_is, frames_are, is) = (
+    address_is,
+    record {
+      answer_is = λ texts are.
+          let place = asked_of frame.load frame.address in
+          let one = All-contains (IsToldUnder AreTexts all) told is.one are_true is.is_one in
+          let here : IsAnswerAmong texts all (key_bytes frame.key) place (answer_view row.answer) =
+          subst (λ (a : AnswerRecord). IsAnswerAmong texts all (key_bytes frame.key) place a) (sym is.answer_is)
+          (subst (λ (b : List ℕ). IsAnswerAmong texts all b place (answer_at is.one.answers is.number)) is.key_is (one texts are is.number place is.place_is)) in
+          subst (λ (a : ℕ). IsAnswerAmong texts all (key_bytes frame.key) (asked_of frame.load a) (answer_view row.answer)) (sym address_is) here;
+      frames_are = frames_are;
+    },
+  )
+
+  each_by_tables : (frames : List Frame) (rows : List Answered) → AllZip (IsFrameTold told) frames rows → AllZip (IsFrameByTables AreTexts all) frames rows
+  each_by_tables [] [] a = tt
+  each_by_tables [] (_ ∷ _) a = absurd a
+  each_by_tables (_ ∷ _) [] a = absurd a
+  each_by_tables (frame ∷ frames) (row ∷ rows) a = (by_tables frame row a.0, each_by_tables frames rows a.1)
+
+  -- what is shown of frames is what tables tell of them
+  pub frames_by_tables : (frames : List Frame) (status : Status) (text : List ℕ) → ShowsFrames told frames status text → TellTablesOfFrames AreTexts all frames status text
+  frames_by_tables frames status text shown = record {
+    rows = shown.rows;
+    answered = each_by_tables frames shown.rows shown.answered;
+    status_is = shown.status_is;
+    text_is = shown.text_is;
+  }
+
+-- ---- addresses
+
+pub no_addresses : (answers : Answers) → ShowsAddresses answers [] Done []
+no_addresses answers = record { rows = []; addresses_are = refl; numbered = λ number row at. absurd (cc at); status_is = refl; text_is = refl }
+
+-- what stands in a list with one more
+pushed : (rows : List Answered) (row : Answered) (n : ℕ) (one : Answered) → slice_get (rows ++ row ∷ []) n ≡ Some one → (slice_get rows n ≡ Some one) ⊎ ((n ≡ length rows) × (row ≡ one))
+pushed [] row zero one at = inr (refl, cc)
+pushed [] row (suc n) one at = absurd (cc at)
+pushed (r ∷ rows) row zero one at = inl at
+pushed (r ∷ rows) row (suc n) one at = elim (pushed rows row n one at) [
+  | inl before ↦ inl before
+  | inr (long, same) ↦ inr (ap suc long, same)
+]
+
+pub more_addresses : (answers : Answers) (addresses : List ℕ) (i address : ℕ) (status next : Status) (text printed : List ℕ) (answer : Answer) → i < length addresses → address ≡ get_or addresses i 0
+    → ShowsAddresses answers (take i addresses) status text → answer_view answer ≡ answer_at answers i
+    → next ≡ (if is_symbol answer then status else Partial) → printed ≡ text ++ answer_lines address answer [] → ShowsAddresses answers (take (i + 1) addresses) next printed
+more_addresses answers addresses i address status next text printed answer lt is shown told_is next_is printed_is =
+    let row : Answered = record { address = address; answer = answer; frames = [] } in
+    let seen : take (i + 1) addresses ≡ take i addresses ++ address ∷ [] = take_more addresses i 0 lt ∙ ap (λ (a : ℕ). take i addresses ++ a ∷ []) (sym is) in
+    let long : length shown.rows ≡ i = omega (arith, length-map shown.rows (λ (r : Answered). r.address), ap length shown.addresses_are, length-take i addresses, lt) in
+    record {
+      rows = shown.rows ++ row ∷ [];
+      addresses_are = map-append (λ (r : Answered). r.address) shown.rows (row ∷ []) ∙ ap (λ (l : List ℕ). l ++ address ∷ []) shown.addresses_are ∙ sym seen;
+      numbered = λ number one at. elim (pushed shown.rows row number one at) [
+        | inl before ↦ shown.numbered number one before
+        | inr (last, same) ↦ subst (λ (r : Answered). (r.frames ≡ []) × (answer_view r.answer ≡ answer_at answers number)) same (refl, told_is ∙ ap (answer_at answers) (sym (last ∙ long)))
+      ];
+      status_is = next_is ∙ ap (λ (s : Status). if is_symbol answer then s else Partial) shown.status_is ∙ status_more shown.rows row;
+      text_is = printed_is ∙ ap (λ (t : List ℕ). t ++ answer_lines address answer []) shown.text_is ∙ flat_map_more (λ (row : Answered). answer_lines row.address row.answer row.frames) [] shown.rows row;
+    }
+
+-- what is shown of addresses is what tables tell of them
+pub addresses_by_tables : (AreTexts : List (List ℕ) → Type 0) (all : List (List (List ℕ))) (key : SliceKey) (load : Option ℕ) (addresses : List ℕ) (places : List Where) (answers : Answers) (status : Status) (text : List ℕ) → places ≡ map (asked_of load) addresses
+    → AreToldOf AreTexts all key places answers → ShowsAddresses answers addresses status text → TellTables AreTexts all key load addresses status text
+addresses_by_tables AreTexts all key load addresses places answers status text places_are told shown = record {
+  rows = shown.rows;
+  addresses_are = shown.addresses_are;
+  answered = λ k d lt.
+      let row = get_or shown.rows k d in
+      let at : slice_get shown.rows k ≡ Some row = slice_get-get_or shown.rows k d lt in
+      let is = shown.numbered k row at in
+      let among : k < length addresses = omega (arith, lt, length-map shown.rows (λ (r : Answered). r.address), ap length shown.addresses_are) in
+      let address : get_or addresses k d.address ≡ row.address = ap (λ (l : List ℕ). get_or l k d.address) (sym shown.addresses_are) ∙ get_or-map (λ (r : Answered). r.address) shown.rows k d d.address lt in
+      let placed : k < length places = omega (arith, among, ap length places_are, length-map addresses (asked_of load)) in
+      let place : slice_get places k ≡ Some (asked_of load row.address) =
+      slice_get-get_or places k (asked_of load row.address) placed
+      ∙ ap (λ (l : List Where). Some (get_or l k (asked_of load row.address))) places_are
+      ∙ ap Some (get_or-map (asked_of load) addresses k d.address (asked_of load row.address) among ∙ ap (asked_of load) address) in
+      record {
+        answer_is = λ texts are. subst (λ (a : AnswerRecord). IsAnswerAmong texts all (key_bytes key) (asked_of load row.address) a) (sym is.1) (told texts are k (asked_of load row.address) place);
+        frames_are = is.0;
+      };
+  status_is = shown.status_is;
+  text_is = shown.text_is;
+}

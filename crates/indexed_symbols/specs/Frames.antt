@@ -1,0 +1,85 @@
+-- What `frames` tells of archives by their indexes.
+use Rattle.std.specs.Prelude.{◌≡◌, ◌⊎◌, ℕ, List, Bool, false, Ok, map}
+use Rattle.std.specs.List.{AllZip}
+use Rattle.archive_core.specs.Content.{HaveSameMembers}
+use Rattle.archive_core.specs.Key.{key_bytes}
+use Rattle.archive_queries.specs.Frames.{TellsFrames}
+use Rattle.archive_queries.specs.Symbolicate.{Answered, answers_status, answers_text}
+use Rattle.crash_frames.specs.Frames.{frames_of}
+use Rattle.crash_frames.specs.declared.frame.Frame.{Frame}
+use Rattle.command_ends.specs.Ends.{Query}
+use Rattle.command_ends.specs.Inputs.{Reader, EachUntouched, Gives, IsRefusedFrames, Unfailed}
+use Rattle.command_ends.specs.declared.faults.Place.{Place}
+use Rattle.command_ends.specs.declared.faults.Status.{Status}
+use Rattle.command_ends.specs.declared.faults.Why.{Why}
+use Rattle.indexed_queries.specs.Several.{AreUnfailedTogether, MakesTogether}
+use Rattle.indexed_queries.specs.Together.{AreReadWith}
+use Rattle.indexed_symbols.specs.Asking.{AreGiven, AreRefusedAsking, IsAnsweredByTables, WantsSlices}
+
+-- the keys of frames
+abbrev pub keys_of : List Frame → List (List ℕ)
+keys_of frames = map (λ frame. key_bytes frame.key) frames
+
+-- the row is that of the frame's address, and tables tell its answer
+abbrev pub IsFrameByTables : (List (List ℕ) → Type 0) → List (List (List ℕ)) → Frame → Answered → Type 0
+IsFrameByTables AreTexts all frame row =
+    (row.address ≡ frame.address) × IsAnsweredByTables AreTexts all frame.key frame.load row
+
+-- tables tell this of frames, one answer a frame and in their order
+pub record TellTablesOfFrames (AreTexts : List (List ℕ) → Type 0) (all : List (List (List ℕ))) (frames : List Frame)
+    (status : Status) (text : List ℕ) : Type 0 where
+  pub rows : List Answered
+  pub answered : AllZip (IsFrameByTables AreTexts all) frames rows
+  pub status_is : status ≡ answers_status rows
+  pub text_is : text ≡ answers_text rows
+
+-- The indexes were read, and their tables tell this of the frames.
+pub record TellsFramesByTables {I P : Type 0} (indexes : List (Reader I)) (archives : List (Reader P))
+    (frames : List Frame) (status : Status) (text : List ℕ) : Type 0 where
+  pub all : List (List (List ℕ))
+  pub read : AreReadWith indexes archives all
+  pub tells : TellTablesOfFrames (AreGiven indexes) all frames status text
+
+-- The slices that the indexes name under the keys of the frames, in some order, tell this of them, and are wanted.
+pub record TellsFramesBySlices {I P : Type 0} (lines : Bool) (indexes : List (Reader I)) (archives : List (Reader P))
+    (frames : List Frame) (status : Status) (text : List ℕ) : Type 0 where
+  pub keys : List (List ℕ)
+  pub are_keys : HaveSameMembers keys (keys_of frames)
+  pub makes : MakesTogether keys indexes archives (λ o s t. TellsFrames lines o frames s t) status text
+  pub wants : WantsSlices lines keys makes.held.all
+
+-- tables tell this of the frames, or slices do
+abbrev pub AreToldAt : {I P : Type 0} → Bool → List (Reader I) → List (Reader P) → List Frame → Status → List ℕ
+    → Type 0
+AreToldAt lines indexes archives frames status text =
+    ((lines ≡ false) × TellsFramesByTables indexes archives frames status text)
+    ⊎ TellsFramesBySlices lines indexes archives frames status text
+
+-- An index, an archive or a table is refused, as far as the keys of the frames, in some order, tell.
+abbrev pub AreRefusedAt : {I P : Type 0} → Bool → List (Reader I) → List (Reader P) → List Frame → Place → Why → Type 0
+AreRefusedAt lines indexes archives frames at why =
+    (keys : List (List ℕ)) × HaveSameMembers keys (keys_of frames) × AreRefusedAsking lines keys indexes archives at why
+
+-- FRAMES says these frames, and this is told of them.
+pub record MakesFramedAt {Q I P : Type 0} (lines : Bool) (frames : Reader Q) (indexes : List (Reader I))
+    (archives : List (Reader P)) (status : Status) (text : List ℕ) : Type 0 where
+  pub said : List Frame
+  pub frames_are : Gives frames (λ bytes. frames_of bytes ≡ Ok said)
+  pub told : AreToldAt lines indexes archives said status text
+
+-- FRAMES is refused, and nothing else is touched; or FRAMES says frames, its reader does not fail, and another is
+-- refused
+abbrev pub RefusesFramesAt : {Q I P : Type 0} → Bool → Reader Q → List (Reader I) → List (Reader P) → Place → Why
+    → Type 0
+RefusesFramesAt lines frames indexes archives at why =
+    (IsRefusedFrames frames at why × EachUntouched indexes × EachUntouched archives)
+    ⊎ ((said : List Frame) × Gives frames (λ bytes. frames_of bytes ≡ Ok said) × Unfailed frames
+    × AreRefusedAt lines indexes archives said at why)
+
+-- `frames`, over these frames and these archives
+abbrev pub frames_at : {Q I P : Type 0} → Bool → Reader Q → List (Reader I) → List (Reader P) → Query
+frames_at lines frames indexes archives = record {
+  Makes = MakesFramedAt lines frames indexes archives;
+  Refuses = RefusesFramesAt lines frames indexes archives;
+  Unfailed = Unfailed frames × AreUnfailedTogether indexes archives;
+}

@@ -1,0 +1,6 @@
+pub mod Asking
+pub mod Symbolicate
+pub mod Frames
+pub mod InnerPlaces
+pub mod InnerTold
+pub mod InnerAsking

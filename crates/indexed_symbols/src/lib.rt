@@ -1,0 +1,21 @@
+//! The commands that answer addresses by indexes, over any devices and sinks.
+//!
+//! - `tables`: what the tables of indexes tell under a key;
+//! - `places`: the places that frames mean, each once; `told`: what the tables tell of them;
+//! - `symbolicate`, `frames`: a command each.
+//!
+//! # Why it is so
+//!
+//! - Tables answer, and no slice is read, but where lines are wanted, or of two slices of one key and one length in two
+//!   archives no entry says which comes first.
+//! - Frames are asked key by key, so that the tables under one key are open at a time.
+#![tactic(auto)]
+
+mod frames;
+mod places;
+mod symbolicate;
+mod tables;
+mod told;
+
+pub use frames::run_frames_at;
+pub use symbolicate::run_symbolicate_at;

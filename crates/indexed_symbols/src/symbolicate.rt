@@ -1,0 +1,150 @@
+//! `symbolicate ARCHIVE UUID ARCH [--load HEX] [--lines] ADDRESS... --index INDEX`, over one archive or several.
+ghost use Rattle.std.specs.Prelude.{◌≡◌, ◌∷◌, [], IfOk, length, string_bytes};
+ghost use Rattle.archive_core.specs.Key.{key_bytes};
+ghost use Rattle.archive_queries.specs.Symbolicate.{TellsAddresses};
+ghost use Rattle.command_ends.specs.Ends.{EndsReport};
+ghost use Rattle.command_ends.specs.Inputs.{readers};
+ghost use Rattle.command_ends.specs.Outputs.{writer};
+ghost use Rattle.indexed_answers.specs.AmongAsked.{HaveTexts};
+ghost use Rattle.indexed_symbols.specs.Asking.{TellTables};
+ghost use Rattle.indexed_symbols.specs.InnerAsking.{AreAllOpened, AsksEither, AsksSlices, AsksWithout};
+ghost use Rattle.indexed_symbols.specs.InnerTold.{ShowsAddresses};
+ghost use Rattle.indexed_symbols.specs.Symbolicate.{symbolicate_at};
+
+use crate::tables::tell_key;
+use archive_core::{Archive, SliceKey};
+use archive_queries::{answer_each, places_of, status_behind};
+use byte_device::{CannotOpen, Sink};
+use command_ends::{CommandFault, Status, publish_report};
+use indexed_answers::Answers;
+use indexed_queries::{Front, read_fronts, read_indexes};
+use memory::{Heap, NoMemory};
+use placed_bytes::Placed;
+use report_text::push_answer;
+use table_index::TableIndex;
+
+/// The lines of the answers of tables to the addresses, with how a command ends that prints them.
+fn answer_by_tables(
+    heap: Heap,
+    answers: &Answers,
+    addresses: &[u64],
+) -> Result<(Status, String<Heap>), NoMemory>
+    ensures { IfOk result (λ told. ShowsAddresses answers.now addresses.now told.0 (string_bytes told.1)) }
+{
+    let mut status = Status::Done;
+    let mut text = String::new(heap.clone()?);
+    'addresses: for (number, address) in addresses.iter().enumerate() {
+        let answer = answers.answer(heap.clone()?, number)?;
+        status = status_behind(status, &answer);
+        push_answer(&heap, &mut text, *address, &answer, &[])?;
+    }
+    Ok((status, text))
+}
+
+/// The lines of the answers to the addresses by the tables of the indexes, with how a command ends that prints them; or
+/// none, if slices are wanted.
+fn tell_by_tables<I: Placed>(
+    heap: &Heap,
+    read: &[TableIndex],
+    indexes: &mut [Result<I, CannotOpen>],
+    key: &SliceKey,
+    load: Option<u64>,
+    lines: bool,
+    addresses: &[u64],
+) -> Result<Option<(Status, String<Heap>)>, CommandFault>
+    requires same { length read.now ≡ length indexes.old }
+    requires opened { AreAllOpened indexes.old }
+    ensures { AsksWithout lines I.whole I.failures (key_bytes key.now ∷ []) read.now indexes.old indexes.new result
+        (λ told. TellTables (HaveTexts I.whole indexes.old) read.now key.now load addresses.now told.0
+        (string_bytes told.1)) }
+{
+    if lines {
+        return Ok(None);
+    }
+    let places = places_of(heap.clone()?, load, addresses)?;
+    let Some(answers) = tell_key(heap, read, indexes, key, &places)? else {
+        return Ok(None);
+    };
+    let told = answer_by_tables(heap.clone()?, &answers, addresses)?;
+    Ok(Some(told))
+}
+
+/// The lines of the answers to the addresses by the slices that the indexes name, with how a command ends that prints
+/// them.
+fn tell_by_slices<A: Archive + Drop, P: Placed>(
+    heap: &Heap,
+    read: &[TableIndex],
+    archives: &mut [Result<P, CannotOpen>],
+    key: &SliceKey,
+    load: Option<u64>,
+    lines: bool,
+    addresses: &[u64],
+) -> Result<(Status, String<Heap>), CommandFault>
+    requires { length read.now ≡ length archives.old }
+    ensures { AsksSlices (λ keys. keys ≡ key_bytes key.now ∷ []) read.now
+        (readers P.whole P.failures archives.old archives.new) result
+        (λ content told. TellsAddresses content key.now load lines addresses.now told.0 (string_bytes told.1)) }
+{
+    let kept: A = read_fronts(heap, &[Front::Key(*key)], read, archives)?;
+    let told = answer_each(heap.clone()?, &kept, key, load, lines, addresses)?;
+    Ok(told)
+}
+
+/// The lines of the answers to the addresses, by the tables of the indexes or by the slices that they name, with how a
+/// command ends that prints them.
+fn tell_addresses<A: Archive + Drop, I: Placed, P: Placed>(
+    heap: &Heap,
+    read: &[TableIndex],
+    indexes: &mut [Result<I, CannotOpen>],
+    archives: &mut [Result<P, CannotOpen>],
+    key: &SliceKey,
+    load: Option<u64>,
+    lines: bool,
+    addresses: &[u64],
+) -> Result<(Status, String<Heap>), CommandFault>
+    requires same { length read.now ≡ length indexes.old }
+    requires many { length read.now ≡ length archives.old }
+    requires opened { AreAllOpened indexes.old }
+    ensures { AsksEither lines (λ keys. keys ≡ key_bytes key.now ∷ []) I.whole I.failures (key_bytes key.now ∷ [])
+        read.now indexes.old indexes.new (readers P.whole P.failures archives.old archives.new) result
+        (λ told. TellTables (HaveTexts I.whole indexes.old) read.now key.now load addresses.now told.0
+        (string_bytes told.1))
+        (λ content told. TellsAddresses content key.now load lines addresses.now told.0 (string_bytes told.1)) }
+{
+    match tell_by_tables(heap, read, indexes, key, load, lines, addresses)? {
+        Some(told) => Ok(told),
+        None => tell_by_slices::<A, P>(heap, read, archives, key, load, lines, addresses),
+    }
+}
+
+/// Writes what the join of the archives answers for each address to the report, as `run_symbolicate` of
+/// `archive_queries` does. The indexes are read, and compared with the lengths of their archives; then their tables
+/// answer, page by page. The slices that the indexes name under the key are read at their places, tested and hashed, if
+/// `lines`, or if two slices of one length answer in two archives.
+///
+/// The status is `Done` where each answer is one symbol, and else `Partial`.
+///
+/// # Errors
+///
+/// `Input` for the first index, archive or table that is refused; `Report` where the report failed; `OutOfMemory`.
+pub fn run_symbolicate_at<A: Archive + Drop, I: Placed, P: Placed, W: Sink>(
+    heap: Heap,
+    indexes: &mut [Result<I, CannotOpen>],
+    archives: &mut [Result<P, CannotOpen>],
+    key: &SliceKey,
+    load: Option<u64>,
+    lines: bool,
+    addresses: &[u64],
+    report: &mut W,
+) -> Result<Status, CommandFault>
+    requires { length indexes.old ≡ length archives.old }
+    ensures { EndsReport (symbolicate_at (readers I.whole I.failures indexes.old indexes.new)
+        (readers P.whole P.failures archives.old archives.new) key.now load lines addresses.now)
+        (writer W.held W.failures report.old report.new) result }
+{
+    let read = read_indexes(&heap, indexes, archives)?;
+    let (status, text) = tell_addresses::<A, I, P>(
+        &heap, &read, indexes, archives, key, load, lines, addresses,
+    )?;
+    publish_report(status, &text, report)
+}

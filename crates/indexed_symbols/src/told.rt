@@ -1,0 +1,151 @@
+//! What the tables of indexes tell of the places that frames mean.
+
+ghost use Rattle.std.specs.Prelude.{◌≡◌, ◌∷◌, [], ◌≤◌, IfOk, MatchOption, length, map, string_bytes};
+ghost use Rattle.std.specs.List.{prefix_len};
+ghost use Rattle.std.specs.List.Sorted.{IsStrictlySortedBy};
+ghost use Rattle.archive_core.specs.Key.{key_bytes};
+ghost use Rattle.archive_core.specs.Lookup.{answer_view};
+ghost use Rattle.archive_queries.specs.Symbolicate.{asked_of};
+ghost use Rattle.indexed_answers.specs.Among.{AreTied};
+ghost use Rattle.indexed_answers.specs.AmongAsked.{HaveTexts};
+ghost use Rattle.indexed_symbols.specs.Asking.{AreTiedUnder};
+ghost use Rattle.indexed_symbols.specs.InnerAsking.{AreAllOpened, AsksTables};
+ghost use Rattle.indexed_symbols.specs.InnerPlaces.{asked_cmp, has_key};
+ghost use Rattle.indexed_symbols.specs.InnerTold.{AreInOrder, AreTold, HasTold, HaveToldEach, IsToldIn, IsToldUnder};
+ghost use Rattle.indexed_symbols.specs.InnerTold.{ShowsFrames};
+
+use crate::places::{AskedPlace, compare_places};
+use crate::tables::tell_key;
+use archive_core::{Answer, SliceKey, Where, compare_keys};
+use archive_queries::status_behind;
+use byte_device::CannotOpen;
+use command_ends::{CommandFault, Status};
+use crash_frames::Frame;
+use indexed_answers::Answers;
+use memory::{Heap, NoMemory};
+use placed_bytes::Placed;
+use report_text::push_answer;
+use table_index::TableIndex;
+
+/// What is told of places under a key. The places ascend.
+#[derive(Drop)]
+pub(crate) struct KeyAnswers {
+    key: SliceKey,
+    places: Vec<Where, Heap>,
+    answers: Answers,
+}
+
+/// How many of the first places are of a key.
+fn run_len(asked: &[AskedPlace], key: &SliceKey) -> usize
+    ensures len { result ≡ prefix_len (has_key key.now) asked.now }
+    ensures within { result ≤ length asked.now }
+{
+    asked
+        .iter()
+        .take_while(|one| compare_keys(&one.key, key).is_eq())
+        .count()
+}
+
+/// The places alone.
+fn places_in(heap: Heap, asked: &[AskedPlace]) -> Result<Vec<Where, Heap>, NoMemory>
+    ensures { IfOk result (λ places. places.items ≡ map (λ one. one.place) asked.now) }
+{
+    asked.iter().map(|one| one.place).collect(heap)
+}
+
+/// What the tables of indexes that were read tell of places of one key; or none, if of two slices in two archives no
+/// entry says which comes first.
+fn tell_run<I: Placed>(
+    heap: &Heap,
+    read: &[TableIndex],
+    indexes: &mut [Result<I, CannotOpen>],
+    key: SliceKey,
+    run: &[AskedPlace],
+) -> Result<Option<KeyAnswers>, CommandFault>
+    requires same { length read.now ≡ length indexes.old }
+    requires opened { AreAllOpened indexes.old }
+    ensures { AsksTables I.whole I.failures (key_bytes key ∷ []) read.now indexes.old indexes.new result
+        (λ told. MatchOption told (AreTied (key_bytes key) read.now)
+        (λ one. (one.key ≡ key) × (one.places.items ≡ map (λ asked. asked.place) run.now)
+        × IsToldUnder (HaveTexts I.whole indexes.old) read.now one)) }
+{
+    let places = places_in(heap.clone()?, run)?;
+    let Some(answers) = tell_key(heap, read, indexes, &key, &places)? else {
+        return Ok(None);
+    };
+    Ok(Some(KeyAnswers {
+        key,
+        places,
+        answers,
+    }))
+}
+
+/// What the tables of indexes that were read tell of places, key by key; or none, if of two slices in two archives no
+/// entry says which comes first. The places stand in the order of their keys, each once.
+pub(crate) fn tell_keys<I: Placed>(
+    heap: &Heap,
+    read: &[TableIndex],
+    indexes: &mut [Result<I, CannotOpen>],
+    asked: &[AskedPlace],
+) -> Result<Option<Vec<KeyAnswers, Heap>>, CommandFault>
+    requires same { length read.now ≡ length indexes.old }
+    requires opened { AreAllOpened indexes.old }
+    requires sorted { IsStrictlySortedBy asked_cmp asked.now }
+    ensures { let keys = map (λ one. key_bytes one.key) asked.now in
+        AsksTables I.whole I.failures keys read.now indexes.old indexes.new result
+        (λ told. MatchOption told (AreTiedUnder keys read.now)
+        (λ each. AreTold (HaveTexts I.whole indexes.old) read.now asked.now each.items)) }
+{
+    let mut told = Vec::new(heap.clone()?);
+    let mut left = asked;
+    'keys: while let Some(first) = left.first() {
+        let key = first.key;
+        let (run, rest) = left.split_at(run_len(left, &key));
+        let Some(one) = tell_run(heap, read, indexes, key, run)? else {
+            return Ok(None);
+        };
+        told.push(one)?;
+        left = rest;
+    }
+    Ok(Some(told))
+}
+
+/// The answer to a frame, of which something is told.
+fn answer_of<'t>(heap: Heap, told: &'t [KeyAnswers], frame: &Frame) -> Result<Answer<'t>, NoMemory>
+    requires order { AreInOrder told.now }
+    requires there { HasTold told.now (key_bytes frame.now.key) (asked_of frame.now.load frame.now.address) }
+    ensures { IfOk result (λ answer. IsToldIn told.now (key_bytes frame.now.key)
+        (asked_of frame.now.load frame.now.address) (answer_view answer)) }
+{
+    let asked = AskedPlace::of(frame);
+    let Ok(key) = told.binary_search_by(|one| compare_keys(&one.key, &asked.key)) else {
+        unreachable!()
+    };
+    let Ok(number) = told[key]
+        .places
+        .binary_search_by(|place| compare_places(*place, asked.place))
+    else {
+        unreachable!()
+    };
+    told[key].answers.answer(heap, number)
+}
+
+/// The lines of the answers of tables to frames, in their order, with how a command ends that prints them.
+pub(crate) fn answer_frames_by_tables(
+    heap: Heap,
+    told: &[KeyAnswers],
+    frames: &[Frame],
+) -> Result<(Status, String<Heap>), NoMemory>
+    requires order { AreInOrder told.now }
+    requires there { HaveToldEach told.now frames.now }
+    ensures { IfOk result (λ shown. ShowsFrames told.now frames.now shown.0 (string_bytes shown.1)) }
+{
+    let mut status = Status::Done;
+    let mut text = String::new(heap.clone()?);
+    'frames: for frame in frames {
+        let answer = answer_of(heap.clone()?, told, frame)?;
+        status = status_behind(status, &answer);
+        push_answer(&heap, &mut text, frame.address, &answer, &[])?;
+    }
+    Ok((status, text))
+}

@@ -1,0 +1,173 @@
+-- What the tables in the indexes of contents tell is what the join of these contents tells.
+use Rattle.std.proofs.Common.{◌≡◌, ℕ, ◌≤◌, false, Bool, List, [], ◌∷◌, length, Contains, Option, refl, sym, subst, inl, inr, arith}
+use Rattle.std.specs.List.{AllZip}
+use Rattle.std.proofs.lemmas.List.Elements.{All-weaker, recursion_from_All}
+use Rattle.archive_core.specs.Content.{Operations}
+use Rattle.archive_core.specs.Key.{IsKey, key_bytes}
+use Rattle.archive_core.specs.Lookup.{answer_view}
+use Rattle.archive_core.specs.declared.keys.SliceKey.{SliceKey}
+use Rattle.archive_core.proofs.Compare.{length_key_bytes}
+use Rattle.archive_core.proofs.Members.{in_front, in_map, in_rest}
+use Rattle.archive_queries.specs.Frames.{IsFrameAnswered, TellsFrames}
+use Rattle.archive_queries.specs.Symbolicate.{Answered, IsAnswered, TellsAddresses, asked_of}
+use Rattle.archive_queries.proofs.Answered.{told_alike}
+use Rattle.command_ends.specs.Inputs.{IsDeviceFault, IsGiven, Reader}
+use Rattle.command_ends.specs.declared.faults.Place.{Place}
+use Rattle.command_ends.specs.declared.faults.Status.{Status}
+use Rattle.command_ends.specs.declared.faults.Why.{Why}
+use Rattle.crash_frames.specs.declared.frame.Frame.{Frame}
+use Rattle.table_index.specs.Text.{IsIndexText}
+use Rattle.index_laws.specs.Indexes.{AreIndexes, DigestsTell, IsIndexFile, all_joined}
+use Rattle.index_laws.proofs.Joined.{joined_alone}
+use Rattle.index_laws.proofs.Right as told
+use Rattle.indexed_answers.specs.Among.{EntryAt}
+use Rattle.indexed_queries.specs.Together.{AreReadWith, IsReadWith}
+use Rattle.indexed_symbols.specs.Asking.{AreGiven, AreRefusedAsking, AreUntold, IsAnsweredByTables, IsUnreadTable}
+use Rattle.indexed_symbols.specs.Frames.{AreToldAt, IsFrameByTables, TellsFramesBySlices, TellsFramesByTables, keys_of}
+use Rattle.indexed_symbols.specs.Symbolicate.{TellsBySlices, TellsByTables, symbolicate_at}
+use Rattle.query_laws.specs.Contents.{AreIndexed, AreIndexesGiven, AreOwnIndexes, IsIndexGiven, IsIndexed, IsOwnIndex}
+use Rattle.query_laws.proofs.ByIndex.{frames_told, held_alike, short_keys}
+use Rattle.query_laws.proofs.OfIndex.{held_text}
+use Rattle.query_laws.proofs.Refused.{first_by_device, later_by_device}
+use Rattle.query_laws.proofs.Three.{first_third, third_also}
+
+-- ---- the texts of indexes
+
+-- the bytes of the indexes, each the index of one of these contents
+record AreTextsOf {I : Type 0} (inputs : List (Reader I)) (os : List Operations) : Type 0 where
+  texts : List (List ℕ)
+  given : AreGiven inputs texts
+  files : AllZip IsIndexFile os texts
+
+texts_of : {I : Type 0} (inputs : List (Reader I)) (os : List Operations) → AreIndexesGiven inputs os → AreTextsOf inputs os
+texts_of [] [] are = record { texts = []; given = tt; files = tt }
+texts_of [] (_ ∷ _) are = absurd are
+texts_of (_ ∷ _) [] are = absurd are
+texts_of (input ∷ inputs) (o ∷ os) (first, rest) =
+    let more = texts_of inputs os rest in
+    record { texts = first.0 ∷ more.texts; given = (first.1, more.given); files = (first.2, more.files) }
+
+module _ {I P : Type 0} (inputs : List (Reader I)) (archives : List (Reader P)) (all : List (List (List ℕ))) (read : AreReadWith inputs archives all) where
+  texts_read : (texts : List (List ℕ)) → AreGiven inputs texts → AllZip IsIndexText texts all
+  texts_read texts given = third_also IsReadWith IsGiven IsIndexText inputs archives all texts (λ x y z w is known. held_text x w z known is.index_is) read given
+
+  indexes_are : (os : List Operations) (texts : List (List ℕ)) → AreGiven inputs texts → AllZip IsIndexFile os texts → AreIndexes os texts all
+  indexes_are os texts given files = record { files = files; read = texts_read texts given }
+
+  -- ---- answers
+
+  module _ (os : List Operations) (are : AreTextsOf inputs os) (tell : DigestsTell os) where
+    row_told : (key : SliceKey) (load : Option ℕ) (row : Answered) → IsKey key → IsAnsweredByTables (AreGiven inputs) all key load row → IsAnswered (all_joined os) key load false row
+    row_told key load row is_key answered =
+        let is = told.right os are.texts all (indexes_are os are.texts are.given are.files) key is_key (asked_of load row.address) (answer_view row.answer) tell (answered.answer_is are.texts are.given) in
+        record { slices = is.slices; answering = is.answering; answer_is = is.answer_is; shown = answered.frames_are }
+
+    frames_rows : (frames : List Frame) (rows : List Answered) → ((frame : Frame) → Contains frames frame → IsKey frame.key) → AllZip (IsFrameByTables (AreGiven inputs) all) frames rows → AllZip (IsFrameAnswered false (all_joined os)) frames rows
+    frames_rows [] [] keys zip = tt
+    frames_rows [] (_ ∷ _) keys zip = absurd zip
+    frames_rows (_ ∷ _) [] keys zip = absurd zip
+    frames_rows (frame ∷ frames) (row ∷ rows) keys (one, more) = (
+      (one.0, row_told frame.key frame.load row (keys frame (in_front frame frames)) one.1),
+      frames_rows frames rows (λ f there. keys f (in_rest frame frames f there)) more,
+    )
+
+module _ {I P : Type 0} (inputs : List (Reader I)) (archives : List (Reader P)) (os : List Operations) (are : AreIndexesGiven inputs os) (tell : DigestsTell os) where
+  pub told_by_tables : (key : SliceKey) (load : Option ℕ) (addresses : List ℕ) (status : Status) (text : List ℕ) → IsKey key → TellsByTables inputs archives key load addresses status text → TellsAddresses (all_joined os) key load false addresses status text
+  told_by_tables key load addresses status text is_key by = record {
+    rows = by.tells.rows;
+    addresses_are = by.tells.addresses_are;
+    answered = recursion_from_All _ _ (All-weaker _ _ (λ row answered. row_told inputs archives by.all by.read os (texts_of inputs os are) tell key load row is_key answered) by.tells.rows by.tells.answered);
+    status_is = by.tells.status_is;
+    text_is = by.tells.text_is;
+  }
+
+  pub framed_by_tables : (said : List Frame) (status : Status) (text : List ℕ) → ((frame : Frame) → Contains said frame → IsKey frame.key) → TellsFramesByTables inputs archives said status text → TellsFrames false (all_joined os) said status text
+  framed_by_tables said status text keys by = record {
+    rows = by.tells.rows;
+    answered = frames_rows inputs archives by.all by.read os (texts_of inputs os are) tell said by.tells.rows keys by.tells.answered;
+    status_is = by.tells.status_is;
+    text_is = by.tells.text_is;
+  }
+
+-- ---- one index
+
+module _ {I P : Type 0} (input : Reader I) (archive : Reader P) (o : Operations) (is : IsIndexGiven input o) where
+  tells_alone : DigestsTell (o ∷ [])
+  tells_alone several = absurd (omega (arith, several))
+
+  joined_one : all_joined (o ∷ []) ≡ o
+  joined_one = joined_alone o is.2.content.itself
+
+  pub told_alone : (key : SliceKey) (load : Option ℕ) (addresses : List ℕ) (status : Status) (text : List ℕ) → IsKey key → TellsByTables (input ∷ []) (archive ∷ []) key load addresses status text → TellsAddresses o key load false addresses status text
+  told_alone key load addresses status text is_key by =
+      subst (λ (made : Operations). TellsAddresses made key load false addresses status text) joined_one
+      (told_by_tables (input ∷ []) (archive ∷ []) (o ∷ []) (is, tt) tells_alone key load addresses status text is_key by)
+
+  pub framed_alone : (said : List Frame) (status : Status) (text : List ℕ) → ((frame : Frame) → Contains said frame → IsKey frame.key) → TellsFramesByTables (input ∷ []) (archive ∷ []) said status text → TellsFrames false o said status text
+  framed_alone said status text keys by =
+      subst (λ (made : Operations). TellsFrames false made said status text) joined_one
+      (framed_by_tables (input ∷ []) (archive ∷ []) (o ∷ []) (is, tt) tells_alone said status text keys by)
+
+-- ---- by slices
+
+module _ {I P : Type 0} (inputs : List (Reader I)) (archives : List (Reader P)) (os : List Operations) (are : AreIndexed inputs archives os) where
+  pub told_by_slices : (key : SliceKey) (load : Option ℕ) (lines : Bool) (addresses : List ℕ) (status : Status) (text : List ℕ) → length (key_bytes key) ≤ 24 → TellsBySlices inputs archives key load lines addresses status text
+      → TellsAddresses (all_joined os) key load lines addresses status text
+  told_by_slices key load lines addresses status text short by =
+      told_alike by.makes.content (all_joined os) key load lines addresses status text
+      (held_alike (key_bytes key ∷ []) inputs archives os by.makes.content (short, tt) are by.makes.held (key_bytes key) (0, omega arith, refl)) by.makes.tells
+
+  pub framed_by_slices : (lines : Bool) (said : List Frame) (status : Status) (text : List ℕ) → ((key : List ℕ) → Contains (keys_of said) key → length key ≤ 24) → TellsFramesBySlices lines inputs archives said status text
+      → TellsFrames lines (all_joined os) said status text
+  framed_by_slices lines said status text short by =
+      let few = short_keys by.keys (keys_of said) (λ q there. (by.are_keys q).0 there) short in
+      frames_told lines by.makes.content (all_joined os) said status text
+      (λ key there. held_alike by.keys inputs archives os by.makes.content few are by.makes.held key ((by.are_keys key).1 there)) by.makes.tells
+
+  -- ---- either way
+
+  pub given_indexes : AreIndexesGiven inputs os
+  given_indexes = first_third IsIndexed IsIndexGiven inputs archives os (λ x y z is. is.0) are
+
+  short_key : (key : SliceKey) → IsKey key → length (key_bytes key) ≤ 24
+  short_key key is_key = omega (arith, length_key_bytes key is_key.uuid)
+
+  keys_short : (said : List Frame) → ((frame : Frame) → Contains said frame → IsKey frame.key) → (key : List ℕ) → Contains (keys_of said) key → length key ≤ 24
+  keys_short said keys key there =
+      let found = in_map (λ (frame : Frame). key_bytes frame.key) said key there in
+      subst (λ (k : List ℕ). length k ≤ 24) (sym found.2) (short_key found.0.key (keys found.0 found.1))
+
+  pub told_either : (key : SliceKey) (load : Option ℕ) (lines : Bool) (addresses : List ℕ) (status : Status) (text : List ℕ) → DigestsTell os → IsKey key → (symbolicate_at inputs archives key load lines addresses).Makes status text
+      → TellsAddresses (all_joined os) key load lines addresses status text
+  told_either key load lines addresses status text tell is_key (inl (none, by)) =
+      subst (λ (l : Bool). TellsAddresses (all_joined os) key load l addresses status text) (sym none) (told_by_tables inputs archives os given_indexes tell key load addresses status text is_key by)
+  told_either key load lines addresses status text tell is_key (inr by) = told_by_slices key load lines addresses status text (short_key key is_key) by
+
+  pub framed_either : (lines : Bool) (said : List Frame) (status : Status) (text : List ℕ) → DigestsTell os → ((frame : Frame) → Contains said frame → IsKey frame.key) → AreToldAt lines inputs archives said status text
+      → TellsFrames lines (all_joined os) said status text
+  framed_either lines said status text tell keys (inl (none, by)) =
+      subst (λ (l : Bool). TellsFrames l (all_joined os) said status text) (sym none) (framed_by_tables inputs archives os given_indexes tell said status text keys by)
+  framed_either lines said status text tell keys (inr by) = framed_by_slices lines said status text (keys_short said keys) by
+
+-- ---- what is refused
+
+module _ {I P : Type 0} (keys : List (List ℕ)) (inputs : List (Reader I)) (archives : List (Reader P)) (at : Place) (why : Why) where
+  untold_table : (indexes : List (Reader I)) (answering : List EntryAt) → IsUnreadTable indexes answering at why → IsDeviceFault why
+  untold_table indexes answering u = subst IsDeviceFault (sym u.why_is) refl
+
+  pub untold_by_device : (os : List Operations) → AreIndexesGiven inputs os → AreUntold keys inputs archives at why → IsDeviceFault why
+  untold_by_device os are u =
+      let t = texts_of inputs os are in
+      elim u.untold.untold [
+        | inl changed ↦
+            absurd (told.none_damaged os t.texts u.all (indexes_are inputs archives u.all u.read os t.texts t.given t.files) u.untold.key u.untold.answering changed.input changed.number u.untold.are (changed.changed t.texts t.given))
+        | inr unread ↦ untold_table inputs u.untold.answering unread
+      ]
+
+  own_given : (os : List Operations) → AreOwnIndexes inputs archives os → AreIndexesGiven inputs os
+  own_given os are = first_third IsOwnIndex IsIndexGiven inputs archives os (λ x y z is. is.0) are
+
+  pub asked_by_device : (lines : Bool) (os : List Operations) → AreOwnIndexes inputs archives os → AreRefusedAsking lines keys inputs archives at why → IsDeviceFault why
+  asked_by_device lines os are (inl first) = first_by_device keys inputs archives os at why are first
+  asked_by_device lines os are (inr (inl (later, wants))) = later_by_device keys inputs archives os at why are later
+  asked_by_device lines os are (inr (inr (none, untold))) = untold_by_device os (own_given os are) untold

@@ -1,0 +1,9 @@
+pub mod Ascent
+pub mod IndexRows
+pub mod OfIndex
+pub mod Accepted
+pub mod Three
+pub mod Refused
+pub mod ByIndex
+pub mod ByTables
+pub mod FrameKeys

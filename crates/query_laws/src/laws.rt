@@ -1,0 +1,153 @@
+//! What the commands tell by the indexes of contents. Each law is a function with an empty body, and its contract the
+//! law.
+
+ghost use Rattle.std.specs.Prelude.{◌≡◌, ◌≤◌, ◌<◌, ◌^◌, ◌∷◌, [], ℕ, List, Bool, Option, Contains, Ok, false, length};
+ghost use Rattle.std.specs.List.{AllByRecursion};
+ghost use Rattle.archive_core.specs.Content.{IsContent, Operations};
+ghost use Rattle.archive_core.specs.Key.{IsKey, key_bytes};
+ghost use Rattle.archive_core.specs.Lists.{IsList};
+ghost use Rattle.archive_core.specs.Part.{AreAlikeUnder, is_under, part};
+ghost use Rattle.archive_core.specs.Summary.{summary};
+ghost use Rattle.archive_core.specs.declared.find.FindRow.{FindRow};
+ghost use Rattle.archive_core.specs.declared.keys.SliceKey.{SliceKey};
+ghost use Rattle.archive_records.specs.Text.{summary_text, written};
+ghost use Rattle.archive_index.specs.Index.{index};
+ghost use Rattle.archive_queries.specs.Find.{TellsFound, find_status};
+ghost use Rattle.archive_queries.specs.Frames.{TellsFrames};
+ghost use Rattle.archive_queries.specs.Symbolicate.{TellsAddresses};
+ghost use Rattle.crash_frames.specs.Frames.{frames_of};
+ghost use Rattle.crash_frames.specs.declared.frame.Frame.{Frame};
+ghost use Rattle.command_ends.specs.Inputs.{IsDeviceFault, IsGiven, Reader};
+ghost use Rattle.command_ends.specs.Outputs.{summary_report_of};
+ghost use Rattle.command_ends.specs.declared.faults.Place.{Place};
+ghost use Rattle.command_ends.specs.declared.faults.Status.{Status};
+ghost use Rattle.command_ends.specs.declared.faults.Why.{Why};
+ghost use Rattle.report_text.specs.Finds.{list_lines};
+ghost use Rattle.index_laws.specs.Indexes.{DigestsTell, IsIndexFile, all_joined};
+ghost use Rattle.indexed_queries.specs.Find.{MakesFoundAt};
+ghost use Rattle.indexed_queries.specs.Indexes.{IsRefusedByIndex};
+ghost use Rattle.indexed_queries.specs.List.{MakesListedAt};
+ghost use Rattle.indexed_queries.specs.Rows.{AreIndexRows};
+ghost use Rattle.indexed_queries.specs.Several.{AreRefusedTogether, HoldTogether, MakesTogether};
+ghost use Rattle.indexed_queries.specs.Summary.{MakesSummaryAt};
+ghost use Rattle.indexed_symbols.specs.Asking.{AreRefusedAsking, AreUntold};
+ghost use Rattle.indexed_symbols.specs.Frames.{AreToldAt, TellsFramesBySlices, TellsFramesByTables, keys_of};
+ghost use Rattle.indexed_symbols.specs.Symbolicate.{TellsBySlices, TellsByTables, symbolicate_at};
+ghost use Rattle.query_laws.specs.Contents.{AreIndexed, AreIndexesGiven, AreOwnIndexes, HaveKeys, IsIndexGiven};
+
+use placed_bytes::Placed;
+
+/// The rows of the index of a content, under a front, are the list of what the content has there. Nothing is supposed
+/// of SHA-256, and no archive is read. A content that has an index file has such keys as this asks.
+pub fn rows_of_index()
+    ensures rows { (front : List ℕ) (o : Operations) (rows : List FindRow) → length front ≤ 24 → IsContent o
+        → HaveKeys o → length (written o) < 2 ^ 64 → AreIndexRows front (index o) rows
+        → IsList (part o (is_under front)) rows }
+    ensures keys { (o : Operations) (text : List ℕ) → IsIndexFile o text → HaveKeys o }
+{}
+
+/// If INDEX is that of a content, `find` tells what it tells of that content, whatever bytes ARCHIVE has.
+pub fn found_by_index<I: Placed, P: Placed>()
+    ensures { (input : Reader I) (archive : Reader P) (o : Operations) (uuid : List ℕ) (status : Status)
+        (text : List ℕ) → length uuid ≡ 16 → IsIndexGiven input o → MakesFoundAt input archive uuid status text
+        → TellsFound o uuid status text }
+{}
+
+/// If INDEX is that of a content, `list` tells what it tells of that content, whatever bytes ARCHIVE has.
+pub fn listed_by_index<I: Placed, P: Placed>()
+    ensures { (input : Reader I) (archive : Reader P) (o : Operations) (status : Status) (text : List ℕ)
+        → IsIndexGiven input o → MakesListedAt input archive status text
+        → (rows : List FindRow) × IsList o rows × (status ≡ find_status rows) × (text ≡ list_lines rows) }
+{}
+
+/// If INDEX is that of a content, `summary` makes the summary of that content, whatever bytes ARCHIVE has.
+pub fn summarized_by_index<I: Placed, P: Placed>()
+    ensures { (input : Reader I) (archive : Reader P) (o : Operations) (text told : List ℕ) → IsIndexGiven input o
+        → MakesSummaryAt input archive text told
+        → (text ≡ summary_text (summary o)) × (told ≡ summary_report_of (summary o)) }
+{}
+
+/// With the indexes of these very archives a command is refused for a device alone: no index of its own content is
+/// stale.
+pub fn right_index_is_accepted<I: Placed, P: Placed>()
+    ensures alone { (number : ℕ) (input : Reader I) (archive : Reader P) (o : Operations) (at : Place) (why : Why)
+        → IsIndexGiven input o → IsGiven archive (written o) → IsRefusedByIndex number input archive at why
+        → IsDeviceFault why }
+    ensures together { (fronts : List (List ℕ)) (inputs : List (Reader I)) (archives : List (Reader P))
+        (os : List Operations) (at : Place) (why : Why) → AreOwnIndexes inputs archives os
+        → AreRefusedTogether fronts inputs archives at why → IsDeviceFault why }
+{}
+
+/// If each INDEX is that of a content, what is held under fronts of keys has what the join of these contents has there.
+/// Its archive is the text of the content, and nothing is supposed of SHA-256; or it has any bytes, and no slice of the
+/// content has the SHA-256 of a different slice in these.
+pub fn held_by_indexes<I: Placed, P: Placed>()
+    ensures { (fronts : List (List ℕ)) (inputs : List (Reader I)) (archives : List (Reader P)) (os : List Operations)
+        (p : Operations) → AllByRecursion (λ front. length front ≤ 24) fronts → AreIndexed inputs archives os
+        → HoldTogether fronts inputs archives p → (front : List ℕ) → Contains fronts front
+        → AreAlikeUnder front p (all_joined os) }
+{}
+
+/// So `find` tells of several archives what the join of the contents tells.
+pub fn found_by_indexes<I: Placed, P: Placed>()
+    ensures { (inputs : List (Reader I)) (archives : List (Reader P)) (os : List Operations) (uuid : List ℕ)
+        (status : Status) (text : List ℕ) → length uuid ≡ 16 → AreIndexed inputs archives os
+        → MakesTogether (uuid ∷ []) inputs archives (λ o s t. TellsFound o uuid s t) status text
+        → TellsFound (all_joined os) uuid status text }
+{}
+
+/// So does `symbolicate`: by slices; and by tables whatever bytes the archives have, if no two different slices of
+/// several contents have one SHA-256.
+pub fn answered_by_indexes<I: Placed, P: Placed>()
+    ensures tables { (inputs : List (Reader I)) (archives : List (Reader P)) (os : List Operations) (key : SliceKey)
+        (load : Option ℕ) (addresses : List ℕ) (status : Status) (text : List ℕ) → AreIndexesGiven inputs os
+        → DigestsTell os → IsKey key → TellsByTables inputs archives key load addresses status text
+        → TellsAddresses (all_joined os) key load false addresses status text }
+    ensures alone { (input : Reader I) (archive : Reader P) (o : Operations) (key : SliceKey) (load : Option ℕ)
+        (addresses : List ℕ) (status : Status) (text : List ℕ) → IsIndexGiven input o → IsKey key
+        → TellsByTables (input ∷ []) (archive ∷ []) key load addresses status text
+        → TellsAddresses o key load false addresses status text }
+    ensures slices { (inputs : List (Reader I)) (archives : List (Reader P)) (os : List Operations) (key : SliceKey)
+        (load : Option ℕ) (lines : Bool) (addresses : List ℕ) (status : Status) (text : List ℕ)
+        → length (key_bytes key) ≤ 24 → AreIndexed inputs archives os
+        → TellsBySlices inputs archives key load lines addresses status text
+        → TellsAddresses (all_joined os) key load lines addresses status text }
+    ensures either { (inputs : List (Reader I)) (archives : List (Reader P)) (os : List Operations) (key : SliceKey)
+        (load : Option ℕ) (lines : Bool) (addresses : List ℕ) (status : Status) (text : List ℕ)
+        → AreIndexed inputs archives os → DigestsTell os → IsKey key
+        → (symbolicate_at inputs archives key load lines addresses).Makes status text
+        → TellsAddresses (all_joined os) key load lines addresses status text }
+{}
+
+/// So does `frames`. The frames that a text says have such keys as this asks.
+pub fn framed_by_indexes<I: Placed, P: Placed>()
+    ensures tables { (inputs : List (Reader I)) (archives : List (Reader P)) (os : List Operations)
+        (said : List Frame) (status : Status) (text : List ℕ) → AreIndexesGiven inputs os → DigestsTell os
+        → ((frame : Frame) → Contains said frame → IsKey frame.key)
+        → TellsFramesByTables inputs archives said status text → TellsFrames false (all_joined os) said status text }
+    ensures alone { (input : Reader I) (archive : Reader P) (o : Operations) (said : List Frame) (status : Status)
+        (text : List ℕ) → IsIndexGiven input o → ((frame : Frame) → Contains said frame → IsKey frame.key)
+        → TellsFramesByTables (input ∷ []) (archive ∷ []) said status text → TellsFrames false o said status text }
+    ensures slices { (inputs : List (Reader I)) (archives : List (Reader P)) (os : List Operations) (lines : Bool)
+        (said : List Frame) (status : Status) (text : List ℕ)
+        → ((key : List ℕ) → Contains (keys_of said) key → length key ≤ 24) → AreIndexed inputs archives os
+        → TellsFramesBySlices lines inputs archives said status text
+        → TellsFrames lines (all_joined os) said status text }
+    ensures either { (inputs : List (Reader I)) (archives : List (Reader P)) (os : List Operations) (lines : Bool)
+        (said : List Frame) (status : Status) (text : List ℕ) → AreIndexed inputs archives os → DigestsTell os
+        → ((frame : Frame) → Contains said frame → IsKey frame.key)
+        → AreToldAt lines inputs archives said status text → TellsFrames lines (all_joined os) said status text }
+    ensures keys { (bytes : List ℕ) (said : List Frame) (frame : Frame) → frames_of bytes ≡ Ok said
+        → Contains said frame → IsKey frame.key }
+{}
+
+/// By the indexes of contents a table is refused for a device alone, whatever bytes the archives have. By the indexes
+/// of these very archives all that is refused is so.
+pub fn undamaged_by_indexes<I: Placed, P: Placed>()
+    ensures tables { (keys : List (List ℕ)) (inputs : List (Reader I)) (archives : List (Reader P))
+        (os : List Operations) (at : Place) (why : Why) → AreIndexesGiven inputs os
+        → AreUntold keys inputs archives at why → IsDeviceFault why }
+    ensures asked { (lines : Bool) (keys : List (List ℕ)) (inputs : List (Reader I)) (archives : List (Reader P))
+        (os : List Operations) (at : Place) (why : Why) → AreOwnIndexes inputs archives os
+        → AreRefusedAsking lines keys inputs archives at why → IsDeviceFault why }
+{}

@@ -1,0 +1,259 @@
+"""Indexes, told a second time by docs/FILES.md: made of an archive as it comes, read from their end, and asked
+together."""
+import itertools
+import struct
+from typing import Dict, Iterable, List, NamedTuple, Optional, Sequence
+
+from .contents import ADMISSION, END, RETIREMENT, Content, Fault, Reader, Source, Write, entry_of
+from .images import U32_MAX, Image, image_of, sha, slice_of
+from .tables import NO_CLAIM, Claim, claim_at, stored, table_of
+
+IDX = b"MSYMIDX1"
+PLACED_LEN, ENTRY_LEN, END_LEN = 74, 122, 41
+
+
+# ---- made
+
+
+def placed_entry(record: bytes, at: int) -> bytes:
+    """The entry of a record that stands at this place, without a claim."""
+    is_companion = record[0] == ADMISSION and image_of(record[33:]).is_dsym
+    return entry_of(record) + bytes([is_companion]) + struct.pack(">QQ", at, len(record))
+
+
+def end_of(entries: Sequence[bytes]) -> bytes:
+    return bytes([END]) + struct.pack(">Q", len(entries)) + sha(b"".join(entries))
+
+
+def index_stream(source: Source, write: Write) -> int:
+    """Writes the index of an archive of version 2 as it comes, and says how many entries it has."""
+    reader = Reader(source, "archive")
+    reader.magic()
+    write(IDX)
+    entries: List[bytes] = []
+    done = len(IDX)
+    while True:
+        at = reader.at
+        record = reader.next()
+        if record is None:
+            break
+        claim = NO_CLAIM
+        if record[0] == ADMISSION:
+            table = table_of(record[33:])
+            claim = claim_at(done, table)
+            write(stored(table))
+            done = claim.end
+        entries.append(placed_entry(record, at) + claim.bytes())
+    entries.sort()
+    write(b"".join(entries) + end_of(entries))
+    return len(entries)
+
+
+def index_of(text: bytes) -> bytes:
+    """The index of an archive."""
+    made = bytearray()
+    index_stream(Source(text), made.extend)
+    return bytes(made)
+
+
+# ---- devices
+
+
+class Failed(Exception):
+    """A device failed."""
+
+
+class Placed:
+    """The bytes of a file, from any place. It fails at each call once it gave as many bytes as its limit."""
+
+    def __init__(self, source: Source) -> None:
+        self.data, self.left = source.data, source.limit
+
+    def size(self) -> int:
+        if self.left == 0:
+            raise Failed
+        return len(self.data)
+
+    def take(self, at: int, count: int) -> bytes:
+        """So many bytes from a place on, or as many as there are."""
+        found = self.data[at : at + count]
+        if self.left is not None:
+            self.left, is_short = max(0, self.left - len(found)), len(found) > self.left
+            # It is asked again where bytes are missing.
+            if is_short or (self.left == 0 and len(found) < count):
+                raise Failed
+        return found
+
+
+# ---- read
+
+
+def entries_in(index: bytes) -> List[bytes]:
+    """The entries of an index."""
+    return read_index(Placed(Source(index)))
+
+
+def table_place(entry: bytes) -> int:
+    """Where an entry says that its table is stored."""
+    return claim_in(entry).offset
+
+
+def claim_in(entry: bytes) -> Claim:
+    offset, size = struct.unpack(">QQ", entry[74:90])
+    return Claim(offset, size, entry[90:])
+
+
+def offset_in(entry: bytes) -> int:
+    return int.from_bytes(entry[58:66], "big")
+
+
+def length_in(entry: bytes) -> int:
+    return int.from_bytes(entry[66:74], "big")
+
+
+def part(placed: Placed, at: int, count: int) -> bytes:
+    """A part of an index, which begins at this offset."""
+    try:
+        return placed.take(at, count)
+    except Failed:
+        raise Fault("Device", at) from None
+
+
+def read_index(placed: Placed) -> List[bytes]:
+    """The entries of an index, which is read from its end: its magic, the end record and the entries."""
+    try:
+        size = placed.size()
+    except Failed:
+        raise Fault("Device", 0) from None
+    if not IDX.startswith(part(placed, 0, min(8, size))):
+        raise Fault("BadMagic", 0)
+    at = max(0, size - END_LEN)
+    if size < len(IDX) + END_LEN:
+        raise Fault("Truncated", at)
+    end = part(placed, at, END_LEN)
+    if end[0] != END:
+        raise Fault("Truncated", at)
+    count = int.from_bytes(end[1:9], "big")
+    if len(IDX) + ENTRY_LEN * count + END_LEN > size:
+        raise Fault("BadCount", at)
+    start = at - ENTRY_LEN * count
+    text = part(placed, start, ENTRY_LEN * count)
+    if sha(text) != end[9:]:
+        raise Fault("BadDigest", start)
+    entries = [text[it : it + ENTRY_LEN] for it in range(0, len(text), ENTRY_LEN)]
+    for number, entry in enumerate(entries):
+        fault = entry_fault(entry, entries[number - 1] if number else b"", start)
+        if fault:
+            raise Fault(fault, start + ENTRY_LEN * number)
+    if not are_laid(entries, start):
+        raise Fault("BadPlace", start)
+    return entries
+
+
+def entry_fault(entry: bytes, last: bytes, end: int) -> Optional[str]:
+    """What is wrong with an entry after another one, if something is; the tables end at this offset."""
+    is_retirement = entry[0] == RETIREMENT
+    if entry[0] not in (RETIREMENT, ADMISSION):
+        return "BadTag"
+    if entry[57] not in ((0,) if is_retirement else (0, 1)):
+        return "BadKind"
+    length = length_in(entry)
+    if not (length == 57 if is_retirement else 33 <= length <= 33 + U32_MAX):
+        return "BadLength"
+    if entry <= last:
+        return "NotAscending"
+    claim = claim_in(entry)
+    return None if (claim == NO_CLAIM if is_retirement else claim.end <= end) else "BadTable"
+
+
+def are_laid(entries: Sequence[bytes], end: int) -> bool:
+    """Whether the records follow one another in the archive, and their tables in the index, up to this offset."""
+    offset = at = len(IDX)
+    for entry in sorted(entries, key=offset_in):
+        claim = claim_in(entry)
+        if offset_in(entry) != offset or (entry[0] == ADMISSION and claim.offset != at):
+            return False
+        offset += length_in(entry)
+        at += claim.digests + claim.size
+    return at == end
+
+
+# ---- the archive beside it
+
+
+class Stale(Exception):
+    """The index is of another archive: of another length, or for what stands at the place of this entry."""
+
+    def __init__(self, number: Optional[int] = None) -> None:
+        super().__init__(number)
+        self.text = "Stale" if number is None else f"Stale at entry {number}"
+
+
+def test_length(entries: Iterable[bytes], placed: Placed) -> None:
+    if placed.size() != 17 + sum(map(length_in, entries)):
+        raise Stale
+
+
+def record_at(entry: bytes, placed: Placed) -> Optional[bytes]:
+    """The record that an entry names, or None where no such stands at its place."""
+    if entry[0] == RETIREMENT:
+        return entry[:57]
+    at, length = offset_in(entry), length_in(entry)
+    if at + length > len(placed.data):
+        return None
+    record = placed.take(at, length)
+    if record[0] != ADMISSION or int.from_bytes(record[25:33], "big") != length - 33:
+        return None
+    found = slice_of(record[33:])
+    is_its = isinstance(found, Image) and found.key == record[1:25] and placed_entry(record, at) == entry[:PLACED_LEN]
+    return record if is_its else None
+
+
+def part_at(entries: Iterable[bytes], placed: Placed, front: bytes) -> Content:
+    """The content of the records under a front, at the places that the entries name."""
+    made = Content()
+    for number, entry in enumerate(entries):
+        if entry[1 : 1 + len(front)] == front:
+            record = record_at(entry, placed)
+            if record is None:
+                raise Stale(number)
+            made.take(record)
+    return made
+
+
+def parts_at(entries: Sequence[bytes], placed: Placed, fronts: Iterable[bytes]) -> Content:
+    """The join of those of several fronts, if the archive has the length that the entries tell."""
+    test_length(entries, placed)
+    made = Content()
+    for front in fronts:
+        made.join(part_at(entries, placed, front))
+    return made
+
+
+# ---- asked together
+
+
+class EntryAt(NamedTuple):
+    """An entry of one of several indexes: the number of its index, its own number there, and its bytes."""
+
+    input: int
+    number: int
+    entry: bytes
+
+
+def answering(key: bytes, indexes: Sequence[Sequence[bytes]]) -> Optional[List[EntryAt]]:
+    """The entries that answer for a key, each slice once, in the order of their records: the companions, if there are
+    any, of the admissions that no index retires. None where no entry says which of two records comes first."""
+    every = [EntryAt(place, number, it) for place, those in enumerate(indexes) for number, it in enumerate(those)]
+    under = [it for it in every if it.entry[1:25] == key]
+    retired = {it.entry[1:57] for it in under if it.entry[0] == RETIREMENT}
+    live = [it for it in under if it.entry[0] == ADMISSION and it.entry[1:57] not in retired]
+    those = [it for it in live if it.entry[57] == 1] or live
+    those.sort(key=lambda it: (length_in(it.entry), it.input, offset_in(it.entry)))
+    by_length = [list(same) for _, same in itertools.groupby(those, key=lambda it: length_in(it.entry))]
+    if any(len({it.input for it in same}) > 1 and len({it.entry[:57] for it in same}) > 1 for same in by_length):
+        return None
+    found: Dict[bytes, EntryAt] = {}
+    for it in those:
+        found.setdefault(it.entry[:57], it)
+    return list(found.values())
