@@ -118,7 +118,7 @@ use crate::sweeps::{tell_growths, tell_sweep};
 use crate::texts::{TextFault, cut_case};
 use crate::verdicts::Step;
 use case_parts::{
-    CaseFault, Front, Left, Limits, Store, Sweep, bytes_of, first_word, number, tell_left,
+    CaseFault, FileLimit, Left, Limits, Store, Sweep, bytes_of, first_word, number, tell_left,
     tell_line_fault, tell_room, tell_room_of_bytes, tell_same, words_of,
 };
 use command_line::{Line, LineFault, read_line};
@@ -287,8 +287,8 @@ impl<'t> Bench<'t> {
     fn hold(&mut self, words: &'t str) -> Result<(), CaseFault> {
         let (what, value) = words.split_once(' ').ok_or(CaseFault::BadLine)?;
         match what {
-            "cut" => self.limits.cut = Some(front(value)?),
-            "read" => self.limits.read = Some(front(value)?),
+            "cut" => self.limits.cut = Some(file_limit(value)?),
+            "read" => self.limits.read = Some(file_limit(value)?),
             _ => return self.hold_number(what, number(value)?),
         }
         Ok(())
@@ -393,10 +393,10 @@ impl<'t> Bench<'t> {
 }
 
 // The name and the number of a limit on a file.
-fn front(words: &str) -> Result<Front<'_>, CaseFault> {
+fn file_limit(words: &str) -> Result<FileLimit<'_>, CaseFault> {
     let (name, len) = words.split_once(' ').ok_or(CaseFault::BadLine)?;
     let len = number(len)? as usize;
-    Ok(Front { name, len })
+    Ok(FileLimit { name, len })
 }
 
 // Tells where it makes a difference that the archive is the other one, or that the inputs come in small pieces.

@@ -2,7 +2,7 @@
 
 ghost use Rattle.std.specs.Prelude.{◌≡◌, [], OnOk, map};
 ghost use Rattle.archive_files.specs.AtTurns.{told};
-ghost use Rattle.archive_files.specs.Turns.{AreWaiting};
+ghost use Rattle.archive_files.specs.InputStates.{AreWaiting};
 
 use crate::desk::Desk;
 use archive_core::Archive;
@@ -12,7 +12,7 @@ use case_parts::{End, Left, Shelf, StrictSink, StrictSource};
 use command_ends::Output;
 use command_line::Line;
 use memory::{Heap, NoMemory};
-use placed_bytes::LaidPieces;
+use placed_bytes::PlacedPieces;
 use plan_commands::{Plan, execute_on};
 
 impl<'a> Disk for Desk<'a> {
@@ -22,7 +22,7 @@ impl<'a> Disk for Desk<'a> {
 
     type Input = StrictSource<'a>;
 
-    type Places = LaidPieces<'a>;
+    type Places = PlacedPieces<'a>;
 
     // Of files nothing is known where one of them is cut.
     ghost file_at = { λ desk path. if is_some desk.limits.cut then Unknown
@@ -43,7 +43,10 @@ impl<'a> Disk for Desk<'a> {
         Ok(self.input(path))
     }
 
-    fn open_places(&mut self, path: &str) -> Result<Result<LaidPieces<'a>, CannotOpen>, NoMemory> {
+    fn open_places(
+        &mut self,
+        path: &str,
+    ) -> Result<Result<PlacedPieces<'a>, CannotOpen>, NoMemory> {
         if self.limits.opened == 0 {
             return Err(NoMemory);
         }
@@ -91,11 +94,13 @@ impl<'a> Desk<'a> {
             &mut out,
             &mut report,
         );
-        let placed = out.target.placed();
+        let published = out.target.published();
         Ok(Left {
             end: End::of_command(ended),
-            is_draft: placed.is_none(),
-            out: placed.unwrap_or(out.draft.as_slice()).to_vec(self.alloc)?,
+            is_draft: published.is_none(),
+            out: published
+                .unwrap_or(out.draft.as_slice())
+                .to_vec(self.alloc)?,
             report: report.as_slice().to_vec(self.alloc)?,
         })
     }

@@ -7,7 +7,7 @@ ghost use Rattle.byte_device.specs.Disks.{IsOpened, file_of};
 use byte_device::{CannotOpen, Source};
 use case_parts::{CaseFault, Limits, Store, StrictSource};
 use memory::{Heap, NoMemory};
-use placed_bytes::{LaidPieces, Placed};
+use placed_bytes::{Placed, PlacedPieces};
 use std::alloc::Global;
 use std::io::ErrorKind;
 
@@ -57,10 +57,10 @@ impl<'a> Desk<'a> {
     }
 
     /// A file that is read from any place, as far as it is not cut.
-    pub fn places(self, name: &str) -> Result<LaidPieces<'a>, CannotOpen>
+    pub fn places(self, name: &str) -> Result<PlacedPieces<'a>, CannotOpen>
         ensures { self.entry.limits.cut ≡ None
-            → IsOpened ⟦<LaidPieces<'a> as Placed>⟧.whole
-            ⟦<LaidPieces<'a> as Placed>⟧.failures (λ _. [])
+            → IsOpened ⟦<PlacedPieces<'a> as Placed>⟧.whole
+            ⟦<PlacedPieces<'a> as Placed>⟧.failures (λ _. [])
             (file_of (option_map (λ v. v.items) (get_by_text self.entry.store.now.files name.now))) result }
     {
         let Some(bytes) = self.bytes(name) else {
@@ -69,7 +69,7 @@ impl<'a> Desk<'a> {
             });
         };
         let size = self.limits.pieces.max(1);
-        Ok(LaidPieces::new(bytes, size, self.limits.given_of(name)))
+        Ok(PlacedPieces::new(bytes, size, self.limits.given_of(name)))
     }
 
     /// The same of a file that has to be there, and is read from its start.

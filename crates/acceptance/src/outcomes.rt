@@ -30,7 +30,7 @@ enum PlaceEnd {
 enum Kept {
     Whole,
     // So many first bytes.
-    Front(usize),
+    FirstBytes(usize),
     // As many first bytes as the place is.
     ThatFront,
     // So many other bytes.
@@ -100,11 +100,11 @@ impl PlaceEnd {
 impl Kept {
     fn of(bytes: &[u8], whole: &[u8]) -> Kept {
         if bytes.is_empty() {
-            Kept::Front(0)
+            Kept::FirstBytes(0)
         } else if bytes == whole {
             Kept::Whole
         } else if whole.starts_with(bytes) {
-            Kept::Front(bytes.len())
+            Kept::FirstBytes(bytes.len())
         } else {
             Kept::Other(bytes.len())
         }
@@ -112,7 +112,7 @@ impl Kept {
 
     // The same, with a number of first bytes left out that is the place's own.
     fn at(self, place: usize) -> Kept {
-        if self == Kept::Front(place) {
+        if self == Kept::FirstBytes(place) {
             Kept::ThatFront
         } else {
             self
@@ -140,8 +140,8 @@ impl fmt::Display for Kept {
         match *self {
             Kept::Whole => f.write_str("all"),
             Kept::ThatFront => f.write_str("that many first bytes"),
-            Kept::Front(0) => f.write_str("nothing"),
-            Kept::Front(len) => write!(f, "{len} first bytes"),
+            Kept::FirstBytes(0) => f.write_str("nothing"),
+            Kept::FirstBytes(len) => write!(f, "{len} first bytes"),
             Kept::Other(len) => write!(f, "{len} other bytes"),
         }
     }

@@ -8,10 +8,10 @@ use Rattle.byte_device.specs.declared.Source.{Ghosts as Sources}
 use Rattle.placed_bytes.specs.declared.Placed.{Ghosts as Places}
 use Rattle.archive_files.specs.AtTurns.{told_by}
 use Rattle.archive_files.specs.declared.disks.Disk.{Ghosts as Disks}
-use Rattle.archive_files.specs.declared.at_turn.AtTurn.{AtTurn}
-use Rattle.archive_files.specs.Turns.{AreFirstAsked, IsWaiting, Open, Unopened, Waiting, bytes_at, left_in, stage_of}
-use Rattle.archive_files.specs.declared.at_turn.Turn.{Turn}
-use Rattle.archive_files.specs.declared.at_turn.Turn.TheVariants as turn
+use Rattle.archive_files.specs.declared.input_state.AtTurn.{AtTurn}
+use Rattle.archive_files.specs.InputStates.{AreFirstAsked, IsWaiting, Open, Unopened, Waiting, bytes_at, left_in, stage_of}
+use Rattle.archive_files.specs.declared.input_state.InputState.{InputState}
+use Rattle.archive_files.specs.declared.input_state.InputState.TheVariants as state
 
 -- relations hold along lists with one more element each
 zip_more : {A B : Type 0} (R : A → B → Type 0) (xs : List A) (ys : List B) (x : A) (y : B)
@@ -43,30 +43,30 @@ pub first_asked : {X : Type 0} (f : X → List ℕ) (xs : List X) (i : ℕ) (fir
 first_asked f xs i first last is = (i, is ∙ ap (λ more. first ++ more) (sym (take-map f i xs)))
 
 -- an input that waits has what its file gives
-waits_for : {I P : Type 0} (left : I → Option (List ℕ)) (file : FileAt) (t : Turn I P) → stage_of t ≡ Waiting
+waits_for : {I P : Type 0} (left : I → Option (List ℕ)) (file : FileAt) (t : InputState I P) → stage_of t ≡ Waiting
     → left_in left file t ≡ bytes_at file
-waits_for left file turn.Waiting is = refl
-waits_for left file (turn.Open input) is = absurd (apart is)
+waits_for left file state.Waiting is = refl
+waits_for left file (state.Open input) is = absurd (apart is)
   where
     apart : Open ≡ Waiting → ⊥
     apart e = cc
-waits_for left file (turn.Placed places) is = absurd (apart is)
+waits_for left file (state.Placed places) is = absurd (apart is)
   where
     apart : Open ≡ Waiting → ⊥
     apart e = cc
-waits_for left file (turn.Unopened why) is = absurd (apart is)
+waits_for left file (state.Unopened why) is = absurd (apart is)
   where
     apart : Unopened why ≡ Waiting → ⊥
     apart e = cc
 
 -- and it waits
 pub is_waiting : {D I P : Type 0} (disk : Disks D I P) (input : Sources I) (places : Places P)
-    (s : AtTurn D I P disk input places) (path : Path) → s.path.now ≡ path → stage_of s.turn ≡ Waiting
+    (s : AtTurn D I P disk input places) (path : Path) → s.path.now ≡ path → stage_of s.state ≡ Waiting
     → s.failures ≡ 0 → IsWaiting (told_by disk input places) path s
 is_waiting disk input places s path is waits unfailed = record {
   path_is = is;
   waits = waits;
   unfailed = unfailed;
-  bytes = waits_for input.left (disk.file_at s.disk s.path.now) s.turn waits;
+  bytes = waits_for input.left (disk.file_at s.disk s.path.now) s.state waits;
   all = refl;
 }

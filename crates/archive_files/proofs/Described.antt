@@ -3,7 +3,7 @@ use Rattle.std.proofs.Common.{◌≡◌, ◌∙◌, List, ◌++◌, ℕ, append_
 use Rattle.std.proofs.lemmas.List.{take-append-drop}
 use Rattle.std.specs.Prelude.{codes}
 use Rattle.std.specs.Str.Pattern.{FindsText, FindsTextPrefix, SplitsAroundMatch, StripsPrefix}
-use Rattle.archive_files.specs.Placing.{IsDescriptor, IsNumber, IsProcess}
+use Rattle.archive_files.specs.Publishing.{IsDescriptor, IsNumber, IsProcess}
 
 -- what is behind the text at the front
 behind_text : (text s rest : List ℕ) → StripsPrefix (FindsTextPrefix text) s rest → s ≡ text ++ rest

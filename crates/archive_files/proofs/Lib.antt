@@ -1,5 +1,5 @@
 pub mod Accounts
-pub mod Placings
+pub mod Publishings
 pub mod Asked
 mod PlacesHeld
 pub mod Described

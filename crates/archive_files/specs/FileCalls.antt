@@ -89,8 +89,8 @@ abbrev pub drafting : List ℕ → List (List ℕ) → List FileCall
 drafting draft pieces = Creates draft ∷ map Writes pieces
 
 -- the draft is put in the place of the target
-abbrev pub placing : List ℕ → List ℕ → List ℕ → List FileCall
-placing draft target folder = Syncs ∷ Renames draft target ∷ SyncsFolder folder ∷ []
+abbrev pub publishing : List ℕ → List ℕ → List ℕ → List FileCall
+publishing draft target folder = Syncs ∷ Renames draft target ∷ SyncsFolder folder ∷ []
 
 -- pieces of a text go to what is at a path
 abbrev pub writing : List ℕ → List (List ℕ) → List FileCall

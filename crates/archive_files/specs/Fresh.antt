@@ -15,4 +15,4 @@ AreFresh files =
     (files.others.entries ≡ []) × (files.same.entries ≡ []) × (option_map string_bytes files.out.draft.path ≡ None)
     × (files.out.draft.replaces ≡ OwnFiles)
     × (stage_of files.out.draft.state ≡ Untouched) × (files.out.draft.failures ≡ 0)
-    × (files.out.draft.calls.entries ≡ []) × (files.out.target.placed ≡ None)
+    × (files.out.draft.calls.entries ≡ []) × (files.out.target.published ≡ None)

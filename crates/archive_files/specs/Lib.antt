@@ -1,7 +1,7 @@
 pub mod FileCalls
 pub mod Opened
-pub mod Turns
+pub mod InputStates
 pub mod AtTurns
 pub mod OutFiles
-pub mod Placing
+pub mod Publishing
 pub mod Fresh

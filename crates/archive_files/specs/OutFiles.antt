@@ -2,10 +2,10 @@
 use Rattle.std.specs.Prelude.{◌≡◌, ◌≢◌, ℕ, Bool, true, false, List, [], Option, Some, None, Result, IsErr, string_bytes}
 use Rattle.std.specs.Io.KnownBytes.{WriteAppends}
 use Rattle.archive_files.specs.FileCalls.{FileCall, bytes_in}
-use Rattle.archive_files.specs.Placing.{IsDrafted, IsRemoved, IsTargetOf, IsWritable, IsWrittenThrough, account}
+use Rattle.archive_files.specs.Publishing.{IsDrafted, IsRemoved, IsTargetOf, IsWritable, IsWrittenThrough, account}
 use Rattle.archive_files.specs.declared.out_file.OutState.{OutState}
 use Rattle.archive_files.specs.declared.out_file.OutState.TheVariants as state
-use Rattle.archive_files.specs.declared.placed.Placed.{Placed}
+use Rattle.archive_files.specs.declared.published.Published.{Published}
 use Rattle.archive_files.specs.declared.replaceable.OutFault.{OutFault}
 use Rattle.archive_files.specs.declared.replaceable.Replaces.{Replaces}
 use Rattle.archive_files.specs.declared.ways.Way.{Way}
@@ -110,12 +110,12 @@ draft_account false path replaces calls = account path replaces (bytes_in calls)
 
 -- What is known of what was put in place: its path, which files could be replaced there, and the bytes that were
 -- written for it.
-abbrev pub placed_account : Option Placed → Option (List ℕ)
-placed_account None = None
-placed_account (Some placed) =
-    Some (account (Some (string_bytes placed.path)) placed.replaces (bytes_in placed.calls.entries))
+abbrev pub published_account : Option Published → Option (List ℕ)
+published_account None = None
+published_account (Some published) =
+    Some (account (Some (string_bytes published.path)) published.replaces (bytes_in published.calls.entries))
 
 -- what was called for it
-abbrev pub placing_calls : Option Placed → List FileCall
-placing_calls None = []
-placing_calls (Some placed) = placed.calls.entries
+abbrev pub publishing_calls : Option Published → List FileCall
+publishing_calls None = []
+publishing_calls (Some published) = published.calls.entries

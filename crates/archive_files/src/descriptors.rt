@@ -1,7 +1,7 @@
 //! The paths of descriptors.
 
 ghost use Rattle.std.specs.Prelude.{◌≡◌, ◌≤◌, All, true};
-ghost use Rattle.archive_files.specs.Placing.{IsDescriptor, IsNumber, IsProcess};
+ghost use Rattle.archive_files.specs.Publishing.{IsDescriptor, IsNumber, IsProcess};
 
 /// Whether all bytes of a text are digits.
 fn are_digits(text: &[u8]) -> bool

@@ -3,8 +3,8 @@
 
 ghost use Rattle.std.specs.Prelude.{◌≡◌, ◌∷◌, ◌++◌, ◌⊎◌, [], IfOk, List, OnErr, OnOk, string_bytes, true};
 ghost use Rattle.std.specs.Path.{path_with_file_name};
-ghost use Rattle.archive_files.specs.FileCalls.{FileCall, Removes, Syncs, SyncsFolder, are_looks, placing};
-ghost use Rattle.archive_files.specs.Placing.{IsBeside, IsTested, draft_name, folder_of};
+ghost use Rattle.archive_files.specs.FileCalls.{FileCall, Removes, Syncs, SyncsFolder, are_looks, publishing};
+ghost use Rattle.archive_files.specs.Publishing.{IsBeside, IsTested, draft_name, folder_of};
 
 use crate::file_calls::FileCalls;
 use crate::losses::test_losses;
@@ -131,10 +131,10 @@ pub fn put_draft<F: Files>(
     replaces: Replaces,
     calls: &mut FileCalls,
 ) -> Result<(), OutFault>
-    ensures placed { OnOk result ((tests : List FileCall)
+    ensures published { OnOk result ((tests : List FileCall)
         × IsTested replaces (string_bytes draft.now.path) (string_bytes draft.now.target) tests
         × (calls.new.entries ≡ calls.old.entries ++ tests
-        ++ placing (string_bytes draft.now.path) (string_bytes draft.now.target)
+        ++ publishing (string_bytes draft.now.path) (string_bytes draft.now.target)
         (folder_of (string_bytes draft.now.target)))) }
     ensures removed { OnErr result ((tests : List FileCall) × (are_looks tests ≡ true)
         × ((calls.new.entries ≡ calls.old.entries ++ tests ++ Removes (string_bytes draft.now.path) ∷ [])

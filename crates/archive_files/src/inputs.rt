@@ -2,10 +2,10 @@
 
 ghost use Rattle.std.specs.Prelude.{◌≡◌, ◌++◌, [], OnOk, map};
 ghost use Rattle.archive_files.specs.AtTurns.{told};
-ghost use Rattle.archive_files.specs.Turns.{AreFirstAsked, AreWaiting};
+ghost use Rattle.archive_files.specs.InputStates.{AreFirstAsked, AreWaiting};
 
-use crate::at_turn::AtTurn;
 use crate::call_log::CallLog;
+use crate::input_state::AtTurn;
 use crate::system_disk::SystemDisk;
 use byte_device::CannotOpen;
 use memory::NoMemory;

@@ -4,14 +4,14 @@
 //! - `file_calls`: the same, of the calls for one output;
 //! - `opened_file`: a file that is read from its start; `placed_file`: one that is read from any place;
 //! - `disks`: [`Disk`], files by their paths; `system_disk`: those of the system;
-//! - `at_turn`: an input that is opened at its turn;
+//! - `input_state`: an input that is opened at its turn;
 //! - `inputs`: the inputs of a command;
 //! - `identities`: which file a path names;
 //! - `descriptors`: the paths of descriptors; `ways`: how OUT is written, by what its path leads to;
 //! - `replaceable`: which file at OUT's path may be replaced;
 //! - `losses`: what would be lost of an archive in its place; `sameness`: whether it has the same bytes;
 //! - `drafts`: a file beside OUT, which is renamed when it is whole;
-//! - `placed`: an output that is in place;
+//! - `published`: an output that is in place;
 //! - `out_file`: OUT before it is in place;
 //! - `out_path`: OUT's path, at which it is put;
 //! - `system_files`: the files of one command.
@@ -22,7 +22,7 @@
 //!   could not be. The bytes that a push is given are written (`WritesBegun`). What was called for it is known at each
 //!   state (`FileCalls`): a file was created beside a target, under a name that is not the target's, and took these
 //!   bytes; and nothing was called if it neither took a byte nor failed.
-//! - [`OutPath`] has nothing, or the whole text by the calls of `IsPlaced`: created, written, compared with what
+//! - [`OutPath`] has nothing, or the whole text by the calls of `IsPublished`: created, written, compared with what
 //!   is at the target, if not each of symarch's own files is replaced, synced, renamed over the target, and the target's folder synced, in this
 //!   order; or opened and written. A draft that is not put in place is removed (`IsRemoved`).
 //! - The target is OUT's path, or what the system said that a link there leads to (`IsTargetOf`); and only what it said
@@ -78,30 +78,30 @@
 //!   that. A sink cannot say why it failed, so `execute` asks OUT afterwards.
 #![tactic(auto)]
 
-mod at_turn;
 mod call_log;
 mod descriptors;
 mod disks;
 mod drafts;
 mod file_calls;
 mod identities;
+mod input_state;
 mod inputs;
 mod losses;
 mod opened_file;
 mod out_file;
 mod out_path;
-mod placed;
 mod placed_file;
+mod published;
 mod replaceable;
 mod sameness;
 mod system_disk;
 mod system_files;
 mod ways;
 
-pub use at_turn::{AtTurn, Unopened};
 pub use disks::Disk;
+pub use input_state::{AtTurn, Unopened};
 pub use inputs::SystemInput;
-pub use opened_file::{Front, OpenedFile};
+pub use opened_file::{LeadingBytes, OpenedFile};
 pub use out_file::OutFile;
 pub use out_path::OutPath;
 pub use placed_file::PlacedFile;

@@ -2,7 +2,7 @@
 
 ghost use Rattle.std.specs.Prelude.{◌≡◌, ◌≢◌, ◌∷◌, ◌++◌, [], IfOk, List, Ok, OnErr, OnOk, false, true};
 ghost use Rattle.archive_files.specs.FileCalls.{FileCall, FindsNoArchive, are_looks, compared};
-ghost use Rattle.archive_files.specs.Placing.{IsTested};
+ghost use Rattle.archive_files.specs.Publishing.{IsTested};
 ghost use Rattle.archive_files.specs.declared.replaceable.Replaces.TheVariants.{ArchivesBelow};
 
 use crate::file_calls::FileCalls;

@@ -9,10 +9,10 @@ use byte_device::{Failed, Reading, Source};
 use std::io::{self, Read};
 
 /// How many of the first bytes of a file are kept.
-pub const FRONT_LEN: usize = 8;
+pub const LEADING_LEN: usize = 8;
 
 /// The first bytes of a file, as far as it was read, with zeros behind them.
-pub type Front = [u8; FRONT_LEN];
+pub type LeadingBytes = [u8; LEADING_LEN];
 
 /// The reader of a file that was opened at a path. It is closed at its end, and gives no more bytes then.
 #[derive(Drop)]
@@ -20,7 +20,7 @@ pub struct OpenedFile<R> {
     // None where it is closed.
     reading: Option<Reading<R>>,
     failures: u64,
-    front: Front,
+    leading_bytes: LeadingBytes,
     read: usize,
     // Its path, which only clauses read.
     at: CallLog,
@@ -36,7 +36,7 @@ impl<R: Read + Drop> OpenedFile<R> {
         OpenedFile {
             reading: Some(Reading::new(reader)),
             failures: 0,
-            front: [0; FRONT_LEN],
+            leading_bytes: [0; LEADING_LEN],
             read: 0,
             at,
         }
@@ -51,18 +51,18 @@ impl<R: Read + Drop> OpenedFile<R> {
     }
 
     /// Its first bytes.
-    pub fn front(&self) -> Front {
-        self.front
+    pub fn leading_bytes(&self) -> LeadingBytes {
+        self.leading_bytes
     }
 }
 
 /// Keeps bytes that come behind so many, where they are among the first, and gives how many came then.
-pub(crate) fn keep(front: &mut Front, read: usize, bytes: &[u8]) -> usize {
-    if read >= FRONT_LEN {
+pub(crate) fn keep(leading_bytes: &mut LeadingBytes, read: usize, bytes: &[u8]) -> usize {
+    if read >= LEADING_LEN {
         return read;
     }
-    let most = bytes.len().min(FRONT_LEN - read);
-    front[read..read + most].copy_from_slice(&bytes[..most]);
+    let most = bytes.len().min(LEADING_LEN - read);
+    leading_bytes[read..read + most].copy_from_slice(&bytes[..most]);
     read + most
 }
 
@@ -107,7 +107,7 @@ impl<R: Read + Drop> Source for OpenedFile<R> {
         }
         match pull_open(&mut self.reading, buf) {
             Ok(taken) => {
-                self.read = keep(&mut self.front, self.read, &buf[..taken]);
+                self.read = keep(&mut self.leading_bytes, self.read, &buf[..taken]);
                 Ok(taken)
             }
             Err(Failed) => {

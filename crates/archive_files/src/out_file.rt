@@ -8,11 +8,11 @@ ghost use Rattle.archive_files.specs.OutFiles.{IsSoFar, Settled, Untouched, Writ
 ghost use Rattle.archive_files.specs.OutFiles.{draft_account, fault_of};
 ghost use Rattle.archive_files.specs.OutFiles.{has_calls, is_drafted, is_settled, stage_of, takes_bytes};
 ghost use Rattle.archive_files.specs.declared.replaceable.Replaces.TheVariants.{OwnFiles};
-ghost use Rattle.archive_files.specs.Placing.{HandsOn, IsRemoved, took_nothing};
+ghost use Rattle.archive_files.specs.Publishing.{HandsOn, IsRemoved, took_nothing};
 
 use crate::drafts::{Draft, create_draft, put_draft, remove_draft};
 use crate::file_calls::FileCalls;
-use crate::placed::Placed;
+use crate::published::Published;
 use crate::replaceable::{Obstacle, OutFault, Replaces};
 use crate::ways::{Way, way_to};
 use byte_device::{Failed, Sink};
@@ -63,7 +63,7 @@ enum OutState<T> {
 }
 
 /// What bytes go to first, where OUT has this path.
-#[tactic(auto, using(crate::proofs::Placings::begun_drafted, crate::proofs::Placings::looks_bytes))]
+#[tactic(auto, using(crate::proofs::Publishings::begun_drafted, crate::proofs::Publishings::looks_bytes))]
 fn begun<F: Files>(
     alloc: Global,
     files: &F,
@@ -167,7 +167,7 @@ fn finish<F: Files>(
     state: &mut OutState<F::File>,
     calls: &mut FileCalls,
 ) -> bool
-    ensures placed { result ≡ true → (path : Option (List ℕ)) → IsSoFar path (stage_of state.old) calls.old.entries
+    ensures published { result ≡ true → (path : Option (List ℕ)) → IsSoFar path (stage_of state.old) calls.old.entries
         → HandsOn path replaces calls.new.entries }
     ensures settled { result ≡ true → stage_of state.new ≡ Settled }
     ensures was_open { result ≡ true → is_settled (stage_of state.old) ≡ false }
@@ -294,11 +294,11 @@ impl<'a, F: Files> OutFile<'a, F> {
 
     /// Puts what was written in place, and hands on what was called for it. A draft that could not be put there is
     /// removed.
-    pub fn settle(&mut self) -> Option<Placed>
-        ensures placed { IfSome result (λ placed.
-            (Some (string_bytes placed.path) ≡ option_map string_bytes self.old.path)
-            × (placed.replaces ≡ self.old.replaces)
-            × (bytes_in placed.calls.entries ≡ bytes_in self.old.calls.entries)
+    pub fn settle(&mut self) -> Option<Published>
+        ensures published { IfSome result (λ published.
+            (Some (string_bytes published.path) ≡ option_map string_bytes self.old.path)
+            × (published.replaces ≡ self.old.replaces)
+            × (bytes_in published.calls.entries ≡ bytes_in self.old.calls.entries)
             × (is_settled (stage_of self.old.state) ≡ false)) }
         ensures settled { IsSome result → stage_of self.new.state ≡ Settled }
         ensures kept { result ≡ None
@@ -318,7 +318,7 @@ impl<'a, F: Files> OutFile<'a, F> {
         }
         let calls = mem::replace(&mut self.calls, FileCalls::new());
         match mem::replace(&mut self.path, None) {
-            Some(path) => Some(Placed {
+            Some(path) => Some(Published {
                 path,
                 replaces: self.replaces,
                 calls,

@@ -3,7 +3,7 @@
 ghost use Rattle.std.specs.Prelude.{◌≡◌, ◌∷◌, []};
 
 use crate::call_log::CallLog;
-use crate::opened_file::{FRONT_LEN, Front, keep};
+use crate::opened_file::{LEADING_LEN, LeadingBytes, keep};
 use byte_device::Failed;
 use placed_bytes::{Placed, Placing};
 use std::io::{self, Read, Seek};
@@ -15,7 +15,7 @@ pub struct PlacedFile<R> {
     // Its path, which only clauses read.
     at: CallLog,
     // Its first bytes, once they were taken.
-    front: Front,
+    leading_bytes: LeadingBytes,
 }
 
 impl<R: Read + Seek + Drop> PlacedFile<R> {
@@ -28,13 +28,13 @@ impl<R: Read + Seek + Drop> PlacedFile<R> {
         PlacedFile {
             placing: Placing::new(reader),
             at,
-            front: [0; FRONT_LEN],
+            leading_bytes: [0; LEADING_LEN],
         }
     }
 
     /// Its first bytes, if they were taken; else zeros.
-    pub fn front(&self) -> Front {
-        self.front
+    pub fn leading_bytes(&self) -> LeadingBytes {
+        self.leading_bytes
     }
 
     /// Why it could not be read, if it could not.
@@ -51,8 +51,8 @@ impl<R: Read + Seek + Drop> Placed for PlacedFile<R> {
     fn take_at(&mut self, at: u64, buf: &mut [u8]) -> Result<usize, Failed> {
         match self.placing.take_at(at, buf) {
             Ok(count) => {
-                if at < FRONT_LEN as u64 {
-                    keep(&mut self.front, at as usize, &buf[..count]);
+                if at < LEADING_LEN as u64 {
+                    keep(&mut self.leading_bytes, at as usize, &buf[..count]);
                 }
                 Ok(count)
             }

@@ -2,7 +2,7 @@
 
 ghost use Rattle.std.specs.Prelude.{◌≡◌, ◌++◌, List, OnErr, OnOk, true};
 ghost use Rattle.archive_files.specs.FileCalls.{FileCall, are_looks};
-ghost use Rattle.archive_files.specs.Placing.{IsTested};
+ghost use Rattle.archive_files.specs.Publishing.{IsTested};
 ghost use Rattle.archive_files.specs.declared.replaceable.Replaces.TheVariants.{SameBytes};
 
 use crate::file_calls::FileCalls;

@@ -3,9 +3,9 @@
 ghost use Rattle.std.specs.Prelude.{◌≡◌, ◌++◌, [], IfOk, None, OnOk, Some, map, option_map, string_bytes};
 ghost use Rattle.archive_files.specs.AtTurns.{told};
 ghost use Rattle.archive_files.specs.Fresh.{AreFresh};
-ghost use Rattle.archive_files.specs.Turns.{AreFirstAsked, AreWaiting};
+ghost use Rattle.archive_files.specs.InputStates.{AreFirstAsked, AreWaiting};
 ghost use Rattle.archive_files.specs.OutFiles.{Untouched, stage_of};
-ghost use Rattle.archive_files.specs.Placing.{IsPath};
+ghost use Rattle.archive_files.specs.Publishing.{IsPath};
 
 use crate::call_log::CallLog;
 use crate::identities::are_other_files;
@@ -65,7 +65,7 @@ impl<'a, F: Files> SystemFiles<'a, F> {
         ensures untouched { stage_of self.new.out.draft.state ≡ Untouched }
         ensures unfailed { self.new.out.draft.failures ≡ 0 }
         ensures calls { self.new.out.draft.calls.entries ≡ [] }
-        ensures placed { self.new.out.target.placed ≡ None }
+        ensures published { self.new.out.target.published ≡ None }
     {
         self.out.draft.take_rule(replaces);
         let files = self.out.draft.files();

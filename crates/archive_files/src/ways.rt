@@ -4,7 +4,7 @@ ghost use Rattle.std.specs.Prelude.{◌≡◌, ◌≢◌, ◌∷◌, ◌++◌, [
 ghost use Rattle.std.specs.IoError.{error_kind};
 ghost use Rattle.archive_files.specs.FileCalls.{FindsFile, FindsNoLink, FindsNothing, Leads, are_looks, found};
 ghost use Rattle.archive_files.specs.OutFiles.{IsWayTo};
-ghost use Rattle.archive_files.specs.Placing.{IsTargetOf};
+ghost use Rattle.archive_files.specs.Publishing.{IsTargetOf};
 
 use crate::descriptors::is_descriptor;
 use crate::file_calls::FileCalls;

@@ -11,7 +11,7 @@ use Rattle.archive_records.specs.Text.{IsOperationsText, summary_text}
 use Rattle.archive_records.specs.declared.kind.TextKind.{TextKind}
 use Rattle.archive_records.specs.declared.kind.TextKind.TheVariants.{Archive as ArchiveFile, Operations as OperationsFile, Summary as SummaryFile}
 use Rattle.byte_device.specs.declared.disks.CannotOpen.{CannotOpen}
-use Rattle.command_ends.specs.declared.faults.Place.{Place}
+use Rattle.command_ends.specs.declared.faults.InputName.{InputName}
 use Rattle.command_ends.specs.declared.faults.Why.{Why}
 use Rattle.admission.specs.File.{IsAcceptedFile, IsTakeFault}
 use Rattle.admission.specs.declared.fault.TakeFault.{TakeFault}
@@ -53,7 +53,7 @@ module _ (memory_alone : (file : List ℕ) (fault : TakeFault) → IsAcceptedFil
         | inr p ↦ absurd (p.2 (memory_alone bytes p.0 accepted (known (left source) bytes (λ b. IsTakeFault b p.0) given p.4)))
       ]
 
-  pub admit_refused : {R S : Type 0} (input : Reader R) (files : List (Reader S)) (o : Operations) (texts : List (List ℕ)) (place : Place) (why : Why)
+  pub admit_refused : {R S : Type 0} (input : Reader R) (files : List (Reader S)) (o : Operations) (texts : List (List ℕ)) (place : InputName) (why : Why)
       → IsContent o → IsGivenArchive input o → AllZip IsGiven files texts → AllByRecursion IsAcceptedFile texts
       → (admit input files).Refuses place why → IsDeviceFault why
   admit_refused input files o texts place why content given files_given accepted refused =
@@ -65,7 +65,7 @@ module _ (memory_alone : (file : List ℕ) (fault : TakeFault) → IsAcceptedFil
             file one.left one.failures one.old one.new found.0 why found.1 found.2 first.refused
       ]
 
-pub merge_refused : {R S : Type 0} (input : Reader R) (files : List (Reader S)) (o : Operations) (contents : List Operations) (place : Place) (why : Why)
+pub merge_refused : {R S : Type 0} (input : Reader R) (files : List (Reader S)) (o : Operations) (contents : List Operations) (place : InputName) (why : Why)
     → IsContent o → AllByRecursion IsContent contents
     → IsGivenArchive input o → AllZip IsGivenArchive files contents
     → (merge input files).Refuses place why → IsDeviceFault why
@@ -78,7 +78,7 @@ merge_refused input files o contents place why content are given files_given ref
           archive first.input found.0 why found.1 found.2 first.refused
     ]
 
-pub apply_refused : {R S : Type 0} (input : Reader R) (ops : Reader S) (o : Operations) (bytes : List ℕ) (operations : List Operation) (place : Place) (why : Why)
+pub apply_refused : {R S : Type 0} (input : Reader R) (ops : Reader S) (o : Operations) (bytes : List ℕ) (operations : List Operation) (place : InputName) (why : Why)
     → IsContent o → IsGivenArchive input o → IsGiven ops bytes → IsOperationsText bytes operations
     → (apply input ops).Refuses place why → IsDeviceFault why
 apply_refused input ops o bytes operations place why content given ops_given is refused =
@@ -87,7 +87,7 @@ apply_refused input ops o bytes operations place why content given ops_given is 
       | inr p ↦ text OperationsFile ops.left ops.failures ops.old ops.new operations bytes why is.are is ops_given p.2.1
     ]
 
-pub delta_refused : {R S : Type 0} (input : Reader R) (named : Reader S) (o : Operations) (entries : Entries) (place : Place) (why : Why)
+pub delta_refused : {R S : Type 0} (input : Reader R) (named : Reader S) (o : Operations) (entries : Entries) (place : InputName) (why : Why)
     → IsContent o → AreEntries entries → IsGivenArchive input o → IsGiven named (summary_text entries)
     → (delta input named).Refuses place why → IsDeviceFault why
 delta_refused input named o entries place why content are given named_given refused =

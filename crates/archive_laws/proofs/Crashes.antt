@@ -7,9 +7,9 @@ use Rattle.std.proofs.lemmas.List.{append-nil, take_all}
 use Rattle.std.proofs.lemmas.Slice.Eq.{bytes_eq-Decides}
 use Rattle.archive_files.specs.FileCalls.{FileCall, Creates, Opens, Writes, Syncs, Renames, SyncsFolder, Removes}
 use Rattle.archive_files.specs.FileCalls.{FindsFile, FindsOther, FindsNothing, FindsNoLink, Leads, FindsNoArchive}
-use Rattle.archive_files.specs.FileCalls.{Agrees, Covers, Loses, are_looks, drafting, is_look, placing, writing}
-use Rattle.archive_files.specs.Placing.{IsDescriptor, IsDraftRemoved, IsDrafted, IsReplaced, IsTargetOf, IsTested}
-use Rattle.archive_files.specs.Placing.{IsWritable, IsWrittenThrough, folder_of}
+use Rattle.archive_files.specs.FileCalls.{Agrees, Covers, Loses, are_looks, drafting, is_look, publishing, writing}
+use Rattle.archive_files.specs.Publishing.{IsDescriptor, IsDraftRemoved, IsDrafted, IsReplaced, IsTargetOf, IsTested}
+use Rattle.archive_files.specs.Publishing.{IsWritable, IsWrittenThrough, folder_of}
 use Rattle.archive_files.specs.declared.replaceable.Replaces.{Replaces}
 use Rattle.archive_files.specs.declared.replaceable.Replaces.TheVariants.{OwnFiles, ArchivesBelow, SameBytes}
 use Rattle.archive_laws.specs.Crashes.{DraftState, MayBeAt, Old, New, Torn, Touched, behind, no_draft, replay}
@@ -70,7 +70,7 @@ fold_looks target (look ∷ looks) rest d are =
 
 module _ (draft target folder : List ℕ) (other : draft ≢ target) (tests : List FileCall) (are : are_looks tests ≡ true) where
   abbrev placed : List FileCall
-  placed = placing draft target folder
+  placed = publishing draft target folder
 
   abbrev last : List FileCall
   last = tests ++ placed
@@ -192,7 +192,7 @@ flat_removed looks drafted tests rest before calls first is =
 
 module _ (path text : List ℕ) (replaces : Replaces) (calls : List FileCall) (is : IsReplaced path replaces text calls) where
   abbrev end : List FileCall
-  end = placing is.draft is.target (folder_of is.target)
+  end = publishing is.draft is.target (folder_of is.target)
 
   asking : are_looks is.tests ≡ true
   asking = tests_ask replaces is.draft is.target is.tests is.tested

@@ -14,7 +14,7 @@ use Rattle.report_text.specs.Answers.{answer_lines}
 use Rattle.source_frames.specs.AddressFrames.{AreFramesOf}
 use Rattle.source_frames.specs.Frames.{FrameRecord}
 use Rattle.byte_device.specs.declared.disks.CannotOpen.{CannotOpen}
-use Rattle.command_ends.specs.declared.faults.Place.{Place}
+use Rattle.command_ends.specs.declared.faults.InputName.{InputName}
 use Rattle.command_ends.specs.declared.faults.Status.{Status}
 use Rattle.command_ends.specs.declared.faults.Status.TheVariants.{Done, Partial}
 use Rattle.command_ends.specs.declared.faults.Why.{Why}
@@ -171,7 +171,7 @@ frames_alone left failures old new bytes said (BadFrame line flaw) is says refus
     let bad = is_given (reader left failures old new) bytes (λ b. (frames_of b ≡ Err line) × (flaw ≡ frame_flaw (line_at b line))) is refused.1 in cc (sym bad.0 ∙ says)
 frames_alone left failures old new bytes said _ is says refused = absurd refused
 
-pub not_refused : {R S T : Type 0} (input : Reader R) (first : Reader S) (others : List (Reader T)) (bytes : List ℕ) (said : List Frame) (o : Operations) (place : Place) (why : Why)
+pub not_refused : {R S T : Type 0} (input : Reader R) (first : Reader S) (others : List (Reader T)) (bytes : List ℕ) (said : List Frame) (o : Operations) (place : InputName) (why : Why)
     → IsGiven input bytes → frames_of bytes ≡ Ok said → IsGivenJoin first others o → RefusesFrames input first others place why → IsDeviceFault why
 not_refused input first others bytes said o place why is says given_join refused =
     elim refused [

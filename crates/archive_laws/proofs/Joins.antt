@@ -4,7 +4,7 @@ use Rattle.std.specs.List.{AllByRecursion, AllZip}
 use Rattle.archive_core.specs.Content.{Operations, IsContent, joined}
 use Rattle.archive_core.proofs.Made.{joined_content}
 use Rattle.archive_records.specs.Text.{IsArchiveOf, written}
-use Rattle.command_ends.specs.declared.faults.Place.{Place}
+use Rattle.command_ends.specs.declared.faults.InputName.{InputName}
 use Rattle.command_ends.specs.declared.faults.Why.{Why}
 use Rattle.command_ends.specs.Archives.{AreRefused, HoldTogether, merged}
 use Rattle.command_ends.specs.Inputs.{Reader, HoldsArchive, HoldsContent, IsDeviceFault, IsGiven, IsGivenArchive}
@@ -49,7 +49,7 @@ module _ {R S : Type 0} (archive : Reader R) (others : List (Reader S)) (o : Ope
     is_true = subst IsTrue given.join_is is;
   }
 
-  pub join_refused : (place : Place) (why : Why) → AreRefused archive others place why → IsDeviceFault why
+  pub join_refused : (place : InputName) (why : Why) → AreRefused archive others place why → IsDeviceFault why
   join_refused place why refused =
       merge_refused archive others given.content given.contents place why given.is_content given.are_contents given.archive_is given.others_are
       (elim refused [ inl first ↦ inl first.0 | inr behind ↦ inr behind ])

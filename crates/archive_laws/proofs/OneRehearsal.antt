@@ -21,7 +21,7 @@ use Rattle.rehearsal.specs.Script.{Wrong, acts, script_of}
 use Rattle.rehearse.specs.Rehearsal.{event_fault_text, event_lines, outcome_text, sent_text, took_text}
 use Rattle.report_text.specs.Report.{line}
 use Rattle.byte_device.specs.declared.disks.CannotOpen.{CannotOpen}
-use Rattle.command_ends.specs.declared.faults.Place.{Place}
+use Rattle.command_ends.specs.declared.faults.InputName.{InputName}
 use Rattle.command_ends.specs.declared.faults.Status.{Status}
 use Rattle.command_ends.specs.declared.faults.Why.{Why}
 use Rattle.command_ends.specs.declared.faults.Why.TheVariants.{Device as CannotRead, Script as Faulty, CannotOpen as NotOpened}
@@ -40,7 +40,7 @@ refused_so left failures old new bytes said (Faulty fault line flaw) is says ref
     let bad = is_given (reader left failures old new) bytes (λ b. (script_of b ≡ Err (fault, line)) × (flaw ≡ script_flaw fault (line_at b line))) is refused.1 in cc (sym bad.0 ∙ says)
 refused_so left failures old new bytes said _ is says refused = absurd refused
 
-pub script_not_refused : {S : Type 0} (script : Reader S) (bytes : List ℕ) (sites : ℕ) (events : List Act) (place : Place) (why : Why)
+pub script_not_refused : {S : Type 0} (script : Reader S) (bytes : List ℕ) (sites : ℕ) (events : List Act) (place : InputName) (why : Why)
     → IsGiven script bytes → script_of bytes ≡ Ok (sites, events) → IsRefusedScript script place why → IsDeviceFault why
 script_not_refused script bytes sites events place why is says refused =
     refused_so script.left script.failures script.old script.new bytes (sites, events) why is says refused.1

@@ -7,7 +7,7 @@ ghost use Rattle.archive_core.specs.Record.{admission_record};
 ghost use Rattle.archive_core.specs.Content.{Operations, IsContent, IsMade, content_of, joined};
 ghost use Rattle.admission.specs.File.{parts, IsAcceptedFile};
 ghost use Rattle.admission.specs.Take.{admitted, taken_rows};
-ghost use Rattle.command_ends.specs.declared.faults.Place.{Place};
+ghost use Rattle.command_ends.specs.declared.faults.InputName.{InputName};
 ghost use Rattle.command_ends.specs.declared.faults.Why.{Why};
 ghost use Rattle.archive_updates.specs.Admit.{admit, admit_rows, file_rows, images_of};
 ghost use Rattle.command_ends.specs.Inputs.{IsDeviceFault, IsGiven, Reader, IsGivenArchive};
@@ -37,7 +37,7 @@ pub fn rows_in_order()
 
 /// Where IN is the text of a content and each file is accepted, no input is refused but for its device.
 pub fn accepted_inputs_are_not_refused<R: Source, S: Source>()
-    ensures { (input : Reader R) (files : List (Reader S)) (o : Operations) (texts : List (List ℕ)) (index : Place)
+    ensures { (input : Reader R) (files : List (Reader S)) (o : Operations) (texts : List (List ℕ)) (index : InputName)
         (why : Why)
         → IsContent o
         → IsGivenArchive input o

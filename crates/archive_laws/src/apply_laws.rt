@@ -8,7 +8,7 @@ ghost use Rattle.archive_core.specs.Content.{changes, new_among};
 ghost use Rattle.archive_core.specs.Record.{record_bytes};
 ghost use Rattle.archive_core.specs.declared.operations.Operation.{Operation};
 ghost use Rattle.archive_records.specs.Text.{IsOperationsText, written};
-ghost use Rattle.command_ends.specs.declared.faults.Place.{Place};
+ghost use Rattle.command_ends.specs.declared.faults.InputName.{InputName};
 ghost use Rattle.command_ends.specs.declared.faults.Why.{Why};
 ghost use Rattle.archive_updates.specs.Apply.{apply};
 ghost use Rattle.command_ends.specs.Inputs.{IsDeviceFault, IsGiven, Reader, IsGivenArchive};
@@ -49,11 +49,11 @@ pub fn new_ones_are_counted()
 /// Where IN is the text of a content and OPS that of operations, neither is refused but for its device.
 pub fn accepted_operations_are_not_refused<R: Source, S: Source>()
     ensures { (input : Reader R) (ops : Reader S) (o : Operations) (text : List ℕ) (operations : List Operation)
-        (place : Place) (why : Why)
+        (name : InputName) (why : Why)
         → IsContent o
         → IsGivenArchive input o
         → IsGiven ops text
         → IsOperationsText text operations
-        → (apply input ops).Refuses place why
+        → (apply input ops).Refuses name why
         → IsDeviceFault why }
 {}

@@ -2,7 +2,7 @@
 //! nothing but call laws of the crates below.
 ghost use Rattle.std.specs.Prelude.{◌≡◌, ◌↔◌, ℕ, List, []};
 ghost use Rattle.archive_core.specs.Content.{Operations};
-ghost use Rattle.command_ends.specs.declared.faults.Place.{Place};
+ghost use Rattle.command_ends.specs.declared.faults.InputName.{InputName};
 ghost use Rattle.command_ends.specs.declared.faults.Status.{Status};
 ghost use Rattle.command_ends.specs.declared.faults.Why.{Why};
 ghost use Rattle.command_ends.specs.Inputs.{HoldsContent, IsDeviceFault, IsGiven, Reader};
@@ -15,10 +15,10 @@ use byte_device::Source;
 
 /// Where the archives are the texts of contents, none is refused but for its device.
 pub fn accepted_archives_are_not_refused<R: Source, S: Source>()
-    ensures { (archive : Reader R) (others : List (Reader S)) (o : Operations) (uuid : List ℕ) (place : Place)
+    ensures { (archive : Reader R) (others : List (Reader S)) (o : Operations) (uuid : List ℕ) (name : InputName)
         (why : Why)
         → IsGivenJoin archive others o
-        → (find archive others uuid).Refuses place why
+        → (find archive others uuid).Refuses name why
         → IsDeviceFault why }
 {}
 

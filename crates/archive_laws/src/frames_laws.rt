@@ -4,7 +4,7 @@ ghost use Rattle.std.specs.Prelude.{◌≡◌, ◌↔◌, ℕ, List, [], Bool, O
 ghost use Rattle.archive_core.specs.Content.{Operations};
 ghost use Rattle.crash_frames.specs.Frames.{frames_of};
 ghost use Rattle.crash_frames.specs.declared.frame.Frame.{Frame};
-ghost use Rattle.command_ends.specs.declared.faults.Place.{Place};
+ghost use Rattle.command_ends.specs.declared.faults.InputName.{InputName};
 ghost use Rattle.command_ends.specs.declared.faults.Status.{Status};
 ghost use Rattle.command_ends.specs.declared.faults.Why.{Why};
 ghost use Rattle.archive_queries.specs.Frames.{MakesFramed, SymbolicatesEach, TellsFrames, frames};
@@ -31,11 +31,11 @@ pub fn each_is_symbolicated<R: Source, S: Source, T: Source>()
 /// Where FRAMES says frames and the archives are the texts of contents, none is refused but for its device.
 pub fn accepted_inputs_are_not_refused<R: Source, S: Source, T: Source>()
     ensures { (lines : Bool) (input : Reader R) (archive : Reader S) (others : List (Reader T)) (bytes : List ℕ)
-        (said : List Frame) (o : Operations) (place : Place) (why : Why)
+        (said : List Frame) (o : Operations) (name : InputName) (why : Why)
         → IsGiven input bytes
         → frames_of bytes ≡ Ok said
         → IsGivenJoin archive others o
-        → (frames lines input archive others).Refuses place why
+        → (frames lines input archive others).Refuses name why
         → IsDeviceFault why }
 {}
 

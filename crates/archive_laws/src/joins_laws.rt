@@ -5,7 +5,7 @@ ghost use Rattle.std.specs.List.{AllByRecursion};
 ghost use Rattle.archive_core.specs.Content.{IsContent, Operations, joined};
 ghost use Rattle.archive_core.specs.Part.{AreAlikeUnder, is_under, part};
 ghost use Rattle.command_ends.specs.Archives.{AreRefused, AreUnfailed, merged};
-ghost use Rattle.command_ends.specs.declared.faults.Place.{Place};
+ghost use Rattle.command_ends.specs.declared.faults.InputName.{InputName};
 ghost use Rattle.command_ends.specs.declared.faults.Why.{Why};
 ghost use Rattle.command_ends.specs.Inputs.{IsRefusedArchive, Reader, Unfailed};
 
@@ -30,7 +30,7 @@ pub fn joins_of_parts()
 
 /// One archive is refused, or its reader does not fail, as where there is no list of others.
 pub fn one_archive<R: Source, S: Source>()
-    ensures refused { (archive : Reader R) (place : Place) (why : Why)
-        → AreRefused {S = S} archive [] place why ↔ IsRefusedArchive 0 archive place why }
+    ensures refused { (archive : Reader R) (name : InputName) (why : Why)
+        → AreRefused {S = S} archive [] name why ↔ IsRefusedArchive 0 archive name why }
     ensures unfailed { (archive : Reader R) → AreUnfailed {S = S} archive [] ↔ Unfailed archive }
 {}

@@ -3,7 +3,7 @@
 ghost use Rattle.std.specs.Prelude.{◌≡◌, ◌≢◌, ◌↔◌, ◌++◌, ◌∷◌, [], ℕ, List, Contains, Ok, Err};
 ghost use Rattle.std.specs.List.{AllByRecursion, AllZip};
 ghost use Rattle.archive_core.specs.Content.{Operations, IsBelow, IsContent, content_of, joined};
-ghost use Rattle.command_ends.specs.declared.faults.Place.{Place};
+ghost use Rattle.command_ends.specs.declared.faults.InputName.{InputName};
 ghost use Rattle.command_ends.specs.declared.faults.Why.{Why};
 ghost use Rattle.command_ends.specs.declared.faults.CommandFault.{CommandFault};
 ghost use Rattle.command_ends.specs.declared.faults.CommandFault.TheVariants.{Input, Report};
@@ -57,12 +57,12 @@ pub fn merged_in_any_order()
 /// Where IN and each FILE is the text of a content, no archive is refused but for its device.
 pub fn accepted_archives_are_not_refused<R: Source, S: Source>()
     ensures { (input : Reader R) (files : List (Reader S)) (o : Operations) (contents : List Operations)
-        (place : Place) (why : Why)
+        (name : InputName) (why : Why)
         → IsContent o
         → AllByRecursion IsContent contents
         → IsGivenArchive input o
         → AllZip IsGivenArchive files contents
-        → (merge input files).Refuses place why
+        → (merge input files).Refuses name why
         → IsDeviceFault why }
 {}
 
@@ -81,17 +81,17 @@ pub fn merge_of_one_keeps_out<R: Source, S: Source, D: Sink, T: Target>()
     ensures { (input : Reader R) (file : Reader S) (out : Outs D T) (report : Writer) (fault : CommandFault)
         → ((n : ℕ) → fault ≢ Report n)
         → EndsStreamed (merge_of_one input file (draft_of out)) (out_of out) report (Err fault)
-        → out.placed out.new.target ≡ out.placed out.old.target }
+        → out.published out.new.target ≡ out.published out.old.target }
 {}
 
 /// Where IN and the one FILE are the texts of contents, neither is refused but for its device.
 pub fn two_accepted_archives_are_not_refused<R: Source, S: Source, D: Sink, T: Target>()
     ensures { (input : Reader R) (file : Reader S) (out : Outs D T) (report : Writer) (o p : Operations)
-        (place : Place) (why : Why)
+        (name : InputName) (why : Why)
         → IsContent o
         → IsContent p
         → IsGivenArchive input o
         → IsGivenArchive file p
-        → EndsStreamed (merge_of_one input file (draft_of out)) (out_of out) report (Err (Input place why))
+        → EndsStreamed (merge_of_one input file (draft_of out)) (out_of out) report (Err (Input name why))
         → IsDeviceFault why }
 {}

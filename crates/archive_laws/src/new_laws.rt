@@ -7,13 +7,13 @@ ghost use Rattle.archive_records.specs.Text.{written};
 ghost use Rattle.command_ends.specs.Archives.{merged};
 ghost use Rattle.command_ends.specs.Outputs.{Out, Publishes, Writer, report_of};
 ghost use Rattle.command_ends.specs.declared.faults.CommandFault.TheVariants.{Input};
-ghost use Rattle.command_ends.specs.declared.faults.Place.{Place};
+ghost use Rattle.command_ends.specs.declared.faults.InputName.{InputName};
 ghost use Rattle.command_ends.specs.declared.faults.Why.{Why};
 
 /// `new` has no input, and is refused for none: where it fails OUT or the report did, or memory was wanting.
 pub fn refused_for_no_input()
-    ensures { (out : Out) (report : Writer) (place : Place) (why : Why)
-        → ¬ Publishes out report (written set.empty) (report_of set.empty []) (Err (Input place why)) }
+    ensures { (out : Out) (report : Writer) (name : InputName) (why : Why)
+        → ¬ Publishes out report (written set.empty) (report_of set.empty []) (Err (Input name why)) }
 {}
 
 /// What it writes is the least archive: it has nothing, and merged with another one, before it or after it, gives that.

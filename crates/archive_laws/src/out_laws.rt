@@ -2,7 +2,7 @@
 //! a command makes for its output.
 ghost use Rattle.std.specs.Prelude.{◌≡◌, ◌⊎◌, ℕ, Contains, List, Option, Some, take};
 ghost use Rattle.archive_files.specs.FileCalls.{FileCall, FindsOther, Leads};
-ghost use Rattle.archive_files.specs.Placing.{IsDescriptor, IsDraftRemoved, IsReplaced, IsWrittenThrough};
+ghost use Rattle.archive_files.specs.Publishing.{IsDescriptor, IsDraftRemoved, IsReplaced, IsWrittenThrough};
 ghost use Rattle.archive_files.specs.declared.replaceable.Replaces.{Replaces};
 ghost use Rattle.archive_laws.specs.Crashes.{MayBeAt, replay};
 

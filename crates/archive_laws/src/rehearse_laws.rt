@@ -7,7 +7,7 @@ ghost use Rattle.exchange_model.specs.World.{state};
 ghost use Rattle.archive_exchange.specs.ModelEvent.{ModelEvent};
 ghost use Rattle.rehearsal.specs.Events.{Act};
 ghost use Rattle.rehearsal.specs.Script.{script_of};
-ghost use Rattle.command_ends.specs.declared.faults.Place.{Place};
+ghost use Rattle.command_ends.specs.declared.faults.InputName.{InputName};
 ghost use Rattle.command_ends.specs.declared.faults.Status.{Status};
 ghost use Rattle.command_ends.specs.declared.faults.Why.{Why};
 ghost use Rattle.command_ends.specs.Inputs.{IsDeviceFault, IsGiven, Reader};
@@ -20,10 +20,10 @@ use exchange_model::laws::same_reached;
 
 /// Where SCRIPT says a script, it is not refused but for its device, whatever its events are.
 pub fn accepted_script_is_not_refused<S: Source>()
-    ensures { (script : Reader S) (bytes : List ℕ) (sites : ℕ) (events : List Act) (place : Place) (why : Why)
+    ensures { (script : Reader S) (bytes : List ℕ) (sites : ℕ) (events : List Act) (name : InputName) (why : Why)
         → IsGiven script bytes
         → script_of bytes ≡ Ok (sites, events)
-        → (rehearse script).Refuses place why
+        → (rehearse script).Refuses name why
         → IsDeviceFault why }
 {}
 

@@ -4,7 +4,7 @@ ghost use Rattle.std.specs.Prelude.{◌≡◌, ◌↔◌, ℕ, List, [], Bool, t
 ghost use Rattle.std.specs.List.{flat_map};
 ghost use Rattle.archive_core.specs.Content.{Operations};
 ghost use Rattle.archive_core.specs.declared.keys.SliceKey.{SliceKey};
-ghost use Rattle.command_ends.specs.declared.faults.Place.{Place};
+ghost use Rattle.command_ends.specs.declared.faults.InputName.{InputName};
 ghost use Rattle.command_ends.specs.declared.faults.Status.{Status};
 ghost use Rattle.command_ends.specs.declared.faults.Why.{Why};
 ghost use Rattle.command_ends.specs.Inputs.{HoldsContent, IsDeviceFault, IsGiven, Reader};
@@ -41,9 +41,9 @@ pub fn told_without_lines()
 /// Where the archives are the texts of contents, none is refused but for its device.
 pub fn accepted_archives_are_not_refused<R: Source, S: Source>()
     ensures { (archive : Reader R) (others : List (Reader S)) (o : Operations) (key : SliceKey) (load : Option ℕ)
-        (lines : Bool) (addresses : List ℕ) (place : Place) (why : Why)
+        (lines : Bool) (addresses : List ℕ) (name : InputName) (why : Why)
         → IsGivenJoin archive others o
-        → (symbolicate archive others key load lines addresses).Refuses place why
+        → (symbolicate archive others key load lines addresses).Refuses name why
         → IsDeviceFault why }
 {}
 

@@ -21,10 +21,10 @@ use Rattle.archive_reading.specs.Keys.{first_key}
 use Rattle.byte_device.specs.declared.disks.CannotOpen.{CannotOpen}
 use Rattle.command_ends.proofs.Archives.{each_archive, hold_more}
 use Rattle.command_ends.proofs.Readers.{all_more, none_failed, none_touched}
-use Rattle.command_ends.specs.Archives.{AreRefused, AreUnfailed, HoldTogether, ReadsTogether, file_place, merged}
+use Rattle.command_ends.specs.Archives.{AreRefused, AreUnfailed, HoldTogether, ReadsTogether, further_name, merged}
 use Rattle.command_ends.specs.declared.faults.CommandFault.{CommandFault}
 use Rattle.command_ends.specs.declared.faults.CommandFault.TheVariants.{Input, Output, Report, OutOfMemory}
-use Rattle.command_ends.specs.declared.faults.Place.{Place}
+use Rattle.command_ends.specs.declared.faults.InputName.{InputName}
 use Rattle.command_ends.specs.declared.faults.Status.{Status}
 use Rattle.command_ends.specs.declared.faults.Why.{Why}
 use Rattle.command_ends.specs.Ends.{EndsReport}
@@ -128,7 +128,7 @@ module _ {R : Type 0} where
 -- ---- one of them is refused, or memory is wanting
 
 -- what is one refusal is another, which holds where that one does
-pub refusal_of : (Refuses RefusesToo : Place → Why → Type 0) (NoneFailed NoneFailedToo : Type 0) (fault : CommandFault) → ((at : Place) (why : Why) → Refuses at why → RefusesToo at why) → (NoneFailed → NoneFailedToo)
+pub refusal_of : (Refuses RefusesToo : InputName → Why → Type 0) (NoneFailed NoneFailedToo : Type 0) (fault : CommandFault) → ((at : InputName) (why : Why) → Refuses at why → RefusesToo at why) → (NoneFailed → NoneFailedToo)
     → IsRefusal Refuses NoneFailed fault → IsRefusal RefusesToo NoneFailedToo fault
 refusal_of Refuses RefusesToo NoneFailed NoneFailedToo (Input at why) refuses unfailed r = refuses at why r
 refusal_of Refuses RefusesToo NoneFailed NoneFailedToo (Output _) refuses unfailed r = r
@@ -140,11 +140,11 @@ pub first_refused : {R S : Type 0} (archive : Reader R) (others : List (Reader S
 first_refused archive others fault r untouched unfailed = refusal_of _ _ _ _ fault (λ at why refused. inl (refused, untouched)) (λ u. (u, unfailed)) r
 
 pub other_refused : {R S : Type 0} (archive : Reader R) (others : List (Reader S)) (fault : CommandFault) → IsArchive archive → Unfailed archive
-    → IsRefusal (IsFirstRefused file_place IsArchive IsArchiveRefused others) (EachUnfailed others) fault → IsRefusal (AreRefused archive others) (AreUnfailed archive others) fault
+    → IsRefusal (IsFirstRefused further_name IsArchive IsArchiveRefused others) (EachUnfailed others) fault → IsRefusal (AreRefused archive others) (AreUnfailed archive others) fault
 other_refused archive others fault is unfailed r = refusal_of _ _ _ _ fault (λ at why refused. inr (is, unfailed, refused)) (λ u. (unfailed, u)) r
 
 -- a command that reports ends so
-pub together_refused : (Makes : Status → List ℕ → Type 0) (Refuses : Place → Why → Type 0) (NoneFailed : Type 0) (report : Writer) (fault : CommandFault) → IsRefusal Refuses NoneFailed fault → Takes report []
+pub together_refused : (Makes : Status → List ℕ → Type 0) (Refuses : InputName → Why → Type 0) (NoneFailed : Type 0) (report : Writer) (fault : CommandFault) → IsRefusal Refuses NoneFailed fault → Takes report []
     → EndsReport (record { Makes = Makes; Refuses = Refuses; Unfailed = NoneFailed }) report (Err fault)
 together_refused Makes Refuses NoneFailed report (Input at why) r t = (r, t)
 together_refused Makes Refuses NoneFailed report (Output _) r t = r

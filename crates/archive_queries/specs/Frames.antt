@@ -4,7 +4,7 @@ use Rattle.std.specs.List.{AllZip, flat_map, list_all}
 use Rattle.archive_core.specs.Content.{Operations}
 use Rattle.crash_frames.specs.Frames.{frames_of}
 use Rattle.crash_frames.specs.declared.frame.Frame.{Frame}
-use Rattle.command_ends.specs.declared.faults.Place.{Place}
+use Rattle.command_ends.specs.declared.faults.InputName.{InputName}
 use Rattle.command_ends.specs.declared.faults.Status.{Status}
 use Rattle.command_ends.specs.declared.faults.Status.TheVariants.{Done, Partial}
 use Rattle.command_ends.specs.declared.faults.Why.{Why}
@@ -37,7 +37,7 @@ pub record MakesFramed {R S T : Type 0} (lines : Bool) (frames : Reader R) (arch
 
 -- FRAMES is refused, and no archive is touched; or FRAMES says frames, its reader does not fail, and an archive is
 -- refused
-abbrev pub RefusesFrames : {R S T : Type 0} → Reader R → Reader S → List (Reader T) → Place → Why → Type 0
+abbrev pub RefusesFrames : {R S T : Type 0} → Reader R → Reader S → List (Reader T) → InputName → Why → Type 0
 RefusesFrames frames archive others at why =
     (IsRefusedFrames frames at why × IsUntouched archive × EachUntouched others)
     ⊎ (IsFrames frames × Unfailed frames × AreRefused archive others at why)

@@ -11,7 +11,7 @@ ghost use Rattle.archive_queries.specs.Name.{Answers, name_status, underscored};
 use archive_core::OwnedNameRow;
 use archive_reading::{NamesFound, NamesTold, SoughtNames, gather_names, live_names, read_names};
 use byte_device::{CannotOpen, Source};
-use command_ends::{CommandFault, Place, Status, opened, refusal};
+use command_ends::{CommandFault, InputName, Status, opened, refusal};
 use memory::{Heap, NoMemory};
 use report_text::name_lines;
 
@@ -37,7 +37,7 @@ fn read_name_rows<R: Source>(
         × IsNames o sought.entry.other.now (map owned_name_view told.others.items)))
         (IsRefusedArchive 0) }
 {
-    let at = Place::Archive(0);
+    let at = InputName::Archive(0);
     let none = no_rows(&heap)?;
     let source = opened(input, at)?;
     match read_names(heap, none, sought, source) {
@@ -58,7 +58,7 @@ fn gather_input<R: Source>(
         (λ input now. HoldsContent input (λ o. AddsNames o sought.entry.name.now sought.entry.other.now found now))
         (IsRefusedArchive number) }
 {
-    let at = Place::Archive(number);
+    let at = InputName::Archive(number);
     let source = opened(input, at)?;
     match gather_names(heap, found, sought, source) {
         Ok(now) => Ok(now),

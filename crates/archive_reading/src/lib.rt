@@ -7,7 +7,7 @@
 //! - `operations`: [`read_ops`];
 //! - `rows`, `summarizing`: [`list_rows`] and [`summarize`], what an archive tells record by record, of which no slice
 //!   is kept;
-//! - `testing`: [`test_archive`], of which nothing is kept.
+//! - `checking`: [`test_archive`], of which nothing is kept.
 //!
 //! # Why it is so
 //!
@@ -16,6 +16,7 @@
 //! - [`read_names`] hashes a slice only if it has the name.
 #![tactic(auto)]
 
+mod checking;
 mod keyed;
 mod names;
 mod operations;
@@ -23,8 +24,8 @@ mod part;
 mod reading;
 mod rows;
 mod summarizing;
-mod testing;
 
+pub use checking::test_archive;
 pub use keyed::{Questions, answer_by_key};
 pub use names::{NamesFound, NamesTold, SoughtNames, gather_names, live_names, read_names};
 pub use operations::read_ops;
@@ -32,4 +33,3 @@ pub use part::{Selects, Under, read_part};
 pub use reading::{read_archive, read_front};
 pub use rows::list_rows;
 pub use summarizing::summarize;
-pub use testing::test_archive;

@@ -14,7 +14,7 @@ use Rattle.archive_records.specs.Fault.{tested, next}
 use Rattle.archive_records.proofs.Holds.{next_from_test}
 use Rattle.archive_records.specs.declared.buffer.Buffer.{Buffer}
 use Rattle.archive_records.specs.Reader.{bytes_so_far, seen_as, Over}
-use Rattle.archive_records.proofs.Laid.{cmp_parts, length-bytes_so_far}
+use Rattle.archive_records.proofs.Fills.{cmp_parts, length-bytes_so_far}
 use Rattle.archive_records.specs.declared.format.Format.{Format}
 use Rattle.archive_records.specs.declared.format.Format.TheVariants.{Operations}
 

@@ -14,7 +14,7 @@ use Rattle.archive_records.specs.Fault.{RefusesSlice, is_end, tested, next, Fail
 use Rattle.archive_records.specs.declared.buffer.Buffer.{Buffer}
 use Rattle.archive_records.specs.Reading.{Blames}
 use Rattle.archive_records.specs.Reader.{bytes_so_far, seen_as}
-use Rattle.archive_records.proofs.Laid.{length-bytes_so_far}
+use Rattle.archive_records.proofs.Fills.{length-bytes_so_far}
 use Rattle.archive_records.proofs.Holds.{next-framed}
 use Rattle.archive_records.proofs.Forms.{refused_slice}
 use Rattle.archive_records.proofs.Ends.{is_three, no_end}

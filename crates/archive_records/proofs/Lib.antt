@@ -4,7 +4,7 @@ pub mod Framed
 pub mod Holds
 pub mod SliceFacts
 pub mod Forms
-pub mod Laid
+pub mod Fills
 pub mod Above
 pub mod Tested
 pub mod Ends

@@ -17,7 +17,7 @@ use Rattle.report_text.specs.Report.{archive_line}
 use Rattle.record_merge.specs.Merging.{GainsCount, IsMerged, IsRefusedAlone, Merges, StopsBy}
 use Rattle.command_ends.specs.declared.faults.CommandFault.{CommandFault}
 use Rattle.command_ends.specs.declared.faults.CommandFault.TheVariants.{Input, Output, Report, OutOfMemory}
-use Rattle.command_ends.specs.declared.faults.Place.{Place}
+use Rattle.command_ends.specs.declared.faults.InputName.{InputName}
 use Rattle.command_ends.specs.declared.faults.Status.{Status}
 use Rattle.command_ends.specs.declared.faults.Why.{Why}
 use Rattle.command_ends.specs.Ends.{EndsStreamed, HasFirst, HasTaken, MakesArchive, StopsAmidst, writes_amidst}
@@ -44,7 +44,7 @@ archive_published Makes Stops NoneFailed draft sizes o lines out report result u
     (record { content = o; lines = lines; makes = makes; text_is = refl; told_is = ap (λ (s : Sizes). lines ++ archive_line s) (sizes_are sizes o whole.records_are whole.bytes_are) })
 
 -- one that was stopped
-pub stopped_begun : {R : Type 0} (input : Reader R) (Makes : List ℕ → List ℕ → Type 0) (Refuses : Place → Why → Type 0) (NoneFailed : Type 0) (out : Out) (report : Writer) (fault : CommandFault)
+pub stopped_begun : {R : Type 0} (input : Reader R) (Makes : List ℕ → List ℕ → Type 0) (Refuses : InputName → Why → Type 0) (NoneFailed : Type 0) (out : Out) (report : Writer) (fault : CommandFault)
     → StopsAmidst (record { Makes = Makes; Refuses = Refuses; Unfailed = NoneFailed }) (IsKnown input) out.draft fault → IsUnfinished input (Unit {0}) out.draft → HasTaken out.draft fault → PlacesNothing out → Takes report []
     → EndsBegun input (record { Makes = Makes; Refuses = Refuses; Unfailed = NoneFailed }) out report (Err fault)
 stopped_begun input Makes Refuses NoneFailed out report fault s u taken nothing unreported =

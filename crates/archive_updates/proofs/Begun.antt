@@ -56,7 +56,7 @@ module _ (out : Out) (report : Writer) where
   -- one that makes all that another makes, and is stopped by all that stops that one
   module _ (from to : Streamed) (makes : (text told : List ℕ) → from.Makes text told → to.Makes text told) (unfailed : from.Unfailed → to.Unfailed) (stops : (fault : CommandFault) → from.Stops fault → to.Stops fault) where
     stopped : (fault : CommandFault) → IsStopped from out report fault → IsStopped to out report fault
-    stopped fault s = record { stops = stops fault s.stops; bytes = s.bytes; took = s.took; count = s.count; nothing_placed = s.nothing_placed; unreported = s.unreported }
+    stopped fault s = record { stops = stops fault s.stops; bytes = s.bytes; took = s.took; count = s.count; nothing_published = s.nothing_published; unreported = s.unreported }
 
     carried : (r : Result Status CommandFault) → from.Unfailed × Carries from.Makes out report r → to.Unfailed × Carries to.Makes out report r
     carried r c = (unfailed c.0, record { text = c.1.text; told = c.1.told; makes = makes c.1.text c.1.told c.1.makes; published = c.1.published })

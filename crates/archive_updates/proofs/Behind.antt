@@ -5,7 +5,7 @@ use Rattle.archive_core.specs.Content.{Operations}
 use Rattle.byte_device.specs.declared.disks.CannotOpen.{CannotOpen}
 use Rattle.command_ends.specs.declared.faults.CommandFault.{CommandFault}
 use Rattle.command_ends.specs.declared.faults.CommandFault.TheVariants.{Input, Output, Report, OutOfMemory}
-use Rattle.command_ends.specs.declared.faults.Place.{Place}
+use Rattle.command_ends.specs.declared.faults.InputName.{InputName}
 use Rattle.command_ends.specs.declared.faults.Status.{Status}
 use Rattle.command_ends.specs.declared.faults.Why.{Why}
 use Rattle.command_ends.specs.Ends.{Command, EndsStreamed, HasFirst, MakesArchive, StopsAmidst, StopsInTurn, writes_in_turn}
@@ -19,7 +19,7 @@ use Rattle.archive_updates.proofs.Begun.{accepted, begun, ends_so, untouched}
 makes_alike : (P Q : Operations → List ℕ → Type 0) → ((o : Operations) (lines : List ℕ) → P o lines → Q o lines) → (text told : List ℕ) → MakesArchive P text told → MakesArchive Q text told
 makes_alike P Q makes text told m = record { content = m.content; lines = m.lines; makes = makes m.content m.lines m.makes; text_is = m.text_is; told_is = m.told_is }
 
-module _ {R : Type 0} (Makes : Operations → List ℕ → Type 0) (input : Reader R) (IsRefusedBehind : Place → Why → Type 0) (OthersUnfailed Known Accepted : Type 0) (out : Out) (report : Writer) where
+module _ {R : Type 0} (Makes : Operations → List ℕ → Type 0) (input : Reader R) (IsRefusedBehind : InputName → Why → Type 0) (OthersUnfailed Known Accepted : Type 0) (out : Out) (report : Writer) where
   abbrev command : Command
   command = record { Makes = MakesArchive Makes; Refuses = IsRefusedInTurn input IsRefusedBehind; Unfailed = Unfailed input × OthersUnfailed }
 
@@ -31,7 +31,7 @@ module _ {R : Type 0} (Makes : Operations → List ℕ → Type 0) (input : Read
       begun out report input Accepted (writes_in_turn command (IsWantedInTurn input IsRefusedBehind) Known out.draft) (untouched input Accepted out.draft kept.0) (Err fault)
       (refused_in_turn Makes (IsRefusedInTurn input IsRefusedBehind) (Unfailed input × OthersUnfailed) (IsWantedInTurn input IsRefusedBehind) Known out report fault refusal kept unreported)
 
-  refused : (at : Place) (why : Why) → IsRefusedBehind at why → (fault : CommandFault) → IsRefusal (IsRefusedInTurn input (λ place reason. (place ≡ at) × (reason ≡ why))) (Unfailed input) fault → IsKept out → Takes report [] → EndsSo (Err fault)
+  refused : (at : InputName) (why : Why) → IsRefusedBehind at why → (fault : CommandFault) → IsRefusal (IsRefusedInTurn input (λ place reason. (place ≡ at) × (reason ≡ why))) (Unfailed input) fault → IsKept out → Takes report [] → EndsSo (Err fault)
   refused at why is (Input place reason) r = ends (Input place reason) (elim r [
     | inl first ↦ inl first
     | inr behind ↦ inr (behind.0, behind.1, rw (behind.2.0, behind.2.1) is)

@@ -11,7 +11,7 @@ use Rattle.admission.specs.Take.{admitted, taken_rows}
 use Rattle.report_text.specs.declared.rows.AdmitRow.{AdmitRow}
 use Rattle.report_text.specs.Report.{admit_lines}
 use Rattle.command_ends.specs.declared.faults.CommandFault.{CommandFault}
-use Rattle.command_ends.specs.declared.faults.Place.TheVariants.{File}
+use Rattle.command_ends.specs.declared.faults.InputName.TheVariants.{File}
 use Rattle.command_ends.specs.declared.faults.Status.{Status}
 use Rattle.command_ends.specs.Ends.{EndsStreamed}
 use Rattle.command_ends.specs.Inputs.{EachKnown, EachUnfailed, Holds, IsAccepted, IsFileRefused, IsFirstRefused, IsKnown, Reader}

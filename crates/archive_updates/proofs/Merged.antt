@@ -22,7 +22,7 @@ use Rattle.command_ends.specs.Outputs.{Out, PlacesNothing, Publishes, Takes, Wri
 use Rattle.archive_updates.specs.Begun.{EndsBegun, IsUnfinished}
 use Rattle.archive_updates.specs.Joining.{IsJoined, MakesJoined, joining, joins}
 use Rattle.archive_updates.specs.Merge.{HasJoined, MakesMerged, merge_in_turn}
-use Rattle.command_ends.specs.Archives.{ReadsOthers, file_place, merged}
+use Rattle.command_ends.specs.Archives.{ReadsOthers, further_name, merged}
 use Rattle.archive_updates.proofs.AtHand.{archive_published, join_stopped}
 use Rattle.archive_updates.proofs.Behind.{all_given, read_behind}
 use Rattle.archive_updates.proofs.Joins.{joined_archives}
@@ -87,7 +87,7 @@ module _ {R S : Type 0} (input : Reader R) (files : List (Reader S)) (out : Out)
   pub merged_in_turn : (p : Operations) → HasJoined files set.empty p → EachUnfailed files → (result : Result Status CommandFault) → EndsBegun input (joins input p) out report result
       → EndsStreamed (merge_in_turn input files out.draft) out report result
   merged_in_turn p j unfailed =
-      read_behind (MakesMerged input files) input (IsFirstRefused file_place IsArchive IsArchiveRefused files) (EachUnfailed files) (IsKnown input × EachKnown files) (AllByRecursion IsArchive files × EachUnfailed files) out report (MakesJoined input p) unfailed (joined_archives files set.empty p j, unfailed) (λ known. known.0)
+      read_behind (MakesMerged input files) input (IsFirstRefused further_name IsArchive IsArchiveRefused files) (EachUnfailed files) (IsKnown input × EachKnown files) (AllByRecursion IsArchive files × EachUnfailed files) out report (MakesJoined input p) unfailed (joined_archives files set.empty p j, unfailed) (λ known. known.0)
       (λ o lines m. record {
         before = m.before;
         contents = j.contents;

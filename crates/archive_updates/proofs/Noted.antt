@@ -13,7 +13,7 @@ use Rattle.archive_core.specs.declared.keys.SliceKey.{SliceKey}
 use Rattle.archive_core.specs.declared.operations.Operation.{Operation}
 use Rattle.archive_core.specs.declared.operations.Operation.TheVariants.{Admit, Retire}
 use Rattle.archive_core.proofs.Entries.{slice_of}
-use Rattle.record_merge.specs.Turns.{turn_of}
+use Rattle.record_merge.specs.Arrivals.{arrival_of}
 use Rattle.report_text.specs.declared.rows.AdmitRow.{AdmitRow}
 use Rattle.command_ends.specs.Inputs.{Reader}
 use Rattle.archive_updates.specs.Admit.{HasTaken}
@@ -26,14 +26,14 @@ use Rattle.archive_updates.specs.declared.notes.Note.TheVariants.{Retired, Missi
 
 -- the note of an operation, by what it is to a content
 abbrev pub note_by : Operations → Operation → List Note
-note_by o operation = note_of (turn_of o (record_bytes operation)) operation
+note_by o operation = note_of (arrival_of o (record_bytes operation)) operation
 
 one_note : (slice : List ℕ) → IsValid slice → Retired (key_of slice) (record { 0 = sha256 slice }) ≡ retired_note (admission_record slice)
 one_note slice valid = rw (slice_of slice valid) refl
 
 -- each has its own
 noted : (o : Operations) (operations : List Operation) → AllByRecursion IsOperation operations → flat_map (note_by o) operations ≡ map retired_note (filter (is_covered o) (map record_bytes operations))
-unfolding turn_of
+unfolding arrival_of
 noted o [] all = refl
 noted o (Admit slice ∷ rest) all = grind (arith, one_note slice all.0, noted o rest all.1)
 noted o (Retire key digest ∷ rest) all = grind (arith, noted o rest all.1)

@@ -18,8 +18,8 @@ use Rattle.archive_records.proofs.Ascending.{below-less}
 use Rattle.archive_records.proofs.Contents.{sorted-InOrder}
 use Rattle.archive_records.proofs.Puts.{bytes_same}
 use Rattle.byte_device.specs.Devices.{Stream}
-use Rattle.record_merge.specs.declared.turns.Turn.{Turn}
-use Rattle.record_merge.specs.Turns.{is_new, turn_of}
+use Rattle.record_merge.specs.declared.arrivals.Arrival.{Arrival}
+use Rattle.record_merge.specs.Arrivals.{is_new, arrival_of}
 use Rattle.record_merge.proofs.Lost.{new_changes}
 use Rattle.report_text.specs.Report.{archive_line, retire_line}
 use Rattle.command_ends.specs.declared.faults.CommandFault.{CommandFault}
@@ -52,8 +52,8 @@ module _ (key : SliceKey) (digest : Digest) where
   with_alone o made = taken_are_joined o (record_of ∷ []) made
 
   module _ {R : Type 0} (input : Reader R) where
-    pub retired : {W : Type 0} (draft : Stream W) (sizes : Sizes) (turns : List Turn) (had changed : Bool) → IsOperation (Retire key digest) → (j : IsJoinedTelling input alone draft sizes turns had) → ((x : Turn) → turns ≡ x ∷ [] → changed ≡ is_new x) → IsRetired input key digest draft sizes changed had
-    retired draft sizes turns had changed is j first =
+    pub retired : {W : Type 0} (draft : Stream W) (sizes : Sizes) (arrived : List Arrival) (had changed : Bool) → IsOperation (Retire key digest) → (j : IsJoinedTelling input alone draft sizes arrived had) → ((x : Arrival) → arrived ≡ x ∷ [] → changed ≡ is_new x) → IsRetired input key digest draft sizes changed had
+    retired draft sizes arrived had changed is j first =
         let o : Operations = j.joined.content in
         let same : joined o (content_of alone) ≡ with_record o record_of = sym (with_alone o j.joined.is_content.itself) in
         record {
@@ -62,7 +62,7 @@ module _ (key : SliceKey) (digest : Digest) where
           archive = j.joined.archive;
           unfailed = j.joined.unfailed;
           written_is = subst (λ (q : Operations). IsWrittenWhole draft.bytes draft.failures draft.old draft.new (set.len q) (written q) sizes) same j.joined.written_is;
-          changed_is = first (turn_of o record_of) (j.turns_are ∙ ap (map (turn_of o)) (listed_alone is)) ∙ new_changes o record_of;
+          changed_is = first (arrival_of o record_of) (j.arrivals_are ∙ ap (map (arrival_of o)) (listed_alone is)) ∙ new_changes o record_of;
           had_is = j.withdraws_is;
         }
 

@@ -12,7 +12,7 @@ use Rattle.report_text.specs.Report.{archive_line}
 use Rattle.byte_device.specs.declared.disks.CannotOpen.{CannotOpen}
 use Rattle.command_ends.specs.declared.faults.CommandFault.{CommandFault}
 use Rattle.command_ends.specs.declared.faults.CommandFault.TheVariants.{Input, Output, Report, OutOfMemory}
-use Rattle.command_ends.specs.declared.faults.Place.{Place}
+use Rattle.command_ends.specs.declared.faults.InputName.{InputName}
 use Rattle.command_ends.specs.declared.faults.Status.{Status}
 use Rattle.command_ends.specs.declared.faults.Why.{Why}
 use Rattle.command_ends.specs.Ends.{Carries, EndsStreamed, IsStopped, MakesArchive, Streamed}
@@ -38,7 +38,7 @@ module _ {R S D T : Type 0} (left : R → Option (List ℕ)) (failures : R → �
   -- the merge was stopped
   pub stopped : (e : MergeFault) (fault : CommandFault) → Merges (stream left failures l l') (stream left2 failures2 r r') (draft_of out) (Err e)
       → GainsCount (draft_of out) e.written → IsMergeFaultTold e fault → PlacesNothing (out_of out) → Takes report [] → EndsSo (Err fault)
-  stopped e fault merges count told nothing_placed unreported = by_fault fault told
+  stopped e fault merges count told nothing_published unreported = by_fault fault told
     where
       is : (f : CommandFault) → IsMergeFaultTold e f → IsStopped (merge_of_one input file (draft_of out)) (out_of out) report f
       is f t = record {
@@ -46,7 +46,7 @@ module _ {R S D T : Type 0} (left : R → Option (List ℕ)) (failures : R → �
         bytes = count.0;
         took = count.1;
         count = λ n h. counted e f (length count.0) n (sym count.2) t h;
-        nothing_placed = nothing_placed;
+        nothing_published = nothing_published;
         unreported = unreported;
       }
 
@@ -113,7 +113,7 @@ module _ {R S D T : Type 0} (input : Reader R) (out : Outs D T) (report : Writer
 
 -- ---- accepted inputs
 
-device_side : {R S W : Type 0} (left : Stream R) (right : Stream S) (out : Stream W) (o p : Operations) (at : Place) (why : Why) (cause : MergeCause) (n : ℕ) (t u : List ℕ) → IsContent o → IsContent p → IsArchiveOf o t → IsArchiveOf p u → left.bytes left.old ≡ Some t → right.bytes right.old ≡ Some u
+device_side : {R S W : Type 0} (left : Stream R) (right : Stream S) (out : Stream W) (o p : Operations) (at : InputName) (why : Why) (cause : MergeCause) (n : ℕ) (t u : List ℕ) → IsContent o → IsContent p → IsArchiveOf o t → IsArchiveOf p u → left.bytes left.old ≡ Some t → right.bytes right.old ≡ Some u
     → StopsBy left right out cause n → IsSide cause at why → IsDeviceFault why
 device_side left right out o p at why (Left fault) n t u co cp is_o is_p go gp s told = by_device fault why told.1 told.2 ((rw go at s.refused.1) o co is_o)
 device_side left right out o p at why (Right fault) n t u co cp is_o is_p go gp s told = by_device fault why told.1 told.2 ((rw gp at s.refused.1) p cp is_p)
@@ -123,7 +123,7 @@ module _ {R S D : Type 0} (left : R → Option (List ℕ)) (failures : R → ℕ
   abbrev StopsSo : Result R CannotOpen → Result S CannotOpen → CommandFault → Type 0
   StopsSo old old2 fault = StopsMergeOfOne (reader left failures old new) (reader left2 failures2 old2 new2) draft fault
 
-  pub one_device : (old : Result R CannotOpen) (old2 : Result S CannotOpen) (o p : Operations) (at : Place) (why : Why) → IsContent o → IsContent p → IsGivenArchive (reader left failures old new) o → IsGivenArchive (reader left2 failures2 old2 new2) p
+  pub one_device : (old : Result R CannotOpen) (old2 : Result S CannotOpen) (o p : Operations) (at : InputName) (why : Why) → IsContent o → IsContent p → IsGivenArchive (reader left failures old new) o → IsGivenArchive (reader left2 failures2 old2 new2) p
       → StopsSo old old2 (Input at why) → IsDeviceFault why
   one_device (Ok l) (Ok r) o p at why co cp go gp s =
       let k : StopsMerge (stream left failures l s.0) (stream left2 failures2 r s.1) draft (Input at why) = s.4 in
@@ -133,20 +133,20 @@ module _ {R S D : Type 0} (left : R → Option (List ℕ)) (failures : R → ℕ
 
 -- ---- what is kept
 
-fails_keeps : (out : Out) (text : List ℕ) (n : ℕ) → FailsAt out text n → out.placed_new ≡ out.placed_old
+fails_keeps : (out : Out) (text : List ℕ) (n : ℕ) → FailsAt out text n → out.published_new ≡ out.published_old
 fails_keeps out _ n (inl f) = f.1.0
 fails_keeps out _ n (inr f) = f.1.kept
 
 -- nothing is in place where such a command ended otherwise than by its report
 pub stopped_keeps : (command : Streamed) (out : Out) (report : Writer) (fault : CommandFault) → ((n : ℕ) → fault ≡ Report n → ⊥)
-    → EndsStreamed command out report (Err fault) → out.placed_new ≡ out.placed_old
-stopped_keeps command out report (Input at why) other e = e.nothing_placed.0
+    → EndsStreamed command out report (Err fault) → out.published_new ≡ out.published_old
+stopped_keeps command out report (Input at why) other e = e.nothing_published.0
 stopped_keeps command out report (Output n) other e = elim e [
-  | inl s ↦ s.nothing_placed.0
+  | inl s ↦ s.nothing_published.0
   | inr c ↦ fails_keeps out c.1.text n c.1.published.0
 ]
 stopped_keeps command out report (Report n) other e = absurd (other n refl)
 stopped_keeps command out report OutOfMemory other e = elim e [
-  | inl s ↦ s.nothing_placed.0
+  | inl s ↦ s.nothing_published.0
   | inr c ↦ c.1.published.1.0
 ]

@@ -15,7 +15,7 @@ use Rattle.archive_records.specs.Text.{old_written, text_of, written}
 use Rattle.archive_records.proofs.Puts.{bytes_same}
 use Rattle.archive_records.proofs.Versions.{old_written_text}
 use Rattle.byte_device.specs.Devices.{Stream}
-use Rattle.record_merge.specs.declared.turns.Turn.{Turn}
+use Rattle.record_merge.specs.declared.arrivals.Arrival.{Arrival}
 use Rattle.report_text.specs.Report.{archive_line}
 use Rattle.command_ends.specs.declared.faults.CommandFault.{CommandFault}
 use Rattle.command_ends.specs.declared.faults.Status.{Status}
@@ -54,9 +54,9 @@ module _ {R : Type 0} (input : Reader R) (operations : Operations) (lines_of : (
       })
 
   -- and what it makes is published
-  pub told_published : {W : Type 0} (draft : Stream W) (sizes : Sizes) (turns : List Turn) (withdraws : Bool) (j : IsJoinedTelling input operations draft sizes turns withdraws) (lines : List ℕ) → lines ≡ lines_of (changes j.joined.content) → (out : Out) (report : Writer) (result : Result Status CommandFault)
+  pub told_published : {W : Type 0} (draft : Stream W) (sizes : Sizes) (arrived : List Arrival) (withdraws : Bool) (j : IsJoinedTelling input operations draft sizes arrived withdraws) (lines : List ℕ) → lines ≡ lines_of (changes j.joined.content) → (out : Out) (report : Writer) (result : Result Status CommandFault)
       → Publishes out report (written (joined j.joined.content (content_of operations))) (lines ++ archive_line sizes) result → EndsBegun input (telling input operations lines_of) out report result
-  told_published draft sizes turns withdraws j lines lines_are out report result =
+  told_published draft sizes arrived withdraws j lines lines_are out report result =
       let i = j.joined in
       archive_published (MakesTold input operations lines_of) _ (Unfailed input) draft sizes (joined i.content (content_of operations)) lines out report result i.unfailed
       (record { before = i.content; is_content = i.is_content; archive = i.archive; content_is = refl; lines_are = lines_are }) i.written_is

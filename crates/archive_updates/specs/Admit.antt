@@ -6,7 +6,7 @@ use Rattle.admission.specs.File.{parts, admissible, IsAcceptedFile}
 use Rattle.admission.specs.Take.{admitted, taken_rows}
 use Rattle.admission.specs.declared.taken.Taken.{Taken}
 use Rattle.report_text.specs.Report.{admit_lines}
-use Rattle.command_ends.specs.declared.faults.Place.TheVariants.{File}
+use Rattle.command_ends.specs.declared.faults.InputName.TheVariants.{File}
 use Rattle.report_text.specs.declared.rows.AdmitRow.{AdmitRow}
 use Rattle.command_ends.specs.Ends.{Command, MakesArchive, Streamed, writes_in_turn}
 use Rattle.command_ends.specs.Inputs.{Reader, Holds, Unfailed, EachUnfailed, EachKnown, IsAccepted, IsKnown}

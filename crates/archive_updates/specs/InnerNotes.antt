@@ -5,15 +5,15 @@ use Rattle.archive_core.specs.Content.{Operations, IsContent}
 use Rattle.archive_core.specs.Valid.{key_of}
 use Rattle.archive_core.specs.declared.operations.Operation.{Operation}
 use Rattle.archive_core.specs.declared.operations.Operation.TheVariants.{Admit, Retire}
-use Rattle.record_merge.specs.declared.turns.Turn.{Turn}
-use Rattle.record_merge.specs.declared.turns.Turn.TheVariants.{New, Had, Retired}
+use Rattle.record_merge.specs.declared.arrivals.Arrival.{Arrival}
+use Rattle.record_merge.specs.declared.arrivals.Arrival.TheVariants.{New, Had, Retired}
 use Rattle.command_ends.specs.Inputs.{HoldsArchive, Reader}
 use Rattle.archive_updates.specs.declared.notes.Note.{Note}
 use Rattle.archive_updates.specs.declared.notes.Note.TheVariants as note
 use Rattle.archive_updates.specs.Notes.{retired_notes}
 
 -- the note of an operation by what it is to a content: a slice that is retired has one
-abbrev pub note_of : Turn → Operation → List Note
+abbrev pub note_of : Arrival → Operation → List Note
 note_of New operation = []
 note_of Had operation = []
 note_of Retired (Admit slice) = note.Retired (key_of slice) (record { 0 = sha256 slice }) ∷ []

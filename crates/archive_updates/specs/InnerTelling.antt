@@ -13,8 +13,8 @@ use Rattle.archive_records.specs.declared.writing.Sizes.{Sizes}
 use Rattle.archive_records.specs.Text.{AreOperations, IsOperationsText, old_written, written}
 use Rattle.archive_records.specs.Writing.{IsWrittenWhole}
 use Rattle.byte_device.specs.Devices.{Stream}
-use Rattle.record_merge.specs.declared.turns.Turn.{Turn}
-use Rattle.record_merge.specs.Turns.{turn_of}
+use Rattle.record_merge.specs.declared.arrivals.Arrival.{Arrival}
+use Rattle.record_merge.specs.Arrivals.{arrival_of}
 use Rattle.report_text.specs.Report.{apply_line}
 use Rattle.command_ends.specs.Ends.{Command, MakesArchive}
 use Rattle.command_ends.specs.Inputs.{Gives, HoldsArchive, IsRefusedArchive, Reader, Unfailed}
@@ -32,9 +32,9 @@ pub record AreAtHand {S : Type 0} (side : Stream S) (operations : Operations) : 
 -- The input is an archive's text, and that of the join of its content with what these operations make was written; of
 -- each of them it was told what it is to that content, and whether one of them retires a slice that is there.
 pub record IsJoinedTelling {R W : Type 0} (input : Reader R) (operations : Operations) (draft : Stream W)
-    (sizes : Sizes) (turns : List Turn) (withdraws : Bool) : Type 0 where
+    (sizes : Sizes) (arrived : List Arrival) (withdraws : Bool) : Type 0 where
   pub joined : IsJoined input (content_of operations) draft sizes
-  pub turns_are : turns ≡ map (turn_of joined.content) (listing operations)
+  pub arrivals_are : arrived ≡ map (arrival_of joined.content) (listing operations)
   pub withdraws_is : withdraws ≡ list_any (is_covered operations) (listing joined.content)
 
 -- The input is an archive's text, and that of its content with the retirement was written; and these tell whether that

@@ -3,7 +3,7 @@ use Rattle.std.specs.Prelude.{◌≡◌, ℕ, List, [], fold}
 use Rattle.std.specs.List.{AllByRecursion, AllZip}
 use Rattle.std.specs.FinSet as set
 use Rattle.archive_core.specs.Content.{Operations, IsContent}
-use Rattle.command_ends.specs.Archives.{file_place, merged}
+use Rattle.command_ends.specs.Archives.{further_name, merged}
 use Rattle.command_ends.specs.Ends.{Command, MakesArchive, Streamed, writes_in_turn}
 use Rattle.command_ends.specs.Inputs.{Reader, Unfailed, EachUnfailed, IsArchive, HoldsArchive, IsKnown, EachKnown}
 use Rattle.command_ends.specs.Inputs.{IsArchiveRefused, IsFirstRefused, IsRefusedInTurn, IsWantedInTurn}
@@ -37,7 +37,7 @@ pub record MakesMerged {R S : Type 0} (input : Reader R) (files : List (Reader S
 abbrev pub merge : {R S : Type 0} → Reader R → List (Reader S) → Command
 merge input files = record {
   Makes = MakesArchive (MakesMerged input files);
-  Refuses = IsRefusedInTurn input (IsFirstRefused file_place IsArchive IsArchiveRefused files);
+  Refuses = IsRefusedInTurn input (IsFirstRefused further_name IsArchive IsArchiveRefused files);
   Unfailed = Unfailed input × EachUnfailed files;
 }
 
@@ -46,5 +46,5 @@ abbrev pub merge_in_turn : {R S : Type 0} → Reader R → List (Reader S) → W
 merge_in_turn input files draft =
     begins_behind input (AllByRecursion IsArchive files × EachUnfailed files) draft
     (writes_in_turn (merge input files)
-    (IsWantedInTurn input (IsFirstRefused file_place IsArchive IsArchiveRefused files))
+    (IsWantedInTurn input (IsFirstRefused further_name IsArchive IsArchiveRefused files))
     (IsKnown input × EachKnown files) draft)

@@ -8,8 +8,8 @@ use Rattle.byte_device.specs.Devices.{Stream, stream}
 use Rattle.record_merge.specs.Merging.{Gains, GainsCount, IsUnfailed, Merges}
 use Rattle.command_ends.specs.declared.faults.CommandFault.{CommandFault}
 use Rattle.command_ends.specs.declared.faults.CommandFault.TheVariants.{Input, Output, Report, OutOfMemory}
-use Rattle.command_ends.specs.declared.faults.Place.{Place}
-use Rattle.command_ends.specs.declared.faults.Place.TheVariants.{Archive}
+use Rattle.command_ends.specs.declared.faults.InputName.{InputName}
+use Rattle.command_ends.specs.declared.faults.InputName.TheVariants.{Archive}
 use Rattle.command_ends.specs.declared.faults.Why.{Why}
 use Rattle.command_ends.specs.declared.faults.Why.TheVariants.{Record, CannotOpen as NotOpened}
 use Rattle.command_ends.specs.Ends.{MakesArchive, Streamed}
@@ -18,7 +18,7 @@ use Rattle.command_ends.specs.Outputs.{Outs, draft_of, out_of}
 use Rattle.archive_updates.specs.Merge.{MakesMerged, merge_in_turn}
 
 -- the side that stopped the merge is told, IN as archive 0 and the FILE as archive 1, and its fault
-abbrev pub IsSide : MergeCause → Place → Why → Type 0
+abbrev pub IsSide : MergeCause → InputName → Why → Type 0
 IsSide (Left fault) at why = (at ≡ Archive 0) × (why ≡ Record fault) × (fault.kind ≢ RecordOutOfMemory)
 IsSide (Right fault) at why = (at ≡ Archive 1) × (why ≡ Record fault) × (fault.kind ≢ RecordOutOfMemory)
 IsSide Write at why = ⊥
@@ -46,7 +46,7 @@ pub record StopsMerge {R S D : Type 0} (left : Stream R) (right : Stream S) (dra
   pub told : IsMergeFaultTold stopped fault
 
 -- This input was not opened: nothing was read, and the draft has nothing.
-pub record IsUnopened {R S D : Type 0} (input : Reader R) (file : Reader S) (at : Place) (draft : Stream D)
+pub record IsUnopened {R S D : Type 0} (input : Reader R) (file : Reader S) (at : InputName) (draft : Stream D)
     (fault : CommandFault) : Type 0 where
   pub told : fault ≡ Input at NotOpened
   pub input_untouched : IsUntouched input

@@ -7,11 +7,11 @@ ghost use Rattle.admission.specs.Take.{admitted, taken_rows};
 ghost use Rattle.archive_updates.specs.Admit.{admit_as_it_comes, file_rows};
 ghost use Rattle.archive_updates.specs.InnerArriving.{ArePlaced, HasCome, lines_again, records_in};
 ghost use Rattle.archive_core.specs.Content.{Operations, changes};
-ghost use Rattle.record_merge.specs.Turns.{turn_of};
+ghost use Rattle.record_merge.specs.Arrivals.{arrival_of};
 ghost use Rattle.archive_updates.specs.InnerNotes.{IsNoted};
 ghost use Rattle.archive_updates.specs.InnerTelling.{telling};
 ghost use Rattle.archive_updates.specs.Notes.{NotesRetired, retired_notes};
-ghost use Rattle.command_ends.specs.declared.faults.Place.TheVariants.{File};
+ghost use Rattle.command_ends.specs.declared.faults.InputName.TheVariants.{File};
 ghost use Rattle.archive_updates.specs.Begun.{EndsBegun};
 ghost use Rattle.command_ends.specs.Ends.{EndsStreamed};
 ghost use Rattle.command_ends.specs.Inputs.{EachUnfailed, Holds, IsAccepted, IsFileRefused};
@@ -27,10 +27,10 @@ use admission::TakeFault;
 use archive_core::Slice;
 use byte_device::{CannotOpen, Sink, Source};
 use command_ends::{
-    CommandFault, Output, Place, Status, Target, Why, publish_draft, read_file, refused_behind,
+    CommandFault, InputName, Output, Status, Target, Why, publish_draft, read_file, refused_behind,
 };
 use memory::{Heap, NoMemory};
-use record_merge::Turn;
+use record_merge::Arrival;
 use report_text::admit_lines;
 
 /// The refusal of the file of this number, whose bytes have this fault.
@@ -40,7 +40,7 @@ fn refusal_of_file(index: u64, fault: TakeFault) -> CommandFault
 {
     match fault {
         TakeFault::OutOfMemory => CommandFault::OutOfMemory,
-        fault => CommandFault::Input(Place::File(index), Why::Take(fault)),
+        fault => CommandFault::Input(InputName::File(index), Why::Take(fault)),
     }
 }
 
@@ -101,22 +101,22 @@ fn admit_files<S: Source>(
 fn tell_arrivals(
     heap: Heap,
     arrivals: Arrivals,
-    turns: &[Turn],
+    arrived: &[Arrival],
     notes: &mut Vec<Note, Heap>,
 ) -> Result<String<Heap>, NoMemory>
     requires placed { (records : List (List ℕ))
         × ArePlaced (listing arrivals.came) arrivals.places.items arrivals.rows.items records }
-    requires told { length turns.now ≡ length (listing arrivals.came) }
+    requires told { length arrived.now ≡ length (listing arrivals.came) }
     ensures lines { IfOk result (λ lines. (o : Operations) (records : List (List ℕ))
         → ArePlaced (listing arrivals.came) arrivals.places.items arrivals.rows.items records
-        → turns.now ≡ map (turn_of o) (listing arrivals.came)
+        → arrived.now ≡ map (arrival_of o) (listing arrivals.came)
         → string_bytes lines ≡ lines_again arrivals.rows.items records (changes o)) }
-    ensures noted { OnOk result ((o : Operations) → turns.now ≡ map (turn_of o) (listing arrivals.came)
+    ensures noted { OnOk result ((o : Operations) → arrived.now ≡ map (arrival_of o) (listing arrivals.came)
         → notes.new.items ≡ notes.old.items ++ retired_notes o arrivals.came) }
 {
     let Arrivals { came, places, rows } = arrivals;
-    note_retired(notes, came.operations(), turns)?;
-    let again = told_again(rows, &places, turns);
+    note_retired(notes, came.operations(), arrived)?;
+    let again = told_again(rows, &places, arrived);
     admit_lines(heap, &again)
 }
 
@@ -137,13 +137,13 @@ fn write_admitted<R: Source, T: Target, P: Sink>(
         → EndsBegun (reader R.left R.failures input.old input.new)
         (telling (reader R.left R.failures input.old input.new) arrivals.came
         (lines_again arrivals.rows.items records))
-        (out_of (outs T.Draft.held T.Draft.failures T.placed T.failures out.old out.new))
+        (out_of (outs T.Draft.held T.Draft.failures T.published T.failures out.old out.new))
         (writer P.held P.failures report.old report.new) result }
     ensures noted { OnOk result (IsNoted (reader R.left R.failures input.old input.new) arrivals.came
         notes.old.items notes.new.items) }
 {
     let (sizes, told) = tell_operations(&heap, input, arrivals.came.operations(), &mut out.draft)?;
-    let lines = tell_arrivals(heap, arrivals, &told.turns, notes)?;
+    let lines = tell_arrivals(heap, arrivals, &told.arrivals, notes)?;
     publish_draft(lines, sizes, out, report)
 }
 
@@ -164,7 +164,7 @@ pub fn run_admit<R: Source, S: Source, T: Target, P: Sink>(
     out: &mut Output<T::Draft, T>,
     report: &mut P,
 ) -> Result<Status, CommandFault>
-    ensures ends { let known = out_of (outs T.Draft.held T.Draft.failures T.placed T.failures out.old out.new) in
+    ensures ends { let known = out_of (outs T.Draft.held T.Draft.failures T.published T.failures out.old out.new) in
         EndsStreamed (admit_as_it_comes (reader R.left R.failures input.old input.new)
         (readers S.left S.failures files.old files.new) known.draft) known
         (writer P.held P.failures report.old report.new) result }

@@ -13,7 +13,7 @@ ghost use Rattle.archive_updates.specs.Begun.{EndsBegun};
 ghost use Rattle.command_ends.specs.Ends.{EndsStreamed};
 ghost use Rattle.command_ends.specs.Inputs.{IsRefusedOps, Reads, reader};
 ghost use Rattle.command_ends.specs.Outputs.{out_of, outs, writer};
-ghost use Rattle.record_merge.specs.Turns.{is_new};
+ghost use Rattle.record_merge.specs.Arrivals.{is_new};
 
 use crate::telling::tell_operations;
 use archive_core::Operation;
@@ -22,16 +22,16 @@ use command_ends::{
     CommandFault, Output, Status, Target, publish_draft, read_operations, refused_behind,
 };
 use memory::Heap;
-use record_merge::Turn;
+use record_merge::Arrival;
 use report_text::apply_line;
 use sorted_archive::new_in_turn;
 
 /// How many are new.
-fn count_new(turns: &[Turn]) -> u64
-    ensures counted { result ≡ count_by is_new turns.now }
-    ensures within { result ≤ length turns.now }
+fn count_new(arrived: &[Arrival]) -> u64
+    ensures counted { result ≡ count_by is_new arrived.now }
+    ensures within { result ≤ length arrived.now }
 {
-    turns.iter().filter(|turn| turn.is_new()).count() as u64
+    arrived.iter().filter(|arrival| arrival.is_new()).count() as u64
 }
 
 /// Writes IN's archive to OUT with those operations of so many that are new in their turn, and to the report how many
@@ -50,11 +50,11 @@ fn write_applied<R: Source, T: Target, P: Sink>(
     ensures { EndsBegun (reader R.left R.failures input.old input.new)
         (telling (reader R.left R.failures input.old input.new)
         (set.from_list (map record_bytes operations.now)) (counts_of (map record_bytes operations.now) number))
-        (out_of (outs T.Draft.held T.Draft.failures T.placed T.failures out.old out.new))
+        (out_of (outs T.Draft.held T.Draft.failures T.published T.failures out.old out.new))
         (writer P.held P.failures report.old report.new) result }
 {
     let (sizes, told) = tell_operations(&heap, input, operations, &mut out.draft)?;
-    let new = count_new(&told.turns);
+    let new = count_new(&told.arrivals);
     let lines = apply_line(heap, new, number - new)?;
     publish_draft(lines, sizes, out, report)
 }
@@ -90,7 +90,7 @@ pub fn run_apply<R: Source, S: Source, T: Target, P: Sink>(
     out: &mut Output<T::Draft, T>,
     report: &mut P,
 ) -> Result<Status, CommandFault>
-    ensures { let known = out_of (outs T.Draft.held T.Draft.failures T.placed T.failures out.old out.new) in
+    ensures { let known = out_of (outs T.Draft.held T.Draft.failures T.published T.failures out.old out.new) in
         EndsStreamed (apply_as_it_comes (reader R.left R.failures input.old input.new)
         (reader S.left S.failures ops.old ops.new) known.draft) known
         (writer P.held P.failures report.old report.new) result }

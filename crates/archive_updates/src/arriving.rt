@@ -5,7 +5,7 @@ ghost use Rattle.std.specs.FinSet as set;
 ghost use Rattle.join_core.specs.Listing.{listing};
 ghost use Rattle.archive_core.specs.Record.{admission_record};
 ghost use Rattle.admission.specs.Take.{admitted, taken_of};
-ghost use Rattle.record_merge.specs.Turns.{is_new};
+ghost use Rattle.record_merge.specs.Arrivals.{is_new};
 ghost use Rattle.report_text.specs.declared.rows.AdmitRow.{AdmitRow};
 ghost use Rattle.archive_updates.specs.Admit.{file_rows};
 ghost use Rattle.archive_updates.specs.InnerArriving.{ArePlaced, images_in, record_in, row_again, rows_again};
@@ -14,7 +14,7 @@ ghost use Rattle.archive_updates.specs.InnerArriving.{slice_rows, taken_again};
 use admission::Taken;
 use archive_core::{Archive, Slice};
 use memory::{Heap, NoMemory};
-use record_merge::Turn;
+use record_merge::Arrival;
 use report_text::AdmitRow;
 use sorted_archive::PlainArchive;
 
@@ -157,14 +157,14 @@ fn tell_row(rows: &mut [AdmitRow], place: usize, new: bool)
 }
 
 /// Tells the rows again of which slices came, by what each of these is to IN.
-fn tell_rows(rows: &mut [AdmitRow], places: &[u64], told: &[Turn])
+fn tell_rows(rows: &mut [AdmitRow], places: &[u64], told: &[Arrival])
     requires { (came records : List (List ℕ)) × ArePlaced came places.now rows.old records
         × (length told.now ≡ length came) }
-    ensures { (turn : List ℕ → Turn) (came records : List (List ℕ)) → ArePlaced came places.now rows.old records
-        → told.now ≡ map turn came → rows.new ≡ rows_again (λ r. is_new (turn r)) rows.old records }
+    ensures { (arrival : List ℕ → Arrival) (came records : List (List ℕ)) → ArePlaced came places.now rows.old records
+        → told.now ≡ map arrival came → rows.new ≡ rows_again (λ r. is_new (arrival r)) rows.old records }
 {
-    'told: for (index, turn) in told.iter().enumerate() {
-        tell_row(rows, places[index] as usize, turn.is_new());
+    'told: for (index, arrival) in told.iter().enumerate() {
+        tell_row(rows, places[index] as usize, arrival.is_new());
     }
 }
 
@@ -172,12 +172,12 @@ fn tell_rows(rows: &mut [AdmitRow], places: &[u64], told: &[Turn])
 pub fn told_again(
     mut rows: Vec<AdmitRow, Heap>,
     places: &[u64],
-    told: &[Turn],
+    told: &[Arrival],
 ) -> Vec<AdmitRow, Heap>
     requires { (came records : List (List ℕ)) × ArePlaced came places.now rows.items records
         × (length told.now ≡ length came) }
-    ensures { (turn : List ℕ → Turn) (came records : List (List ℕ)) → ArePlaced came places.now rows.items records
-        → told.now ≡ map turn came → result.items ≡ rows_again (λ r. is_new (turn r)) rows.items records }
+    ensures { (arrival : List ℕ → Arrival) (came records : List (List ℕ)) → ArePlaced came places.now rows.items records
+        → told.now ≡ map arrival came → result.items ≡ rows_again (λ r. is_new (arrival r)) rows.items records }
 {
     tell_rows(&mut rows, places, told);
     rows

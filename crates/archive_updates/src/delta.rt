@@ -13,7 +13,7 @@ use crate::joining::command_fault_of;
 use archive_records::{Sizes, Summary};
 use byte_device::{CannotOpen, Sink, Source};
 use command_ends::{
-    CommandFault, Output, Place, Status, Target, opened, publish_draft, read_summary_input,
+    CommandFault, InputName, Output, Status, Target, opened, publish_draft, read_summary_input,
     refused_behind,
 };
 use memory::Heap;
@@ -28,7 +28,7 @@ fn copy_input<R: Source, W: Sink>(
     ensures { WritesAmidst (λ archive. copying archive named.now) (λ archive. IsUnnamed archive named.now)
         (reader R.left R.failures archive.old archive.new) (stream W.held W.failures draft.old draft.new) result }
 {
-    let source = opened(archive, Place::Archive(0))?;
+    let source = opened(archive, InputName::Archive(0))?;
     match copy_unnamed(heap, named, source, draft) {
         Ok(sizes) => Ok(sizes),
         Err(fault) => Err(command_fault_of(fault)),
@@ -45,7 +45,7 @@ fn write_unnamed<R: Source, T: Target, P: Sink>(
 ) -> Result<Status, CommandFault>
     ensures { EndsBegun (reader R.left R.failures archive.old archive.new)
         (copying (reader R.left R.failures archive.old archive.new) named.now)
-        (out_of (outs T.Draft.held T.Draft.failures T.placed T.failures out.old out.new))
+        (out_of (outs T.Draft.held T.Draft.failures T.published T.failures out.old out.new))
         (writer P.held P.failures report.old report.new) result }
 {
     let kept = heap.clone()?;
@@ -69,7 +69,7 @@ pub fn run_delta<R: Source, S: Source, T: Target, P: Sink>(
     out: &mut Output<T::Draft, T>,
     report: &mut P,
 ) -> Result<Status, CommandFault>
-    ensures { let known = out_of (outs T.Draft.held T.Draft.failures T.placed T.failures out.old out.new) in
+    ensures { let known = out_of (outs T.Draft.held T.Draft.failures T.published T.failures out.old out.new) in
         EndsStreamed (delta_as_it_comes (reader R.left R.failures archive.old archive.new)
         (reader S.left S.failures summary.old summary.new) known.draft) known
         (writer P.held P.failures report.old report.new) result }

@@ -6,7 +6,7 @@ ghost use Rattle.archive_updates.specs.MergeStreams.{IsMergeFaultTold};
 
 use archive_records::{MergeCause, MergeFault, Sizes};
 use byte_device::{CannotOpen, Sink, Source};
-use command_ends::{CommandFault, Place, opened, refusal};
+use command_ends::{CommandFault, InputName, opened, refusal};
 use memory::Heap;
 use record_merge::merge_streams;
 
@@ -15,8 +15,8 @@ pub fn command_fault_of(fault: MergeFault) -> CommandFault
     ensures { IsMergeFaultTold fault result }
 {
     match fault.cause {
-        MergeCause::Left(why) => refusal(Place::Archive(0), why),
-        MergeCause::Right(why) => refusal(Place::Archive(1), why),
+        MergeCause::Left(why) => refusal(InputName::Archive(0), why),
+        MergeCause::Right(why) => refusal(InputName::Archive(1), why),
         MergeCause::Write => CommandFault::Output(fault.written),
     }
 }
@@ -31,7 +31,7 @@ pub fn join_input<R: Source, S: Source, W: Sink>(
     ensures { JoinsAmidst (IsAtHand (stream S.left S.failures other.old other.new))
         (reader R.left R.failures input.old input.new) (stream W.held W.failures draft.old draft.new) result }
 {
-    let left = opened(input, Place::Archive(0))?;
+    let left = opened(input, InputName::Archive(0))?;
     match merge_streams(heap, left, other, draft) {
         Ok(sizes) => Ok(sizes),
         Err(fault) => Err(command_fault_of(fault)),

@@ -18,7 +18,8 @@ use archive_core::{Archive, take_all};
 use archive_records::write_archive;
 use byte_device::{Bytes, CannotOpen, Grown, Sink, Source};
 use command_ends::{
-    CommandFault, Output, Place, Status, Target, opened, publish_draft, read_input, refused_behind,
+    CommandFault, InputName, Output, Status, Target, opened, publish_draft, read_input,
+    refused_behind,
 };
 use memory::Heap;
 use record_merge::merge_streams;
@@ -92,7 +93,7 @@ fn merge_text<R: Source, T: Target, P: Sink>(
     ensures { (p : Operations) → IsContent p → text.now ≡ written p
         → EndsBegun (reader R.left R.failures input.old input.new)
         (joins (reader R.left R.failures input.old input.new) p)
-        (out_of (outs T.Draft.held T.Draft.failures T.placed T.failures out.old out.new))
+        (out_of (outs T.Draft.held T.Draft.failures T.published T.failures out.old out.new))
         (writer P.held P.failures report.old report.new) result }
 {
     let mut other = Bytes::new(text);
@@ -109,7 +110,7 @@ fn merge_in_turn<A: Archive + Drop, R: Source, S: Source, T: Target, P: Sink>(
     out: &mut Output<T::Draft, T>,
     report: &mut P,
 ) -> Result<Status, CommandFault>
-    ensures { let known = out_of (outs T.Draft.held T.Draft.failures T.placed T.failures out.old out.new) in
+    ensures { let known = out_of (outs T.Draft.held T.Draft.failures T.published T.failures out.old out.new) in
         EndsStreamed (merge_in_turn (reader R.left R.failures input.old input.new)
         (readers S.left S.failures files.old files.new) known.draft) known
         (writer P.held P.failures report.old report.new) result }
@@ -128,7 +129,7 @@ fn merge_opened<R: Source, S: Source, T: Target, P: Sink>(
     out: &mut Output<T::Draft, T>,
     report: &mut P,
 ) -> Result<Status, CommandFault>
-    ensures { let known = outs T.Draft.held T.Draft.failures T.placed T.failures out.old out.new in
+    ensures { let known = outs T.Draft.held T.Draft.failures T.published T.failures out.old out.new in
         EndsStreamed (merge_of_one (reader R.left R.failures (Ok left.old) (Ok left.new))
         (reader S.left S.failures (Ok right.old) (Ok right.new)) (draft_of known)) (out_of known)
         (writer P.held P.failures report.old report.new) result }
@@ -147,13 +148,13 @@ fn merge_one<R: Source, S: Source, T: Target, P: Sink>(
     out: &mut Output<T::Draft, T>,
     report: &mut P,
 ) -> Result<Status, CommandFault>
-    ensures { let known = outs T.Draft.held T.Draft.failures T.placed T.failures out.old out.new in
+    ensures { let known = outs T.Draft.held T.Draft.failures T.published T.failures out.old out.new in
         EndsStreamed (merge_of_one (reader R.left R.failures input.old input.new)
         (reader S.left S.failures file.old file.new) (draft_of known)) (out_of known)
         (writer P.held P.failures report.old report.new) result }
 {
-    let left = opened(input, Place::Archive(0))?;
-    let right = opened(file, Place::Archive(1))?;
+    let left = opened(input, InputName::Archive(0))?;
+    let right = opened(file, InputName::Archive(1))?;
     merge_opened(heap, left, right, out, report)
 }
 
@@ -174,7 +175,7 @@ pub fn run_merge<A: Archive + Drop, R: Source, S: Source, T: Target, P: Sink>(
     out: &mut Output<T::Draft, T>,
     report: &mut P,
 ) -> Result<Status, CommandFault>
-    ensures { let known = outs T.Draft.held T.Draft.failures T.placed T.failures out.old out.new in
+    ensures { let known = outs T.Draft.held T.Draft.failures T.published T.failures out.old out.new in
         EndsStreamed (merge_as_it_comes (reader R.left R.failures input.old input.new)
         (readers S.left S.failures files.old files.new) known) (out_of known)
         (writer P.held P.failures report.old report.new) result }

@@ -32,7 +32,7 @@ pub fn run_migrate<R: Source, T: Target, P: Sink>(
     out: &mut Output<T::Draft, T>,
     report: &mut P,
 ) -> Result<Status, CommandFault>
-    ensures { let known = out_of (outs T.Draft.held T.Draft.failures T.placed T.failures out.old out.new) in
+    ensures { let known = out_of (outs T.Draft.held T.Draft.failures T.published T.failures out.old out.new) in
         EndsStreamed (migrate_as_it_comes (reader R.left R.failures input.old input.new) known.draft) known
         (writer P.held P.failures report.old report.new) result }
 {

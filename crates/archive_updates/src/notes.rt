@@ -8,7 +8,7 @@ ghost use Rattle.archive_updates.specs.declared.notes.Note.TheVariants.{Missing}
 use archive_core::{Digest, Operation, SliceKey};
 use archive_words::Spelled;
 use memory::{Heap, NoMemory};
-use record_merge::Turn;
+use record_merge::Arrival;
 use report_text::{Escaped, Text};
 use std::fmt;
 
@@ -57,13 +57,13 @@ impl fmt::Display for Note {
 fn note_operation(
     notes: &mut Vec<Note, Heap>,
     operation: &Operation,
-    turn: Turn,
+    arrival: Arrival,
 ) -> Result<(), NoMemory>
-    ensures { OnOk result (notes.new.items ≡ notes.old.items ++ note_of turn operation.now) }
+    ensures { OnOk result (notes.new.items ≡ notes.old.items ++ note_of arrival operation.now) }
 {
-    match turn {
-        Turn::New | Turn::Had => Ok(()),
-        Turn::Retired => match operation {
+    match arrival {
+        Arrival::New | Arrival::Had => Ok(()),
+        Arrival::Retired => match operation {
             Operation::Admit(slice) => {
                 notes.push(Note::Retired(slice.key(), slice.digest()))?;
                 Ok(())
@@ -77,15 +77,16 @@ fn note_operation(
 pub fn note_retired(
     notes: &mut Vec<Note, Heap>,
     operations: &[Operation],
-    turns: &[Turn],
+    arrived: &[Arrival],
 ) -> Result<(), NoMemory>
-    requires { length turns.now ≡ length operations.now }
-    ensures { OnOk result ((turn : List ℕ → Turn) → turns.now ≡ map turn (map record_bytes operations.now)
+    requires { length arrived.now ≡ length operations.now }
+    ensures { OnOk result ((arrival : List ℕ → Arrival) → arrived.now ≡ map arrival (map record_bytes operations.now)
         → notes.new.items
-        ≡ notes.old.items ++ flat_map (λ operation. note_of (turn (record_bytes operation)) operation) operations.now) }
+        ≡ notes.old.items
+        ++ flat_map (λ operation. note_of (arrival (record_bytes operation)) operation) operations.now) }
 {
-    'turns: for (index, turn) in turns.iter().enumerate() {
-        note_operation(notes, &operations[index], *turn)?;
+    'arrived: for (index, arrival) in arrived.iter().enumerate() {
+        note_operation(notes, &operations[index], *arrival)?;
     }
     Ok(())
 }

@@ -54,7 +54,7 @@ fn retire_input<R: Source, W: Sink>(
     let (sizes, told) = tell_operations(heap, input, &retirements, draft)?;
     Ok(Written {
         sizes,
-        changed: told.turns[0].is_new(),
+        changed: told.arrivals[0].is_new(),
         had: told.withdraws,
     })
 }
@@ -75,7 +75,7 @@ pub fn run_retire<R: Source, T: Target, P: Sink>(
     out: &mut Output<T::Draft, T>,
     report: &mut P,
 ) -> Result<Status, CommandFault>
-    ensures ends { let known = out_of (outs T.Draft.held T.Draft.failures T.placed T.failures out.old out.new) in
+    ensures ends { let known = out_of (outs T.Draft.held T.Draft.failures T.published T.failures out.old out.new) in
         EndsStreamed (retire_as_it_comes (reader R.left R.failures input.old input.new) key digest known.draft) known
         (writer P.held P.failures report.old report.new) result }
     ensures noted { OnOk result (NotesMissing (reader R.left R.failures input.old input.new) key digest

@@ -20,7 +20,7 @@ pub fn run_summary<R: Source, T: Target, P: Sink>(
     report: &mut P,
 ) -> Result<Status, CommandFault>
     ensures { Ends (summary (reader R.left R.failures archive.old archive.new))
-        (out_of (outs T.Draft.held T.Draft.failures T.placed T.failures out.old out.new))
+        (out_of (outs T.Draft.held T.Draft.failures T.published T.failures out.old out.new))
         (writer P.held P.failures report.old report.new) result }
 {
     let summary = read_entries(heap.clone()?, archive)?;

@@ -16,9 +16,9 @@ use crate::joining::command_fault_of;
 use archive_core::Operation;
 use archive_records::Sizes;
 use byte_device::{CannotOpen, Sink, Source};
-use command_ends::{CommandFault, Place, opened};
+use command_ends::{CommandFault, InputName, opened};
 use memory::Heap;
-use record_merge::{LentSide, LentText, Told, merge_telling};
+use record_merge::{BorrowedSide, BorrowedText, Told, merge_telling};
 
 /// Merges IN's archive with operations that stand in memory into the draft, and tells what each is to IN.
 pub fn tell_operations<R: Source, W: Sink>(
@@ -31,12 +31,12 @@ pub fn tell_operations<R: Source, W: Sink>(
     requires are { AllByRecursion IsOperation operations.now }
     ensures { let operations = set.from_list (map record_bytes operations.now) in
         WritesAmidst (λ input. joining input (content_of operations))
-        (λ input draft both. IsJoinedTelling input operations draft both.0 both.1.turns.items both.1.withdraws)
+        (λ input draft both. IsJoinedTelling input operations draft both.0 both.1.arrivals.items both.1.withdraws)
         (reader R.left R.failures input.old input.new) (stream W.held W.failures draft.old draft.new) result }
 {
-    let mut text = LentText::new(operations);
-    let left = opened(input, Place::Archive(0))?;
-    match merge_telling::<R, LentText<'_>, LentSide<'_>, W>(heap, left, &mut text, draft) {
+    let mut text = BorrowedText::new(operations);
+    let left = opened(input, InputName::Archive(0))?;
+    match merge_telling::<R, BorrowedText<'_>, BorrowedSide<'_>, W>(heap, left, &mut text, draft) {
         Ok(told) => Ok(told),
         Err(fault) => Err(command_fault_of(fault)),
     }

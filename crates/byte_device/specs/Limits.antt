@@ -1,7 +1,7 @@
 -- Where the devices for tests fail.
 use Rattle.std.specs.Prelude.{ℕ}
-use Rattle.byte_device.specs.declared.testing.Pieces.{Pieces}
-use Rattle.byte_device.specs.declared.testing.Short.{Short}
+use Rattle.byte_device.specs.declared.limited.Pieces.{Pieces}
+use Rattle.byte_device.specs.declared.limited.Short.{Short}
 
 -- the most bytes that it gives at once
 abbrev pub piece_size : Pieces → ℕ

@@ -8,16 +8,16 @@ ghost use Rattle.byte_device.specs.Devices.{CountsFailure};
 
 mod buffers;
 mod disks;
+mod limited;
 mod reading;
 mod streams;
-mod testing;
 mod writing;
 
 pub use buffers::{Bytes, Grown};
 pub use disks::{CannotCreate, CannotOpen};
+pub use limited::{Pieces, Short};
 pub use reading::{ReadFault, is_at_end, read_to_end};
 pub use streams::{Reading, Writing};
-pub use testing::{Pieces, Short};
 pub use writing::{WriteFault, push_all, put};
 
 /// The device failed in this call: no byte was given or taken, and its count of failures rose by

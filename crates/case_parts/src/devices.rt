@@ -92,29 +92,29 @@ impl StrictSink {
 pub struct Shelf {
     bytes: Short,
     is_open: bool,
-    is_placed: bool,
+    is_published: bool,
     failures: u64,
     // There is no byte before.
-    ghost empty: { is_placed ≡ false → ⟦<Short as Sink>⟧.held bytes ≡ Some [] },
+    ghost empty: { is_published ≡ false → ⟦<Short as Sink>⟧.held bytes ≡ Some [] },
 }
 
 impl Shelf {
     /// A place at which nothing is, and at which only what is open can be put.
     pub fn new(heap: Heap, is_open: bool) -> Self
-        ensures placed { ⟦<Shelf as Target>⟧.placed result ≡ None }
+        ensures published { ⟦<Shelf as Target>⟧.published result ≡ None }
         ensures failures { ⟦<Shelf as Target>⟧.failures result ≡ 0 }
     {
         Shelf {
             bytes: Short::new(heap, 0),
             is_open,
-            is_placed: false,
+            is_published: false,
             failures: 0,
         }
     }
 
     /// What was put there.
-    pub fn placed(&self) -> Option<&[u8]> {
-        if self.is_placed {
+    pub fn published(&self) -> Option<&[u8]> {
+        if self.is_published {
             Some(self.bytes.as_slice())
         } else {
             None
@@ -125,20 +125,20 @@ impl Shelf {
 impl Target for Shelf {
     type Draft = StrictSink;
 
-    ghost placed = { λ s. if s.is_placed then ⟦<Short as Sink>⟧.held s.bytes else None };
+    ghost published = { λ s. if s.is_published then ⟦<Short as Sink>⟧.held s.bytes else None };
 
     ghost failures = { λ s. s.failures };
 
-    fn place(&mut self, draft: &mut StrictSink) -> Result<(), Failed> {
+    fn publish(&mut self, draft: &mut StrictSink) -> Result<(), Failed> {
         if self.failures == u64::MAX {
             return Err(Failed);
         }
-        if !self.is_open || self.is_placed {
+        if !self.is_open || self.is_published {
             self.failures += 1;
             return Err(Failed);
         }
         draft.exchange(&mut self.bytes);
-        self.is_placed = true;
+        self.is_published = true;
         Ok(())
     }
 }

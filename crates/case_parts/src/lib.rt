@@ -47,7 +47,7 @@ pub use faults::{CallFault, CaseFault, Ended};
 pub use growths::{tell_room, tell_room_of_bytes};
 pub use heaps::{Texts, tell_heaps};
 pub use images::{tell_fat, tell_image, tell_kind, tell_named, tell_nearest, tell_slice};
-pub use limits::{Front, Limits, Sweep};
+pub use limits::{FileLimit, Limits, Sweep};
 pub use pairs::tell_pairs;
 pub use parts::{bytes_of, number};
 pub use questions::{answers_of, tell_answers};

@@ -4,18 +4,18 @@ ghost use Rattle.std.specs.Prelude.{◌≡◌, None};
 
 /// A file of which only first bytes count.
 #[derive(Clone, Copy)]
-pub struct Front<'t> {
+pub struct FileLimit<'t> {
     pub name: &'t str,
     pub len: usize,
 }
 
-impl Front<'_> {
+impl FileLimit<'_> {
     // How many first bytes of a file count.
-    fn len_of(front: Option<Front<'_>>, name: &str) -> usize
-        ensures { front.entry ≡ None → result ≡ usize.MAX }
+    fn len_of(limit: Option<FileLimit<'_>>, name: &str) -> usize
+        ensures { limit.entry ≡ None → result ≡ usize.MAX }
     {
-        match front {
-            Some(front) if front.name == name => front.len,
+        match limit {
+            Some(limit) if limit.name == name => limit.len,
             _ => usize::MAX,
         }
     }
@@ -39,9 +39,9 @@ pub struct Limits<'t> {
     /// How many bytes the report takes before it fails.
     pub report: usize,
     /// A file that ends early.
-    pub cut: Option<Front<'t>>,
+    pub cut: Option<FileLimit<'t>>,
     /// A file that fails when it gave so many bytes.
-    pub read: Option<Front<'t>>,
+    pub read: Option<FileLimit<'t>>,
 }
 
 impl Limits<'_> {
@@ -61,12 +61,12 @@ impl Limits<'_> {
     pub fn most_of(&self, name: &str) -> usize
         ensures { self.now.cut ≡ None → result ≡ usize.MAX }
     {
-        Front::len_of(self.cut, name)
+        FileLimit::len_of(self.cut, name)
     }
 
     /// How many bytes a file gives before it fails.
     pub fn given_of(&self, name: &str) -> usize {
-        Front::len_of(self.read, name)
+        FileLimit::len_of(self.read, name)
     }
 }
 
@@ -89,8 +89,8 @@ impl<'t> Sweep<'t> {
     /// The limits at a place of the sweep.
     pub fn limits(self, mut limits: Limits<'t>, len: usize) -> Limits<'t> {
         match self {
-            Sweep::Cut(name) => limits.cut = Some(Front { name, len }),
-            Sweep::Read(name) => limits.read = Some(Front { name, len }),
+            Sweep::Cut(name) => limits.cut = Some(FileLimit { name, len }),
+            Sweep::Read(name) => limits.read = Some(FileLimit { name, len }),
             Sweep::Out => limits.out = len,
             Sweep::Report => limits.report = len,
             Sweep::Pieces(_) => limits.pieces = len,

@@ -7,14 +7,14 @@ use Rattle.archive_core.specs.Content.{Operations}
 use Rattle.byte_device.specs.declared.disks.CannotOpen.{CannotOpen}
 use Rattle.command_ends.specs.declared.faults.CommandFault.{CommandFault}
 use Rattle.command_ends.specs.declared.faults.CommandFault.TheVariants.{Input, Output, Report, OutOfMemory}
-use Rattle.command_ends.specs.declared.faults.Place.{Place}
+use Rattle.command_ends.specs.declared.faults.InputName.{InputName}
 use Rattle.command_ends.specs.declared.faults.Status.{Status}
 use Rattle.command_ends.specs.declared.faults.Why.{Why}
 use Rattle.command_ends.specs.Ends.{Carries, Command, EndsAsItComes, EndsStreamed, HasFirst, HasTaken, IsStopped, MakesArchive, StopsAmidst, StopsInTurn, writes_amidst, writes_in_turn}
 use Rattle.command_ends.specs.Inputs.{HoldsArchive, IsGivenArchive, IsKnown, IsRefusal, reader}
 use Rattle.command_ends.specs.Outputs.{IsKept, Out, PlacesNothing, Publishes, Takes, Writer}
 
-module _ (Makes : List ℕ → List ℕ → Type 0) (Refuses : Place → Why → Type 0) (NoneFailed Known : Type 0) (out : Out) (report : Writer) where
+module _ (Makes : List ℕ → List ℕ → Type 0) (Refuses : InputName → Why → Type 0) (NoneFailed Known : Type 0) (out : Out) (report : Writer) where
   abbrev EndsSo : Result Status CommandFault → Type 0
   EndsSo result = EndsAsItComes (record { Makes = Makes; Refuses = Refuses; Unfailed = NoneFailed }) Known out report result
 
@@ -23,10 +23,10 @@ module _ (Makes : List ℕ → List ℕ → Type 0) (Refuses : Place → Why →
 
   -- it was stopped
   pub stopped_amidst : (fault : CommandFault) → StopsSo fault → HasTaken out.draft fault → PlacesNothing out → Takes report [] → EndsSo (Err fault)
-  stopped_amidst (Input at why) s t nothing unreported = record { stops = s; bytes = t.0; took = t.1; count = t.2; nothing_placed = nothing; unreported = unreported }
-  stopped_amidst (Output n) s t nothing unreported = inl (record { stops = s; bytes = t.0; took = t.1; count = t.2; nothing_placed = nothing; unreported = unreported })
+  stopped_amidst (Input at why) s t nothing unreported = record { stops = s; bytes = t.0; took = t.1; count = t.2; nothing_published = nothing; unreported = unreported }
+  stopped_amidst (Output n) s t nothing unreported = inl (record { stops = s; bytes = t.0; took = t.1; count = t.2; nothing_published = nothing; unreported = unreported })
   stopped_amidst (Report n) s t nothing unreported = absurd s
-  stopped_amidst OutOfMemory s t nothing unreported = inl (record { stops = s; bytes = t.0; took = t.1; count = t.2; nothing_placed = nothing; unreported = unreported })
+  stopped_amidst OutOfMemory s t nothing unreported = inl (record { stops = s; bytes = t.0; took = t.1; count = t.2; nothing_published = nothing; unreported = unreported })
 
   -- its inputs are accepted, and what they make is published
   pub published_amidst : (result : Result Status CommandFault) (text told : List ℕ) → NoneFailed → Makes text told → Publishes out report text told result → EndsSo result
@@ -37,8 +37,8 @@ module _ (Makes : List ℕ → List ℕ → Type 0) (Refuses : Place → Why →
   published_amidst (Err OutOfMemory) text told u makes p = inr (u, record { text = text; told = told; makes = makes; published = p })
 
 -- what stops one command stops another that makes no more, is refused where that one is, and blames no more readers
-module _ (Makes Others : List ℕ → List ℕ → Type 0) (Refuses RefusesToo : Place → Why → Type 0) (NoneFailed NoneFailedToo Known KnownToo : Type 0) (draft : Writer)
-    (makes : (text told : List ℕ) → Others text told → Makes text told) (refuses : (at : Place) (why : Why) → Refuses at why → RefusesToo at why) (unfailed : NoneFailed → NoneFailedToo) (known : KnownToo → Known) where
+module _ (Makes Others : List ℕ → List ℕ → Type 0) (Refuses RefusesToo : InputName → Why → Type 0) (NoneFailed NoneFailedToo Known KnownToo : Type 0) (draft : Writer)
+    (makes : (text told : List ℕ) → Others text told → Makes text told) (refuses : (at : InputName) (why : Why) → Refuses at why → RefusesToo at why) (unfailed : NoneFailed → NoneFailedToo) (known : KnownToo → Known) where
   pub stops_alike : (fault : CommandFault) → StopsAmidst (record { Makes = Makes; Refuses = Refuses; Unfailed = NoneFailed }) Known draft fault
       → StopsAmidst (record { Makes = Others; Refuses = RefusesToo; Unfailed = NoneFailedToo }) KnownToo draft fault
   stops_alike (Input at why) s = (refuses at why s.0, s.1, (s.2.0, λ k text told m. s.2.1 (known k) text told (makes text told m)))
@@ -62,13 +62,13 @@ some_text o = omega arith
 pub nothing_first : (Makes : Operations → List ℕ → Type 0) (old new : Option (List ℕ)) (text told : List ℕ) → Appends old new [] → MakesArchive Makes text told → WritesFirst old new text 0
 nothing_first Makes old new text told none m = record { within = subst (λ (t : List ℕ). 0 < length t) (sym m.text_is) (some_text m.content); gained = none }
 
-no_count_input : (at : Place) (why : Why) (n : ℕ) → Input at why ≡ Output n → n ≡ 0
+no_count_input : (at : InputName) (why : Why) (n : ℕ) → Input at why ≡ Output n → n ≡ 0
 no_count_input at why n h = cc
 
 no_count_memory : (n : ℕ) → OutOfMemory ≡ Output n → n ≡ 0
 no_count_memory n h = cc
 
-module _ (Makes : Operations → List ℕ → Type 0) (Refuses : Place → Why → Type 0) (NoneFailed Wants Known : Type 0) (out : Out) (report : Writer) where
+module _ (Makes : Operations → List ℕ → Type 0) (Refuses : InputName → Why → Type 0) (NoneFailed Wants Known : Type 0) (out : Out) (report : Writer) where
   abbrev command_of : Command
   command_of = record { Makes = MakesArchive Makes; Refuses = Refuses; Unfailed = NoneFailed }
 
@@ -82,7 +82,7 @@ module _ (Makes : Operations → List ℕ → Type 0) (Refuses : Place → Why �
     bytes = [];
     took = kept.0.0;
     count = no_count_input at why;
-    nothing_placed = kept.1;
+    nothing_published = kept.1;
     unreported = unreported;
   }
   refused_in_turn (Output n) r kept unreported = absurd r
@@ -95,13 +95,13 @@ module _ (Makes : Operations → List ℕ → Type 0) (Refuses : Place → Why �
     bytes = [];
     took = kept.0.0;
     count = no_count_memory;
-    nothing_placed = kept.1;
+    nothing_published = kept.1;
     unreported = unreported;
   })
 
   -- what ends a command that makes the same and reads less
-  module _ (Others : Operations → List ℕ → Type 0) (Refused : Place → Why → Type 0) (Whole KnownToo : Type 0) (forth : (text told : List ℕ) → MakesArchive Others text told → MakesArchive Makes text told)
-      (back : Known → (text told : List ℕ) → MakesArchive Makes text told → MakesArchive Others text told) (refuses : (at : Place) (why : Why) → Refused at why → Refuses at why) (whole : Whole → NoneFailed) (known : Known → KnownToo) where
+  module _ (Others : Operations → List ℕ → Type 0) (Refused : InputName → Why → Type 0) (Whole KnownToo : Type 0) (forth : (text told : List ℕ) → MakesArchive Others text told → MakesArchive Makes text told)
+      (back : Known → (text told : List ℕ) → MakesArchive Makes text told → MakesArchive Others text told) (refuses : (at : InputName) (why : Why) → Refused at why → Refuses at why) (whole : Whole → NoneFailed) (known : Known → KnownToo) where
     abbrev other : Command
     other = record { Makes = MakesArchive Others; Refuses = Refused; Unfailed = Whole }
 
@@ -118,7 +118,7 @@ module _ (Makes : Operations → List ℕ → Type 0) (Refuses : Place → Why �
     carries_so r c = record { text = c.text; told = c.told; makes = forth c.text c.told c.makes; published = c.published }
 
     stopped_so : (fault : CommandFault) → IsStopped (writes_amidst other KnownToo out.draft) out report fault → IsStopped (writes_in_turn command_of Wants Known out.draft) out report fault
-    stopped_so fault s = record { stops = stops_so fault s.stops; bytes = s.bytes; took = s.took; count = s.count; nothing_placed = s.nothing_placed; unreported = s.unreported }
+    stopped_so fault s = record { stops = stops_so fault s.stops; bytes = s.bytes; took = s.took; count = s.count; nothing_published = s.nothing_published; unreported = s.unreported }
 
     pub ends_in_turn : (r : Result Status CommandFault) → EndsAsItComes other KnownToo out report r → EndsInTurnSo r
     ends_in_turn (Ok status) e = (whole e.0, carries_so (Ok status) e.1)

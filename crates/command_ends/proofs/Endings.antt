@@ -4,14 +4,14 @@ use Rattle.archive_core.specs.Content.{Operations, IsContent}
 use Rattle.archive_records.specs.Text.{written}
 use Rattle.command_ends.specs.declared.faults.CommandFault.{CommandFault}
 use Rattle.command_ends.specs.declared.faults.CommandFault.TheVariants.{Input, Output, Report, OutOfMemory}
-use Rattle.command_ends.specs.declared.faults.Place.{Place}
+use Rattle.command_ends.specs.declared.faults.InputName.{InputName}
 use Rattle.command_ends.specs.declared.faults.Status.{Status}
 use Rattle.command_ends.specs.declared.faults.Why.{Why}
 use Rattle.command_ends.specs.Ends.{Ends, EndsReport, MakesArchive}
 use Rattle.command_ends.specs.Inputs.{Reader, Unfailed, IsRefusal, IsRefusedArchive, IsRefusedInOrder, HoldsArchive}
 use Rattle.command_ends.specs.Outputs.{Out, Writer, IsKept, Takes, Publishes, Reports, report_of}
 
-module _ (Makes : List ℕ → List ℕ → Type 0) (Refuses : Place → Why → Type 0) (NoneFailed : Type 0) (out : Out) (report : Writer) where
+module _ (Makes : List ℕ → List ℕ → Type 0) (Refuses : InputName → Why → Type 0) (NoneFailed : Type 0) (out : Out) (report : Writer) where
   abbrev EndsSo : Result Status CommandFault → Type 0
   EndsSo result = Ends (record { Makes = Makes; Refuses = Refuses; Unfailed = NoneFailed }) out report result
 
@@ -25,7 +25,7 @@ module _ (Makes : List ℕ → List ℕ → Type 0) (Refuses : Place → Why →
   given_out (Err OutOfMemory) text told u makes p = (u, inr (record { text = text; told = told; makes = makes; published = p }))
 
 -- the inputs are accepted, and the archive that they make is published
-pub published : (Makes : Operations → List ℕ → Type 0) (Refuses : Place → Why → Type 0) (NoneFailed : Type 0) (out : Out) (report : Writer)
+pub published : (Makes : Operations → List ℕ → Type 0) (Refuses : InputName → Why → Type 0) (NoneFailed : Type 0) (out : Out) (report : Writer)
     (result : Result Status CommandFault) (content : Operations) (lines : List ℕ)
     → NoneFailed → Makes content lines → Publishes out report (written content) (report_of content lines) result
     → Ends (record { Makes = MakesArchive Makes; Refuses = Refuses; Unfailed = NoneFailed }) out report result
@@ -33,7 +33,7 @@ published Makes Refuses NoneFailed out report result content lines u makes p =
     given_out (MakesArchive Makes) Refuses NoneFailed out report result (written content) (report_of content lines) u
     (record { content = content; lines = lines; makes = makes; text_is = refl; told_is = refl }) p
 
-module _ (Makes : Status → List ℕ → Type 0) (Refuses : Place → Why → Type 0) (NoneFailed : Type 0) (report : Writer) where
+module _ (Makes : Status → List ℕ → Type 0) (Refuses : InputName → Why → Type 0) (NoneFailed : Type 0) (report : Writer) where
   abbrev EndsReportSo : Result Status CommandFault → Type 0
   EndsReportSo result = EndsReport (record { Makes = Makes; Refuses = Refuses; Unfailed = NoneFailed }) report result
 
@@ -47,7 +47,7 @@ module _ (Makes : Status → List ℕ → Type 0) (Refuses : Place → Why → T
   reported (Err OutOfMemory) status text u makes p = absurd p
 
 -- a command whose first input is an archive, and that reads others behind it
-module _ {R : Type 0} (Makes : List ℕ → List ℕ → Type 0) (input : Reader R) (Untouched OthersUnfailed : Type 0) (IsRefusedBehind : Place → Why → Type 0) (out : Out) (report : Writer) where
+module _ {R : Type 0} (Makes : List ℕ → List ℕ → Type 0) (input : Reader R) (Untouched OthersUnfailed : Type 0) (IsRefusedBehind : InputName → Why → Type 0) (out : Out) (report : Writer) where
   abbrev EndsInOrder : Result Status CommandFault → Type 0
   EndsInOrder result = Ends (record { Makes = Makes; Refuses = IsRefusedInOrder input Untouched IsRefusedBehind; Unfailed = Unfailed input × OthersUnfailed }) out report result
 

@@ -1,6 +1,6 @@
 pub mod Readers
 pub mod Archives
 pub mod Endings
-pub mod Lent
+pub mod BorrowedSources
 pub mod Amidst
 pub mod Given

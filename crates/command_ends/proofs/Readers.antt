@@ -8,7 +8,7 @@ use Rattle.std.specs.List.{AllByRecursion, AllZip}
 use Rattle.byte_device.specs.declared.disks.CannotOpen.{CannotOpen}
 use Rattle.command_ends.specs.declared.faults.CommandFault.{CommandFault}
 use Rattle.command_ends.specs.declared.faults.CommandFault.TheVariants.{Input, Output, Report, OutOfMemory}
-use Rattle.command_ends.specs.declared.faults.Place.{Place}
+use Rattle.command_ends.specs.declared.faults.InputName.{InputName}
 use Rattle.command_ends.specs.declared.faults.Why.{Why}
 use Rattle.command_ends.specs.Inputs.{Reader, reader, readers, Unfailed, EachUnfailed, EachUntouched, IsRefusal, IsFirstRefused, IsDeviceFault}
 use Rattle.archive_records.specs.Reading.{IsOfMachine}
@@ -116,7 +116,7 @@ module _ {S : Type 0} (left : S → Option (List ℕ)) (failures : S → ℕ) wh
   untouched_behind (x ∷ xs) (y ∷ ys) (suc n) same = untouched_behind xs ys n same
 
   -- the input at a place is refused, those before it being accepted
-  pub refused_at : (asked_of : ℕ → Place) (IsGood : Reader S → Type 0) (IsRefused : Reader S → Why → Type 0) (old now : List (Result S CannotOpen)) (place : ℕ) (file after : Result S CannotOpen) (fault : CommandFault)
+  pub refused_at : (asked_of : ℕ → InputName) (IsGood : Reader S → Type 0) (IsRefused : Reader S → Why → Type 0) (old now : List (Result S CannotOpen)) (place : ℕ) (file after : Result S CannotOpen) (fault : CommandFault)
       → place < length old → length now ≡ length old → file ≡ get_or old place file
       → AllByRecursion IsGood (take place (between old now)) → drop place now ≡ drop place old → EachUnfailed (between old now)
       → IsRefusal (λ at why. (at ≡ asked_of place) × IsRefused (reader left failures file after) why) (Unfailed (reader left failures file after)) fault

@@ -3,8 +3,8 @@ use Rattle.std.specs.Prelude.{ℕ, ◌+◌, List, Result, fold}
 use Rattle.std.specs.List.{AllByRecursion, AllZip}
 use Rattle.archive_core.specs.Content.{Operations, IsContent, joined}
 use Rattle.command_ends.specs.declared.faults.CommandFault.{CommandFault}
-use Rattle.command_ends.specs.declared.faults.Place.{Place}
-use Rattle.command_ends.specs.declared.faults.Place.TheVariants.{Archive}
+use Rattle.command_ends.specs.declared.faults.InputName.{InputName}
+use Rattle.command_ends.specs.declared.faults.InputName.TheVariants.{Archive}
 use Rattle.command_ends.specs.declared.faults.Why.{Why}
 use Rattle.command_ends.specs.Inputs.{Reader, Unfailed, EachUnfailed, EachUntouched, IsArchive, HoldsArchive}
 use Rattle.command_ends.specs.Inputs.{IsArchiveRefused, IsFirstRefused, IsRefusedInOrder, ReadsInputs}
@@ -14,8 +14,8 @@ abbrev pub merged : Operations → List Operations → Operations
 merged o contents = fold joined o contents
 
 -- the place of an archive of a list among those of the words, of which one stands before the list
-abbrev pub file_place : ℕ → Place
-file_place number = Archive (number + 1)
+abbrev pub further_name : ℕ → InputName
+further_name number = Archive (number + 1)
 
 -- ARCHIVE and the others are the texts of contents, and this is true of the join of these.
 pub record HoldTogether {R S : Type 0} (archive : Reader R) (others : List (Reader S)) (IsTrue : Operations → Type 0)
@@ -29,9 +29,9 @@ pub record HoldTogether {R S : Type 0} (archive : Reader R) (others : List (Read
   pub is_true : IsTrue (merged content contents)
 
 -- the first of them that is refused, in the order of the words
-abbrev pub AreRefused : {R S : Type 0} → Reader R → List (Reader S) → Place → Why → Type 0
+abbrev pub AreRefused : {R S : Type 0} → Reader R → List (Reader S) → InputName → Why → Type 0
 AreRefused archive others =
-    IsRefusedInOrder archive (EachUntouched others) (IsFirstRefused file_place IsArchive IsArchiveRefused others)
+    IsRefusedInOrder archive (EachUntouched others) (IsFirstRefused further_name IsArchive IsArchiveRefused others)
 
 -- no reader of theirs failed
 abbrev pub AreUnfailed : {R S : Type 0} → Reader R → List (Reader S) → Type 0
@@ -48,5 +48,5 @@ ReadsTogether archive others result IsTrue =
 abbrev pub ReadsOthers : {S T : Type 0} → List (Reader S) → Result T CommandFault → (List (Reader S) → T → Type 0)
     → Type 0
 ReadsOthers others result IsTrue =
-    ReadsInputs result (IsTrue others) (IsFirstRefused file_place IsArchive IsArchiveRefused others)
+    ReadsInputs result (IsTrue others) (IsFirstRefused further_name IsArchive IsArchiveRefused others)
     (EachUnfailed others)

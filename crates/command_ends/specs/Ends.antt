@@ -7,7 +7,7 @@ use Rattle.archive_core.specs.Content.{Operations}
 use Rattle.archive_records.specs.Text.{written}
 use Rattle.command_ends.specs.declared.faults.CommandFault.{CommandFault}
 use Rattle.command_ends.specs.declared.faults.CommandFault.TheVariants.{Input, Output, Report, OutOfMemory}
-use Rattle.command_ends.specs.declared.faults.Place.{Place}
+use Rattle.command_ends.specs.declared.faults.InputName.{InputName}
 use Rattle.command_ends.specs.declared.faults.Status.{Status}
 use Rattle.command_ends.specs.declared.faults.Why.{Why}
 use Rattle.command_ends.specs.Outputs.{Out, Writer, IsKept, PlacesNothing, Takes, Publishes, Reports, report_of}
@@ -16,7 +16,7 @@ use Rattle.command_ends.specs.Outputs.{Out, Writer, IsKept, PlacesNothing, Takes
 -- input is refused, and why, and that no reader fails.
 pub record Command : Type 1 where
   pub Makes : List ℕ → List ℕ → Type 0
-  pub Refuses : Place → Why → Type 0
+  pub Refuses : InputName → Why → Type 0
   pub Unfailed : Type 0
 
 -- These are the text of the content that inputs make, and the report of their lines with the sizes.
@@ -45,7 +45,7 @@ pub record Carries (Makes : List ℕ → List ℕ → Type 0) (out : Out) (repor
 -- is in place. Where no input is refused, no reader fails.
 abbrev pub Ends : Command → Out → Writer → Result Status CommandFault → Type 0
 Ends command out report (Ok status) = command.Unfailed × Carries command.Makes out report (Ok status)
-Ends command out report (Err (Input place why)) = command.Refuses place why × IsKept out × Takes report []
+Ends command out report (Err (Input name why)) = command.Refuses name why × IsKept out × Takes report []
 Ends command out report (Err (Output n)) = command.Unfailed × Carries command.Makes out report (Err (Output n))
 Ends command out report (Err (Report n)) = command.Unfailed × Carries command.Makes out report (Err (Report n))
 Ends command out report (Err OutOfMemory) =
@@ -68,14 +68,14 @@ pub record IsStopped (command : Streamed) (out : Out) (report : Writer) (fault :
   pub bytes : List ℕ
   pub took : Appends out.draft.old out.draft.new bytes
   pub count : (n : ℕ) → fault ≡ Output n → n ≡ length bytes
-  pub nothing_placed : PlacesNothing out
+  pub nothing_published : PlacesNothing out
   pub unreported : Takes report []
 
 -- How a command ends that writes while it reads. It was stopped; or its inputs are accepted, and what they make is
 -- published. An input that is refused stops it, and a report that fails does not.
 abbrev pub EndsStreamed : Streamed → Out → Writer → Result Status CommandFault → Type 0
 EndsStreamed command out report (Ok status) = command.Unfailed × Carries command.Makes out report (Ok status)
-EndsStreamed command out report (Err (Input place why)) = IsStopped command out report (Input place why)
+EndsStreamed command out report (Err (Input name why)) = IsStopped command out report (Input name why)
 EndsStreamed command out report (Err (Output n)) =
     IsStopped command out report (Output n) ⊎ (command.Unfailed × Carries command.Makes out report (Err (Output n)))
 EndsStreamed command out report (Err (Report n)) =
@@ -93,8 +93,8 @@ HasFirst command Known draft n =
 -- that is refused; the draft, which failed; or want of memory, where no reader failed. Whichever it is, the draft has
 -- no more than a beginning of what accepted inputs make.
 abbrev pub StopsAmidst : Command → Type 0 → Writer → CommandFault → Type 0
-StopsAmidst command Known draft (Input place why) =
-    command.Refuses place why × (draft.failures_new ≡ draft.failures_old) × ((n : ℕ) × HasFirst command Known draft n)
+StopsAmidst command Known draft (Input name why) =
+    command.Refuses name why × (draft.failures_new ≡ draft.failures_old) × ((n : ℕ) × HasFirst command Known draft n)
 StopsAmidst command Known draft (Output n) =
     command.Unfailed × FailedIn draft.failures_old draft.failures_new × HasFirst command Known draft n
 StopsAmidst command Known draft (Report n) = ⊥
@@ -122,7 +122,7 @@ EndsAsItComes command Known out report result =
 -- What stops a command that reads what is behind its first input before that one: the same; or memory was wanted to
 -- test the first input, where this holds, and nothing was written.
 abbrev pub StopsInTurn : Command → Type 0 → Type 0 → Writer → CommandFault → Type 0
-StopsInTurn command Wants Known draft (Input place why) = StopsAmidst command Known draft (Input place why)
+StopsInTurn command Wants Known draft (Input name why) = StopsAmidst command Known draft (Input name why)
 StopsInTurn command Wants Known draft (Output n) = StopsAmidst command Known draft (Output n)
 StopsInTurn command Wants Known draft (Report n) = ⊥
 StopsInTurn command Wants Known draft OutOfMemory =
@@ -140,7 +140,7 @@ writes_in_turn command Wants Known draft = record {
 -- refused, and why, and that its reader does not fail.
 pub record Query : Type 1 where
   pub Makes : Status → List ℕ → Type 0
-  pub Refuses : Place → Why → Type 0
+  pub Refuses : InputName → Why → Type 0
   pub Unfailed : Type 0
 
 -- The input is accepted, and what it makes is reported.
@@ -156,7 +156,7 @@ pub record CarriesReport (Makes : Status → List ℕ → Type 0) (report : Writ
 -- it is not refused, its reader does not fail.
 abbrev pub EndsReport : Query → Writer → Result Status CommandFault → Type 0
 EndsReport query report (Ok status) = query.Unfailed × CarriesReport query.Makes report (Ok status)
-EndsReport query report (Err (Input place why)) = query.Refuses place why × Takes report []
+EndsReport query report (Err (Input name why)) = query.Refuses name why × Takes report []
 EndsReport query report (Err (Output _)) = ⊥
 EndsReport query report (Err (Report n)) = query.Unfailed × CarriesReport query.Makes report (Err (Report n))
 EndsReport query report (Err OutOfMemory) = query.Unfailed × Takes report []

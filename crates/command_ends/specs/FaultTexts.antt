@@ -4,9 +4,9 @@ use Rattle.std.specs.Fmt.{decimal}
 use Rattle.index_faults.specs.Text.{fault_text}
 use Rattle.report_text.specs.Texts.{script_fault_text}
 use Rattle.report_text.specs.Texts.{record_fault_text, take_fault_text}
-use Rattle.command_ends.specs.declared.faults.Place.{Place}
-use Rattle.command_ends.specs.declared.faults.Place.TheVariants.{Archive, File, Ops, Summary, Script as ScriptPlace}
-use Rattle.command_ends.specs.declared.faults.Place.TheVariants.{Frames, Index}
+use Rattle.command_ends.specs.declared.faults.InputName.{InputName}
+use Rattle.command_ends.specs.declared.faults.InputName.TheVariants.{Archive, File, Ops, Summary, Script as ScriptInput}
+use Rattle.command_ends.specs.declared.faults.InputName.TheVariants.{Frames, Index}
 use Rattle.command_ends.specs.declared.faults.Why.{Why}
 use Rattle.command_ends.specs.declared.faults.Why.TheVariants.{CannotOpen, Device, Record, Take, Script, BadFrame}
 use Rattle.command_ends.specs.declared.faults.Why.TheVariants.{OldArchive, TooLong, Index as IndexFaulty, NoArchive}
@@ -15,14 +15,14 @@ use Rattle.command_ends.specs.declared.faults.CommandFault.{CommandFault}
 use Rattle.command_ends.specs.declared.faults.CommandFault.TheVariants.{Input, Output, Report, OutOfMemory}
 
 -- an input by its kind, with its number where there may be several
-unfoldable pub place_text : Place → List ℕ
-place_text (Archive number) = codes "archive " ++ decimal number
-place_text (File number) = codes "file " ++ decimal number
-place_text Ops = codes "ops"
-place_text Summary = codes "summary"
-place_text ScriptPlace = codes "script"
-place_text Frames = codes "frames"
-place_text (Index number) = codes "index " ++ decimal number
+unfoldable pub name_text : InputName → List ℕ
+name_text (Archive number) = codes "archive " ++ decimal number
+name_text (File number) = codes "file " ++ decimal number
+name_text Ops = codes "ops"
+name_text Summary = codes "summary"
+name_text ScriptInput = codes "script"
+name_text Frames = codes "frames"
+name_text (Index number) = codes "index " ++ decimal number
 
 -- what is wrong with an input
 unfoldable pub why_text : Why → List ℕ
@@ -47,7 +47,7 @@ failed_after written = codes "failed after " ++ decimal written ++ codes " bytes
 
 -- the place and its fault
 unfoldable pub command_fault_text : CommandFault → List ℕ
-command_fault_text (Input place why) = place_text place ++ codes ": " ++ why_text why
+command_fault_text (Input name why) = name_text name ++ codes ": " ++ why_text why
 command_fault_text (Output written) = codes "output: " ++ failed_after written
 command_fault_text (Report written) = codes "report: " ++ failed_after written
 command_fault_text OutOfMemory = codes "out of memory"

@@ -26,9 +26,9 @@ use Rattle.rehearsal.specs.Script.{script_of}
 use Rattle.byte_device.specs.declared.disks.CannotOpen.{CannotOpen}
 use Rattle.command_ends.specs.declared.faults.CommandFault.{CommandFault}
 use Rattle.command_ends.specs.declared.faults.CommandFault.TheVariants.{Input, Output, Report, OutOfMemory}
-use Rattle.command_ends.specs.declared.faults.Place.{Place}
-use Rattle.command_ends.specs.declared.faults.Place.TheVariants.{Archive, File, Ops, Summary, Script}
-use Rattle.command_ends.specs.declared.faults.Place.TheVariants.{Frames}
+use Rattle.command_ends.specs.declared.faults.InputName.{InputName}
+use Rattle.command_ends.specs.declared.faults.InputName.TheVariants.{Archive, File, Ops, Summary, Script}
+use Rattle.command_ends.specs.declared.faults.InputName.TheVariants.{Frames}
 use Rattle.command_ends.specs.declared.faults.Why.{Why}
 use Rattle.command_ends.specs.declared.faults.Why.TheVariants.{Device as CannotRead, Record, Take, Script as Faulty}
 use Rattle.command_ends.specs.declared.faults.Why.TheVariants.{CannotOpen as NotOpened, BadFrame, OldArchive, TooLong}
@@ -196,38 +196,38 @@ abbrev pub IsFrames : {S : Type 0} → Reader S → Type 0
 IsFrames input = (said : List Frame) × Gives input (λ bytes. frames_of bytes ≡ Ok said)
 
 -- the archive of this number among those of the words is refused
-abbrev pub IsRefusedArchive : {S : Type 0} → ℕ → Reader S → Place → Why → Type 0
+abbrev pub IsRefusedArchive : {S : Type 0} → ℕ → Reader S → InputName → Why → Type 0
 IsRefusedArchive index input at why = (at ≡ Archive index) × IsArchiveRefused input why
 
 -- the file of this number is refused
-abbrev pub IsRefusedFile : {S : Type 0} → ℕ → Reader S → Place → Why → Type 0
+abbrev pub IsRefusedFile : {S : Type 0} → ℕ → Reader S → InputName → Why → Type 0
 IsRefusedFile index input at why = (at ≡ File index) × IsFileRefused input why
 
 -- the bytes of the file of this number are refused
-abbrev pub IsRefusedBytes : ℕ → List ℕ → Place → Why → Type 0
+abbrev pub IsRefusedBytes : ℕ → List ℕ → InputName → Why → Type 0
 IsRefusedBytes index bytes at why =
     (at ≡ File index) × (fault : TakeFault) × (why ≡ Take fault) × (fault ≢ TakeOutOfMemory) × IsTakeFault bytes fault
 
 -- the operations file is refused
-abbrev pub IsRefusedOps : {S : Type 0} → Reader S → Place → Why → Type 0
+abbrev pub IsRefusedOps : {S : Type 0} → Reader S → InputName → Why → Type 0
 IsRefusedOps input at why = (at ≡ Ops) × IsOpsRefused input why
 
 -- the summary is refused
-abbrev pub IsRefusedSummary : {S : Type 0} → Reader S → Place → Why → Type 0
+abbrev pub IsRefusedSummary : {S : Type 0} → Reader S → InputName → Why → Type 0
 IsRefusedSummary input at why = (at ≡ Summary) × IsSummaryRefused input why
 
 -- the script is refused
-abbrev pub IsRefusedScript : {S : Type 0} → Reader S → Place → Why → Type 0
+abbrev pub IsRefusedScript : {S : Type 0} → Reader S → InputName → Why → Type 0
 IsRefusedScript input at why = (at ≡ Script) × IsScriptRefused input why
 
 -- the frames are refused
-abbrev pub IsRefusedFrames : {S : Type 0} → Reader S → Place → Why → Type 0
+abbrev pub IsRefusedFrames : {S : Type 0} → Reader S → InputName → Why → Type 0
 IsRefusedFrames input at why = (at ≡ Frames) × IsFramesRefused input why
 
 -- One of these inputs, which have such places in the words, is refused: those before it are accepted, with no reader
 -- of theirs failing, and those behind it are untouched.
-pub record IsFirstRefused {S : Type 0} (asked_of : ℕ → Place) (IsGood : Reader S → Type 0)
-    (IsRefused : Reader S → Why → Type 0) (inputs : List (Reader S)) (at : Place) (why : Why) : Type 0 where
+pub record IsFirstRefused {S : Type 0} (asked_of : ℕ → InputName) (IsGood : Reader S → Type 0)
+    (IsRefused : Reader S → Why → Type 0) (inputs : List (Reader S)) (at : InputName) (why : Why) : Type 0 where
   pub number : ℕ
   pub at_is : at ≡ asked_of number
   pub before : AllByRecursion IsGood (take number inputs)
@@ -239,24 +239,24 @@ pub record IsFirstRefused {S : Type 0} (asked_of : ℕ → Place) (IsGood : Read
 
 -- The first input of a command is refused, and what is behind it is untouched; or it is an archive's text, its reader
 -- does not fail, and behind it this one is refused.
-abbrev pub IsRefusedInOrder : {S : Type 0} → Reader S → Type 0 → (Place → Why → Type 0) → Place → Why → Type 0
+abbrev pub IsRefusedInOrder : {S : Type 0} → Reader S → Type 0 → (InputName → Why → Type 0) → InputName → Why → Type 0
 IsRefusedInOrder input Untouched IsRefusedBehind at why =
     (IsRefusedArchive 0 input at why × Untouched)
     ⊎ (IsArchive input × Unfailed input × IsRefusedBehind at why)
 
 -- The same of a command that reads what is behind its first input before that one, and tests that one to its end before
 -- it tells of a refusal behind it.
-abbrev pub IsRefusedInTurn : {S : Type 0} → Reader S → (Place → Why → Type 0) → Place → Why → Type 0
+abbrev pub IsRefusedInTurn : {S : Type 0} → Reader S → (InputName → Why → Type 0) → InputName → Why → Type 0
 IsRefusedInTurn input IsRefusedBehind at why =
     IsRefusedArchive 0 input at why ⊎ (IsArchive input × Unfailed input × IsRefusedBehind at why)
 
 -- An input behind the first one was refused, and the first one, which was being tested, did not fail.
-abbrev pub IsWantedInTurn : {S : Type 0} → Reader S → (Place → Why → Type 0) → Type 0
-IsWantedInTurn input IsRefusedBehind = Unfailed input × ((at : Place) × (why : Why) × IsRefusedBehind at why)
+abbrev pub IsWantedInTurn : {S : Type 0} → Reader S → (InputName → Why → Type 0) → Type 0
+IsWantedInTurn input IsRefusedBehind = Unfailed input × ((at : InputName) × (why : Why) × IsRefusedBehind at why)
 
 -- The fault is that of an input, of which this holds, or want of memory, where this does.
-abbrev pub IsRefusal : (Place → Why → Type 0) → Type 0 → CommandFault → Type 0
-IsRefusal Refused Unfailed (Input place why) = Refused place why
+abbrev pub IsRefusal : (InputName → Why → Type 0) → Type 0 → CommandFault → Type 0
+IsRefusal Refused Unfailed (Input name why) = Refused name why
 IsRefusal Refused Unfailed (Output _) = ⊥
 IsRefusal Refused Unfailed (Report _) = ⊥
 IsRefusal Refused Unfailed OutOfMemory = Unfailed
@@ -268,20 +268,21 @@ pub record AreRead (IsTrue NoneFailed : Type 0) : Type 0 where
 
 -- What comes of reading inputs: a value of which this is true; or a refusal, or want of memory. A reader fails at a
 -- refusal alone.
-abbrev pub ReadsInputs : {T : Type 0} → Result T CommandFault → (T → Type 0) → (Place → Why → Type 0) → Type 0 → Type 0
+abbrev pub ReadsInputs : {T : Type 0} → Result T CommandFault → (T → Type 0) → (InputName → Why → Type 0) → Type 0
+    → Type 0
 ReadsInputs (Ok value) IsTrue IsRefused NoneFailed = AreRead (IsTrue value) NoneFailed
 ReadsInputs (Err fault) IsTrue IsRefused NoneFailed = IsRefusal IsRefused NoneFailed fault
 
 -- what comes of reading one input, of which, and of the value, this is true
 abbrev pub Reads : {S T : Type 0} → Reader S → Result T CommandFault → (Reader S → T → Type 0)
-    → (Reader S → Place → Why → Type 0) → Type 0
+    → (Reader S → InputName → Why → Type 0) → Type 0
 Reads input result IsTrue IsRefused = ReadsInputs result (IsTrue input) (IsRefused input) (Unfailed input)
 
 -- What is told where this was told of an input behind the first one: a refusal in turn, after the first input was
 -- tested; or, if memory was wanted, that, and the first input is as it was.
 abbrev pub TellsInTurn : {S : Type 0} → Reader S → CommandFault → CommandFault → Type 0
 TellsInTurn input (Input at why) told =
-    IsRefusal (IsRefusedInTurn input (λ place reason. (place ≡ at) × (reason ≡ why))) (Unfailed input) told
+    IsRefusal (IsRefusedInTurn input (λ name reason. (name ≡ at) × (reason ≡ why))) (Unfailed input) told
 TellsInTurn input (Output n) told = (told ≡ Output n) × IsUntouched input
 TellsInTurn input (Report n) told = (told ≡ Report n) × IsUntouched input
 TellsInTurn input OutOfMemory told = (told ≡ OutOfMemory) × IsUntouched input
@@ -319,6 +320,6 @@ IsDeviceFault NoArchive = ⊥
 IsDeviceFault NoIndex = ⊥
 
 -- An archive's text is refused for its device alone.
-abbrev pub RefusesDevicesAlone : {R : Type 0} → (Reader R → Place → Why → Type 0) → Type 0
-RefusesDevicesAlone {R = R} Refuses = (archive : Reader R) (o : Operations) (place : Place) (why : Why) → IsContent o
-    → IsGivenArchive archive o → Refuses archive place why → IsDeviceFault why
+abbrev pub RefusesDevicesAlone : {R : Type 0} → (Reader R → InputName → Why → Type 0) → Type 0
+RefusesDevicesAlone {R = R} Refuses = (archive : Reader R) (o : Operations) (name : InputName) (why : Why) → IsContent o
+    → IsGivenArchive archive o → Refuses archive name why → IsDeviceFault why

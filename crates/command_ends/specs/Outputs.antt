@@ -44,7 +44,7 @@ FailsBehind w text n = WritesFirst w.old w.new text n × FailedIn w.failures_old
 pub record Outs (D T : Type 0) : Type 0 where
   pub held : D → Option (List ℕ)
   pub draft_failures : D → ℕ
-  pub placed : T → Option (List ℕ)
+  pub published : T → Option (List ℕ)
   pub failures : T → ℕ
   pub old : Out_value D T
   pub new : Out_value D T
@@ -52,10 +52,10 @@ pub record Outs (D T : Type 0) : Type 0 where
 -- OUT between these two states
 abbrev pub outs : {D T : Type 0} → (D → Option (List ℕ)) → (D → ℕ) → (T → Option (List ℕ)) → (T → ℕ) → Out_value D T
     → Out_value D T → Outs D T
-outs held draft_failures placed failures old new = record {
+outs held draft_failures published failures old new = record {
   held = held;
   draft_failures = draft_failures;
-  placed = placed;
+  published = published;
   failures = failures;
   old = old;
   new = new;
@@ -69,23 +69,23 @@ draft_of out = stream out.held out.draft_failures out.old.draft out.new.draft
 -- and how often putting it in place had failed.
 pub record Out : Type 0 where
   pub draft : Writer
-  pub placed_old : Option (List ℕ)
-  pub placed_new : Option (List ℕ)
+  pub published_old : Option (List ℕ)
+  pub published_new : Option (List ℕ)
   pub failures_old : ℕ
   pub failures_new : ℕ
 
 abbrev pub out_of : {D T : Type 0} → Outs D T → Out
 out_of out = record {
   draft = writer out.held out.draft_failures out.old.draft out.new.draft;
-  placed_old = out.placed out.old.target;
-  placed_new = out.placed out.new.target;
+  published_old = out.published out.old.target;
+  published_new = out.published out.new.target;
   failures_old = out.failures out.old.target;
   failures_new = out.failures out.new.target;
 }
 
 -- Nothing was put in place, nor was that tried.
 abbrev pub PlacesNothing : Out → Type 0
-PlacesNothing out = (out.placed_new ≡ out.placed_old) × (out.failures_new ≡ out.failures_old)
+PlacesNothing out = (out.published_new ≡ out.published_old) × (out.failures_new ≡ out.failures_old)
 
 -- Its draft took nothing, and nothing was put in place.
 abbrev pub IsKept : Out → Type 0
@@ -93,7 +93,7 @@ IsKept out = Takes out.draft [] × PlacesNothing out
 
 -- Its draft took exactly this text, which was put in place, and nothing failed. The draft is a new one then.
 pub record Places (out : Out) (text : List ℕ) : Type 0 where
-  pub placed : Appends out.draft.old out.placed_new text
+  pub published : Appends out.draft.old out.published_new text
   pub emptied : out.draft.new ≡ Some []
   pub draft_unfailed : out.draft.failures_new ≡ out.draft.failures_old
   pub unfailed : out.failures_new ≡ out.failures_old
@@ -101,7 +101,7 @@ pub record Places (out : Out) (text : List ℕ) : Type 0 where
 -- Its draft took exactly this text, which could not be put in place.
 pub record FailsToPlace (out : Out) (text : List ℕ) : Type 0 where
   pub took : Takes out.draft text
-  pub kept : out.placed_new ≡ out.placed_old
+  pub kept : out.published_new ≡ out.published_old
   pub failed : FailedIn out.failures_old out.failures_new
 
 -- OUT failed behind exactly the first n bytes of the text, of which none is in place: its draft took no more, or took

@@ -21,7 +21,7 @@ pub enum Status {
 
 /// Which input of a command. Archives and files are counted from 0 in the order of the words.
 #[derive(Clone, Copy, Debug, PartialEq, Eq)]
-pub enum Place {
+pub enum InputName {
     /// An archive that is read.
     Archive(u64),
     /// A file whose slices are taken.
@@ -81,7 +81,7 @@ pub enum Why {
 #[derive(Clone, Copy, Debug, PartialEq, Eq)]
 pub enum CommandFault {
     /// An input is refused.
-    Input(Place, Why),
+    Input(InputName, Why),
     /// The output failed after it took this many bytes.
     Output(u128),
     /// Standard output failed after it took this many bytes of the report.
@@ -114,22 +114,22 @@ impl<T: Drop> From<AllocFailed<T>> for CommandFault {
     }
 }
 
-#[tactic(auto, unfolding(crate::specs::FaultTexts::place_text))]
-impl fmt::Display for Place {
+#[tactic(auto, unfolding(crate::specs::FaultTexts::name_text))]
+impl fmt::Display for InputName {
     ghost use Rattle.std.specs.Prelude.{Some};
-    ghost use Rattle.command_ends.specs.FaultTexts.{place_text};
+    ghost use Rattle.command_ends.specs.FaultTexts.{name_text};
 
-    ghost output = { λ place. Some (place_text place) };
+    ghost output = { λ place. Some (name_text name) };
 
     fn fmt<W: fmt::Write>(&self, f: &mut fmt::Formatter<W>) -> fmt::Result {
         match self {
-            Place::Archive(number) => write!(f, "archive {number}"),
-            Place::File(number) => write!(f, "file {number}"),
-            Place::Ops => f.write_str("ops"),
-            Place::Summary => f.write_str("summary"),
-            Place::Script => f.write_str("script"),
-            Place::Frames => f.write_str("frames"),
-            Place::Index(number) => write!(f, "index {number}"),
+            InputName::Archive(number) => write!(f, "archive {number}"),
+            InputName::File(number) => write!(f, "file {number}"),
+            InputName::Ops => f.write_str("ops"),
+            InputName::Summary => f.write_str("summary"),
+            InputName::Script => f.write_str("script"),
+            InputName::Frames => f.write_str("frames"),
+            InputName::Index(number) => write!(f, "index {number}"),
         }
     }
 }
@@ -179,7 +179,7 @@ impl fmt::Display for CommandFault {
 
     fn fmt<W: fmt::Write>(&self, f: &mut fmt::Formatter<W>) -> fmt::Result {
         match self {
-            CommandFault::Input(place, why) => write!(f, "{place}: {why}"),
+            CommandFault::Input(name, why) => write!(f, "{name}: {why}"),
             CommandFault::Output(written) => write!(f, "output: failed after {written} bytes"),
             CommandFault::Report(written) => write!(f, "report: failed after {written} bytes"),
             CommandFault::OutOfMemory => f.write_str("out of memory"),

@@ -25,7 +25,7 @@ mod sources;
 mod statuses;
 
 pub use failures::Failure;
-pub use faults::{CommandFault, Place, Status, Why};
+pub use faults::{CommandFault, InputName, Status, Why};
 pub use outputs::{Output, Target, put_in_place};
 pub use publishing::{publish, publish_bytes, publish_draft, publish_report, publish_summary};
 pub use sources::{

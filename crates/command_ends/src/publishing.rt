@@ -24,7 +24,7 @@ pub fn publish_draft<T: Target, P: Sink>(
     ensures { (start : T.Draft) (text : List ℕ)
         → Takes (writer T.Draft.held T.Draft.failures start out.old.draft) text
         → sizes.bytes ≡ length text
-        → Publishes (out_of (outs T.Draft.held T.Draft.failures T.placed T.failures
+        → Publishes (out_of (outs T.Draft.held T.Draft.failures T.published T.failures
         (record { draft = start; target = out.old.target }) out.new))
         (writer P.held P.failures report.old report.new) text (string_bytes lines ++ archive_line sizes) result }
 {
@@ -41,7 +41,7 @@ pub fn publish<A: Archive, T: Target, P: Sink>(
     out: &mut Output<T::Draft, T>,
     report: &mut P,
 ) -> Result<Status, CommandFault>
-    ensures { Publishes (out_of (outs T.Draft.held T.Draft.failures T.placed T.failures out.old out.new))
+    ensures { Publishes (out_of (outs T.Draft.held T.Draft.failures T.published T.failures out.old out.new))
         (writer P.held P.failures report.old report.new)
         (written (A.content archive.now)) (report_of (A.content archive.now) (string_bytes lines)) result }
 {
@@ -58,7 +58,7 @@ pub fn publish_summary<T: Target, P: Sink>(
     out: &mut Output<T::Draft, T>,
     report: &mut P,
 ) -> Result<Status, CommandFault>
-    ensures { Publishes (out_of (outs T.Draft.held T.Draft.failures T.placed T.failures out.old out.new))
+    ensures { Publishes (out_of (outs T.Draft.held T.Draft.failures T.published T.failures out.old out.new))
         (writer P.held P.failures report.old report.new)
         (summary_text summary.now) (summary_report_of summary.now) result }
 {

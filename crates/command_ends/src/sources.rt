@@ -17,7 +17,7 @@ ghost use Rattle.command_ends.specs.Inputs.{IsRefusedArchive, IsRefusedFile, IsR
 ghost use Rattle.command_ends.specs.Inputs.{IsRefusedScript, IsRefusedSummary, IsUnread, Reads, TellsInTurn, reader};
 ghost use Rattle.command_ends.specs.InnerSources.{LendsSource};
 
-use crate::faults::{CommandFault, Place, Why};
+use crate::faults::{CommandFault, InputName, Why};
 use archive_core::{Archive, FindRow, Operation};
 use archive_reading::{
     Questions, Selects, answer_by_key, list_rows, read_archive, read_ops, read_part, summarize,
@@ -31,7 +31,7 @@ use memory::Heap;
 use rehearsal::{Script, ScriptError, read_script, script_flaw};
 
 /// The source of an input, or its refusal where it could not be opened.
-pub fn opened<S>(input: &mut Result<S, CannotOpen>, at: Place) -> Result<&mut S, CommandFault>
+pub fn opened<S>(input: &mut Result<S, CannotOpen>, at: InputName) -> Result<&mut S, CommandFault>
     ensures* lends { sem 𝓛 (LendsSource S.row input.entry result) }
     ensures source { MatchResult input.old (λ source. IsOkAnd result (λ lent. lent.now ≡ source))
         (λ _. IsErrAnd result (λ fault. fault ≡ Input at NotOpened)) }
@@ -43,7 +43,7 @@ pub fn opened<S>(input: &mut Result<S, CannotOpen>, at: Place) -> Result<&mut S,
 }
 
 /// The refusal of an input, whose text has this fault or whose reader failed.
-pub fn refusal(at: Place, fault: RecordFault) -> CommandFault
+pub fn refusal(at: InputName, fault: RecordFault) -> CommandFault
     ensures refused { IsRefusal (λ index why. (index ≡ at) × (why ≡ Record fault) × (fault.kind ≢ RecordOutOfMemory))
         (fault.kind ≡ RecordOutOfMemory) result }
 {
@@ -63,7 +63,7 @@ pub fn read_input<A: Archive + Drop, R: Source>(
         (λ input archive. IsContent (A.content archive) × HoldsArchive input (A.content archive))
         (IsRefusedArchive index) }
 {
-    let at = Place::Archive(index);
+    let at = InputName::Archive(index);
     let source = opened(input, at)?;
     match read_archive(heap, source) {
         Ok(archive) => Ok(archive),
@@ -80,7 +80,7 @@ pub fn test_input<R: Source>(
     ensures { Reads (reader R.left R.failures input.old input.new) result (λ input _. IsArchive input)
         (IsRefusedArchive index) }
 {
-    let at = Place::Archive(index);
+    let at = InputName::Archive(index);
     let source = opened(input, at)?;
     match test_archive(heap, source) {
         Ok(()) => Ok(()),
@@ -116,7 +116,7 @@ pub fn read_input_part<A: Archive + Drop, S: Selects, R: Source>(
     ensures { Reads (reader R.left R.failures input.old input.new) result
         (λ input archive. HoldsPart input (S.picked select.now) (A.content archive)) (IsRefusedArchive index) }
 {
-    let at = Place::Archive(index);
+    let at = InputName::Archive(index);
     let source = opened(input, at)?;
     match read_part(heap, select, source) {
         Ok(archive) => Ok(archive),
@@ -136,7 +136,7 @@ pub fn answer_input<A: Archive + Drop, Q: Questions + Drop, R: Source>(
         (λ input told. HoldsContent input (λ o. (Q.left told ≡ []) × Q.answered questions o told))
         (IsRefusedArchive 0) }
 {
-    let at = Place::Archive(0);
+    let at = InputName::Archive(0);
     let source = opened(input, at)?;
     match answer_by_key::<A, Q, R>(heap, questions, source) {
         Ok(told) => Ok(told),
@@ -152,7 +152,7 @@ pub fn read_rows<R: Source>(
     ensures { Reads (reader R.left R.failures input.old input.new) result
         (λ input rows. HoldsContent input (λ o. IsList o rows.items)) (IsRefusedArchive 0) }
 {
-    let at = Place::Archive(0);
+    let at = InputName::Archive(0);
     let source = opened(input, at)?;
     match list_rows(heap, source) {
         Ok(rows) => Ok(rows),
@@ -168,7 +168,7 @@ pub fn read_entries<R: Source>(
     ensures { Reads (reader R.left R.failures input.old input.new) result
         (λ input entries. HoldsContent input (λ o. entries ≡ summary o)) (IsRefusedArchive 0) }
 {
-    let at = Place::Archive(0);
+    let at = InputName::Archive(0);
     let source = opened(input, at)?;
     match summarize(heap, source) {
         Ok(entries) => Ok(entries),
@@ -179,11 +179,11 @@ pub fn read_entries<R: Source>(
 /// Reads the bytes of an input to its end.
 fn read_bytes<S: Source>(
     heap: Heap,
-    at: Place,
+    at: InputName,
     input: &mut Result<S, CannotOpen>,
 ) -> Result<Vec<u8, Heap>, CommandFault>
     ensures { Reads (reader S.left S.failures input.old input.new) result (λ input bytes. Holds input bytes.items)
-        (λ input place why. (place ≡ at) × IsUnread input why) }
+        (λ input name why. (name ≡ at) × IsUnread input why) }
 {
     let source = opened(input, at)?;
     match read_to_end(heap, source) {
@@ -202,7 +202,7 @@ pub fn read_file<S: Source>(
     ensures { Reads (reader S.left S.failures file.old file.new) result (λ file bytes. Holds file bytes.items)
         (IsRefusedFile index) }
 {
-    read_bytes(heap, Place::File(index), file)
+    read_bytes(heap, InputName::File(index), file)
 }
 
 /// Reads the operations of an operations file.
@@ -213,7 +213,7 @@ pub fn read_operations<S: Source>(
     ensures { Reads (reader S.left S.failures ops.old ops.new) result
         (λ ops operations. Gives ops (λ text. IsOperationsText text operations.items)) IsRefusedOps }
 {
-    let at = Place::Ops;
+    let at = InputName::Ops;
     let source = opened(ops, at)?;
     match read_ops(heap, source) {
         Ok(operations) => Ok(operations),
@@ -229,7 +229,7 @@ pub fn read_summary_input<S: Source>(
     ensures { Reads (reader S.left S.failures summary.old summary.new) result
         (λ summary entries. AreEntries entries × Holds summary (summary_text entries)) IsRefusedSummary }
 {
-    let at = Place::Summary;
+    let at = InputName::Summary;
     let source = opened(summary, at)?;
     match read_summary(heap, source) {
         Ok(entries) => Ok(entries),
@@ -246,12 +246,12 @@ pub fn read_events<S: Source>(
         (λ script said. Gives script (λ bytes. script_of bytes ≡ Ok (said.sites, acts said.events.items)))
         IsRefusedScript }
 {
-    let bytes = read_bytes(heap.clone()?, Place::Script, script)?;
+    let bytes = read_bytes(heap.clone()?, InputName::Script, script)?;
     match read_script(heap, &bytes) {
         Ok(said) => Ok(said),
         Err(ScriptError::Faulty { fault, line }) => {
             let flaw = script_flaw(fault, line_at(&bytes, line));
-            Err(CommandFault::Input(Place::Script, Why::Script { fault, line, flaw }))
+            Err(CommandFault::Input(InputName::Script, Why::Script { fault, line, flaw }))
         }
         Err(ScriptError::OutOfMemory) => Err(CommandFault::OutOfMemory),
     }
@@ -265,12 +265,12 @@ pub fn read_crash<S: Source>(
     ensures { Reads (reader S.left S.failures frames.old frames.new) result
         (λ frames said. Gives frames (λ bytes. frames_of bytes ≡ Ok said.items)) IsRefusedFrames }
 {
-    let bytes = read_bytes(heap.clone()?, Place::Frames, frames)?;
+    let bytes = read_bytes(heap.clone()?, InputName::Frames, frames)?;
     match read_frames(heap, &bytes) {
         Ok(said) => Ok(said),
         Err(FramesError::BadFrame { line }) => {
             let flaw = frame_flaw(line_at(&bytes, line));
-            Err(CommandFault::Input(Place::Frames, Why::BadFrame { line, flaw }))
+            Err(CommandFault::Input(InputName::Frames, Why::BadFrame { line, flaw }))
         }
         Err(FramesError::OutOfMemory) => Err(CommandFault::OutOfMemory),
     }

@@ -2,8 +2,8 @@
 use Rattle.std.specs.Prelude.{[], None, Some, map}
 use Rattle.clap.specs.Words.{Text}
 use Rattle.command_line.specs.Arguments.{Amount, flag, one, perhaps, several}
-use Rattle.command_line.specs.declared.readings.Words.{Words}
-use Rattle.command_line.specs.declared.readings.Words.TheVariants as words
+use Rattle.command_line.specs.declared.spelled_values.Words.{Words}
+use Rattle.command_line.specs.declared.spelled_values.Words.TheVariants as words
 
 abbrev pub words_view : Words → Amount Text
 words_view (words.One word) = one word.now

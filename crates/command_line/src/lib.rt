@@ -5,9 +5,9 @@
 //! - `lines`: what a command line asks for;
 //! - `escapes`: words as they are shown;
 //! - `line_faults`: why a line asks for nothing;
-//! - `apps`: the commands of the table, as `clap` builds them;
-//! - `readings`: the values that the words of an argument spell;
-//! - `reads`: a line, read;
+//! - `clap_commands`: the commands of the table, as `clap` builds them;
+//! - `spelled_values`: the values that the words of an argument spell;
+//! - `parsing`: a line, read;
 //! - `laws`: what the definitions say of words and of the table.
 //!
 //! # Why it is so
@@ -15,18 +15,18 @@
 //! - `clap`'s definition of a simple command is cited. The table is `'static`. A FILE may be IN.
 #![tactic(auto)]
 
-mod apps;
+mod clap_commands;
 mod commands;
 mod escapes;
 pub mod laws;
 mod line_faults;
 mod lines;
-mod readings;
-mod reads;
+mod parsing;
+mod spelled_values;
 mod values;
 
 pub use commands::{Argument, Form, Kind, Role, form_text, is_input, is_input_of};
 pub use line_faults::LineFault;
 pub use lines::Line;
-pub use reads::read_line;
+pub use parsing::read_line;
 pub use values::{Amount, Values};

@@ -33,7 +33,7 @@ module _ {R D : Type 0} (left : R → Option (List ℕ)) (failures : R → ℕ) 
 
   -- it was stopped
   pub ends_stopped : (fault : CommandFault) → HasTaken out.draft fault × StopsIndex archive draft fault → PlacesNothing out → Takes report [] → EndsSo (Err fault)
-  ends_stopped fault s nothing none = ends fault (record { stops = s.1; bytes = s.0.0; took = s.0.1; count = s.0.2; nothing_placed = nothing; unreported = none })
+  ends_stopped fault s nothing none = ends fault (record { stops = s.1; bytes = s.0.0; took = s.0.1; count = s.0.2; nothing_published = nothing; unreported = none })
     where
       ends : (f : CommandFault) → IsStopped (index archive draft) out report f → EndsSo (Err f)
       ends (Input at why) stop = stop

@@ -21,7 +21,7 @@ use Rattle.command_ends.specs.Inputs.{reader}
 use Rattle.command_ends.specs.Outputs.{writer}
 use Rattle.command_ends.specs.declared.faults.CommandFault.{CommandFault}
 use Rattle.command_ends.specs.declared.faults.CommandFault.TheVariants.{Input, Output, Report, OutOfMemory}
-use Rattle.command_ends.specs.declared.faults.Place.TheVariants.{Archive}
+use Rattle.command_ends.specs.declared.faults.InputName.TheVariants.{Archive}
 use Rattle.command_ends.specs.declared.faults.Why.TheVariants.{CannotOpen as NotOpened}
 use Rattle.index_updates.specs.Index.{TellsRefusal, TellsStop}
 use Rattle.index_updates.specs.InnerIndexing.{IndexesAmidst}

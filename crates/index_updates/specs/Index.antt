@@ -19,7 +19,7 @@ use Rattle.command_ends.specs.Inputs.{Reader, IsRefusal, IsUntouched, Unfailed, 
 use Rattle.command_ends.specs.Outputs.{Takes, writer}
 use Rattle.command_ends.specs.declared.faults.CommandFault.{CommandFault}
 use Rattle.command_ends.specs.declared.faults.CommandFault.TheVariants.{Input, Output}
-use Rattle.command_ends.specs.declared.faults.Place.TheVariants.{Archive}
+use Rattle.command_ends.specs.declared.faults.InputName.TheVariants.{Archive}
 use Rattle.command_ends.specs.declared.faults.Why.{Why}
 use Rattle.command_ends.specs.declared.faults.Why.TheVariants as why_is
 

@@ -24,7 +24,7 @@ pub fn run_index<R: Source, T: Target, P: Sink>(
     out: &mut Output<T::Draft, T>,
     report: &mut P,
 ) -> Result<Status, CommandFault>
-    ensures { let known = outs T.Draft.held T.Draft.failures T.placed T.failures out.old out.new in
+    ensures { let known = outs T.Draft.held T.Draft.failures T.published T.failures out.old out.new in
         EndsStreamed (index (reader R.left R.failures archive.old archive.new) (draft_of known)) (out_of known)
         (writer P.held P.failures report.old report.new) result }
 {

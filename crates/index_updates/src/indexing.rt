@@ -7,7 +7,7 @@ ghost use Rattle.index_updates.specs.InnerIndexing.{IndexesAmidst};
 use archive_index::IndexingFault;
 use archive_records::Sizes;
 use byte_device::{CannotOpen, Sink, Source};
-use command_ends::{CommandFault, Place, Why, opened, refusal};
+use command_ends::{CommandFault, InputName, Why, opened, refusal};
 use indexed_tables::{MakingFault, index_into};
 use memory::Heap;
 
@@ -15,7 +15,7 @@ use memory::Heap;
 fn refusal_of(fault: IndexingFault) -> CommandFault
     ensures { TellsRefusal fault result }
 {
-    let at = Place::Archive(0);
+    let at = InputName::Archive(0);
     match fault {
         IndexingFault::Archive(fault) => refusal(at, fault),
         IndexingFault::OldArchive => CommandFault::Input(at, Why::OldArchive),
@@ -42,7 +42,7 @@ pub fn index_input<R: Source, W: Sink>(
     ensures { IndexesAmidst (reader R.left R.failures archive.old archive.new)
         (stream W.held W.failures draft.old draft.new) result }
 {
-    let source = opened(archive, Place::Archive(0))?;
+    let source = opened(archive, InputName::Archive(0))?;
     match index_into(heap.clone()?, source, draft) {
         Ok(sizes) => Ok(sizes),
         Err(fault) => Err(stop_of(fault)),

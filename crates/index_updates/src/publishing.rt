@@ -30,7 +30,7 @@ pub fn publish_index<T: Target, P: Sink>(
     ensures { (start : T.Draft) (text : List ℕ)
         → Takes (writer T.Draft.held T.Draft.failures start out.old.draft) text
         → sizes.bytes ≡ length text
-        → Publishes (out_of (outs T.Draft.held T.Draft.failures T.placed T.failures
+        → Publishes (out_of (outs T.Draft.held T.Draft.failures T.published T.failures
         (record { draft = start; target = out.old.target }) out.new))
         (writer P.held P.failures report.old report.new) text (index_line sizes) result }
 {

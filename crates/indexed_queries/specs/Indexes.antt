@@ -8,8 +8,8 @@ use Rattle.index_faults.specs.declared.fault.IndexFaultKind.TheVariants.{OutOfMe
 use Rattle.table_index.specs.Reading.{ReadsIndex}
 use Rattle.table_index.specs.Text.{IsIndexText, placed_of}
 use Rattle.command_ends.specs.Inputs.{Reader, Gives, IsUnread, IsUntouched, Unfailed}
-use Rattle.command_ends.specs.declared.faults.Place.{Place}
-use Rattle.command_ends.specs.declared.faults.Place.TheVariants.{Archive, Index}
+use Rattle.command_ends.specs.declared.faults.InputName.{InputName}
+use Rattle.command_ends.specs.declared.faults.InputName.TheVariants.{Archive, Index}
 use Rattle.command_ends.specs.declared.faults.Why.{Why}
 use Rattle.command_ends.specs.declared.faults.Why.TheVariants.{CannotOpen as NotOpened, Index as IndexFaulty, Stale}
 
@@ -44,14 +44,14 @@ HasOtherLength archive entries = Gives archive (λ text. HasIndexedLength entrie
 
 -- An archive whose length is compared with that of its index, which have this number among those of the words, is
 -- refused: it was not opened, or its device failed; or it did not, and the archive has another length.
-abbrev pub IsOfOtherLength : {S : Type 0} → ℕ → Reader S → Entries → Place → Why → Type 0
+abbrev pub IsOfOtherLength : {S : Type 0} → ℕ → Reader S → Entries → InputName → Why → Type 0
 IsOfOtherLength number archive entries at why =
     ((at ≡ Archive number) × IsUnread archive why)
     ⊎ ((at ≡ Index number) × Unfailed archive × (why ≡ Stale None) × HasOtherLength archive entries)
 
 -- An archive with its index, which have this number among those of the words, is refused: INDEX is refused, and ARCHIVE
 -- is untouched; or INDEX says entries, its reader does not fail, and ARCHIVE is refused.
-abbrev pub IsRefusedByIndex : {R S : Type 0} → ℕ → Reader R → Reader S → Place → Why → Type 0
+abbrev pub IsRefusedByIndex : {R S : Type 0} → ℕ → Reader R → Reader S → InputName → Why → Type 0
 IsRefusedByIndex number index archive at why =
     ((at ≡ Index number) × IsUnreadIndex index why × IsUntouched archive)
     ⊎ ((entries : Entries) × HoldsIndex index entries × Unfailed index × IsOfOtherLength number archive entries at why)

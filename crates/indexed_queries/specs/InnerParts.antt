@@ -10,7 +10,7 @@ use Rattle.command_ends.specs.Archives.{merged}
 use Rattle.command_ends.specs.Inputs.{Reader}
 use Rattle.command_ends.specs.declared.faults.CommandFault.{CommandFault}
 use Rattle.command_ends.specs.declared.faults.CommandFault.TheVariants as command
-use Rattle.command_ends.specs.declared.faults.Place.TheVariants as place
+use Rattle.command_ends.specs.declared.faults.InputName.TheVariants as place
 use Rattle.command_ends.specs.declared.faults.Why.TheVariants as why
 use Rattle.indexed_queries.specs.Fronts.{AreNamedUnder, HoldsNamed, IsStaleUnder, IsUnnamedUnder}
 use Rattle.indexed_queries.specs.Together.{AreNamedBy, merged_each}

@@ -3,7 +3,7 @@ use Rattle.std.specs.Prelude.{ℕ, List, ◌⊎◌}
 use Rattle.archive_core.specs.Content.{Operations}
 use Rattle.command_ends.specs.Ends.{Query}
 use Rattle.command_ends.specs.Inputs.{Reader, EachUnfailed}
-use Rattle.command_ends.specs.declared.faults.Place.{Place}
+use Rattle.command_ends.specs.declared.faults.InputName.{InputName}
 use Rattle.command_ends.specs.declared.faults.Status.{Status}
 use Rattle.command_ends.specs.declared.faults.Why.{Why}
 use Rattle.indexed_queries.specs.Together.{AreLater, AreReadWith, HoldNamed, IsFirstRefusedAtPlaces}
@@ -20,7 +20,7 @@ pub record HoldTogether {I P : Type 0} (fronts : List (List ℕ)) (indexes : Lis
 
 -- The indexes were read, and then one of the archives is refused, as far as these fronts tell.
 pub record AreRefusedLater {I P : Type 0} (fronts : List (List ℕ)) (indexes : List (Reader I))
-    (archives : List (Reader P)) (at : Place) (why : Why) : Type 0 where
+    (archives : List (Reader P)) (at : InputName) (why : Why) : Type 0 where
   pub all : List (List (List ℕ))
   pub read : AreReadWith indexes archives all
   pub unfailed : EachUnfailed indexes
@@ -29,7 +29,7 @@ pub record AreRefusedLater {I P : Type 0} (fronts : List (List ℕ)) (indexes : 
   pub refused : IsFirstRefusedAtPlaces fronts later all at why
 
 -- the first of them that is refused: of the indexes and the lengths of their archives; or, after these, of the archives
-abbrev pub AreRefusedTogether : {I P : Type 0} → List (List ℕ) → List (Reader I) → List (Reader P) → Place → Why
+abbrev pub AreRefusedTogether : {I P : Type 0} → List (List ℕ) → List (Reader I) → List (Reader P) → InputName → Why
     → Type 0
 AreRefusedTogether fronts indexes archives at why =
     IsFirstRefusedByIndex indexes archives at why ⊎ AreRefusedLater fronts indexes archives at why

@@ -8,8 +8,8 @@ use Rattle.byte_device.specs.declared.disks.CannotOpen.{CannotOpen}
 use Rattle.table_index.specs.Text.{placed_of}
 use Rattle.command_ends.specs.Archives.{merged}
 use Rattle.command_ends.specs.Inputs.{Reader, Gives, EachUnfailed, EachUntouched, IsUnread, Unfailed}
-use Rattle.command_ends.specs.declared.faults.Place.{Place}
-use Rattle.command_ends.specs.declared.faults.Place.TheVariants.{Archive, Index}
+use Rattle.command_ends.specs.declared.faults.InputName.{InputName}
+use Rattle.command_ends.specs.declared.faults.InputName.TheVariants.{Archive, Index}
 use Rattle.command_ends.specs.declared.faults.Why.{Why}
 use Rattle.command_ends.specs.declared.faults.Why.TheVariants.{Stale}
 use Rattle.indexed_queries.specs.Fronts.{HoldsNamed, IsStaleFor}
@@ -37,8 +37,8 @@ pub record IsOneOf {S : Type 0} (inputs : List (Reader S)) (number : ℕ) (input
   pub behind : EachUntouched (drop (number + 1) inputs)
 
 -- One of these indexes, or the length of its archive, is refused; those before it are not.
-pub record IsFirstRefusedByIndex {I P : Type 0} (indexes : List (Reader I)) (archives : List (Reader P)) (at : Place)
-    (why : Why) : Type 0 where
+pub record IsFirstRefusedByIndex {I P : Type 0} (indexes : List (Reader I)) (archives : List (Reader P))
+    (at : InputName) (why : Why) : Type 0 where
   pub number : ℕ
   pub all : List (List (List ℕ))
   pub before : AreReadWith (take number indexes) (take number archives) all
@@ -91,7 +91,7 @@ pub record HoldNamed {P : Type 0} (fronts : List (List ℕ)) (archives : List (R
 
 -- An archive is refused at the places that its index names: it is not open, or its device failed; or it did not, and
 -- an entry names no record; or it has another length by now.
-abbrev pub IsRefusedAtPlaces : {P : Type 0} → List (List ℕ) → ℕ → Reader P → List (List ℕ) → Place → Why → Type 0
+abbrev pub IsRefusedAtPlaces : {P : Type 0} → List (List ℕ) → ℕ → Reader P → List (List ℕ) → InputName → Why → Type 0
 IsRefusedAtPlaces fronts number archive entries at why =
     ((at ≡ Archive number) × IsUnread archive why)
     ⊎ ((at ≡ Index number) × Unfailed archive
@@ -99,7 +99,7 @@ IsRefusedAtPlaces fronts number archive entries at why =
 
 -- One of these archives is refused so; those before it are not.
 pub record IsFirstRefusedAtPlaces {P : Type 0} (fronts : List (List ℕ)) (archives : List (Reader P))
-    (all : List (List (List ℕ))) (at : Place) (why : Why) : Type 0 where
+    (all : List (List (List ℕ))) (at : InputName) (why : Why) : Type 0 where
   pub number : ℕ
   pub groups : List (List Operations)
   pub before : AreNamedBy fronts (take number archives) (take number all) groups

@@ -5,7 +5,7 @@ ghost use Rattle.archive_index.specs.Places.{HasIndexedLength};
 ghost use Rattle.index_faults.specs.declared.fault.IndexFaultKind.TheVariants.{OutOfMemory as IndexOutOfMemory};
 ghost use Rattle.table_index.specs.Text.{placed_of};
 ghost use Rattle.command_ends.specs.Inputs.{Gives, IsRefusal, Reads, ReadsInputs, Unfailed, reader};
-ghost use Rattle.command_ends.specs.declared.faults.Place.TheVariants.{Index as IndexPlace};
+ghost use Rattle.command_ends.specs.declared.faults.InputName.TheVariants.{Index as IndexPlace};
 ghost use Rattle.command_ends.specs.declared.faults.Why.TheVariants.{Index as IndexFaulty};
 ghost use Rattle.indexed_queries.specs.Indexes.{HoldsTables, IsIndexOf, IsOfOtherLength, IsRefusedByIndex};
 ghost use Rattle.indexed_queries.specs.Indexes.{IsUnreadIndex};
@@ -13,7 +13,7 @@ ghost use Rattle.indexed_queries.specs.Together.{IsKept, IsReadWith};
 
 use archive_index::Index;
 use byte_device::{CannotOpen, Failed};
-use command_ends::{CommandFault, Place, Why, opened};
+use command_ends::{CommandFault, InputName, Why, opened};
 use index_faults::{IndexFault, IndexFaultKind};
 use indexed_parts::has_length;
 use memory::Heap;
@@ -27,7 +27,7 @@ fn refusal(number: u64, fault: IndexFault) -> CommandFault
 {
     match fault.kind {
         IndexFaultKind::OutOfMemory => CommandFault::OutOfMemory,
-        _ => CommandFault::Input(Place::Index(number), Why::Index(fault)),
+        _ => CommandFault::Input(InputName::Index(number), Why::Index(fault)),
     }
 }
 
@@ -41,7 +41,7 @@ fn read_tables<I: Placed>(
         (λ index at why. (at ≡ IndexPlace number) × IsUnreadIndex index why) }
     ensures kept { OnOk result (IsKept I.whole I.failures index.old index.new) }
 {
-    let device = opened(index, Place::Index(number))?;
+    let device = opened(index, InputName::Index(number))?;
     match read_index(heap, device) {
         Ok(tables) => Ok(tables),
         Err(fault) => Err(refusal(number, fault)),
@@ -59,11 +59,11 @@ fn test_length<P: Placed>(
         (λ archive. IsOfOtherLength number archive entries.now) }
     ensures kept { OnOk result (IsKept P.whole P.failures archive.old archive.new) }
 {
-    let device = opened(archive, Place::Archive(number))?;
+    let device = opened(archive, InputName::Archive(number))?;
     match has_length(entries, device) {
         Ok(true) => Ok(()),
-        Ok(false) => Err(CommandFault::Input(Place::Index(number), Why::Stale(None))),
-        Err(Failed) => Err(CommandFault::Input(Place::Archive(number), Why::Device)),
+        Ok(false) => Err(CommandFault::Input(InputName::Index(number), Why::Stale(None))),
+        Err(Failed) => Err(CommandFault::Input(InputName::Archive(number), Why::Device)),
     }
 }
 

@@ -18,7 +18,7 @@ use crate::fronts::{Front, key_of, uuid_bytes};
 use archive_core::{Archive, Operation, take_all};
 use archive_index::{Index, PlaceFault};
 use byte_device::CannotOpen;
-use command_ends::{CommandFault, Place, Why, opened};
+use command_ends::{CommandFault, InputName, Why, opened};
 use indexed_parts::{archive_of, gather_at, indexed_size};
 use memory::{Heap, NoMemory};
 use placed_bytes::Placed;
@@ -113,8 +113,11 @@ fn told(number: u64, fault: PlaceFault) -> CommandFault
     ensures { result ≡ told_fault number fault }
 {
     match fault {
-        PlaceFault::Stale(entry) => CommandFault::Input(Place::Index(number), Why::Stale(entry)),
-        PlaceFault::Device => CommandFault::Input(Place::Archive(number), Why::Device),
+        PlaceFault::Stale(entry) => CommandFault::Input(
+            InputName::Index(number),
+            Why::Stale(entry),
+        ),
+        PlaceFault::Device => CommandFault::Input(InputName::Archive(number), Why::Device),
         PlaceFault::OutOfMemory => CommandFault::OutOfMemory,
     }
 }
@@ -135,7 +138,7 @@ pub(crate) fn join_archive<A: Archive + Drop, P: Placed>(
         (λ archive. IsRefusedAtPlaces sought number archive tables.now) }
 {
     let entries = tables.placed(heap.clone()?)?;
-    let device = opened(archive, Place::Archive(number))?;
+    let device = opened(archive, InputName::Archive(number))?;
     match join_fronts(heap, kept, fronts, &entries, device) {
         Ok(()) => Ok(()),
         Err(fault) => Err(told(number, fault)),

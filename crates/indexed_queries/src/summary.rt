@@ -27,7 +27,7 @@ pub fn run_summary_at<I: Placed, P: Placed, T: Target, W: Sink>(
 ) -> Result<Status, CommandFault>
     ensures { Ends (summary_at (reader I.whole I.failures index.old index.new)
         (reader P.whole P.failures archive.old archive.new))
-        (out_of (outs T.Draft.held T.Draft.failures T.placed T.failures out.old out.new))
+        (out_of (outs T.Draft.held T.Draft.failures T.published T.failures out.old out.new))
         (writer W.held W.failures report.old report.new) result }
 {
     let entries = read_index_of(&heap, index, archive)?;

@@ -10,8 +10,8 @@ use Rattle.command_ends.specs.Inputs.{Reader, reader, readers, AreRead, EachUnfa
 use Rattle.command_ends.specs.Outputs.{Takes, Writer}
 use Rattle.command_ends.specs.declared.faults.CommandFault.{CommandFault}
 use Rattle.command_ends.specs.declared.faults.CommandFault.TheVariants.{Input, Output, Report, OutOfMemory}
-use Rattle.command_ends.specs.declared.faults.Place.{Place}
-use Rattle.command_ends.specs.declared.faults.Place.TheVariants.{Index}
+use Rattle.command_ends.specs.declared.faults.InputName.{InputName}
+use Rattle.command_ends.specs.declared.faults.InputName.TheVariants.{Index}
 use Rattle.command_ends.specs.declared.faults.Status.{Status}
 use Rattle.command_ends.specs.declared.faults.Why.{Why}
 use Rattle.command_ends.specs.declared.faults.Why.TheVariants as why
@@ -105,7 +105,7 @@ module _ {I P : Type 0} (left : I → Option (List ℕ)) (failures : I → ℕ) 
 
   -- ---- a table is not told
 
-  fault_of : (answering : List EntryAt) (fault : AnswerFault) (at : Place) (why : Why) → command_fault fault ≡ Input at why → ((texts : List (List ℕ)) → HaveTexts left mid texts → IsUntoldAmong texts answering fault)
+  fault_of : (answering : List EntryAt) (fault : AnswerFault) (at : InputName) (why : Why) → command_fault fault ≡ Input at why → ((texts : List (List ℕ)) → HaveTexts left mid texts → IsUntoldAmong texts answering fault)
       → BlamesAmong answering (each_known failures mid) (each_known failures new) fault → IsChanged named answering at why ⊎ IsUnreadTable named answering at why
   fault_of answering (answer.Damaged input number) at why told says counts = inl (record {
     input = input;
@@ -127,7 +127,7 @@ module _ {I P : Type 0} (left : I → Option (List ℕ)) (failures : I → ℕ) 
       })
   fault_of answering answer.OutOfMemory at why told says counts = absurd (cc told)
 
-  untold_named : (keys : List (List ℕ)) (at : Place) (why : Why) → IsUntoldBy left failures keys all mid new at why → IsUntoldUnder keys named all at why
+  untold_named : (keys : List (List ℕ)) (at : InputName) (why : Why) → IsUntoldBy left failures keys all mid new at why → IsUntoldUnder keys named all at why
   untold_named keys at why r = record {
     key = r.key;
     key_is = r.key_is;
@@ -139,7 +139,7 @@ module _ {I P : Type 0} (left : I → Option (List ℕ)) (failures : I → ℕ) 
   -- ---- the first that is refused
 
   module _ (lines : Bool) (keys : List (List ℕ)) (IsSought : List (List ℕ) → Type 0) (own : IsSought keys) (same : (others : List (List ℕ)) → IsSought others → WantsSlices lines keys all → WantsSlices lines others all) where
-    abbrev AreRefusedSought : Place → Why → Type 0
+    abbrev AreRefusedSought : InputName → Why → Type 0
     AreRefusedSought at why = (others : List (List ℕ)) × IsSought others × AreRefusedAsking lines others named known at why
 
     pub asked_refused : (fault : CommandFault)

@@ -12,8 +12,8 @@ use Rattle.indexed_answers.specs.Among.{AreAnsweringAmong, AreTied, EntryAt}
 use Rattle.indexed_answers.specs.AmongAsked.{IsAskedAt, IsDamagedAt}
 use Rattle.indexed_answers.specs.AmongTold.{IsAnswerAmong}
 use Rattle.command_ends.specs.Inputs.{Reader, EachUnfailed, IsGiven, failures_of}
-use Rattle.command_ends.specs.declared.faults.Place.{Place}
-use Rattle.command_ends.specs.declared.faults.Place.TheVariants.{Index}
+use Rattle.command_ends.specs.declared.faults.InputName.{InputName}
+use Rattle.command_ends.specs.declared.faults.InputName.TheVariants.{Index}
 use Rattle.command_ends.specs.declared.faults.Status.{Status}
 use Rattle.command_ends.specs.declared.faults.Why.{Why}
 use Rattle.command_ends.specs.declared.faults.Why.TheVariants.{Damaged, Index as IndexFaulty}
@@ -64,7 +64,7 @@ pub record FailsAlone {I : Type 0} (indexes : List (Reader I)) (input : ℕ) : T
   pub after : EachUnfailed (drop (input + 1) indexes)
 
 -- The table of one of the entries that answer was changed, if all bytes are known, and no device failed.
-pub record IsChanged {I : Type 0} (indexes : List (Reader I)) (answering : List EntryAt) (at : Place) (why : Why)
+pub record IsChanged {I : Type 0} (indexes : List (Reader I)) (answering : List EntryAt) (at : InputName) (why : Why)
     : Type 0 where
   pub input : ℕ
   pub number : ℕ
@@ -74,8 +74,8 @@ pub record IsChanged {I : Type 0} (indexes : List (Reader I)) (answering : List 
   pub unfailed : EachUnfailed indexes
 
 -- The device of an index failed while the table of one of the entries that answer was read in it.
-pub record IsUnreadTable {I : Type 0} (indexes : List (Reader I)) (answering : List EntryAt) (at : Place) (why : Why)
-    : Type 0 where
+pub record IsUnreadTable {I : Type 0} (indexes : List (Reader I)) (answering : List EntryAt) (at : InputName)
+    (why : Why) : Type 0 where
   pub input : ℕ
   pub offset : ℕ
   pub at_is : at ≡ Index input
@@ -85,7 +85,7 @@ pub record IsUnreadTable {I : Type 0} (indexes : List (Reader I)) (answering : L
 
 -- Under one of these keys a table is not told.
 pub record IsUntoldUnder {I : Type 0} (keys : List (List ℕ)) (indexes : List (Reader I)) (all : List (List (List ℕ)))
-    (at : Place) (why : Why) : Type 0 where
+    (at : InputName) (why : Why) : Type 0 where
   pub key : List ℕ
   pub key_is : Contains keys key
   pub answering : List EntryAt
@@ -94,7 +94,7 @@ pub record IsUntoldUnder {I : Type 0} (keys : List (List ℕ)) (indexes : List (
 
 -- The indexes were read, and then a table is not told.
 pub record AreUntold {I P : Type 0} (keys : List (List ℕ)) (indexes : List (Reader I)) (archives : List (Reader P))
-    (at : Place) (why : Why) : Type 0 where
+    (at : InputName) (why : Why) : Type 0 where
   pub all : List (List (List ℕ))
   pub read : AreReadWith indexes archives all
   pub unfailed : EachUnfailed archives
@@ -102,8 +102,8 @@ pub record AreUntold {I P : Type 0} (keys : List (List ℕ)) (indexes : List (Re
 
 -- The first that is refused, of commands that ask under these keys: an index, or the length of its archive; after that
 -- an archive whose slices are read; or a table.
-abbrev pub AreRefusedAsking : {I P : Type 0} → Bool → List (List ℕ) → List (Reader I) → List (Reader P) → Place → Why
-    → Type 0
+abbrev pub AreRefusedAsking : {I P : Type 0} → Bool → List (List ℕ) → List (Reader I) → List (Reader P) → InputName
+    → Why → Type 0
 AreRefusedAsking lines keys indexes archives at why =
     IsFirstRefusedByIndex indexes archives at why
     ⊎ (((refused : AreRefusedLater keys indexes archives at why) × WantsSlices lines keys refused.all)

@@ -9,7 +9,7 @@ use Rattle.crash_frames.specs.Frames.{frames_of}
 use Rattle.crash_frames.specs.declared.frame.Frame.{Frame}
 use Rattle.command_ends.specs.Ends.{Query}
 use Rattle.command_ends.specs.Inputs.{Reader, EachUntouched, Gives, IsRefusedFrames, Unfailed}
-use Rattle.command_ends.specs.declared.faults.Place.{Place}
+use Rattle.command_ends.specs.declared.faults.InputName.{InputName}
 use Rattle.command_ends.specs.declared.faults.Status.{Status}
 use Rattle.command_ends.specs.declared.faults.Why.{Why}
 use Rattle.indexed_queries.specs.Several.{AreUnfailedTogether, MakesTogether}
@@ -56,7 +56,8 @@ AreToldAt lines indexes archives frames status text =
     ⊎ TellsFramesBySlices lines indexes archives frames status text
 
 -- An index, an archive or a table is refused, as far as the keys of the frames, in some order, tell.
-abbrev pub AreRefusedAt : {I P : Type 0} → Bool → List (Reader I) → List (Reader P) → List Frame → Place → Why → Type 0
+abbrev pub AreRefusedAt : {I P : Type 0} → Bool → List (Reader I) → List (Reader P) → List Frame → InputName → Why
+    → Type 0
 AreRefusedAt lines indexes archives frames at why =
     (keys : List (List ℕ)) × HaveSameMembers keys (keys_of frames) × AreRefusedAsking lines keys indexes archives at why
 
@@ -69,7 +70,7 @@ pub record MakesFramedAt {Q I P : Type 0} (lines : Bool) (frames : Reader Q) (in
 
 -- FRAMES is refused, and nothing else is touched; or FRAMES says frames, its reader does not fail, and another is
 -- refused
-abbrev pub RefusesFramesAt : {Q I P : Type 0} → Bool → Reader Q → List (Reader I) → List (Reader P) → Place → Why
+abbrev pub RefusesFramesAt : {Q I P : Type 0} → Bool → Reader Q → List (Reader I) → List (Reader P) → InputName → Why
     → Type 0
 RefusesFramesAt lines frames indexes archives at why =
     (IsRefusedFrames frames at why × EachUntouched indexes × EachUntouched archives)

@@ -12,8 +12,8 @@ use Rattle.indexed_answers.specs.declared.fault.AnswerFault.TheVariants.{Damaged
 use Rattle.command_ends.specs.Inputs.{Reader, EachUnfailed, ReadsInputs}
 use Rattle.command_ends.specs.declared.faults.CommandFault.{CommandFault}
 use Rattle.command_ends.specs.declared.faults.CommandFault.TheVariants as command
-use Rattle.command_ends.specs.declared.faults.Place.{Place}
-use Rattle.command_ends.specs.declared.faults.Place.TheVariants.{Index}
+use Rattle.command_ends.specs.declared.faults.InputName.{InputName}
+use Rattle.command_ends.specs.declared.faults.InputName.TheVariants.{Index}
 use Rattle.command_ends.specs.declared.faults.Why.{Why}
 use Rattle.command_ends.specs.declared.faults.Why.TheVariants as why
 use Rattle.indexed_queries.specs.Together.{HoldNamed, IsFirstRefusedAtPlaces}
@@ -31,7 +31,7 @@ command_fault OutOfMemory = command.OutOfMemory
 
 -- Under one of these keys a table is not told, for a fault that a command tells so.
 pub record IsUntoldBy {D : Type 0} (whole : D → Option (List ℕ)) (failures : D → ℕ) (keys : List (List ℕ))
-    (all : List (List (List ℕ))) (old new : List (Result D CannotOpen)) (at : Place) (why : Why) : Type 0 where
+    (all : List (List (List ℕ))) (old new : List (Result D CannotOpen)) (at : InputName) (why : Why) : Type 0 where
   pub key : List ℕ
   pub key_is : Contains keys key
   pub answering : List EntryAt
@@ -73,8 +73,8 @@ pub record AreHeldUnder {P : Type 0} (IsSought : List (List ℕ) → Type 0) (al
   pub is_true : IsTrue content
 
 -- an archive is refused, as far as such keys tell
-abbrev pub AreRefusedUnder : {P : Type 0} → (List (List ℕ) → Type 0) → List (List (List ℕ)) → List (Reader P) → Place
-    → Why → Type 0
+abbrev pub AreRefusedUnder : {P : Type 0} → (List (List ℕ) → Type 0) → List (List (List ℕ)) → List (Reader P)
+    → InputName → Why → Type 0
 AreRefusedUnder IsSought all archives at why =
     (keys : List (List ℕ)) × IsSought keys × IsFirstRefusedAtPlaces keys archives all at why
 

@@ -9,7 +9,7 @@ ghost use Rattle.indexed_symbols.specs.InnerTold.{AreToldOf};
 
 use archive_core::{SliceKey, Where};
 use byte_device::CannotOpen;
-use command_ends::{CommandFault, Place, Why};
+use command_ends::{CommandFault, InputName, Why};
 use index_faults::{IndexFault, IndexFaultKind};
 use indexed_answers::laws::each_told;
 use indexed_answers::{AnswerFault, Answers, answer_among, answering_among};
@@ -23,11 +23,14 @@ fn refusal(fault: AnswerFault) -> CommandFault
 {
     match fault {
         AnswerFault::Damaged { input, entry } => {
-            CommandFault::Input(Place::Index(input), Why::Damaged(entry))
+            CommandFault::Input(InputName::Index(input), Why::Damaged(entry))
         }
         AnswerFault::Device { input, offset } => {
             let kind = IndexFaultKind::Device;
-            CommandFault::Input(Place::Index(input), Why::Index(IndexFault { kind, offset }))
+            CommandFault::Input(
+                InputName::Index(input),
+                Why::Index(IndexFault { kind, offset }),
+            )
         }
         AnswerFault::OutOfMemory => CommandFault::OutOfMemory,
     }

@@ -1,8 +1,8 @@
 //! Bytes that are taken from any place, and devices that have such.
 //!
 //! - [`Placed`]: what gives bytes from any place, and counts its failures;
-//! - `laid`: [`Laid`], the bytes of a slice; `placing`: [`Placing`], those of a file;
-//! - `testing`: [`LaidPieces`], a device for tests;
+//! - `in_memory`: [`PlacedBytes`], the bytes of a slice; `placing`: [`Placing`], those of a file;
+//! - `limited`: [`PlacedPieces`], a device for tests;
 //! - `reading`: [`read_at`], so many bytes from a place.
 #![tactic(auto)]
 
@@ -10,16 +10,16 @@ ghost use Rattle.std.specs.Prelude.{◌≡◌, ℕ, List, Option, IfOk, ◌≤�
 ghost use Rattle.byte_device.specs.Devices.{CountsFailure};
 ghost use Rattle.placed_bytes.specs.Places.{TakenAt, HasSize};
 
-mod laid;
+mod in_memory;
+mod limited;
 mod placing;
 mod reading;
-mod testing;
 
 use byte_device::Failed;
-pub use laid::Laid;
+pub use in_memory::PlacedBytes;
+pub use limited::PlacedPieces;
 pub use placing::Placing;
 pub use reading::read_at;
-pub use testing::LaidPieces;
 
 /// What gives bytes from any place.
 pub trait Placed {

@@ -11,16 +11,16 @@ use Rattle.command_ends.specs.Inputs.{Reader, reader, readers}
 use Rattle.command_ends.specs.Outputs.{Outs, Takes, Writer, out_of}
 use Rattle.command_ends.specs.declared.faults.CommandFault.{CommandFault}
 use Rattle.command_ends.specs.declared.faults.CommandFault.TheVariants.{Input}
-use Rattle.command_ends.specs.declared.faults.Place.{Place}
-use Rattle.command_ends.specs.declared.faults.Place.TheVariants.{Archive, Index}
+use Rattle.command_ends.specs.declared.faults.InputName.{InputName}
+use Rattle.command_ends.specs.declared.faults.InputName.TheVariants.{Archive, Index}
 use Rattle.command_ends.specs.declared.faults.Why.{Why}
 use Rattle.command_ends.specs.declared.faults.Why.TheVariants.{NoArchive, NoIndex}
 use Rattle.command_ends.specs.declared.faults.Status.{Status}
 use Rattle.command_ends.specs.declared.outputs.Output.{Output as Out}
 use Rattle.slice_extraction.specs.Extract.{Extraction, Extracts, extract}
 use Rattle.slice_extraction.specs.Indexed.{extract_at}
-use Rattle.plan_commands.specs.Asking.{IsAlone, extract_of, extraction_if_paired, paired}
-use Rattle.plan_commands.proofs.Asked.{as_many_readers}
+use Rattle.plan_commands.specs.QueryDispatch.{IsAlone, extract_of, extraction_if_paired, paired}
+use Rattle.plan_commands.proofs.Dispatched.{as_many_readers}
 
 -- with an index
 extract_by : {S : Type 0} (archives places indexes : List (Reader S)) (key : SliceKey) (digest : Option Digest)
@@ -34,7 +34,7 @@ extract_by (a ∷ archives) places (i ∷ indexes) key digest draft some = refl
 
 module _ {D T : Type 0} (out : Outs D T) (report : Writer) where
   -- the command is refused before OUT is begun
-  stopped : (at : Place) (why : Why) (command : Extraction) → out.new ≡ out.old → Takes report []
+  stopped : (at : InputName) (why : Why) (command : Extraction) → out.new ≡ out.old → Takes report []
       → Extracts (extraction_if_paired (Err (Input at why)) (out_of out).draft command) out report (Err (Input at why))
   stopped at why command same unreported =
       let took : Takes (out_of out).draft [] = (
@@ -47,8 +47,8 @@ module _ {D T : Type 0} (out : Outs D T) (report : Writer) where
         bytes = [];
         took = took.0;
         count = λ n h. cc;
-        nothing_placed = (
-          ap (λ (o : Out D T). out.placed o.target) same,
+        nothing_published = (
+          ap (λ (o : Out D T). out.published o.target) same,
           ap (λ (o : Out D T). out.failures o.target) same,
         );
         unreported = unreported;

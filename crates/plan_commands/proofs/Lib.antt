@@ -1,6 +1,6 @@
 pub mod Helping
 pub mod Turned
-pub mod OutPlaces
+pub mod OutPublished
 pub mod Pathless
 pub mod Outcomes
 pub mod Saying
@@ -10,4 +10,4 @@ pub mod Numbers
 pub mod Numbered
 pub mod Counted
 pub mod Extracted
-mod Asked
+mod Dispatched

@@ -12,7 +12,7 @@ use Rattle.command_ends.specs.Outputs.{Writer}
 use Rattle.command_ends.specs.Statuses.{status_of}
 use Rattle.plan_commands.specs.Ends.{Ran}
 use Rattle.plan_commands.specs.Files.{Calls, IsCarriedOut, IsDone, command_fault_of}
-use Rattle.plan_commands.specs.Said.{SaysFailure, SaysNotes}
+use Rattle.plan_commands.specs.StandardError.{SaysFailure, SaysNotes}
 
 pub on_any : {X E P : Type 0} (r : Result X E) → P → OnOk r P
 on_any (Ok x) p = p
@@ -34,7 +34,7 @@ told_as calls line report was noted is told notes same alike = record {
   path_is = is.path_is;
   begun_is = is.begun_is;
   begun_unfailed = is.begun_unfailed;
-  nothing_placed = is.nothing_placed;
+  nothing_published = is.nothing_published;
   asked = is.asked;
   before = is.before;
   behind = is.behind;
@@ -44,7 +44,7 @@ told_as calls line report was noted is told notes same alike = record {
   replaces_is = is.replaces_is;
   notes_are = both_on told notes noted is.noted alike (rw same is.notes_are);
   outcome = is.outcome;
-  placed = is.placed;
+  published = is.published;
   removed = is.removed;
   untouched = is.untouched;
   told_is = same ∙ is.told_is;

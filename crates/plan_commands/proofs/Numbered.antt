@@ -4,8 +4,8 @@ use Rattle.std.proofs.Common.{if◌then◌else◌, List, [], ◌∷◌, ◌++◌
 use Rattle.std.specs.Prelude.{slice_get}
 use Rattle.std.proofs.lemmas.Option.{slice_get_cases}
 use Rattle.clap.specs.Words.{Text}
-use Rattle.command_ends.specs.declared.faults.Place.{Place}
-use Rattle.command_ends.specs.declared.faults.Place.TheVariants.{Archive, File, Ops, Summary, Script, Frames, Index}
+use Rattle.command_ends.specs.declared.faults.InputName.{InputName}
+use Rattle.command_ends.specs.declared.faults.InputName.TheVariants.{Archive, File, Ops, Summary, Script, Frames, Index}
 use Rattle.command_line.specs.Arguments.{Argument, Values, reads, reads_kind}
 use Rattle.command_line.specs.Lines.{Line, inputs_of, inputs_of_kind, texts_by, texts_of}
 use Rattle.command_line.specs.Table.{arguments_named}
@@ -83,9 +83,9 @@ in_line kind line n =
     by_kind kind (inputs_of line) n (arguments_named line.name) line.values 0
     (λ j. let same : 0 + j ≡ j = omega arith in ap (slice_get (inputs_of line)) same)
 
--- the input of the number of a place has its path
-pub numbered : (line : Line) (place : Place) (n : ℕ) → number_at line place ≡ Some n
-    → slice_get (inputs_of line) n ≡ path_at line place
+-- the input of the number of a name has its path
+pub numbered : (line : Line) (name : InputName) (n : ℕ) → number_at line name ≡ Some n
+    → slice_get (inputs_of line) n ≡ path_at line name
 numbered line (Archive k) n is = in_line kinds.Archive line n k is
 numbered line (File k) n is = in_line kinds.File line n k is
 numbered line Ops n is = in_line kinds.Ops line n 0 is

@@ -11,16 +11,16 @@ use Rattle.byte_device.specs.declared.disks.CannotOpen.{CannotOpen}
 use Rattle.command_ends.specs.declared.faults.CommandFault.{CommandFault}
 use Rattle.command_ends.specs.declared.faults.CommandFault.TheVariants.{Input, Output, Report, OutOfMemory}
 use Rattle.command_ends.specs.declared.outputs.Output.{Output as Out}
-use Rattle.command_ends.specs.declared.faults.Place.{Place}
+use Rattle.command_ends.specs.declared.faults.InputName.{InputName}
 use Rattle.command_ends.specs.declared.faults.Status.{Status}
 use Rattle.command_ends.specs.declared.faults.Why.{Why}
 use Rattle.command_ends.specs.Ends.{Command, Ends, EndsStreamed, Query, Streamed}
 use Rattle.command_ends.specs.Inputs.{readers}
 use Rattle.command_ends.specs.Outputs.{FailsAt, IsKept, Outs, Publishes, Writer, out_of, report_of}
-use Rattle.archive_files.specs.Turns.{Told}
+use Rattle.archive_files.specs.InputStates.{Told}
 use Rattle.archive_updates.specs.declared.notes.Note.{Note}
-use Rattle.archive_files.specs.declared.at_turn.Unopened.{Unopened}
-use Rattle.archive_files.specs.declared.at_turn.Unopened.TheVariants as unopened
+use Rattle.archive_files.specs.declared.input_state.Unopened.{Unopened}
+use Rattle.archive_files.specs.declared.input_state.Unopened.TheVariants as unopened
 use Rattle.command_ends.specs.declared.faults.Why.TheVariants.{CannotOpen as NotOpened}
 use Rattle.plan_commands.specs.Disks.{Carried, Tells, fault_at, unopened_of}
 use Rattle.plan_commands.specs.Plans.{Deed, EndsDeed, EndsQuery, answers, changes, deed_of, empties, extracts, none}
@@ -37,7 +37,7 @@ Counts r k = (n : ℕ) → r ≡ Err (Output n) → n ≡ k
 -- nothing is in place, and the draft took these bytes
 not_put : {D T : Type 0} (out : Outs D T) (r : Result Status CommandFault) (bytes : List ℕ)
     → Appends (out.held out.old.draft) (out.held out.new.draft) bytes
-    → out.placed out.new.target ≡ out.placed out.old.target → Counts r (length bytes) → IsNotPut out r
+    → out.published out.new.target ≡ out.published out.old.target → Counts r (length bytes) → IsNotPut out r
 not_put out r bytes took kept count = record { bytes = bytes; took = took; kept = kept; count = count }
 
 -- or none
@@ -83,7 +83,7 @@ unchanged : {D T : Type 0} (out : Outs D T) (r : Result Status CommandFault) →
     → IsNotPut out r
 unchanged {D = D} {T = T} out r same count =
     not_put out r [] (subst (λ (o : Out D T). Appends (out.held out.old.draft) (out.held o.draft) []) (sym same)
-    (Appends-nil (out.held out.old.draft))) (ap (λ o. out.placed o.target) same) count
+    (Appends-nil (out.held out.old.draft))) (ap (λ o. out.published o.target) same) count
 
 queried : {D T : Type 0} (query : Query) (out : Outs D T) (report : Writer) (r : Result Status CommandFault)
     → EndsQuery query out report r → IsOutcome out r
@@ -99,14 +99,14 @@ streamed : {D T : Type 0} (command : Streamed) (out : Outs D T) (report : Writer
     → EndsStreamed command (out_of out) report r → IsOutcome out r
 streamed command out report (Ok status) e = published out report e.1.text e.1.told (Ok status) e.1.published
 streamed command out report (Err (Input at why)) e =
-    not_put out (Err (Input at why)) e.bytes e.took e.nothing_placed.0 (λ n h. cc)
+    not_put out (Err (Input at why)) e.bytes e.took e.nothing_published.0 (λ n h. cc)
 streamed command out report (Err (Output n)) e = elim e [
-  | inl s ↦ not_put out (Err (Output n)) s.bytes s.took s.nothing_placed.0 (λ m h. cc (s.count n refl))
+  | inl s ↦ not_put out (Err (Output n)) s.bytes s.took s.nothing_published.0 (λ m h. cc (s.count n refl))
   | inr c ↦ published out report c.1.text c.1.told (Err (Output n)) c.1.published
 ]
 streamed command out report (Err (Report n)) e = published out report e.1.text e.1.told (Err (Report n)) e.1.published
 streamed command out report (Err OutOfMemory) e = elim e [
-  | inl s ↦ not_put out (Err OutOfMemory) s.bytes s.took s.nothing_placed.0 (λ n h. cc)
+  | inl s ↦ not_put out (Err OutOfMemory) s.bytes s.took s.nothing_published.0 (λ n h. cc)
   | inr c ↦ published out report c.1.text c.1.told (Err OutOfMemory) c.1.published
 ]
 
@@ -138,20 +138,20 @@ done none out report r e = absurd e
 
 -- and what is told of it
 module _ {S D T : Type 0} (told : Told S) (line : Line) (behind : List (Result S CannotOpen)) (out : Outs D T) where
-  by_fault : (u : Option Unopened) (place : Place) (why : Why) → IsNotPut out (Err (Input place why))
-      → IsOutcome out (Err (fault_at u place why))
-  by_fault None place why o = o
-  by_fault (Some (unopened.Refused refused)) place why o =
-      not_put out (Err (Input place NotOpened)) o.bytes o.took o.kept (λ n h. cc)
-  by_fault (Some unopened.OutOfMemory) place why o =
+  by_fault : (u : Option Unopened) (name : InputName) (why : Why) → IsNotPut out (Err (Input name why))
+      → IsOutcome out (Err (fault_at u name why))
+  by_fault None name why o = o
+  by_fault (Some (unopened.Refused refused)) name why o =
+      not_put out (Err (Input name NotOpened)) o.bytes o.took o.kept (λ n h. cc)
+  by_fault (Some unopened.OutOfMemory) name why o =
       not_put out (Err OutOfMemory) o.bytes o.took o.kept (λ n h. cc)
 
   told_outcome : (ended result : Result Status CommandFault) → Tells told line behind ended result → IsOutcome out ended
       → IsOutcome out result
   told_outcome (Ok status) result tells o = subst (IsOutcome out) (sym tells) o
-  told_outcome (Err (Input place why)) result tells o =
+  told_outcome (Err (Input name why)) result tells o =
       subst (IsOutcome out) (sym tells)
-      (by_fault (unopened_of told (option_and_then (slice_get behind) (number_at line place))) place why o)
+      (by_fault (unopened_of told (option_and_then (slice_get behind) (number_at line name))) name why o)
   told_outcome (Err (Output n)) result tells o = subst (IsOutcome out) (sym tells) o
   told_outcome (Err (Report n)) result tells o = subst (IsOutcome out) (sym tells) o
   told_outcome (Err OutOfMemory) result tells o = subst (IsOutcome out) (sym tells) o

@@ -11,7 +11,7 @@ use Rattle.command_ends.specs.declared.faults.Status.{Status}
 use Rattle.command_ends.specs.declared.outputs.Output.{Output as Out}
 use Rattle.command_ends.specs.Outputs.{IsKept, Outs, Writer, out_of as known_of}
 use Rattle.plan_commands.specs.Files.{Calls, IsCarriedOut, IsNotPut, IsOutcome, IsPut, outs_in}
-use Rattle.plan_commands.proofs.OutPlaces.{called_nowhere}
+use Rattle.plan_commands.proofs.OutPublished.{called_nowhere}
 
 -- an output that is as it was is kept
 kept_same : {D T : Type 0} (out : Outs D T) → out.new ≡ out.old → IsKept (known_of out)
@@ -20,7 +20,7 @@ kept_same {D = D} {T = T} out same = (
     subst (λ (o : Out D T). Appends (out.held out.old.draft) (out.held o.draft) []) (sym same) (Appends-nil (out.held out.old.draft)),
     ap (λ (o : Out D T). out.draft_failures o.draft) same,
   ),
-  (ap (λ (o : Out D T). out.placed o.target) same, ap (λ (o : Out D T). out.failures o.target) same),
+  (ap (λ (o : Out D T). out.published o.target) same, ap (λ (o : Out D T). out.failures o.target) same),
 )
 
 module _ {S D T : Type 0} (calls : Calls S D T) (line : Line) (report : Writer) (told : Result Status Failure) (notes : List Note) (is : IsCarriedOut calls line report told notes) (none : is.path ≡ None) where
@@ -28,7 +28,7 @@ module _ {S D T : Type 0} (calls : Calls S D T) (line : Line) (report : Writer) 
   out = outs_in calls is.begun is.done
 
   put : IsPut out → calls.called ≡ []
-  put (inl there) = cc (none, (is.placed there.0 there.1).1)
+  put (inl there) = cc (none, (is.published there.0 there.1).1)
   put (inr same) = is.untouched (kept_same out same)
 
   not_put : (r : Result Status CommandFault) → is.ended ≡ r → IsNotPut out r → calls.called ≡ []

@@ -3,8 +3,8 @@ use Rattle.std.proofs.Common.{◌≡◌, ◌∙◌, ◌⊎◌, ℕ, Bool, true, 
 use Rattle.clap.specs.Words.{IsAmong, Text}
 use Rattle.clap.specs.declared.error.kind.ErrorKind.TheVariants.{DisplayHelp, DisplayVersion}
 use Rattle.archive_files.specs.FileCalls.{FileCall}
-use Rattle.archive_files.specs.OutFiles.{placing_calls}
-use Rattle.archive_files.specs.declared.placed.Placed.{Placed}
+use Rattle.archive_files.specs.OutFiles.{publishing_calls}
+use Rattle.archive_files.specs.declared.published.Published.{Published}
 use Rattle.command_line.specs.LineFaults.{IsHelpUnlessMemory, IsRefusalUnlessMemory, IsRefusedBy, refusal_of}
 use Rattle.command_line.specs.Lines.{error_kinds, is_in_order, named_command}
 use Rattle.command_line.specs.declared.line_faults.LineFault.{LineFault}
@@ -12,7 +12,7 @@ use Rattle.command_line.specs.declared.line_faults.LineFault.TheVariants.{Help, 
 use Rattle.report_text.specs.Report.{line}
 use Rattle.command_ends.specs.Outputs.{FailsBehind, Takes, Writer}
 use Rattle.plan_commands.specs.Ends.{EndsLine, IsHelped, IsRefused, WantsMemory}
-use Rattle.plan_commands.specs.Said.{IsPushed, IsSaid, wanting_text}
+use Rattle.plan_commands.specs.StandardError.{IsPushed, IsSaid, wanting_text}
 
 -- a line whose text is known was said
 pub said_of : (text : Option (List ℕ)) (w : Writer) (bytes given : List ℕ) (whole : Bool) → IfSome text (λ t. bytes ≡ line t)
@@ -56,6 +56,6 @@ no_plan words (Help text) told said status is memory help version refusal tellin
 }))
 
 -- nothing was called for an OUT that is as it was
-pub none_called : (placed : Option Placed) (calls : List FileCall) → placed ≡ None → calls ≡ []
-    → placing_calls placed ++ calls ≡ []
-none_called placed calls none empty = rw (none, empty) refl
+pub none_called : (published : Option Published) (calls : List FileCall) → published ≡ None → calls ≡ []
+    → publishing_calls published ++ calls ≡ []
+none_called published calls none empty = rw (none, empty) refl

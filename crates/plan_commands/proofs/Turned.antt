@@ -6,8 +6,8 @@ use Rattle.byte_device.specs.declared.disks.CannotOpen.{CannotOpen}
 use Rattle.placed_bytes.specs.declared.Placed.{Ghosts as Places}
 use Rattle.archive_files.specs.declared.disks.Disk.{Ghosts as Disks}
 use Rattle.archive_files.specs.AtTurns.{told_by}
-use Rattle.archive_files.specs.Turns.{AreAtTurn}
-use Rattle.archive_files.specs.declared.at_turn.AtTurn.{AtTurn}
+use Rattle.archive_files.specs.InputStates.{AreAtTurn}
+use Rattle.archive_files.specs.declared.input_state.AtTurn.{AtTurn}
 
 -- there are as many inputs as paths
 pub as_many : {A B : Type 0} (R : A → B → Type 0) (xs : List A) (ys : List B) → AllZip R xs ys → length ys ≡ length xs

@@ -14,9 +14,9 @@ use Rattle.command_ends.specs.declared.faults.Status.{Status}
 use Rattle.command_ends.specs.declared.outputs.Output.{Output as Out}
 use Rattle.command_ends.specs.Outputs.{IsKept, Outs, Places, Writer, out_of as known_of, outs}
 use Rattle.archive_files.specs.FileCalls.{FileCall, bytes_in}
-use Rattle.archive_files.specs.OutFiles.{fault_of, placing_calls, stage_of}
-use Rattle.archive_files.specs.Placing.{IsPath, IsPlaced, IsRemoved, account}
-use Rattle.archive_files.specs.Turns.{AreFirstAsked, Told}
+use Rattle.archive_files.specs.OutFiles.{fault_of, publishing_calls, stage_of}
+use Rattle.archive_files.specs.Publishing.{IsPath, IsPublished, IsRemoved, account}
+use Rattle.archive_files.specs.InputStates.{AreFirstAsked, Told}
 use Rattle.archive_files.specs.declared.replaceable.OutFault.{OutFault}
 use Rattle.archive_files.specs.declared.replaceable.Replaces.{Replaces}
 use Rattle.archive_files.specs.declared.replaceable.OutFault.TheVariants as fault
@@ -37,7 +37,7 @@ out_failure (Some fault.OutOfMemory) n = Command OutOfMemory
 -- what is told of a command that ended so, with this fault of OUT
 abbrev pub command_fault_of : Option OutFault → Result Status CommandFault → Result Status Failure
 command_fault_of fault (Ok status) = Ok status
-command_fault_of fault (Err (Input place why)) = Err (Command (Input place why))
+command_fault_of fault (Err (Input name why)) = Err (Command (Input name why))
 command_fault_of fault (Err (Output n)) = Err (out_failure fault n)
 command_fault_of fault (Err (Report n)) = Err (Command (Report n))
 command_fault_of fault (Err OutOfMemory) = Err (Command OutOfMemory)
@@ -46,7 +46,7 @@ command_fault_of fault (Err OutOfMemory) = Err (Command OutOfMemory)
 pub record IsNotPut {D T : Type 0} (out : Outs D T) (ended : Result Status CommandFault) : Type 0 where
   pub bytes : List ℕ
   pub took : Appends (out.held out.old.draft) (out.held out.new.draft) bytes
-  pub kept : out.placed out.new.target ≡ out.placed out.old.target
+  pub kept : out.published out.new.target ≡ out.published out.old.target
   pub count : (n : ℕ) → ended ≡ Err (Output n) → n ≡ length bytes
 
 -- A text was put in place, or OUT is as it was, since the command has none.
@@ -56,7 +56,7 @@ IsPut out = ((text : List ℕ) × Places (known_of out) text) ⊎ (out.new ≡ o
 -- A text is in place where the command ended well, or failed only to report it; else nothing is.
 abbrev pub IsOutcome : {D T : Type 0} → Outs D T → Result Status CommandFault → Type 0
 IsOutcome out (Ok status) = IsPut out
-IsOutcome out (Err (Input place why)) = IsNotPut out (Err (Input place why))
+IsOutcome out (Err (Input name why)) = IsNotPut out (Err (Input name why))
 IsOutcome out (Err (Output n)) = IsNotPut out (Err (Output n))
 IsOutcome out (Err (Report n)) = IsPut out
 IsOutcome out (Err OutOfMemory) = IsNotPut out (Err OutOfMemory)
@@ -70,7 +70,7 @@ pub record Calls (S D T : Type 0) : Type 0 where
   pub told : Told S
   pub held : D → Option (List ℕ)
   pub draft_failures : D → ℕ
-  pub placed : T → Option (List ℕ)
+  pub published : T → Option (List ℕ)
   pub place_failures : T → ℕ
   pub asked_old : List Text
   pub asked_new : List Text
@@ -84,23 +84,23 @@ abbrev pub calls_of : {F T E S D P : Type 0} {reads : Reads T} {writes : Writes 
     → Told S → (D → Option (List ℕ)) → (D → ℕ) → (P → Option (List ℕ)) → (P → ℕ)
     → SystemFiles F T E reads writes seeks lists
     → SystemFiles F T E reads writes seeks lists → Calls S D P
-calls_of told held draft_failures placed place_failures old new = record {
+calls_of told held draft_failures published place_failures old new = record {
   told = told;
   held = held;
   draft_failures = draft_failures;
-  placed = placed;
+  published = published;
   place_failures = place_failures;
   asked_old = old.asked.entries;
   asked_new = new.asked.entries;
   others = new.others.entries;
   same = new.same.entries;
-  called = placing_calls new.out.target.placed ++ new.out.draft.calls.entries;
+  called = publishing_calls new.out.target.published ++ new.out.draft.calls.entries;
   fault = fault_of (stage_of new.out.draft.state);
 }
 
 -- OUT in the command, between these two states
 abbrev pub outs_in : {S D T : Type 0} → Calls S D T → Out D T → Out D T → Outs D T
-outs_in calls begun done = outs calls.held calls.draft_failures calls.placed calls.place_failures begun done
+outs_in calls begun done = outs calls.held calls.draft_failures calls.published calls.place_failures begun done
 
 -- The command of a line ended over files of which nothing is known, and this is told of it; where it ended well, these
 -- are its notes. Inputs were made for its paths, each once and in the order of the words, and for no other. OUT has the
@@ -117,7 +117,7 @@ pub record IsCarriedOut {S D T : Type 0} (calls : Calls S D T) (line : Line) (re
   pub path_is : IsPath (out_of line) (inputs_of line) calls.others calls.same path
   pub begun_is : calls.held begun.draft ≡ Some (account path replaces [])
   pub begun_unfailed : calls.draft_failures begun.draft ≡ 0
-  pub nothing_placed : calls.placed begun.target ≡ None
+  pub nothing_published : calls.published begun.target ≡ None
   pub asked : calls.asked_new ≡ calls.asked_old ++ inputs_of line
   pub before : List (Result S CannotOpen)
   pub behind : List (Result S CannotOpen)
@@ -127,8 +127,8 @@ pub record IsCarriedOut {S D T : Type 0} (calls : Calls S D T) (line : Line) (re
   pub replaces_is : out_of line ≢ None → replaces ≡ replaces_of plan
   pub notes_are : OnOk told (notes ≡ noted)
   pub outcome : IsOutcome (outs_in calls begun done) ended
-  pub placed : (text : List ℕ) → Places (known_of (outs_in calls begun done)) text
-      → (p : List ℕ) × (path ≡ Some p) × ∥ IsPlaced p replaces text calls.called ∥₁
+  pub published : (text : List ℕ) → Places (known_of (outs_in calls begun done)) text
+      → (p : List ℕ) × (path ≡ Some p) × ∥ IsPublished p replaces text calls.called ∥₁
   pub removed : (not_put : IsNotPut (outs_in calls begun done) ended)
       → ∥ IsRemoved path calls.called ∥₁ × (bytes_in calls.called ≡ not_put.bytes)
   pub untouched : IsKept (known_of (outs_in calls begun done)) → calls.called ≡ []

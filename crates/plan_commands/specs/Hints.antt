@@ -6,27 +6,27 @@ use Rattle.command_ends.specs.declared.failures.Failure.{Failure}
 use Rattle.command_ends.specs.declared.failures.Failure.TheVariants.{Command, CannotCreate, CannotReplace}
 use Rattle.command_ends.specs.declared.faults.CommandFault.TheVariants.{Input, Output, Report, OutOfMemory}
 use Rattle.command_ends.specs.declared.faults.CommandFault.{CommandFault}
-use Rattle.command_ends.specs.declared.faults.Place.{Place}
-use Rattle.command_ends.specs.declared.faults.Place.TheVariants.{Archive, File, Ops, Summary, Script, Frames, Index}
+use Rattle.command_ends.specs.declared.faults.InputName.{InputName}
+use Rattle.command_ends.specs.declared.faults.InputName.TheVariants.{Archive, File, Ops, Summary, Script, Frames, Index}
 use Rattle.command_ends.specs.declared.faults.Status.{Status}
 use Rattle.command_ends.specs.declared.faults.Why.{Why}
 use Rattle.command_ends.specs.declared.faults.Why.TheVariants.{CannotOpen, Device, Record, Take}
 use Rattle.command_ends.specs.declared.faults.Why.TheVariants.{Script as ScriptFaulty, BadFrame, OldArchive, TooLong}
 use Rattle.command_ends.specs.declared.faults.Why.TheVariants.{Index as IndexFaulty, Damaged, NoArchive, NoIndex, Stale}
-use Rattle.command_ends.specs.FaultTexts.{place_text}
+use Rattle.command_ends.specs.FaultTexts.{name_text}
 use Rattle.command_line.specs.Lines.{Line, inputs_of_kind, out_of}
 use Rattle.command_line.specs.declared.commands.Kind.TheVariants as kinds
 use Rattle.plan_commands.specs.declared.flaws.FaultyLine.{FaultyLine}
 use Rattle.plan_commands.specs.declared.flaws.Flaw.TheVariants as flaw
-use Rattle.plan_commands.specs.declared.hints.Note.{Note as Noted}
-use Rattle.plan_commands.specs.declared.hints.Note.TheVariants as noted
+use Rattle.plan_commands.specs.declared.hints.Hint.{Hint}
+use Rattle.plan_commands.specs.declared.hints.Hint.TheVariants as hint
 use Rattle.plan_commands.specs.declared.hints.Subject.{Subject}
 use Rattle.plan_commands.specs.declared.hints.Subject.TheVariants as subject
 use Rattle.rehearsal.specs.declared.numbers.NumberFlaw.{NumberFlaw}
 use Rattle.rehearsal.specs.declared.numbers.NumberFlaw.TheVariants.{NotDecimal, LeadingZeros, TooLarge}
 
--- the path of the input that is reported by this place: the one of that number among those of its kind
-abbrev pub path_at : Line → Place → Option Text
+-- the path of the input that is of this name: the one of that number among those of its kind
+abbrev pub path_at : Line → InputName → Option Text
 path_at line (Archive number) = slice_get (inputs_of_kind kinds.Archive line) number
 path_at line (File number) = slice_get (inputs_of_kind kinds.File line) number
 path_at line Ops = slice_get (inputs_of_kind kinds.Ops line) 0
@@ -37,7 +37,7 @@ path_at line (Index number) = slice_get (inputs_of_kind kinds.Index line) number
 
 -- the path of the file that a failure is of
 abbrev pub file_of : Line → Failure → Option Text
-file_of line (Command (Input place why)) = path_at line place
+file_of line (Command (Input name why)) = path_at line name
 file_of line (Command (Output n)) = out_of line
 file_of line (Command (Report n)) = None
 file_of line (Command OutOfMemory) = None
@@ -46,7 +46,7 @@ file_of line CannotReplace = out_of line
 
 -- what a failure is of, as it is said
 abbrev pub subject_of : Failure → List ℕ
-subject_of (Command (Input place why)) = place_text place
+subject_of (Command (Input name why)) = name_text name
 subject_of (Command (Output n)) = codes "output"
 subject_of (Command (Report n)) = codes "report"
 subject_of (Command OutOfMemory) = []
@@ -54,14 +54,14 @@ subject_of (CannotCreate _) = codes "output"
 subject_of CannotReplace = codes "output"
 
 abbrev pub subject_text : Subject → List ℕ
-subject_text (subject.Input place) = place_text place
+subject_text (subject.Input name) = name_text name
 subject_text subject.Output = codes "output"
 
 -- what is noted of an index that is refused for this: a stale one is written anew, but where the archive has the length
 -- that the index has, what changed in it is found first
-abbrev pub stale_note : Option ℕ → Noted
-stale_note None = noted.Stale
-stale_note (Some entry) = noted.Changed
+abbrev pub stale_hint : Option ℕ → Hint
+stale_hint None = hint.Stale
+stale_hint (Some entry) = hint.Changed
 
 -- the line for which an input is refused, with what is wrong with it, where more is known of that
 abbrev pub faulty_line : Why → Option FaultyLine
@@ -82,7 +82,7 @@ faulty_line NoIndex = None
 
 -- the same of a failure
 abbrev pub faulty_line_of : Failure → Option FaultyLine
-faulty_line_of (Command (Input place why)) = faulty_line why
+faulty_line_of (Command (Input name why)) = faulty_line why
 faulty_line_of (Command (Output n)) = None
 faulty_line_of (Command (Report n)) = None
 faulty_line_of (Command OutOfMemory) = None
@@ -92,7 +92,7 @@ faulty_line_of CannotReplace = None
 -- It ended without a fault of an input or of OUT.
 abbrev pub IsOfNoFile : Result Status CommandFault → Type 0
 IsOfNoFile (Ok _) = ⊤
-IsOfNoFile (Err (Input place why)) = ⊥
+IsOfNoFile (Err (Input name why)) = ⊥
 IsOfNoFile (Err (Output n)) = ⊥
 IsOfNoFile (Err (Report n)) = ⊤
 IsOfNoFile (Err OutOfMemory) = ⊤
@@ -100,7 +100,7 @@ IsOfNoFile (Err OutOfMemory) = ⊤
 -- It ended with a fault of an input.
 abbrev pub IsOfInput : Result Status CommandFault → Type 0
 IsOfInput (Ok _) = ⊥
-IsOfInput (Err (Input place why)) = ⊤
+IsOfInput (Err (Input name why)) = ⊤
 IsOfInput (Err (Output n)) = ⊥
 IsOfInput (Err (Report n)) = ⊥
 IsOfInput (Err OutOfMemory) = ⊥
@@ -108,7 +108,7 @@ IsOfInput (Err OutOfMemory) = ⊥
 -- It ended with a fault of OUT.
 abbrev pub IsOfOut : Result Status CommandFault → Type 0
 IsOfOut (Ok _) = ⊥
-IsOfOut (Err (Input place why)) = ⊥
+IsOfOut (Err (Input name why)) = ⊥
 IsOfOut (Err (Output n)) = ⊤
 IsOfOut (Err (Report n)) = ⊥
 IsOfOut (Err OutOfMemory) = ⊥

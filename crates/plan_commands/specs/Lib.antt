@@ -1,8 +1,8 @@
-pub mod Asking
+pub mod QueryDispatch
 pub mod Plans
 pub mod Disks
 pub mod Files
-pub mod Said
+pub mod StandardError
 pub mod Ends
 pub mod Numbers
 pub mod Hints

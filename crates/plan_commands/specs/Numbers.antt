@@ -1,8 +1,8 @@
 -- Which of all inputs of a line one is.
 use Rattle.std.specs.Prelude.{◌+◌, ℕ, suc, List, [], ◌∷◌, ◌++◌, length, Option, slice_get, if◌then◌else◌}
 use Rattle.clap.specs.Words.{Text}
-use Rattle.command_ends.specs.declared.faults.Place.{Place}
-use Rattle.command_ends.specs.declared.faults.Place.TheVariants.{Archive, File, Ops, Summary, Script, Frames, Index}
+use Rattle.command_ends.specs.declared.faults.InputName.{InputName}
+use Rattle.command_ends.specs.declared.faults.InputName.TheVariants.{Archive, File, Ops, Summary, Script, Frames, Index}
 use Rattle.command_line.specs.Arguments.{Argument, Values, reads, reads_kind}
 use Rattle.command_line.specs.Lines.{Line, texts_of}
 use Rattle.command_line.specs.Table.{arguments_named}
@@ -26,8 +26,8 @@ numbers_by kind number _ _ = []
 abbrev pub numbers_of_kind : Kind → Line → List ℕ
 numbers_of_kind kind line = numbers_by kind 0 (arguments_named line.name) line.values
 
--- the number among all inputs of the one that is reported by this place
-abbrev pub number_at : Line → Place → Option ℕ
+-- the number among all inputs of the one that is of this name
+abbrev pub number_at : Line → InputName → Option ℕ
 number_at line (Archive number) = slice_get (numbers_of_kind kinds.Archive line) number
 number_at line (File number) = slice_get (numbers_of_kind kinds.File line) number
 number_at line Ops = slice_get (numbers_of_kind kinds.Ops line) 0

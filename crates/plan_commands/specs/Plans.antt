@@ -26,7 +26,7 @@ use Rattle.archive_updates.specs.Apply.{apply_as_it_comes}
 use Rattle.archive_updates.specs.Delta.{delta_as_it_comes}
 use Rattle.command_ends.specs.Ends.{Command, Ends, EndsReport, EndsStreamed, Query, Streamed}
 use Rattle.indexed_queries.specs.Summary.{summary_at}
-use Rattle.plan_commands.specs.Asking.{NotesUnderscored, extract_of, find_of, frames_of, list_of, symbolicate_of}
+use Rattle.plan_commands.specs.QueryDispatch.{NotesUnderscored, extract_of, find_of, frames_of, list_of, symbolicate_of}
 use Rattle.command_ends.specs.Inputs.{Reader}
 use Rattle.archive_updates.specs.MergeStreams.{merge_as_it_comes}
 use Rattle.archive_updates.specs.Migrate.{migrate_as_it_comes}

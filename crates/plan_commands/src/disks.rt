@@ -1,14 +1,14 @@
 //! A line that is carried out over inputs which are opened at their turn.
 
 ghost use Rattle.archive_files.specs.AtTurns.{told};
-ghost use Rattle.archive_files.specs.Turns.{AreWaiting};
+ghost use Rattle.archive_files.specs.InputStates.{AreWaiting};
 ghost use Rattle.command_ends.specs.Outputs.{outs, writer};
 ghost use Rattle.command_line.specs.LineView.{line_view};
 ghost use Rattle.command_line.specs.Lines.{inputs_of};
 ghost use Rattle.plan_commands.specs.Disks.{Carried};
 ghost use Rattle.plan_commands.specs.Plans.{IsPlanOf};
 
-use crate::places::blamed;
+use crate::line_inputs::blamed;
 use crate::plans::{Plan, execute};
 use archive_core::Archive;
 use archive_files::{AtTurn, Disk};
@@ -33,7 +33,7 @@ pub fn execute_on<A: Archive + Drop, L: Archive + Drop, D: Disk, T: Target, P: S
     requires inputs { AreWaiting told (inputs_of (line_view line.now)) inputs.old }
     requires plan { IsPlanOf plan.now (line_view line.now) }
     ensures { Carried told (line_view line.now) plan.now inputs.old inputs.new
-        (outs T.Draft.held T.Draft.failures T.placed T.failures out.old out.new)
+        (outs T.Draft.held T.Draft.failures T.published T.failures out.old out.new)
         (writer P.held P.failures report.old report.new) result notes.old.items notes.new.items }
 {
     let ended = execute::<A, L, _, _, _>(heap, plan, inputs, notes, out, report);

@@ -6,8 +6,8 @@ ghost use Rattle.command_ends.specs.Outputs.{writer};
 ghost use Rattle.archive_files.specs.AtTurns.{told as told_of, told_by};
 ghost use Rattle.archive_files.specs.Fresh.{AreFresh};
 ghost use Rattle.archive_files.specs.OutFiles.{Untouched, stage_of};
-ghost use Rattle.archive_files.specs.Placing.{IsPath};
-ghost use Rattle.archive_files.specs.Turns.{AreFirstAsked, AreWaiting};
+ghost use Rattle.archive_files.specs.Publishing.{IsPath};
+ghost use Rattle.archive_files.specs.InputStates.{AreFirstAsked, AreWaiting};
 ghost use Rattle.command_line.specs.Lines.{inputs_of, out_of};
 ghost use Rattle.command_line.specs.LineView.{line_view};
 ghost use Rattle.plan_commands.specs.Files.{IsDone, calls_of, command_fault_of, out_failure};
@@ -44,7 +44,7 @@ fn begin<F: Files>(
     ensures untouched { stage_of files.new.out.draft.state ≡ Untouched }
     ensures unfailed { files.new.out.draft.failures ≡ 0 }
     ensures calls { files.new.out.draft.calls.entries ≡ [] }
-    ensures placed { files.new.out.target.placed ≡ None }
+    ensures published { files.new.out.target.published ≡ None }
 {
     let Some(path) = line.out_path() else {
         return Ok(());
@@ -125,7 +125,7 @@ pub fn execute<'f, F: Files, P: Sink>(
         (told_by ⟦<SystemDisk<'f, F> as Disk>⟧ ⟦<OpenedFile<BufReader<F::File>> as Source>⟧
         ⟦<PlacedFile<F::File> as Placed>⟧)
         ⟦<OutFile<'f, F> as Sink>⟧.held
-        ⟦<OutFile<'f, F> as Sink>⟧.failures ⟦<OutPath<'f, F> as Target>⟧.placed
+        ⟦<OutFile<'f, F> as Sink>⟧.failures ⟦<OutPath<'f, F> as Target>⟧.published
         ⟦<OutPath<'f, F> as Target>⟧.failures files.old files.new in
         let told = writer P.held P.failures report.old report.new in
         MatchResult result

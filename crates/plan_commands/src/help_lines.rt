@@ -5,9 +5,9 @@ ghost use Rattle.std.specs.Prelude.{◌≡◌, ◌++◌, codes, false, IfOk, Lis
 ghost use Rattle.std.specs.List.{list_any};
 ghost use Rattle.report_text.specs.Report.{line};
 ghost use Rattle.plan_commands.specs.Hints.{subject_text};
-ghost use Rattle.plan_commands.specs.Said.{has_line_feed, is_control};
+ghost use Rattle.plan_commands.specs.StandardError.{has_line_feed, is_control};
 
-use crate::hints::Hint;
+use crate::hints::Help;
 use memory::NoMemory;
 use std::alloc::Global;
 use std::fmt::{Display, Write};
@@ -71,29 +71,29 @@ fn free<T: Display>(alloc: Global, told: &T) -> Result<String, NoMemory>
 }
 
 /// The line that helps with a failure.
-pub fn help_line(alloc: Global, hint: &Hint<'_>) -> Result<String, NoMemory>
-    ensures { IfOk result (λ help. (shown free : List ℕ)
-        × (list_any is_control hint.now.path.now ≡ false → shown ≡ hint.now.path.now)
+pub fn help_line(alloc: Global, help: &Help<'_>) -> Result<String, NoMemory>
+    ensures { IfOk result (λ text. (shown free : List ℕ)
+        × (list_any is_control help.now.path.now ≡ false → shown ≡ help.now.path.now)
         × (has_line_feed shown ≡ false) × (has_line_feed free ≡ false)
-        × (string_bytes help ≡ line (codes "  " ++ subject_text hint.now.subject ++ codes " is " ++ shown ++ free))) }
+        × (string_bytes text ≡ line (codes "  " ++ subject_text help.now.subject ++ codes " is " ++ shown ++ free))) }
 {
-    let subject = hint.subject();
-    let path = shown(alloc, hint.path())?;
-    let known = free(alloc, hint)?;
-    let mut help = String::new(alloc);
-    writeln!(help, "  {subject} is {path}{known}")?;
-    Ok(help)
+    let subject = help.subject();
+    let path = shown(alloc, help.path())?;
+    let known = free(alloc, help)?;
+    let mut text = String::new(alloc);
+    writeln!(text, "  {subject} is {path}{known}")?;
+    Ok(text)
 }
 
 /// The line that says why the report failed.
 pub fn report_line(alloc: Global, reason: io::Error) -> Result<String, NoMemory>
-    ensures { IfOk result (λ help. (free : List ℕ) × (has_line_feed free ≡ false)
-        × (string_bytes help ≡ line (codes "  report is standard output" ++ free))) }
+    ensures { IfOk result (λ text. (free : List ℕ) × (has_line_feed free ≡ false)
+        × (string_bytes text ≡ line (codes "  report is standard output" ++ free))) }
 {
     let mut said = String::new(alloc);
     write!(said, ": {reason}")?;
     let reason = one_line(&said);
-    let mut help = String::new(alloc);
-    writeln!(help, "  report is standard output{reason}")?;
-    Ok(help)
+    let mut text = String::new(alloc);
+    writeln!(text, "  report is standard output{reason}")?;
+    Ok(text)
 }

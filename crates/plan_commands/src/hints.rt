@@ -4,19 +4,19 @@
 ghost use Rattle.std.specs.Prelude.{◌≡◌, ℕ, codes, IfSome, None, Option, Some};
 ghost use Rattle.command_ends.specs.declared.failures.Failure.TheVariants.{Command};
 ghost use Rattle.command_ends.specs.declared.faults.CommandFault.TheVariants.{Input};
-ghost use Rattle.command_ends.specs.declared.faults.Place.{Place};
+ghost use Rattle.command_ends.specs.declared.faults.InputName.{InputName};
 ghost use Rattle.command_ends.specs.declared.faults.Why.TheVariants.{Damaged, Stale};
 ghost use Rattle.command_line.specs.LineView.{line_view};
 ghost use Rattle.command_line.specs.Lines.{out_of};
-ghost use Rattle.plan_commands.specs.declared.hints.Note.TheVariants.{Torn};
+ghost use Rattle.plan_commands.specs.declared.hints.Hint.TheVariants.{Torn};
 ghost use Rattle.plan_commands.specs.Hints.{IsOfInput, IsOfNoFile, IsOfOut, faulty_line_of, file_of};
-ghost use Rattle.plan_commands.specs.Hints.{stale_note, subject_of, subject_text};
+ghost use Rattle.plan_commands.specs.Hints.{stale_hint, subject_of, subject_text};
 
+use crate::file_kinds::FileKind;
 use crate::flaws::FaultyLine;
-use crate::looks::Look;
-use crate::places::input_at;
+use crate::line_inputs::input_at;
 use archive_files::{Obstacle, OutFile, SystemInput, Unopened};
-use command_ends::{CommandFault, Failure, Place, Status, Why};
+use command_ends::{CommandFault, Failure, InputName, Status, Why};
 use command_line::Line;
 use std::fmt::{self, Display, Write};
 use std::io::{self, ErrorKind};
@@ -28,7 +28,7 @@ pub struct Seen {
     /// What the system said, if it refused something.
     pub reason: Option<io::Error>,
     /// What the file looks like, if that is known.
-    pub look: Option<Look>,
+    pub kind: Option<FileKind>,
     /// Why what is at OUT was not replaced, if it was not.
     pub obstacle: Option<Obstacle>,
 }
@@ -37,7 +37,7 @@ impl Seen {
     /// Nothing.
     pub const NOTHING: Seen = Seen {
         reason: None,
-        look: None,
+        kind: None,
         obstacle: None,
     };
 
@@ -51,7 +51,7 @@ impl Seen {
         match (input.input(), input.unopened()) {
             (Some(file), _) => Seen {
                 reason: file.reason(),
-                look: Look::of(&file.front()),
+                kind: FileKind::of(&file.leading_bytes()),
                 obstacle: None,
             },
             (None, Some(Unopened::Refused(refused))) => Seen {
@@ -61,7 +61,7 @@ impl Seen {
             (None, _) => match input.places() {
                 Some(file) => Seen {
                     reason: file.reason(),
-                    look: Look::of(&file.front()),
+                    kind: FileKind::of(&file.leading_bytes()),
                     obstacle: None,
                 },
                 None => Seen::NOTHING,
@@ -77,12 +77,12 @@ impl Seen {
         out: &OutFile<'_, F>,
     ) -> Seen
         ensures nothing { IsOfNoFile ended.now
-            → (result.reason ≡ None) × (result.look ≡ None) × (result.obstacle ≡ None) }
-        ensures out { IsOfOut ended.now → result.look ≡ None }
+            → (result.reason ≡ None) × (result.kind ≡ None) × (result.obstacle ≡ None) }
+        ensures out { IsOfOut ended.now → result.kind ≡ None }
         ensures input { IsOfInput ended.now → result.obstacle ≡ None }
     {
         match ended {
-            Err(CommandFault::Input(place, _)) => match input_at(line, *place) {
+            Err(CommandFault::Input(name, _)) => match input_at(line, *name) {
                 Some((number, _)) => match inputs.get(number) {
                     Some(input) => Seen::of_input(input),
                     None => Seen::NOTHING,
@@ -91,7 +91,7 @@ impl Seen {
             },
             Err(CommandFault::Output(_)) => Seen {
                 reason: out.reason(),
-                look: None,
+                kind: None,
                 obstacle: out.obstacle(),
             },
             _ => Seen::NOTHING,
@@ -102,7 +102,7 @@ impl Seen {
 /// What a failure is of.
 #[derive(Clone, Copy)]
 pub(crate) enum Subject {
-    Input(Place),
+    Input(InputName),
     Output,
 }
 
@@ -115,7 +115,7 @@ impl Display for Subject {
 
     fn fmt<W: fmt::Write>(&self, f: &mut fmt::Formatter<W>) -> fmt::Result {
         match self {
-            Subject::Input(place) => write!(f, "{place}"),
+            Subject::Input(name) => write!(f, "{name}"),
             Subject::Output => f.write_str("output"),
         }
     }
@@ -123,7 +123,7 @@ impl Display for Subject {
 
 /// What is known of OUT where it was not created or not replaced, or of an input that is refused.
 #[derive(Clone, Copy)]
-enum Note {
+enum Hint {
     SameFile,
     Foreign,
     Damaged,
@@ -135,36 +135,36 @@ enum Note {
     Changed,
 }
 
-impl Note {
+impl Hint {
     /// What is known where this is why OUT was not replaced; what the system said stands at the end of the line.
-    fn of(obstacle: Obstacle) -> Option<Note> {
+    fn of(obstacle: Obstacle) -> Option<Hint> {
         match obstacle {
-            Obstacle::Foreign => Some(Note::Foreign),
-            Obstacle::Damaged => Some(Note::Damaged),
-            Obstacle::Differs => Some(Note::Differs),
-            Obstacle::Loses(lost) => Some(Note::Loses(lost)),
+            Obstacle::Foreign => Some(Hint::Foreign),
+            Obstacle::Damaged => Some(Hint::Damaged),
+            Obstacle::Differs => Some(Hint::Differs),
+            Obstacle::Loses(lost) => Some(Hint::Loses(lost)),
             Obstacle::Refused(_) => None,
         }
     }
 }
 
-impl Display for Note {
+impl Display for Hint {
     fn fmt<W: fmt::Write>(&self, f: &mut fmt::Formatter<W>) -> fmt::Result {
         match self {
-            Note::SameFile => f.write_str("the file of an input"),
-            Note::OldVersion => f.write_str("an archive of version 1, which `migrate` takes"),
-            Note::Stale => f.write_str("not of this archive, of which `index` writes a new one"),
-            Note::Torn => f.write_str("changed since it was written: `index` writes a new one"),
-            Note::Changed => f.write_str(
+            Hint::SameFile => f.write_str("the file of an input"),
+            Hint::OldVersion => f.write_str("an archive of version 1, which `migrate` takes"),
+            Hint::Stale => f.write_str("not of this archive, of which `index` writes a new one"),
+            Hint::Torn => f.write_str("changed since it was written: `index` writes a new one"),
+            Hint::Changed => f.write_str(
                 "of an archive in which a slice changed since it came in: run `symarch-keep check` first",
             ),
-            Note::Foreign => f.write_str("there, and neither empty nor one of symarch's files"),
-            Note::Damaged => f.write_str("there, and an archive that is damaged"),
-            Note::Differs => f.write_str("there, and neither empty nor the same slice"),
-            Note::Loses(1) => {
+            Hint::Foreign => f.write_str("there, and neither empty nor one of symarch's files"),
+            Hint::Damaged => f.write_str("there, and an archive that is damaged"),
+            Hint::Differs => f.write_str("there, and neither empty nor the same slice"),
+            Hint::Loses(1) => {
                 f.write_str("there, and has 1 record that the new archive neither has nor retires")
             }
-            Note::Loses(lost) => {
+            Hint::Loses(lost) => {
                 write!(
                     f,
                     "there, and has {lost} records that the new archive neither has nor retires"
@@ -176,86 +176,86 @@ impl Display for Note {
 
 /// A line that helps a person with a failure.
 #[derive(Clone, Copy)]
-pub struct Hint<'p> {
+pub struct Help<'p> {
     subject: Subject,
     path: &'p str,
-    note: Option<Note>,
+    hint: Option<Hint>,
     faulty: Option<FaultyLine>,
     seen: Seen,
 }
 
 /// What a refused file looks like, where that says why it is refused.
-fn look_of(why: Why, look: Option<Look>) -> Option<Look> {
-    match (why, look) {
-        (Why::Record(fault), _) if fault.offset == 0 => look,
-        (Why::Index(fault), _) if fault.offset == 0 => look,
-        (Why::Take(_), Some(Look::MachO | Look::Universal | Look::Marked)) => None,
-        (Why::Take(_), _) => look,
+fn kind_of(why: Why, kind: Option<FileKind>) -> Option<FileKind> {
+    match (why, kind) {
+        (Why::Record(fault), _) if fault.offset == 0 => kind,
+        (Why::Index(fault), _) if fault.offset == 0 => kind,
+        (Why::Take(_), Some(FileKind::MachO | FileKind::Universal | FileKind::Marked)) => None,
+        (Why::Take(_), _) => kind,
         _ => None,
     }
 }
 
 /// What is noted of an input that is refused for this.
-fn note_of(why: Why) -> Option<Note>
-    ensures stale { (entry : Option ℕ) → why ≡ Stale entry → result ≡ Some (stale_note entry) }
+fn hint_of(why: Why) -> Option<Hint>
+    ensures stale { (entry : Option ℕ) → why ≡ Stale entry → result ≡ Some (stale_hint entry) }
     ensures torn { (entry : ℕ) → why ≡ Damaged entry → result ≡ Some Torn }
 {
     match why {
-        Why::OldArchive => Some(Note::OldVersion),
-        Why::Stale(None) => Some(Note::Stale),
-        Why::Stale(Some(_)) => Some(Note::Changed),
-        Why::Damaged(_) => Some(Note::Torn),
+        Why::OldArchive => Some(Hint::OldVersion),
+        Why::Stale(None) => Some(Hint::Stale),
+        Why::Stale(Some(_)) => Some(Hint::Changed),
+        Why::Damaged(_) => Some(Hint::Torn),
         _ => None,
     }
 }
 
 /// The line that helps with this failure of a line, if there is one.
-pub fn help_with<'p>(line: &'p Line, failure: &Failure, seen: Seen) -> Option<Hint<'p>>
-    ensures path { IfSome result (λ hint. Some hint.path.now ≡ file_of (line_view line.now) failure.now) }
-    ensures subject { IfSome result (λ hint. subject_text hint.subject ≡ subject_of failure.now) }
-    ensures faulty { IfSome result (λ hint. hint.faulty ≡ faulty_line_of failure.now) }
-    ensures stale { (place : Place) (entry : Option ℕ) → failure.now ≡ Command (Input place (Stale entry))
-        → IfSome result (λ hint. hint.note ≡ Some (stale_note entry)) }
-    ensures torn { (place : Place) (entry : ℕ) → failure.now ≡ Command (Input place (Damaged entry))
-        → IfSome result (λ hint. hint.note ≡ Some Torn) }
+pub fn help_with<'p>(line: &'p Line, failure: &Failure, seen: Seen) -> Option<Help<'p>>
+    ensures path { IfSome result (λ help. Some help.path.now ≡ file_of (line_view line.now) failure.now) }
+    ensures subject { IfSome result (λ help. subject_text help.subject ≡ subject_of failure.now) }
+    ensures faulty { IfSome result (λ help. help.faulty ≡ faulty_line_of failure.now) }
+    ensures stale { (name : InputName) (entry : Option ℕ) → failure.now ≡ Command (Input name (Stale entry))
+        → IfSome result (λ help. help.hint ≡ Some (stale_hint entry)) }
+    ensures torn { (name : InputName) (entry : ℕ) → failure.now ≡ Command (Input name (Damaged entry))
+        → IfSome result (λ help. help.hint ≡ Some Torn) }
 {
     match failure {
-        Failure::Command(CommandFault::Input(place, why)) => {
-            Some(Hint {
-                subject: Subject::Input(*place),
-                path: input_at(line, *place)?.1,
-                note: note_of(*why),
+        Failure::Command(CommandFault::Input(name, why)) => {
+            Some(Help {
+                subject: Subject::Input(*name),
+                path: input_at(line, *name)?.1,
+                hint: hint_of(*why),
                 faulty: FaultyLine::of(*why),
                 seen: Seen {
-                    look: look_of(*why, seen.look),
+                    kind: kind_of(*why, seen.kind),
                     ..seen
                 },
             })
         }
-        Failure::Command(CommandFault::Output(_)) => out_hint(line, None, seen),
+        Failure::Command(CommandFault::Output(_)) => out_help(line, None, seen),
         // Why the report failed is known to its owner.
         Failure::Command(CommandFault::Report(_) | CommandFault::OutOfMemory) => None,
-        Failure::CannotCreate(_) => out_hint(line, Some(Note::SameFile), seen),
-        Failure::CannotReplace => out_hint(line, seen.obstacle.and_then(Note::of), seen),
+        Failure::CannotCreate(_) => out_help(line, Some(Hint::SameFile), seen),
+        Failure::CannotReplace => out_help(line, seen.obstacle.and_then(Hint::of), seen),
     }
 }
 
 /// A line of OUT. What is noted of it is said where the system said nothing.
-fn out_hint<'p>(line: &'p Line, note: Option<Note>, seen: Seen) -> Option<Hint<'p>>
-    ensures path { IfSome result (λ hint. Some hint.path.now ≡ out_of (line_view line.now)) }
-    ensures subject { IfSome result (λ hint. subject_text hint.subject ≡ codes "output") }
-    ensures faulty { IfSome result (λ hint. hint.faulty ≡ None) }
+fn out_help<'p>(line: &'p Line, hint: Option<Hint>, seen: Seen) -> Option<Help<'p>>
+    ensures path { IfSome result (λ help. Some help.path.now ≡ out_of (line_view line.now)) }
+    ensures subject { IfSome result (λ help. subject_text help.subject ≡ codes "output") }
+    ensures faulty { IfSome result (λ help. help.faulty ≡ None) }
 {
-    Some(Hint {
+    Some(Help {
         subject: Subject::Output,
         path: line.out_path()?,
-        note: if seen.reason.is_none() { note } else { None },
+        hint: if seen.reason.is_none() { hint } else { None },
         faulty: None,
         seen,
     })
 }
 
-impl Hint<'_> {
+impl Help<'_> {
     /// What the failure is of.
     pub(crate) fn subject(&self) -> Subject
         ensures { result ≡ self.now.subject }
@@ -272,23 +272,23 @@ impl Hint<'_> {
 }
 
 /// What is known of the file.
-impl Display for Hint<'_> {
+impl Display for Help<'_> {
     fn fmt<W: fmt::Write>(&self, f: &mut fmt::Formatter<W>) -> fmt::Result {
-        if let Some(note) = self.note {
-            write!(f, ", {note}")?;
+        if let Some(hint) = self.hint {
+            write!(f, ", {hint}")?;
         }
         if let Some(faulty) = self.faulty {
             write!(f, ", {faulty}")?;
         }
-        if let Some(look) = self.seen.look {
-            write!(f, ", {look}")?;
+        if let Some(kind) = self.seen.kind {
+            write!(f, ", {kind}")?;
         }
         let Some(reason) = self.seen.reason else {
             return Ok(());
         };
         write!(f, ": {reason}")?;
         match self.subject {
-            Subject::Input(Place::File(_)) if reason.kind() == ErrorKind::IsADirectory => {
+            Subject::Input(InputName::File(_)) if reason.kind() == ErrorKind::IsADirectory => {
                 f.write_str("; of a dSYM, name the file in its folder Contents/Resources/DWARF")
             }
             _ => Ok(()),

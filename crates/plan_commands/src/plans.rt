@@ -11,7 +11,7 @@ ghost use Rattle.command_line.specs.Table.{extract_command, find_command, frames
 ghost use Rattle.command_line.specs.Table.{retire_command, symbolicate_command};
 ghost use Rattle.plan_commands.specs.Plans.{Executes, IsPlanOf, Notes, key_of, least_inputs};
 
-use crate::asking::{self, Input, first_and_rest};
+use crate::query_dispatch::{self, Input, first_and_rest};
 use crate::{queries, updates};
 use archive_core::{ArchKey, Archive, Digest, SliceKey};
 use archive_files::Replaces;
@@ -274,7 +274,7 @@ pub fn execute<A: Archive + Drop, L: Archive + Drop, S: Source + Placed, T: Targ
     ensures ends { Executes plan.now
         (readers ⟦<S as Source>⟧.left ⟦<S as Source>⟧.failures inputs.old inputs.new)
         (readers ⟦<S as Placed>⟧.whole ⟦<S as Placed>⟧.failures inputs.old inputs.new)
-        (outs T.Draft.held T.Draft.failures T.placed T.failures out.old out.new)
+        (outs T.Draft.held T.Draft.failures T.published T.failures out.old out.new)
         (writer P.held P.failures report.old report.new) result }
     ensures noted { OnOk result (Notes plan.now
         (readers ⟦<S as Source>⟧.left ⟦<S as Source>⟧.failures inputs.old inputs.new)
@@ -295,7 +295,7 @@ pub fn execute<A: Archive + Drop, L: Archive + Drop, S: Source + Placed, T: Targ
         }
         Plan::List => {
             let (archive, indexes) = first_and_rest(inputs);
-            asking::list(heap, archive, indexes, report)
+            query_dispatch::list(heap, archive, indexes, report)
         }
         Plan::Extract {
             key,
@@ -304,7 +304,7 @@ pub fn execute<A: Archive + Drop, L: Archive + Drop, S: Source + Placed, T: Targ
         } => updates::extract::<A, _, _, _>(heap, inputs, *others, key, digest, out, report),
         Plan::Name { name } => {
             let (archive, others) = first_and_rest(inputs);
-            asking::name(heap, archive, others, name.as_bytes(), notes, report)
+            query_dispatch::name(heap, archive, others, name.as_bytes(), notes, report)
         }
         Plan::Symbolicate {
             key,

@@ -4,9 +4,9 @@ ghost use Rattle.std.specs.Prelude.{◌<◌, ◌≤◌, drop, length, suc, take}
 ghost use Rattle.command_ends.specs.Ends.{EndsReport};
 ghost use Rattle.command_ends.specs.Inputs.{reader, readers};
 ghost use Rattle.command_ends.specs.Outputs.{writer};
-ghost use Rattle.plan_commands.specs.Asking.{find_of, frames_of, symbolicate_of};
+ghost use Rattle.plan_commands.specs.QueryDispatch.{find_of, frames_of, symbolicate_of};
 
-use crate::asking::{self, Input};
+use crate::query_dispatch::{self, Input};
 use archive_core::{Archive, SliceKey};
 use byte_device::{Sink, Source};
 use command_ends::{CommandFault, Status};
@@ -30,7 +30,7 @@ pub fn find<A: Archive + Drop, S: Source + Placed, P: Sink>(
         (writer P.held P.failures report.old report.new) result }
 {
     let (archives, indexes) = inputs.split_at_mut(others + 1);
-    asking::find::<A, _, _>(heap, archives, indexes, uuid, report)
+    query_dispatch::find::<A, _, _>(heap, archives, indexes, uuid, report)
 }
 
 /// `symbolicate` over an archive, so many others, and their indexes, if they have some.
@@ -51,7 +51,9 @@ pub fn symbolicate<A: Archive + Drop, S: Source + Placed, P: Sink>(
         key.now load lines addresses.now) (writer P.held P.failures report.old report.new) result }
 {
     let (archives, indexes) = inputs.split_at_mut(others + 1);
-    asking::symbolicate::<A, _, _>(heap, archives, indexes, key, load, lines, addresses, report)
+    query_dispatch::symbolicate::<A, _, _>(
+        heap, archives, indexes, key, load, lines, addresses, report,
+    )
 }
 
 /// `frames` over FRAMES, and so many indexes and the archives.
@@ -71,5 +73,5 @@ pub fn frames<A: Archive + Drop, S: Source + Placed, P: Sink>(
         (writer P.held P.failures report.old report.new) result }
 {
     let (indexes, archives) = inputs.split_at_mut(indexes);
-    asking::frames::<A, _, _>(heap, lines, crash, archives, indexes, report)
+    query_dispatch::frames::<A, _, _>(heap, lines, crash, archives, indexes, report)
 }

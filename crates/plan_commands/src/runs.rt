@@ -9,12 +9,12 @@ ghost use Rattle.command_line.specs.LineView.{line_view};
 ghost use Rattle.plan_commands.specs.Files.{calls_of};
 ghost use Rattle.command_ends.specs.Statuses.{status_of};
 ghost use Rattle.plan_commands.specs.Ends.{EndsLine, EndsWords, IsIdle, IsUnreadable, WantsMemory};
-ghost use Rattle.plan_commands.specs.Said.{SaysFailure, SaysNotes, behind_error, reason_in, without_line_feed};
+ghost use Rattle.plan_commands.specs.StandardError.{SaysFailure, SaysNotes, behind_error, reason_in, without_line_feed};
 
 use crate::files::execute;
 use crate::hints::{Seen, help_with};
 use crate::plans::Plan;
-use crate::said::{FailureLine, RefusedLine, say, say_help, say_notes, say_wanting};
+use crate::standard_error::{FailureLine, RefusedLine, say, say_help, say_notes, say_wanting};
 use archive_files::{Disk, OpenedFile, OutFile, OutPath, PlacedFile, SystemDisk, SystemFiles};
 use archive_updates::Note;
 use byte_device::{Sink, Source, push_all};
@@ -49,7 +49,7 @@ pub fn run<'f, F: Files, P: Sink, E: Sink>(
         (told_by ⟦<SystemDisk<'f, F> as Disk>⟧ ⟦<OpenedFile<BufReader<F::File>> as Source>⟧
         ⟦<PlacedFile<F::File> as Placed>⟧)
         ⟦<OutFile<'f, F> as Sink>⟧.held
-        ⟦<OutFile<'f, F> as Sink>⟧.failures ⟦<OutPath<'f, F> as Target>⟧.placed
+        ⟦<OutFile<'f, F> as Sink>⟧.failures ⟦<OutPath<'f, F> as Target>⟧.published
         ⟦<OutPath<'f, F> as Target>⟧.failures files.old files.new in
         let told = writer P.held P.failures report.old report.new in
         let said = writer E.held E.failures errors.old errors.new in
@@ -75,7 +75,7 @@ fn run_words<'f, F: Files, P: Sink, E: Sink>(
         (told_by ⟦<SystemDisk<'f, F> as Disk>⟧ ⟦<OpenedFile<BufReader<F::File>> as Source>⟧
         ⟦<PlacedFile<F::File> as Placed>⟧)
         ⟦<OutFile<'f, F> as Sink>⟧.held
-        ⟦<OutFile<'f, F> as Sink>⟧.failures ⟦<OutPath<'f, F> as Target>⟧.placed
+        ⟦<OutFile<'f, F> as Sink>⟧.failures ⟦<OutPath<'f, F> as Target>⟧.published
         ⟦<OutPath<'f, F> as Target>⟧.failures files.old files.new in
         EndsWords calls (map string_bytes words.now) (writer P.held P.failures report.old report.new)
         (writer E.held E.failures errors.old errors.new) result }
@@ -125,8 +125,8 @@ fn say_failure<E: Sink>(alloc: Global, line: &Line, failure: Failure, seen: Seen
     if !say(alloc, &FailureLine(failure), errors) {
         return;
     }
-    if let Some(hint) = help_with(line, &failure, seen) {
-        say_help(alloc, &hint, errors);
+    if let Some(help) = help_with(line, &failure, seen) {
+        say_help(alloc, &help, errors);
     }
 }
 

@@ -3,12 +3,12 @@
 ghost use Rattle.std.specs.Prelude.{◌<◌, ◌≤◌, OnOk, drop, length, suc, take};
 ghost use Rattle.command_ends.specs.Inputs.{readers};
 ghost use Rattle.command_ends.specs.Outputs.{out_of, outs, writer};
-ghost use Rattle.plan_commands.specs.Asking.{extract_of};
+ghost use Rattle.plan_commands.specs.QueryDispatch.{extract_of};
 ghost use Rattle.plan_commands.specs.Plans.{Executes, Notes};
 ghost use Rattle.slice_extraction.specs.Extract.{Extracts};
 ghost use Rattle.plan_commands.specs.declared.plans.Plan.TheVariants.{Admit, Apply, Delta, Merge, Summary};
 
-use crate::asking::{self, Input, first_and_rest};
+use crate::query_dispatch::{self, Input, first_and_rest};
 use archive_core::{Archive, Digest, SliceKey};
 use archive_updates::{Note, run_admit, run_apply, run_delta, run_merge, run_summary};
 use byte_device::{Sink, Source};
@@ -29,7 +29,7 @@ pub fn admit<S: Source + Placed, T: Target, P: Sink>(
     ensures ends { Executes Admit
         (readers ⟦<S as Source>⟧.left ⟦<S as Source>⟧.failures inputs.old inputs.new)
         (readers ⟦<S as Placed>⟧.whole ⟦<S as Placed>⟧.failures inputs.old inputs.new)
-        (outs T.Draft.held T.Draft.failures T.placed T.failures out.old out.new)
+        (outs T.Draft.held T.Draft.failures T.published T.failures out.old out.new)
         (writer P.held P.failures report.old report.new) result }
     ensures noted { OnOk result (Notes Admit
         (readers ⟦<S as Source>⟧.left ⟦<S as Source>⟧.failures inputs.old inputs.new)
@@ -50,7 +50,7 @@ pub fn merge<A: Archive + Drop, S: Source + Placed, T: Target, P: Sink>(
     ensures { Executes Merge
         (readers ⟦<S as Source>⟧.left ⟦<S as Source>⟧.failures inputs.old inputs.new)
         (readers ⟦<S as Placed>⟧.whole ⟦<S as Placed>⟧.failures inputs.old inputs.new)
-        (outs T.Draft.held T.Draft.failures T.placed T.failures out.old out.new)
+        (outs T.Draft.held T.Draft.failures T.published T.failures out.old out.new)
         (writer P.held P.failures report.old report.new) result }
 {
     let (first, files) = first_and_rest(inputs);
@@ -68,7 +68,7 @@ pub fn apply<S: Source + Placed, T: Target, P: Sink>(
     ensures { Executes Apply
         (readers ⟦<S as Source>⟧.left ⟦<S as Source>⟧.failures inputs.old inputs.new)
         (readers ⟦<S as Placed>⟧.whole ⟦<S as Placed>⟧.failures inputs.old inputs.new)
-        (outs T.Draft.held T.Draft.failures T.placed T.failures out.old out.new)
+        (outs T.Draft.held T.Draft.failures T.published T.failures out.old out.new)
         (writer P.held P.failures report.old report.new) result }
 {
     let (first, ops) = first_and_rest(inputs);
@@ -86,7 +86,7 @@ pub fn summary<S: Source + Placed, T: Target, P: Sink>(
     ensures { Executes Summary
         (readers ⟦<S as Source>⟧.left ⟦<S as Source>⟧.failures inputs.old inputs.new)
         (readers ⟦<S as Placed>⟧.whole ⟦<S as Placed>⟧.failures inputs.old inputs.new)
-        (outs T.Draft.held T.Draft.failures T.placed T.failures out.old out.new)
+        (outs T.Draft.held T.Draft.failures T.published T.failures out.old out.new)
         (writer P.held P.failures report.old report.new) result }
 {
     let (archive, indexes) = first_and_rest(inputs);
@@ -107,7 +107,7 @@ pub fn delta<S: Source + Placed, T: Target, P: Sink>(
     ensures { Executes Delta
         (readers ⟦<S as Source>⟧.left ⟦<S as Source>⟧.failures inputs.old inputs.new)
         (readers ⟦<S as Placed>⟧.whole ⟦<S as Placed>⟧.failures inputs.old inputs.new)
-        (outs T.Draft.held T.Draft.failures T.placed T.failures out.old out.new)
+        (outs T.Draft.held T.Draft.failures T.published T.failures out.old out.new)
         (writer P.held P.failures report.old report.new) result }
 {
     let (archive, summary) = first_and_rest(inputs);
@@ -127,10 +127,10 @@ pub fn extract<A: Archive + Drop, S: Source + Placed, T: Target, P: Sink>(
     requires { others < length inputs.old }
     ensures { let read = readers ⟦<S as Source>⟧.left ⟦<S as Source>⟧.failures inputs.old inputs.new in
         let placed = readers ⟦<S as Placed>⟧.whole ⟦<S as Placed>⟧.failures inputs.old inputs.new in
-        let known = outs T.Draft.held T.Draft.failures T.placed T.failures out.old out.new in
+        let known = outs T.Draft.held T.Draft.failures T.published T.failures out.old out.new in
         Extracts (extract_of (take (suc others) read) (take (suc others) placed) (drop (suc others) placed) key.now
         digest.now (out_of known).draft) known (writer P.held P.failures report.old report.new) result }
 {
     let (archives, indexes) = inputs.split_at_mut(others + 1);
-    asking::extract::<A, _, _, _>(heap, archives, indexes, key, digest, out, report)
+    query_dispatch::extract::<A, _, _, _>(heap, archives, indexes, key, digest, out, report)
 }

@@ -27,7 +27,7 @@ use Rattle.table_index.proofs.Faults.{no_fault}
 use Rattle.indexed_tables.specs.Content.{entries_of}
 use Rattle.indexed_tables.proofs.Accepted.{accepted}
 use Rattle.command_ends.specs.Inputs.{IsDeviceFault, IsGiven, IsUnread, Reader, reader}
-use Rattle.command_ends.specs.declared.faults.Place.{Place}
+use Rattle.command_ends.specs.declared.faults.InputName.{InputName}
 use Rattle.command_ends.specs.declared.faults.Why.{Why}
 use Rattle.command_ends.specs.declared.faults.Why.TheVariants.{Index as IndexFaulty}
 use Rattle.index_laws.specs.Indexes.{IsIndexFile}
@@ -65,12 +65,12 @@ same_length : {P : Type 0} (archive : Reader P) (o : Operations) (text : List �
 same_length archive o text file known other =
     of_given archive (written o) (λ t. HasIndexedLength (index o) t → ⊥) known other (right_length o file.content file.archive_fits)
 
-other_length : {P : Type 0} (number : ℕ) (archive : Reader P) (entries : Entries) (o : Operations) (text : List ℕ) (at : Place) (why : Why) → IsIndexFile o text → IsGiven archive (written o) → entries ≡ index o → IsOfOtherLength number archive entries at why → IsDeviceFault why
+other_length : {P : Type 0} (number : ℕ) (archive : Reader P) (entries : Entries) (o : Operations) (text : List ℕ) (at : InputName) (why : Why) → IsIndexFile o text → IsGiven archive (written o) → entries ≡ index o → IsOfOtherLength number archive entries at why → IsDeviceFault why
 other_length number archive entries o text at why file known is (inl (place, unread)) = opened_device archive (written o) why known unread
 other_length number archive entries o text at why file known is (inr (place, unfailed, stale, other)) =
     absurd (same_length archive o text file known (subst (λ (s : Entries). HasOtherLength archive s) is other))
 
-pub by_device : {I P : Type 0} (number : ℕ) (input : Reader I) (archive : Reader P) (o : Operations) (at : Place) (why : Why) → IsIndexGiven input o → IsGiven archive (written o) → IsRefusedByIndex number input archive at why → IsDeviceFault why
+pub by_device : {I P : Type 0} (number : ℕ) (input : Reader I) (archive : Reader P) (o : Operations) (at : InputName) (why : Why) → IsIndexGiven input o → IsGiven archive (written o) → IsRefusedByIndex number input archive at why → IsDeviceFault why
 by_device number input archive o at why of known (inl (place, unread, untouched)) = unread_device input o why of unread
 by_device number input archive o at why (text, given, file) known (inr (entries, holds, unfailed, other)) =
     other_length number archive entries o text at why file known (entries_are input o entries (text, given, file) holds) other
@@ -98,7 +98,7 @@ module _ (o : Operations) (text : List ℕ) (file : IsIndexFile o text) where
   never_stale : {P : Type 0} (archive : Reader P) (fronts : List (List ℕ)) (entry : Option ℕ) → IsGiven archive (written o) → IsStaleFor fronts archive (index o) entry → ⊥
   never_stale archive fronts entry known h = not_stale fronts entry (of_given archive (written o) (λ t. IsStaleUnder fronts (index o) t entry) known h)
 
-  pub at_places : {P : Type 0} (fronts : List (List ℕ)) (number : ℕ) (archive : Reader P) (entries : List (List ℕ)) (at : Place) (why : Why) → placed_of entries ≡ index o → IsGiven archive (written o) → IsRefusedAtPlaces fronts number archive entries at why → IsDeviceFault why
+  pub at_places : {P : Type 0} (fronts : List (List ℕ)) (number : ℕ) (archive : Reader P) (entries : List (List ℕ)) (at : InputName) (why : Why) → placed_of entries ≡ index o → IsGiven archive (written o) → IsRefusedAtPlaces fronts number archive entries at why → IsDeviceFault why
   at_places fronts number archive entries at why is known (inl (place, unread)) = opened_device archive (written o) why known unread
   at_places fronts number archive entries at why is known (inr (place, unfailed, (entry, why_is, stale))) =
       absurd (never_stale archive fronts entry known (subst (λ (s : Entries). IsStaleFor fronts archive s entry) is stale))

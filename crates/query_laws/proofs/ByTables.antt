@@ -12,7 +12,7 @@ use Rattle.archive_queries.specs.Frames.{IsFrameAnswered, TellsFrames}
 use Rattle.archive_queries.specs.Symbolicate.{Answered, IsAnswered, TellsAddresses, asked_of}
 use Rattle.archive_queries.proofs.Answered.{told_alike}
 use Rattle.command_ends.specs.Inputs.{IsDeviceFault, IsGiven, Reader}
-use Rattle.command_ends.specs.declared.faults.Place.{Place}
+use Rattle.command_ends.specs.declared.faults.InputName.{InputName}
 use Rattle.command_ends.specs.declared.faults.Status.{Status}
 use Rattle.command_ends.specs.declared.faults.Why.{Why}
 use Rattle.crash_frames.specs.declared.frame.Frame.{Frame}
@@ -151,7 +151,7 @@ module _ {I P : Type 0} (inputs : List (Reader I)) (archives : List (Reader P)) 
 
 -- ---- what is refused
 
-module _ {I P : Type 0} (keys : List (List ℕ)) (inputs : List (Reader I)) (archives : List (Reader P)) (at : Place) (why : Why) where
+module _ {I P : Type 0} (keys : List (List ℕ)) (inputs : List (Reader I)) (archives : List (Reader P)) (at : InputName) (why : Why) where
   untold_table : (indexes : List (Reader I)) (answering : List EntryAt) → IsUnreadTable indexes answering at why → IsDeviceFault why
   untold_table indexes answering u = subst IsDeviceFault (sym u.why_is) refl
 

@@ -5,7 +5,7 @@ use Rattle.archive_records.specs.Text.{written}
 use Rattle.archive_index.specs.Index.{index}
 use Rattle.table_index.specs.Text.{placed_of}
 use Rattle.command_ends.specs.Inputs.{IsDeviceFault, IsGiven, Reader}
-use Rattle.command_ends.specs.declared.faults.Place.{Place}
+use Rattle.command_ends.specs.declared.faults.InputName.{InputName}
 use Rattle.command_ends.specs.declared.faults.Why.{Why}
 use Rattle.index_laws.specs.Indexes.{IsIndexFile}
 use Rattle.indexed_queries.specs.Several.{AreRefusedLater, AreRefusedTogether}
@@ -28,7 +28,7 @@ own_read index archive o all ((text, given, file), known) read = record { text =
 own_later : {P : Type 0} (archive : Reader P) (all : List (List ℕ)) (o : Operations) (later : Reader P) → IsOwnRead archive all o → IsLater archive later → IsOwnRead later all o
 own_later archive all o later own is = record { text = own.text; file = own.file; entries = own.entries; known = still_given archive later (written o) is own.known }
 
-module _ {I P : Type 0} (fronts : List (List ℕ)) (inputs : List (Reader I)) (archives : List (Reader P)) (os : List Operations) (at : Place) (why : Why) (are : AreOwnIndexes inputs archives os) where
+module _ {I P : Type 0} (fronts : List (List ℕ)) (inputs : List (Reader I)) (archives : List (Reader P)) (os : List Operations) (at : InputName) (why : Why) (are : AreOwnIndexes inputs archives os) where
   pub first_by_device : IsFirstRefusedByIndex inputs archives at why → IsDeviceFault why
   first_by_device r =
       let found = three_at IsOwnIndex inputs archives os r.number r.index r.archive are r.index_is.is r.archive_is.is in

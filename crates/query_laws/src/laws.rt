@@ -19,7 +19,7 @@ ghost use Rattle.crash_frames.specs.Frames.{frames_of};
 ghost use Rattle.crash_frames.specs.declared.frame.Frame.{Frame};
 ghost use Rattle.command_ends.specs.Inputs.{IsDeviceFault, IsGiven, Reader};
 ghost use Rattle.command_ends.specs.Outputs.{summary_report_of};
-ghost use Rattle.command_ends.specs.declared.faults.Place.{Place};
+ghost use Rattle.command_ends.specs.declared.faults.InputName.{InputName};
 ghost use Rattle.command_ends.specs.declared.faults.Status.{Status};
 ghost use Rattle.command_ends.specs.declared.faults.Why.{Why};
 ghost use Rattle.report_text.specs.Finds.{list_lines};
@@ -70,11 +70,11 @@ pub fn summarized_by_index<I: Placed, P: Placed>()
 /// With the indexes of these very archives a command is refused for a device alone: no index of its own content is
 /// stale.
 pub fn right_index_is_accepted<I: Placed, P: Placed>()
-    ensures alone { (number : ℕ) (input : Reader I) (archive : Reader P) (o : Operations) (at : Place) (why : Why)
+    ensures alone { (number : ℕ) (input : Reader I) (archive : Reader P) (o : Operations) (at : InputName) (why : Why)
         → IsIndexGiven input o → IsGiven archive (written o) → IsRefusedByIndex number input archive at why
         → IsDeviceFault why }
     ensures together { (fronts : List (List ℕ)) (inputs : List (Reader I)) (archives : List (Reader P))
-        (os : List Operations) (at : Place) (why : Why) → AreOwnIndexes inputs archives os
+        (os : List Operations) (at : InputName) (why : Why) → AreOwnIndexes inputs archives os
         → AreRefusedTogether fronts inputs archives at why → IsDeviceFault why }
 {}
 
@@ -145,9 +145,9 @@ pub fn framed_by_indexes<I: Placed, P: Placed>()
 /// of these very archives all that is refused is so.
 pub fn undamaged_by_indexes<I: Placed, P: Placed>()
     ensures tables { (keys : List (List ℕ)) (inputs : List (Reader I)) (archives : List (Reader P))
-        (os : List Operations) (at : Place) (why : Why) → AreIndexesGiven inputs os
+        (os : List Operations) (at : InputName) (why : Why) → AreIndexesGiven inputs os
         → AreUntold keys inputs archives at why → IsDeviceFault why }
     ensures asked { (lines : Bool) (keys : List (List ℕ)) (inputs : List (Reader I)) (archives : List (Reader P))
-        (os : List Operations) (at : Place) (why : Why) → AreOwnIndexes inputs archives os
+        (os : List Operations) (at : InputName) (why : Why) → AreOwnIndexes inputs archives os
         → AreRefusedAsking lines keys inputs archives at why → IsDeviceFault why }
 {}

@@ -9,7 +9,7 @@ pub mod Unread
 pub mod Merges
 pub mod Tells
 pub mod Shares
-pub mod Lents
+pub mod BorrowedSides
 pub mod Tellings
 pub mod Lost
 pub mod Rises

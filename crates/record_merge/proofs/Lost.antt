@@ -8,35 +8,35 @@ use Rattle.archive_core.specs.Content.{Operations, changes, is_covered}
 use Rattle.archive_records.specs.declared.kind.TextKind.TheVariants.{Archive as Archive_text}
 use Rattle.archive_records.specs.declared.writing.Sizes.{Sizes}
 use Rattle.archive_records.specs.Reading.{IsReadWhole}
-use Rattle.record_merge.specs.declared.turns.Turn.{Turn}
+use Rattle.record_merge.specs.declared.arrivals.Arrival.{Arrival}
 use Rattle.archive_records.specs.declared.fault.MergeCause.{MergeCause}
 use Rattle.archive_records.specs.declared.fault.MergeCause.TheVariants.{Left, Right, Write}
 use Rattle.record_merge.specs.Losses.{IsNotCompared, Loses}
 use Rattle.record_merge.specs.Merging.{StopsBy}
 use Rattle.record_merge.specs.Telling.{IsMergedTelling}
-use Rattle.record_merge.specs.Turns.{is_new, turn_by, turn_of}
+use Rattle.record_merge.specs.Arrivals.{is_new, arrival_by, arrival_of}
 
-new_by : (has covered : Bool) → is_new (turn_by covered has) ≡ not (has || covered)
+new_by : (has covered : Bool) → is_new (arrival_by covered has) ≡ not (has || covered)
 new_by has covered = grind arith
 
 -- a record is new where it changes the content
-pub new_changes : (o : Operations) (r : List ℕ) → is_new (turn_of o r) ≡ changes o r
-unfolding turn_of changes
+pub new_changes : (o : Operations) (r : List ℕ) → is_new (arrival_of o r) ≡ changes o r
+unfolding arrival_of changes
 new_changes o r = new_by (set.contains o r) (is_covered o r)
 
-pub count_new : (o : Operations) (rs : List (List ℕ)) → count_by is_new (map (turn_of o) rs) ≡ count_by (changes o) rs
-count_new o rs = fold-map (λ n t. n + cond (is_new t) 1 0) (turn_of o) 0 rs ∙ (λ i. count_by (λ r. new_changes o r i) rs)
+pub count_new : (o : Operations) (rs : List (List ℕ)) → count_by is_new (map (arrival_of o) rs) ≡ count_by (changes o) rs
+count_new o rs = fold-map (λ n t. n + cond (is_new t) 1 0) (arrival_of o) 0 rs ∙ (λ i. count_by (λ r. new_changes o r i) rs)
 
-pub loses : {R S W : Type 0} (new : Stream R) (old : Stream S) (out : Stream W) (sizes : Sizes) (turns : List Turn) (withdraws : Bool) (n : ℕ)
-    → IsMergedTelling new old out sizes turns withdraws → n ≡ count_by is_new turns → Loses new old n
-loses new old out sizes turns withdraws n t count = record {
+pub loses : {R S W : Type 0} (new : Stream R) (old : Stream S) (out : Stream W) (sizes : Sizes) (arrivals : List Arrival) (withdraws : Bool) (n : ℕ)
+    → IsMergedTelling new old out sizes arrivals withdraws → n ≡ count_by is_new arrivals → Loses new old n
+loses new old out sizes arrivals withdraws n t count = record {
   content = t.merged.o;
   operations = t.operations;
   new_is = t.merged.left_is;
   old_is = subst (λ o. IsReadWhole Archive_text o old.bytes old.failures old.old old.new) t.makes t.merged.right_is;
   are = t.are;
   old_has = t.right_is;
-  lost_is = count ∙ ap (count_by is_new) t.turns_are ∙ count_new t.merged.o (listing t.operations);
+  lost_is = count ∙ ap (count_by is_new) t.arrivals_are ∙ count_new t.merged.o (listing t.operations);
 }
 
 -- why two archives are not compared: a merge of both stopped so, and its writer never fails

@@ -17,7 +17,7 @@ use Rattle.archive_records.proofs.Apart.{in_set}
 use Rattle.archive_records.proofs.Puts.{bytes_same}
 use Rattle.record_merge.specs.declared.side.Lookahead.TheVariants.{Held}
 use Rattle.record_merge.specs.declared.side.MergeInput.{MergeInput}
-use Rattle.record_merge.specs.declared.turns.Turn.{Turn}
+use Rattle.record_merge.specs.declared.arrivals.Arrival.{Arrival}
 use Rattle.record_merge.specs.declared.merging.Merge.{Merge}
 use Rattle.record_merge.specs.Sides.{Sides, side_with, sides_of}
 use Rattle.record_merge.specs.MergeSteps.{Merging, Stands, first_of}
@@ -149,7 +149,7 @@ module _ {B : Type 0} (seen : B → MergeInput) (m : Merge B) (r : List ℕ) (mo
     pub merging_shared : Merging a1 b1 a2 b2 w0 w1 (sides_of seen m) → Merging a1 b1 a2 b2 w0 w1 (sides_of seen after)
     merging_shared p = subst (Merging a1 b1 a2 b2 w0 w1) sides_are (merging_seen p)
 
-    pub telling_shared : (told : List Turn) (withdraws : Bool) → Telling a1 b1 a2 b2 w0 w1 (sides_of seen m) told withdraws → Telling a1 b1 a2 b2 w0 w1 (sides_of seen after) told withdraws
+    pub telling_shared : (told : List Arrival) (withdraws : Bool) → Telling a1 b1 a2 b2 w0 w1 (sides_of seen m) told withdraws → Telling a1 b1 a2 b2 w0 w1 (sides_of seen after) told withdraws
     telling_shared told withdraws t =
-        let now : Telling a1 b1 a2 b2 w0 w1 shares told withdraws = record { merging = merging_seen t.merging; turns_are = t.turns_are; withdraws_is = t.withdraws_is } in
+        let now : Telling a1 b1 a2 b2 w0 w1 shares told withdraws = record { merging = merging_seen t.merging; arrivals_are = t.arrivals_are; withdraws_is = t.withdraws_is } in
         subst (λ (s : Sides). Telling a1 b1 a2 b2 w0 w1 s told withdraws) sides_are now

@@ -24,9 +24,9 @@ use Rattle.archive_records.proofs.Puts.{bytes_same}
 use Rattle.archive_records.proofs.Versions.{kept_records, no_operations, old_written-records, old_written_text}
 use Rattle.record_merge.specs.Merging.{IsUnfailed}
 use Rattle.record_merge.specs.Telling.{HasOperations, IsMergedTelling}
-use Rattle.record_merge.specs.declared.turns.Turn.{Turn}
+use Rattle.record_merge.specs.declared.arrivals.Arrival.{Arrival}
 use Rattle.record_merge.specs.TellingSteps.{ToldAll, is_withdrawn}
-use Rattle.record_merge.specs.Turns.{turn_by, turn_of}
+use Rattle.record_merge.specs.Arrivals.{arrival_by, arrival_of}
 use Rattle.record_merge.proofs.Fronts.{taken_made, taken_rest}
 use Rattle.record_merge.proofs.Merges.{merged}
 use Rattle.record_merge.proofs.Tells.{same_answers}
@@ -36,12 +36,12 @@ use Rattle.record_merge.proofs.Tells.{same_answers}
 listing_of : (xs : List (List ℕ)) → InOrder Archive [] xs → listing (set_of xs) ≡ xs
 listing_of xs a = listing_ascending nat_list_cmp_total bytes_same xs (sorted-InOrder [] xs a).1
 
-same_turn : (a b : Bool) → turn_by b (a && not b) ≡ turn_by b a
-same_turn a b = grind arith
+same_arrival : (a b : Bool) → arrival_by b (a && not b) ≡ arrival_by b a
+same_arrival a b = grind arith
 
-turn_made : (o : Operations) (r : List ℕ) → turn_of (content_of o) r ≡ turn_of o r
-unfolding turn_of
-turn_made o r = (λ i. turn_by (is_admission r && covers_same o r i) (contains_made o r i)) ∙ same_turn (set.contains o r) (is_covered o r)
+arrival_made : (o : Operations) (r : List ℕ) → arrival_of (content_of o) r ≡ arrival_of o r
+unfolding arrival_of
+arrival_made o r = (λ i. arrival_by (is_admission r && covers_same o r i) (contains_made o r i)) ∙ same_arrival (set.contains o r) (is_covered o r)
 
 -- what is retired among what is kept of records
 any_kept : (p q : List ℕ → Bool) (xs : List (List ℕ)) → list_any (λ r. p r && q r) xs ≡ list_any p (filter q xs)
@@ -93,9 +93,9 @@ one_set text o p has other =
 
 -- ---- what was told
 
-module _ {R S W : Type 0} (left : Stream R) (right : Stream S) (out : Stream W) (sizes : Sizes) (turns : List Turn) (withdraws : Bool) where
-  pub merged_telling : ToldAll (left.bytes left.old) (left.bytes left.new) (right.bytes right.old) (right.bytes right.new) (out.bytes out.old) (out.bytes out.new) sizes turns withdraws
-      → IsUnfailed left × IsUnfailed right × IsUnfailed out → IsMergedTelling left right out sizes turns withdraws
+module _ {R S W : Type 0} (left : Stream R) (right : Stream S) (out : Stream W) (sizes : Sizes) (arrivals : List Arrival) (withdraws : Bool) where
+  pub merged_telling : ToldAll (left.bytes left.old) (left.bytes left.new) (right.bytes right.old) (right.bytes right.new) (out.bytes out.old) (out.bytes out.new) sizes arrivals withdraws
+      → IsUnfailed left × IsUnfailed right × IsUnfailed out → IsMergedTelling left right out sizes arrivals withdraws
   unfolding merged
   merged_telling t unfailed =
       let m = t.merged.merging.both in
@@ -111,9 +111,9 @@ module _ {R S W : Type 0} (left : Stream R) (right : Stream S) (out : Stream W) 
         are = are_records m.rights rights_in;
         right_is = of_taken (right.bytes right.old) (right.bytes right.new) (set_of m.rights) (text_of t.merged.sides.right.reader.file m.rights) r.0.taken r.1 (of_text t.merged.sides.right.reader.file m.right.archive m.rights rights_in r.0.apart);
         makes = taken_made t.merged.sides.right.reader.file m.right.archive m.rights rights_in r.0.apart;
-        turns_are = t.turns_are
-            ∙ same_answers (turn_of (set_of m.lefts)) (turn_of (set_of (taken_of f m.lefts))) m.rights (λ x _. sym (turn_made (set_of m.lefts) x) ∙ ap (λ (o : Operations). turn_of o x) (sym taken))
-            ∙ ap (map (turn_of (set_of (taken_of f m.lefts)))) (sym (listing_of m.rights rights_in));
+        arrivals_are = t.arrivals_are
+            ∙ same_answers (arrival_of (set_of m.lefts)) (arrival_of (set_of (taken_of f m.lefts))) m.rights (λ x _. sym (arrival_made (set_of m.lefts) x) ∙ ap (λ (o : Operations). arrival_of o x) (sym taken))
+            ∙ ap (map (arrival_of (set_of (taken_of f m.lefts)))) (sym (listing_of m.rights rights_in));
         withdraws_is = t.withdraws_is ∙ withdrawn_kept m.lefts (set_of m.rights) lefts_in
             ∙ ap (λ (o : Operations). list_any (is_covered (set_of m.rights)) (listing o)) (sym taken);
       }
@@ -128,13 +128,13 @@ module _ (P : Operations → Operations → Type 0) where
   told_by o operations is (Some t) None alone has = tt
   told_by o operations is (Some t) (Some u) alone has = λ q p content text other. rw (← alone q content text, ← one_set u operations p has other) is
 
-module _ {R S W : Type 0} (left : Stream R) (right : Stream S) (out : Stream W) (sizes : Sizes) (turns : List Turn) (withdraws : Bool) (told : ToldAll (left.bytes left.old) (left.bytes left.new) (right.bytes right.old) (right.bytes right.new) (out.bytes out.old) (out.bytes out.new) sizes turns withdraws) (unfailed : IsUnfailed left × IsUnfailed right × IsUnfailed out) where
-  pub turns_of_texts : ToldOfTexts (λ o p. turns ≡ map (turn_of o) (listing p)) (left.bytes left.old) (right.bytes right.old)
-  turns_of_texts =
-      let t = merged_telling left right out sizes turns withdraws told unfailed in
-      told_by (λ o p. turns ≡ map (turn_of o) (listing p)) t.merged.o t.operations t.turns_are (left.bytes left.old) (right.bytes right.old) t.merged.left_is.alone t.right_is
+module _ {R S W : Type 0} (left : Stream R) (right : Stream S) (out : Stream W) (sizes : Sizes) (arrivals : List Arrival) (withdraws : Bool) (told : ToldAll (left.bytes left.old) (left.bytes left.new) (right.bytes right.old) (right.bytes right.new) (out.bytes out.old) (out.bytes out.new) sizes arrivals withdraws) (unfailed : IsUnfailed left × IsUnfailed right × IsUnfailed out) where
+  pub arrivals_of_texts : ToldOfTexts (λ o p. arrivals ≡ map (arrival_of o) (listing p)) (left.bytes left.old) (right.bytes right.old)
+  arrivals_of_texts =
+      let t = merged_telling left right out sizes arrivals withdraws told unfailed in
+      told_by (λ o p. arrivals ≡ map (arrival_of o) (listing p)) t.merged.o t.operations t.arrivals_are (left.bytes left.old) (right.bytes right.old) t.merged.left_is.alone t.right_is
 
   pub withdraws_of_texts : ToldOfTexts (λ o p. withdraws ≡ list_any (is_covered p) (listing o)) (left.bytes left.old) (right.bytes right.old)
   withdraws_of_texts =
-      let t = merged_telling left right out sizes turns withdraws told unfailed in
+      let t = merged_telling left right out sizes arrivals withdraws told unfailed in
       told_by (λ o p. withdraws ≡ list_any (is_covered p) (listing o)) t.merged.o t.operations t.withdraws_is (left.bytes left.old) (right.bytes right.old) t.merged.left_is.alone t.right_is

@@ -31,10 +31,10 @@ use Rattle.archive_records.proofs.Undecided.{cut_off}
 use Rattle.record_merge.specs.Sides.{Sides}
 use Rattle.record_merge.specs.declared.side.Lookahead.TheVariants.{Unread}
 use Rattle.record_merge.specs.declared.side.MergeInput.{MergeInput}
-use Rattle.record_merge.specs.declared.turns.Turn.{Turn}
+use Rattle.record_merge.specs.declared.arrivals.Arrival.{Arrival}
 use Rattle.record_merge.specs.MergeSteps.{HasEnded, HasStoppedMerge, IsBeforeTurn, Joins, MergedAll, Merging, Stands, TellsBy, TellsCovered, after_turn, first_of, left_after, memory_behind, next_record, next_record_by, right_after, Both}
 use Rattle.record_merge.specs.TellingSteps.{Telling, TellsNextBy, TellsNext, ToldAll, has_next, has_next_by, is_withdrawn, told_with}
-use Rattle.record_merge.specs.Turns.{turn_by, turn_of}
+use Rattle.record_merge.specs.Arrivals.{arrival_by, arrival_of}
 use Rattle.record_merge.proofs.Covered.{covered_by, not_same}
 use Rattle.record_merge.proofs.MergeSteps.{first_less, first_equal, first_greater, held_dropped, held_record, next_turn, passed, wrote}
 use Rattle.record_merge.proofs.Starts.{left_read, right_read, memory_stopped, merging_start}
@@ -63,22 +63,22 @@ module _ (out : List (List ℕ)) (x : List ℕ) (above : may_follow Archive (las
 
 module _ (out lefts rights : List (List ℕ)) (x : List ℕ) (j : Joins out lefts rights) (above : may_follow Archive (last_of [] out) x ≡ true) where
   -- of the left side: what was told stays
-  turn_as : (r : List ℕ) → may_follow Archive (last_of [] out) r ≡ false → turn_of (set_of (lefts ++ x ∷ [])) r ≡ turn_of (set_of lefts) r
-  unfolding turn_of
-  turn_as r under = rw (contains-push lefts x r, not_same r x (λ same. cc), covered_as out x above lefts r under)
+  arrival_as : (r : List ℕ) → may_follow Archive (last_of [] out) r ≡ false → arrival_of (set_of (lefts ++ x ∷ [])) r ≡ arrival_of (set_of lefts) r
+  unfolding arrival_of
+  arrival_as r under = rw (contains-push lefts x r, not_same r x (λ same. cc), covered_as out x above lefts r under)
 
-  told_still : map (turn_of (set_of (lefts ++ x ∷ []))) rights ≡ map (turn_of (set_of lefts)) rights
-  told_still = same_answers (turn_of (set_of (lefts ++ x ∷ []))) (turn_of (set_of lefts)) rights (λ r c. turn_as r (up_to_last [] r out j.ordered (j.right r c)))
+  told_still : map (arrival_of (set_of (lefts ++ x ∷ []))) rights ≡ map (arrival_of (set_of lefts)) rights
+  told_still = same_answers (arrival_of (set_of (lefts ++ x ∷ []))) (arrival_of (set_of lefts)) rights (λ r c. arrival_as r (up_to_last [] r out j.ordered (j.right r c)))
 
   -- it is there, or covered
-  turn_there : turn_of (set_of (lefts ++ x ∷ [])) x ≡ turn_by (is_covered (set_of lefts) x) true
-  unfolding turn_of
-  turn_there = rw (in_set (lefts ++ x ∷ []) x (Contains-push lefts x), covered_push lefts x)
+  arrival_there : arrival_of (set_of (lefts ++ x ∷ [])) x ≡ arrival_by (is_covered (set_of lefts) x) true
+  unfolding arrival_of
+  arrival_there = rw (in_set (lefts ++ x ∷ []) x (Contains-push lefts x), covered_push lefts x)
 
   -- of the right side alone: it is new, or covered
-  turn_alone : turn_of (set_of lefts) x ≡ turn_by (is_covered (set_of lefts) x) false
-  unfolding turn_of
-  turn_alone = ap (turn_by (is_covered (set_of lefts) x)) (is_false (contains (set_of lefts) x) (λ has. cc (above, up_to_last [] x out j.ordered (j.left x (from_set lefts x has)))))
+  arrival_alone : arrival_of (set_of lefts) x ≡ arrival_by (is_covered (set_of lefts) x) false
+  unfolding arrival_of
+  arrival_alone = ap (arrival_by (is_covered (set_of lefts) x)) (is_false (contains (set_of lefts) x) (λ has. cc (above, up_to_last [] x out j.ordered (j.left x (from_set lefts x has)))))
 
   -- what is retired of the left side stays
   withdrawn_left : list_any (is_withdrawn (set_of (lefts ++ x ∷ [])) (set_of rights)) lefts ≡ list_any (is_withdrawn (set_of lefts) (set_of rights)) lefts
@@ -95,31 +95,31 @@ withdraws_more d c w = grind arith
 
 -- ---- a turn
 
-module _ (a1 b1 a2 b2 w0 w1 : Option (List ℕ)) (m : Sides) (told : List Turn) (withdraws : Bool) (turn : Option Turn) (t : Telling a1 b1 a2 b2 w0 w1 m told withdraws) (tells : TellsNext m turn) (before : IsBeforeTurn m) where
+module _ (a1 b1 a2 b2 w0 w1 : Option (List ℕ)) (m : Sides) (told : List Arrival) (withdraws : Bool) (arrival : Option Arrival) (t : Telling a1 b1 a2 b2 w0 w1 m told withdraws) (tells : TellsNext m arrival) (before : IsBeforeTurn m) where
   abbrev p : Merging a1 b1 a2 b2 w0 w1 m
   p = t.merging
 
   abbrev after : (o : Ordering) → first_of m.left m.right ≡ o → Both a1 b1 a2 b2 (left_after o m.left) (right_after o m.right) (p.out ++ next_record_by o m ∷ [])
   after o first = next_turn a1 b1 a2 b2 w0 w1 m p before o first
 
-  told_next : (o : Ordering) (first : first_of m.left m.right ≡ o) → TellsNextBy o m.left m.right turn → told_with told turn ≡ map (turn_of (set_of (after o first).lefts)) (after o first).rights
+  told_next : (o : Ordering) (first : first_of m.left m.right ≡ o) → TellsNextBy o m.left m.right arrival → told_with told arrival ≡ map (arrival_of (set_of (after o first).lefts)) (after o first).rights
   unfolding next_turn
   told_next Less first is =
       let f = first_less m.left.ahead m.right.ahead _ first in
-      ap (told_with told) is ∙ t.turns_are ∙ sym (told_still p.out p.both.lefts p.both.rights m.left.reader.last p.both.joins (p.both.left.held f.0).1)
+      ap (told_with told) is ∙ t.arrivals_are ∙ sym (told_still p.out p.both.lefts p.both.rights m.left.reader.last p.both.joins (p.both.left.held f.0).1)
   told_next Equal first is =
       let x = m.left.reader.last in
       let f = first_equal m.left.ahead m.right.ahead _ first in
       let above = (p.both.left.held f.0).1 in
       let own = held_dropped a1 b1 p.both.lefts (last_of [] p.out) m.left p.both.left f.0 in
       let same = told_still p.out p.both.lefts p.both.rights x p.both.joins above in
-      ap (told_with told) is ∙ cc (t.turns_are, same, own, turn_there p.out p.both.lefts p.both.rights x p.both.joins above, map-append (turn_of (set_of (p.both.lefts ++ x ∷ []))) p.both.rights (x ∷ []))
+      ap (told_with told) is ∙ cc (t.arrivals_are, same, own, arrival_there p.out p.both.lefts p.both.rights x p.both.joins above, map-append (arrival_of (set_of (p.both.lefts ++ x ∷ []))) p.both.rights (x ∷ []))
   told_next Greater first is =
       let x = m.right.reader.last in
       let f = first_greater m.left.ahead m.right.ahead _ before.read.left before.some first in
       let whole = held_record a2 b2 p.both.rights (last_of [] p.out) m.right p.both.right f.0 in
       let covers = covered_by a1 b1 p.both.lefts (last_of [] p.out) m.left x p.both.left before.read.left (λ held. below-greater _ _ (f.1 held)) in
-      ap (told_with told) (is whole) ∙ cc (t.turns_are, covers, turn_alone p.out p.both.lefts p.both.rights x p.both.joins (p.both.right.held f.0).1, map-append (turn_of (set_of p.both.lefts)) p.both.rights (x ∷ []))
+      ap (told_with told) (is whole) ∙ cc (t.arrivals_are, covers, arrival_alone p.out p.both.lefts p.both.rights x p.both.joins (p.both.right.held f.0).1, map-append (arrival_of (set_of p.both.lefts)) p.both.rights (x ∷ []))
 
   -- whether the record that is passed over or written is one that the right side retires
   withdraws_next : (passed : Bool) (o : Ordering) (first : first_of m.left m.right ≡ o) → TellsBy o m.left m.right passed
@@ -153,34 +153,34 @@ module _ (a1 b1 a2 b2 w0 w1 : Option (List ℕ)) (m : Sides) (told : List Turn) 
       same ∙ t.withdraws_is ∙ sym (withdrawn_right p.out p.both.lefts p.both.rights x p.both.joins (p.both.right.held f.0).1 p.both.lefts)
 
   -- the record is passed over
-  pub tells_passed : TellsCovered m.left m.right true → Telling a1 b1 a2 b2 w0 w1 (after_turn m m.written) (told_with told turn) (has_next m || withdraws)
+  pub tells_passed : TellsCovered m.left m.right true → Telling a1 b1 a2 b2 w0 w1 (after_turn m m.written) (told_with told arrival) (has_next m || withdraws)
   unfolding passed
-  tells_passed covered = record { merging = passed a1 b1 a2 b2 w0 w1 m p before covered; turns_are = told_next (first_of m.left m.right) refl tells; withdraws_is = withdraws_next true (first_of m.left m.right) refl covered }
+  tells_passed covered = record { merging = passed a1 b1 a2 b2 w0 w1 m p before covered; arrivals_are = told_next (first_of m.left m.right) refl tells; withdraws_is = withdraws_next true (first_of m.left m.right) refl covered }
 
   -- or written
   pub tells_wrote : TellsCovered m.left m.right false → (w2 : Option (List ℕ)) (written : Sizes) → written.records ≡ m.written.records + 1 → written.bytes ≡ m.written.bytes + length (next_record m) → Appends w1 w2 (next_record m)
-      → Telling a1 b1 a2 b2 w0 w2 (after_turn m written) (told_with told turn) withdraws
+      → Telling a1 b1 a2 b2 w0 w2 (after_turn m written) (told_with told arrival) withdraws
   unfolding wrote
-  tells_wrote free w2 written records bytes gained = record { merging = wrote a1 b1 a2 b2 w0 w1 m p before free w2 written records bytes gained; turns_are = told_next (first_of m.left m.right) refl tells; withdraws_is = withdraws_next false (first_of m.left m.right) refl free }
+  tells_wrote free w2 written records bytes gained = record { merging = wrote a1 b1 a2 b2 w0 w1 m p before free w2 written records bytes gained; arrivals_are = told_next (first_of m.left m.right) refl tells; withdraws_is = withdraws_next false (first_of m.left m.right) refl free }
 
 -- ---- the magics were read
 
 pub tells_start : (a1 b1 a2 b2 w0 w1 : Option (List ℕ)) (left right : MergeInput) (f : kind_of left.reader.file ≡ Archive_text) (g : kind_of right.reader.file ≡ Archive_text) (h : HasRead left.reader.file a1 b1 [] left.reader) (k : HasRead right.reader.file a2 b2 [] right.reader) (s : left.ahead ≡ Unread) (t : right.ahead ≡ Unread)
     (x : List ℕ) (x_is : x ≡ magic) (written : ℕ) → written ≡ 0 + length x → Appends w0 w1 x → Telling a1 b1 a2 b2 w0 w1 (record { left = left; right = right; written = record { records = 0; bytes = written } }) [] false
 unfolding merging_start
-tells_start a1 b1 a2 b2 w0 w1 left right f g h k s t x x_is written n p = record { merging = merging_start a1 b1 a2 b2 w0 w1 left right f g h k s t x x_is written n p; turns_are = refl; withdraws_is = refl }
+tells_start a1 b1 a2 b2 w0 w1 left right f g h k s t x x_is written n p = record { merging = merging_start a1 b1 a2 b2 w0 w1 left right f g h k s t x x_is written n p; arrivals_are = refl; withdraws_is = refl }
 
 -- ---- a side is read on
 
-pub tells_left_read : (a1 a2 w0 w1 b1 b2 c1 : Option (List ℕ)) (m : Sides) (told : List Turn) (withdraws : Bool) → Telling a1 b1 a2 b2 w0 w1 m told withdraws → (left : MergeInput) → left.ahead ≢ Unread → ((done : List (List ℕ)) (low : List ℕ) → Stands a1 b1 done low m.left → Stands a1 c1 done low left)
+pub tells_left_read : (a1 a2 w0 w1 b1 b2 c1 : Option (List ℕ)) (m : Sides) (told : List Arrival) (withdraws : Bool) → Telling a1 b1 a2 b2 w0 w1 m told withdraws → (left : MergeInput) → left.ahead ≢ Unread → ((done : List (List ℕ)) (low : List ℕ) → Stands a1 b1 done low m.left → Stands a1 c1 done low left)
     → Telling a1 c1 a2 b2 w0 w1 (record { left = left; right = m.right; written = m.written }) told withdraws
 unfolding left_read
-tells_left_read a1 a2 w0 w1 b1 b2 c1 m told withdraws t left read stands = record { merging = left_read a1 a2 w0 w1 b1 b2 c1 m t.merging left read stands; turns_are = t.turns_are; withdraws_is = t.withdraws_is }
+tells_left_read a1 a2 w0 w1 b1 b2 c1 m told withdraws t left read stands = record { merging = left_read a1 a2 w0 w1 b1 b2 c1 m t.merging left read stands; arrivals_are = t.arrivals_are; withdraws_is = t.withdraws_is }
 
-pub tells_right_read : (a1 a2 w0 w1 b1 b2 c2 : Option (List ℕ)) (m : Sides) (told : List Turn) (withdraws : Bool) → Telling a1 b1 a2 b2 w0 w1 m told withdraws → m.left.ahead ≢ Unread → (right : MergeInput) → ((done : List (List ℕ)) (low : List ℕ) → Stands a2 b2 done low m.right → Stands a2 c2 done low right)
+pub tells_right_read : (a1 a2 w0 w1 b1 b2 c2 : Option (List ℕ)) (m : Sides) (told : List Arrival) (withdraws : Bool) → Telling a1 b1 a2 b2 w0 w1 m told withdraws → m.left.ahead ≢ Unread → (right : MergeInput) → ((done : List (List ℕ)) (low : List ℕ) → Stands a2 b2 done low m.right → Stands a2 c2 done low right)
     → Telling a1 b1 a2 c2 w0 w1 (record { left = m.left; right = right; written = m.written }) told withdraws
 unfolding right_read
-tells_right_read a1 a2 w0 w1 b1 b2 c2 m told withdraws t read right stands = record { merging = right_read a1 a2 w0 w1 b1 b2 c2 m t.merging read right stands; turns_are = t.turns_are; withdraws_is = t.withdraws_is }
+tells_right_read a1 a2 w0 w1 b1 b2 c2 m told withdraws t read right stands = record { merging = right_read a1 a2 w0 w1 b1 b2 c2 m t.merging read right stands; arrivals_are = t.arrivals_are; withdraws_is = t.withdraws_is }
 
 -- ---- want of memory before the right side is read on
 
@@ -208,10 +208,10 @@ no_room a1 b1 a2 b2 w0 w1 m p read unread few e fault offset is memory at =
 -- ---- what is told
 
 -- the same, as it is held
-pub tells_as : (a1 b1 a2 b2 w0 w1 : Option (List ℕ)) (m : Sides) (told held : List Turn) (withdraws kept : Bool) → held ≡ told → kept ≡ withdraws → Telling a1 b1 a2 b2 w0 w1 m told withdraws → Telling a1 b1 a2 b2 w0 w1 m held kept
+pub tells_as : (a1 b1 a2 b2 w0 w1 : Option (List ℕ)) (m : Sides) (told held : List Arrival) (withdraws kept : Bool) → held ≡ told → kept ≡ withdraws → Telling a1 b1 a2 b2 w0 w1 m told withdraws → Telling a1 b1 a2 b2 w0 w1 m held kept
 tells_as a1 b1 a2 b2 w0 w1 m told held withdraws kept same alike t = record {
   merging = t.merging;
-  turns_are = same ∙ t.turns_are;
+  arrivals_are = same ∙ t.arrivals_are;
   withdraws_is = alike ∙ t.withdraws_is;
 }
 
@@ -226,5 +226,5 @@ module _ (a1 b1 a2 b2 w0 w1 w2 : Option (List ℕ)) (m : Sides) (ended : HasEnde
   abbrev pub merging_end : Merging a1 b1 a2 b2 w0 w1 m → MergedAll a1 b1 a2 b2 w0 w2 sizes
   merging_end p = record { before = w1; sides = m; merging = p; ended = ended; gained = gained; records = records; bytes = bytes }
 
-  pub tells_end : (told : List Turn) (withdraws : Bool) → Telling a1 b1 a2 b2 w0 w1 m told withdraws → ToldAll a1 b1 a2 b2 w0 w2 sizes told withdraws
-  tells_end told withdraws t = record { merged = merging_end t.merging; turns_are = t.turns_are; withdraws_is = t.withdraws_is }
+  pub tells_end : (told : List Arrival) (withdraws : Bool) → Telling a1 b1 a2 b2 w0 w1 m told withdraws → ToldAll a1 b1 a2 b2 w0 w2 sizes told withdraws
+  tells_end told withdraws t = record { merged = merging_end t.merging; arrivals_are = t.arrivals_are; withdraws_is = t.withdraws_is }

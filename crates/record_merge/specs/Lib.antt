@@ -1,8 +1,8 @@
-pub mod Lent
+pub mod Borrowed
 pub mod Merging
 pub mod Sides
 pub mod MergeSteps
-pub mod Turns
+pub mod Arrivals
 pub mod Telling
 pub mod TellingSteps
 pub mod Losses

@@ -7,9 +7,9 @@ use Rattle.byte_device.specs.Devices.{Stream}
 use Rattle.archive_core.specs.Content.{Operations, IsMade, content_of, is_covered}
 use Rattle.archive_records.specs.declared.writing.Sizes.{Sizes}
 use Rattle.archive_records.specs.Text.{AreOperations, written, old_written}
-use Rattle.record_merge.specs.declared.turns.Turn.{Turn}
+use Rattle.record_merge.specs.declared.arrivals.Arrival.{Arrival}
 use Rattle.record_merge.specs.Merging.{IsMerged}
-use Rattle.record_merge.specs.Turns.{turn_of}
+use Rattle.record_merge.specs.Arrivals.{arrival_of}
 
 -- The text is an archive's, of one version or the other, and these are its operations. In version 1 slices may be among
 -- them that are covered.
@@ -21,11 +21,11 @@ pub record HasOperations (operations : Operations) (text : List ℕ) : Type 0 wh
 -- the order of its records, it was told what it is to the content of the left one, and whether one of them retires a
 -- slice that is there.
 pub record IsMergedTelling {R S W : Type 0} (left : Stream R) (right : Stream S) (out : Stream W) (sizes : Sizes)
-    (turns : List Turn) (withdraws : Bool) : Type 0 where
+    (arrivals : List Arrival) (withdraws : Bool) : Type 0 where
   pub merged : IsMerged left right out sizes
   pub operations : Operations
   pub are : AreOperations operations
   pub right_is : IfSome (right.bytes right.old) (HasOperations operations)
   pub makes : merged.p ≡ content_of operations
-  pub turns_are : turns ≡ map (turn_of merged.o) (listing operations)
+  pub arrivals_are : arrivals ≡ map (arrival_of merged.o) (listing operations)
   pub withdraws_is : withdraws ≡ list_any (is_covered operations) (listing merged.o)

@@ -2,11 +2,13 @@
 //!
 //! - `side`, `merging`, `streams`: [`merge_streams`], in the memory of one record of each side and of the
 //!   retirements of either, each kept once;
-//! - `telling`, `turns`: [`merge_telling`], which tells, too, what the records of the right side are to the left one;
+//! - `telling`, `arrivals`: [`merge_telling`], which tells, too, what the records of the right side are to the left
+//!   one;
 //! - `losses`: [`lost_operations`], by which one archive is above another, over `nowhere`, a writer that keeps nothing;
 //!   `laws`: that none lost means above;
-//! - `lent`: [`LentText`], the text of operations that stand in memory, and [`LentSide`], which takes its records as they
-//!   stand. The right side of a merge is a [`Side`]: one of these, or [`MergeInput`], a text that is read.
+//! - `borrowed`: [`BorrowedText`], the text of operations that stand in memory, and [`BorrowedSide`], which takes its
+//!   records as they stand. The right side of a merge is a [`Side`]: one of these, or [`MergeInput`], a text that is
+//!   read.
 //!
 //! # What is proved
 //!
@@ -17,7 +19,7 @@
 //! - `Write` is reported only if the writer failed, no reader did, both magics were taken, and no side had stopped the
 //!   merge before.
 //! - [`merge_telling`] does the same, and gives for each record of the right text whether the left content retires or
-//!   has it (`turn_of`), and whether one of these records retires a slice that is there.
+//!   has it (`arrival_of`), and whether one of these records retires a slice that is there.
 //! - [`lost_operations`] gives the number of records of an old archive that a new one neither has nor covers (`Loses`);
 //!   it is 0 exactly if the new one is above the old one (`nothing_is_lost_just_above`). Or it says which of the two is
 //!   refused, for which fault, and that this one stops a merge of both (`IsNotCompared`).
@@ -46,19 +48,19 @@
 //!   that tells.
 #![tactic(auto)]
 
+mod arrivals;
+mod borrowed;
 pub mod laws;
-mod lent;
 mod losses;
 mod merging;
 mod nowhere;
 mod side;
 mod streams;
 mod telling;
-mod turns;
 
-pub use lent::{LentSide, LentText};
+pub use arrivals::{Arrival, Told};
+pub use borrowed::{BorrowedSide, BorrowedText};
 pub use losses::lost_operations;
 pub use side::{MergeInput, ReadFrom, Side};
 pub use streams::merge_streams;
 pub use telling::merge_telling;
-pub use turns::{Told, Turn};

@@ -3,21 +3,21 @@
 ghost use Rattle.std.specs.Prelude.{◌≡◌, IfErr, IfOk, count_by};
 ghost use Rattle.byte_device.specs.Devices.{stream};
 ghost use Rattle.record_merge.specs.Losses.{IsNotCompared, Loses};
-ghost use Rattle.record_merge.specs.Turns.{is_new};
+ghost use Rattle.record_merge.specs.Arrivals.{is_new};
 
+use crate::arrivals::Arrival;
 use crate::nowhere::Nowhere;
 use crate::side::MergeInput;
 use crate::telling::merge_telling;
-use crate::turns::Turn;
 use archive_records::MergeFault;
 use byte_device::Source;
 use memory::Heap;
 
 /// How many are new.
-fn number_of_new(turns: &[Turn]) -> u64
-    ensures { result ≡ count_by is_new turns.now }
+fn number_of_new(arrivals: &[Arrival]) -> u64
+    ensures { result ≡ count_by is_new arrivals.now }
 {
-    turns.iter().filter(|turn| turn.is_new()).count() as u64
+    arrivals.iter().filter(|arrival| arrival.is_new()).count() as u64
 }
 
 /// How many operations of the old archive the new one neither has nor covers by a retirement: those that are lost where
@@ -41,5 +41,5 @@ pub fn lost_operations<R: Source, S: Source>(
         (stream S.left S.failures old.old old.new) e.cause) }
 {
     let (_, told) = merge_telling::<R, S, MergeInput, Nowhere>(heap, new, old, &mut Nowhere)?;
-    Ok(number_of_new(&told.turns))
+    Ok(number_of_new(&told.arrivals))
 }

@@ -11,7 +11,7 @@ ghost use Rattle.record_merge.specs.MergeSteps.{HasEnded, IsBeforeTurn, IsLastOf
 ghost use Rattle.record_merge.specs.MergeSteps.{IsRefusedMore, IsToldOfRight, Merging, MergesOn, TellsCovered};
 ghost use Rattle.record_merge.specs.MergeSteps.{after_turn, cost_of, first_of, next_record, unread_of};
 ghost use Rattle.record_merge.specs.Sides.{sides_of};
-ghost use Rattle.record_merge.specs.declared.turns.Turn.{Turn};
+ghost use Rattle.record_merge.specs.declared.arrivals.Arrival.{Arrival};
 ghost use Rattle.record_merge.specs.TellingSteps.{Telling, TellsNext, has_next, told_with};
 
 use crate::side::{Lookahead, MergeInput, ReadFrom, Side};
@@ -211,11 +211,11 @@ pub fn take_turn<W: Sink, B: Side>(
     ensures merging { (left right : Option (List ℕ))
         → MergesOn left left right right (W.held w.old) (W.held w.new) (sides_of B.seen m.old) (sides_of B.seen m.new)
         result }
-    ensures telling { (a1 b1 a2 b2 w0 : Option (List ℕ)) (told : List Turn) (withdraws : Bool) (turn : Option Turn)
-        → Telling a1 b1 a2 b2 w0 (W.held w.old) (sides_of B.seen m.old) told withdraws
-        → TellsNext (sides_of B.seen m.old) turn
-        → IfOk result (λ passed. Telling a1 b1 a2 b2 w0 (W.held w.new) (sides_of B.seen m.new) (told_with told turn)
-        ((passed && has_next (sides_of B.seen m.old)) || withdraws)) }
+    ensures telling { (a1 b1 a2 b2 w0 : Option (List ℕ)) (told : List Arrival) (withdraws : Bool)
+        (arrival : Option Arrival) → Telling a1 b1 a2 b2 w0 (W.held w.old) (sides_of B.seen m.old) told withdraws
+        → TellsNext (sides_of B.seen m.old) arrival
+        → IfOk result (λ passed. Telling a1 b1 a2 b2 w0 (W.held w.new) (sides_of B.seen m.new)
+        (told_with told arrival) ((passed && has_next (sides_of B.seen m.old)) || withdraws)) }
     ensures had { OnOk result (HadTurn (sides_of B.seen m.old) (sides_of B.seen m.new)) }
     ensures unfailed { OnOk result (W.failures w.new ≡ W.failures w.old) }
     ensures blames { IfErr result (λ e. BlamesWriter (W.failures w.old) (W.failures w.new) e.cause) }
@@ -241,7 +241,7 @@ pub fn share<B: Side>(m: &mut Merge<B>, next: Ordering)
     ensures next { next ≡ first_of m.new.left (B.seen m.new.right) }
     ensures merging { (a1 b1 a2 b2 w0 w1 : Option (List ℕ)) → Merging a1 b1 a2 b2 w0 w1 (sides_of B.seen m.old)
         → Merging a1 b1 a2 b2 w0 w1 (sides_of B.seen m.new) }
-    ensures telling { (a1 b1 a2 b2 w0 w1 : Option (List ℕ)) (told : List Turn) (withdraws : Bool)
+    ensures telling { (a1 b1 a2 b2 w0 w1 : Option (List ℕ)) (told : List Arrival) (withdraws : Bool)
         → Telling a1 b1 a2 b2 w0 w1 (sides_of B.seen m.old) told withdraws
         → Telling a1 b1 a2 b2 w0 w1 (sides_of B.seen m.new) told withdraws }
     ensures fits { Fits (sides_of B.seen m.old) → Fits (sides_of B.seen m.new) }
@@ -267,7 +267,7 @@ pub fn read_left<R: Source, B: Side>(r1: &mut R, m: &mut Merge<B>) -> Result<(),
     ensures merging { (right w : Option (List ℕ))
         → MergesOn (R.left r1.old) (R.left r1.new) right right w w (sides_of B.seen m.old) (sides_of B.seen m.new)
         result }
-    ensures telling { (a1 a2 b2 w0 w1 : Option (List ℕ)) (told : List Turn) (withdraws : Bool)
+    ensures telling { (a1 a2 b2 w0 w1 : Option (List ℕ)) (told : List Arrival) (withdraws : Bool)
         → Telling a1 (R.left r1.old) a2 b2 w0 w1 (sides_of B.seen m.old) told withdraws
         → OnOk result (Telling a1 (R.left r1.new) a2 b2 w0 w1 (sides_of B.seen m.new) told withdraws) }
     ensures fits { OnOk result (Fits (sides_of B.seen m.new)) }
@@ -290,7 +290,7 @@ pub fn read_right<F, B: ReadFrom<F>>(r2: &mut F, m: &mut Merge<B>) -> Result<(),
     ensures merging { (left w : Option (List ℕ))
         → MergesOn left left (B.left r2.old) (B.left r2.new) w w (sides_of B.seen m.old) (sides_of B.seen m.new)
         result }
-    ensures telling { (a1 b1 a2 w0 w1 : Option (List ℕ)) (told : List Turn) (withdraws : Bool)
+    ensures telling { (a1 b1 a2 w0 w1 : Option (List ℕ)) (told : List Arrival) (withdraws : Bool)
         → Telling a1 b1 a2 (B.left r2.old) w0 w1 (sides_of B.seen m.old) told withdraws
         → OnOk result (Telling a1 b1 a2 (B.left r2.new) w0 w1 (sides_of B.seen m.new) told withdraws) }
     ensures read { OnOk result (IsReadOn (sides_of B.seen m.old) (sides_of B.seen m.new)) }

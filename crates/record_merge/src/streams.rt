@@ -7,7 +7,7 @@ ghost use Rattle.record_merge.specs.Merging.{GainsCount, Merges};
 ghost use Rattle.byte_device.specs.Devices.{stream};
 ghost use Rattle.record_merge.specs.MergeSteps.{BlamesDevices, Fits, HasEnded, Leaves, Merging, StopsMerge};
 ghost use Rattle.record_merge.specs.Sides.{sides_of};
-ghost use Rattle.record_merge.specs.declared.turns.Turn.{Turn};
+ghost use Rattle.record_merge.specs.declared.arrivals.Arrival.{Arrival};
 ghost use Rattle.record_merge.specs.TellingSteps.{Telling, ToldAll};
 
 use crate::merging::{Merge, merge_records};
@@ -70,7 +70,7 @@ pub fn finish<W: Sink, B: Side>(w: &mut W, m: &Merge<B>) -> Result<Sizes, MergeF
     requires { HasEnded (sides_of B.seen m.now) }
     ensures leaves { (a1 b1 a2 b2 w0 : Option (List ℕ)) → Merging a1 b1 a2 b2 w0 (W.held w.old) (sides_of B.seen m.now)
         → Leaves a1 b1 a2 b2 w0 (W.held w.new) result }
-    ensures told { (a1 b1 a2 b2 w0 : Option (List ℕ)) (told : List Turn) (withdraws : Bool)
+    ensures told { (a1 b1 a2 b2 w0 : Option (List ℕ)) (told : List Arrival) (withdraws : Bool)
         → Telling a1 b1 a2 b2 w0 (W.held w.old) (sides_of B.seen m.now) told withdraws
         → IfOk result (λ sizes. ToldAll a1 b1 a2 b2 w0 (W.held w.new) sizes told withdraws) }
     ensures unfailed { OnOk result (W.failures w.new ≡ W.failures w.old) }

@@ -17,12 +17,12 @@ ghost use Rattle.record_merge.specs.MergeSteps.{Leaves, Merging, cost_of, first_
 ghost use Rattle.record_merge.specs.Sides.{sides_of};
 ghost use Rattle.record_merge.specs.Telling.{HasOperations, IsMergedTelling};
 ghost use Rattle.record_merge.specs.TellingSteps.{TellsNext, TellsOn, ToldAll, has_next, told_with};
-ghost use Rattle.record_merge.specs.Turns.{turn_of};
+ghost use Rattle.record_merge.specs.Arrivals.{arrival_of};
 
+use crate::arrivals::{Arrival, Told, arrival_by};
 use crate::merging::{Merge, first, read_left, read_right, share, take_turn};
 use crate::side::{Lookahead, ReadFrom, Side};
 use crate::streams::{before_the_magic, begin_both, finish};
-use crate::turns::{Told, Turn, turn_by};
 use archive_records::{MergeCause, MergeFault, RecordFault, Sizes};
 use byte_device::{Sink, Source};
 use memory::Heap;
@@ -30,7 +30,7 @@ use std::cmp::Ordering;
 
 /// What the record that is next is to the left side: none where it is that side's alone. All of the left side that are
 /// not above it were read, and so were its retirements where it is an admission.
-fn next_turn<B: Side>(m: &mut Merge<B>, next: Ordering) -> Option<Turn>
+fn next_arrival<B: Side>(m: &mut Merge<B>, next: Ordering) -> Option<Arrival>
     requires { next ≡ first_of m.old.left (B.seen m.old.right) }
     ensures tells { TellsNext (sides_of B.seen m.old) result }
     ensures right { IsSome result → first_of m.old.left (B.seen m.old.right) ≢ Less }
@@ -38,8 +38,8 @@ fn next_turn<B: Side>(m: &mut Merge<B>, next: Ordering) -> Option<Turn>
 {
     match next {
         Ordering::Less => None,
-        Ordering::Equal => Some(turn_by(m.left.reader.dropped(), true)),
-        Ordering::Greater => Some(turn_by(
+        Ordering::Equal => Some(arrival_by(m.left.reader.dropped(), true)),
+        Ordering::Greater => Some(arrival_by(
             m.right.covered_by(&m.shared, m.left.reader.retired()),
             false,
         )),
@@ -59,21 +59,21 @@ fn has_next<B: Side>(m: &Merge<B>, next: Ordering) -> bool
 
 /// Tells of the record of the right side that had its turn, if there is one. Memory that is wanted for that is wanted
 /// before the next one is read.
-fn tell<B: Side>(m: &Merge<B>, told: &mut Told, turn: Option<Turn>) -> Result<(), MergeFault>
+fn tell<B: Side>(m: &Merge<B>, told: &mut Told, arrival: Option<Arrival>) -> Result<(), MergeFault>
     requires fits { Fits (sides_of B.seen m.now) }
     requires read { m.now.left.ahead ≢ Lookahead.Unread }
-    requires unread { IsSome turn → (B.seen m.now.right).ahead ≡ Lookahead.Unread }
-    ensures turns { OnOk result (told.new.turns.items ≡ told_with told.old.turns.items turn) }
+    requires unread { IsSome arrival → (B.seen m.now.right).ahead ≡ Lookahead.Unread }
+    ensures arrivals { OnOk result (told.new.arrivals.items ≡ told_with told.old.arrivals.items arrival) }
     ensures withdraws { told.new.withdraws ≡ told.old.withdraws }
     ensures stops { IfErr result (λ e. (a1 b1 a2 b2 w0 w1 : Option (List ℕ))
         → Merging a1 b1 a2 b2 w0 w1 (sides_of B.seen m.now)
         → HasStoppedMerge a1 b1 a2 b2 w0 w1 e) }
     ensures cause { IfErr result (λ e. e.cause ≡ Right (memory_behind (B.seen m.now.right).reader.offset)) }
 {
-    let Some(turn) = turn else {
+    let Some(arrival) = arrival else {
         return Ok(());
     };
-    match told.turns.push(turn) {
+    match told.arrivals.push(arrival) {
         Ok(()) => Ok(()),
         Err(_) => {
             let fault = RecordFault::out_of_memory(m.right.offset());
@@ -88,19 +88,20 @@ fn tell_and_read_on<R: Source, F, B: ReadFrom<F>>(
     r2: &mut F,
     m: &mut Merge<B>,
     told: &mut Told,
-    turn: Option<Turn>,
+    arrival: Option<Arrival>,
 ) -> Result<(), MergeFault>
     requires fits { Fits (sides_of B.seen m.old) }
-    requires unread { IsSome turn → (B.seen m.old.right).ahead ≡ Lookahead.Unread }
+    requires unread { IsSome arrival → (B.seen m.old.right).ahead ≡ Lookahead.Unread }
     ensures telling { (w : Option (List ℕ)) → TellsOn (R.left r1.old) (R.left r1.new) (B.left r2.old) (B.left r2.new)
-        w w (sides_of B.seen m.old) (sides_of B.seen m.new) (told_with told.old.turns.items turn) told.new.turns.items
+        w w (sides_of B.seen m.old) (sides_of B.seen m.new)
+        (told_with told.old.arrivals.items arrival) told.new.arrivals.items
         told.old.withdraws told.new.withdraws result }
     ensures read { OnOk result (IsReadOn (sides_of B.seen m.old) (sides_of B.seen m.new)) }
     ensures devices { BlamesDevices (stream R.left R.failures r1.old r1.new) (stream B.left B.failures r2.old r2.new)
         0 0 result }
 {
     read_left(r1, m)?;
-    tell(m, told, turn)?;
+    tell(m, told, arrival)?;
     read_right(r2, m)
 }
 
@@ -115,7 +116,8 @@ fn give_turn<R: Source, F, B: ReadFrom<F>, W: Sink>(
     requires { IsBeforeTurn (sides_of B.seen m.old) }
     ensures telling { TellsOn (R.left r1.old) (R.left r1.new) (B.left r2.old) (B.left r2.new)
         (W.held w.old) (W.held w.new) (sides_of B.seen m.old) (sides_of B.seen m.new)
-        told.old.turns.items told.new.turns.items told.old.withdraws told.new.withdraws result }
+        told.old.arrivals.items told.new.arrivals.items
+        told.old.withdraws told.new.withdraws result }
     ensures read { OnOk result (IsReadOn (sides_of B.seen m.old) (sides_of B.seen m.new)) }
     ensures less { OnOk result (cost_of (sides_of B.seen m.new) < cost_of (sides_of B.seen m.old)) }
     ensures devices { BlamesDevices (stream R.left R.failures r1.old r1.new) (stream B.left B.failures r2.old r2.new)
@@ -123,11 +125,11 @@ fn give_turn<R: Source, F, B: ReadFrom<F>, W: Sink>(
 {
     let next = first(&m.left, &m.right);
     share(m, next);
-    let turn = next_turn(m, next);
+    let arrival = next_arrival(m, next);
     let had = has_next(m, next);
     let passed = take_turn(w, m, next)?;
     told.pass(passed, had);
-    tell_and_read_on(r1, r2, m, told, turn)
+    tell_and_read_on(r1, r2, m, told, arrival)
 }
 
 /// Writes all records behind the magic, but for those that are covered, and tells of those of the right side.
@@ -141,7 +143,8 @@ fn tell_records<R: Source, F, B: ReadFrom<F>, W: Sink>(
     requires fits { Fits (sides_of B.seen m.old) }
     ensures telling { TellsOn (R.left r1.old) (R.left r1.new) (B.left r2.old) (B.left r2.new)
         (W.held w.old) (W.held w.new) (sides_of B.seen m.old) (sides_of B.seen m.new)
-        told.old.turns.items told.new.turns.items told.old.withdraws told.new.withdraws result }
+        told.old.arrivals.items told.new.arrivals.items
+        told.old.withdraws told.new.withdraws result }
     ensures ended { OnOk result (HasEnded (sides_of B.seen m.new)) }
     ensures devices { BlamesDevices (stream R.left R.failures r1.old r1.new) (stream B.left B.failures r2.old r2.new)
         (W.failures w.old) (W.failures w.new) result }
@@ -161,12 +164,12 @@ fn tell_taken<R: Source, F, B: ReadFrom<F>, W: Sink>(
     w: &mut W,
     told: &mut Told,
 ) -> Result<Sizes, MergeFault>
-    requires turns { told.old.turns.items ≡ [] }
+    requires arrivals { told.old.arrivals.items ≡ [] }
     requires withdraws { told.old.withdraws ≡ false }
     ensures leaves { Leaves (R.left r1.old) (R.left r1.new) (B.left r2.old) (B.left r2.new)
         (W.held w.old) (W.held w.new) result }
     ensures told { IfOk result (λ sizes. ToldAll (R.left r1.old) (R.left r1.new) (B.left r2.old) (B.left r2.new)
-        (W.held w.old) (W.held w.new) sizes told.new.turns.items told.new.withdraws) }
+        (W.held w.old) (W.held w.new) sizes told.new.arrivals.items told.new.withdraws) }
     ensures devices { BlamesDevices (stream R.left R.failures r1.old r1.new) (stream B.left B.failures r2.old r2.new)
         (W.failures w.old) (W.failures w.new) result }
 {
@@ -194,12 +197,12 @@ pub fn merge_telling<R: Source, F, B: ReadFrom<F>, W: Sink>(
         (result_map_both (λ both. both.0) (λ e. e) result) }
     ensures tells { IfOk result (λ both. IsMergedTelling (stream R.left R.failures left.old left.new)
         (stream B.left B.failures right.old right.new) (stream W.held W.failures w.old w.new) both.0
-        both.1.turns.items both.1.withdraws) }
+        both.1.arrivals.items both.1.withdraws) }
 
     // Where the texts are known, of their contents.
-    ensures turns { IfOk result (λ both. IfSome (R.left left.old) (λ t. IfSome (B.left right.old) (λ u.
+    ensures arrivals { IfOk result (λ both. IfSome (R.left left.old) (λ t. IfSome (B.left right.old) (λ u.
         (o p : Operations) → IsContent o → IsArchiveOf o t → HasOperations p u
-        → both.1.turns.items ≡ map (turn_of o) (listing p)))) }
+        → both.1.arrivals.items ≡ map (arrival_of o) (listing p)))) }
     ensures withdraws { IfOk result (λ both. IfSome (R.left left.old) (λ t. IfSome (B.left right.old) (λ u.
         (o p : Operations) → IsContent o → IsArchiveOf o t → HasOperations p u
         → both.1.withdraws ≡ list_any (is_covered p) (listing o)))) }

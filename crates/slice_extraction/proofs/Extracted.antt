@@ -14,7 +14,7 @@ use Rattle.command_ends.specs.Inputs.{IsRefusal}
 use Rattle.command_ends.specs.Outputs.{Outs, Publishes, Takes, Writer, out_of}
 use Rattle.command_ends.specs.declared.faults.CommandFault.{CommandFault}
 use Rattle.command_ends.specs.declared.faults.CommandFault.TheVariants.{Input, Output, Report, OutOfMemory}
-use Rattle.command_ends.specs.declared.faults.Place.{Place}
+use Rattle.command_ends.specs.declared.faults.InputName.{InputName}
 use Rattle.command_ends.specs.declared.outputs.Output.{Output as Out_value}
 use Rattle.command_ends.specs.declared.faults.Status.{Status}
 use Rattle.command_ends.specs.declared.faults.Why.{Why}
@@ -55,7 +55,7 @@ took_nothing out same = (
   ap (λ (o : Out_value _ _). out.draft_failures o.draft) same,
 )
 
-module _ {D T : Type 0} (Holds : Held) (Refuses : Place → Why → Type 0) (Unfailed : Type 0) (key : SliceKey) (digest : Option Digest) (out : Outs D T) (report : Writer) where
+module _ {D T : Type 0} (Holds : Held) (Refuses : InputName → Why → Type 0) (Unfailed : Type 0) (key : SliceKey) (digest : Option Digest) (out : Outs D T) (report : Writer) where
   abbrev command : Extraction
   command = extraction Holds Refuses Unfailed key digest (out_of out).draft
 
@@ -66,7 +66,7 @@ module _ {D T : Type 0} (Holds : Held) (Refuses : Place → Why → Type 0) (Unf
     bytes = [];
     took = (took_nothing out same).0;
     count = count;
-    nothing_placed = (ap (λ (o : Out_value D T). out.placed o.target) same, ap (λ (o : Out_value D T). out.failures o.target) same);
+    nothing_published = (ap (λ (o : Out_value D T). out.published o.target) same, ap (λ (o : Out_value D T). out.failures o.target) same);
     unreported = t;
   }
 

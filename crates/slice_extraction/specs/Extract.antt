@@ -4,7 +4,7 @@ use Rattle.archive_core.specs.Content.{Operations}
 use Rattle.archive_core.specs.declared.keys.Digest.{Digest}
 use Rattle.archive_core.specs.declared.keys.SliceKey.{SliceKey}
 use Rattle.command_ends.specs.declared.faults.CommandFault.{CommandFault}
-use Rattle.command_ends.specs.declared.faults.Place.{Place}
+use Rattle.command_ends.specs.declared.faults.InputName.{InputName}
 use Rattle.command_ends.specs.declared.faults.Status.{Status}
 use Rattle.command_ends.specs.declared.faults.Status.TheVariants.{Partial}
 use Rattle.command_ends.specs.declared.faults.Why.{Why}
@@ -49,7 +49,7 @@ MakesNone Holds key digest told =
 
 -- `extract`, over archives that hold this, one of which is refused so, or no reader of which failed. It is stopped
 -- before OUT is begun, by an archive that is refused or for want of memory.
-abbrev pub extraction : Held → (Place → Why → Type 0) → Type 0 → SliceKey → Option Digest → Writer → Extraction
+abbrev pub extraction : Held → (InputName → Why → Type 0) → Type 0 → SliceKey → Option Digest → Writer → Extraction
 extraction Holds Refuses Unfailed key digest draft = record {
   writes = record {
     Makes = MakesSlice Holds key digest;

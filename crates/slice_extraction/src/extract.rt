@@ -41,7 +41,7 @@ pub fn run_extract<A: Archive + Drop, R: Source, T: Target, P: Sink>(
     out: &mut Output<T::Draft, T>,
     report: &mut P,
 ) -> Result<Status, CommandFault>
-    ensures { let known = outs T.Draft.held T.Draft.failures T.placed T.failures out.old out.new in
+    ensures { let known = outs T.Draft.held T.Draft.failures T.published T.failures out.old out.new in
         Extracts (extract (reader R.left R.failures archive.old archive.new)
         (readers R.left R.failures others.old others.new) key.now digest.now (out_of known).draft) known
         (writer P.held P.failures report.old report.new) result }

@@ -32,7 +32,7 @@ pub fn run_extract_at<A: Archive + Drop, I: Placed, P: Placed, T: Target, W: Sin
     report: &mut W,
 ) -> Result<Status, CommandFault>
     requires { length indexes.old ≡ length archives.old }
-    ensures { let known = outs T.Draft.held T.Draft.failures T.placed T.failures out.old out.new in
+    ensures { let known = outs T.Draft.held T.Draft.failures T.published T.failures out.old out.new in
         Extracts (extract_at (readers I.whole I.failures indexes.old indexes.new)
         (readers P.whole P.failures archives.old archives.new) key.now digest.now (out_of known).draft) known
         (writer W.held W.failures report.old report.new) result }

@@ -33,7 +33,7 @@ fn publish_slice<T: Target, P: Sink>(
     out: &mut Output<T::Draft, T>,
     report: &mut P,
 ) -> Result<Status, CommandFault>
-    ensures { Publishes (out_of (outs T.Draft.held T.Draft.failures T.placed T.failures out.old out.new))
+    ensures { Publishes (out_of (outs T.Draft.held T.Draft.failures T.published T.failures out.old out.new))
         (writer P.held P.failures report.old report.new) slice.now (slice_line slice.now) result }
 {
     let text = slice_line(heap, slice)?;
@@ -57,7 +57,7 @@ pub(crate) fn publish_wanted<A: Archive, T: Target, P: Sink>(
 ) -> Result<Status, CommandFault>
     requires { length (key_bytes key.now) ≡ 24 }
     ensures { PublishesWanted (A.content archive.now) key.now digest.now
-        (outs T.Draft.held T.Draft.failures T.placed T.failures out.old out.new)
+        (outs T.Draft.held T.Draft.failures T.published T.failures out.old out.new)
         (writer P.held P.failures report.old report.new) result }
 {
     match choose(heap.clone()?, archive, key, digest)? {

@@ -22,11 +22,11 @@ use std::marker::Model;
 
 // The operations of an archive, lent. A contract sees them as the content that they make.
 #[derive(Drop)]
-pub(crate) struct Lent<'a> {
+pub(crate) struct BorrowedOperations<'a> {
     operations: &'a [Operation],
 }
 
-impl<'a> Model for Lent<'a> {
+impl<'a> Model for BorrowedOperations<'a> {
     ghost use Rattle.std.specs.Prelude.{map};
     ghost use Rattle.std.specs.Ordering.{nat_cmp};
     ghost use Rattle.std.specs.Cmp.Lexicographic.{slice_cmp};
@@ -57,13 +57,13 @@ fn retires(operations: &[Operation], slice: &Slice, near: &mut usize) -> bool
     search(operations, &Operation::Retire(slice.key(), slice.digest())).is_ok()
 }
 
-impl<'a> Lent<'a> {
+impl<'a> BorrowedOperations<'a> {
     // The operations of an archive.
-    pub(crate) fn of(operations: &'a [Operation]) -> Lent<'a>
+    pub(crate) fn of(operations: &'a [Operation]) -> BorrowedOperations<'a>
         requires { IsHeld operations.now }
         ensures { result ≡ set.from_list (map record_bytes operations.now) }
     {
-        Lent { operations }
+        BorrowedOperations { operations }
     }
 
     // Whether retirements are there. They stand first.
@@ -130,7 +130,7 @@ impl<'a> Lent<'a> {
 }
 
 // Keeps the digests of those operations whose keys have a retirement.
-fn keep_digests(operations: &mut [Operation], by: &Lent<'_>)
+fn keep_digests(operations: &mut [Operation], by: &BorrowedOperations<'_>)
     ensures { operations.new ≡ operations.old }
 {
     let mut near = 0;
@@ -140,7 +140,7 @@ fn keep_digests(operations: &mut [Operation], by: &Lent<'_>)
 }
 
 // Drops the operations that are covered. Where no retirement is lent, none is asked for.
-pub(crate) fn drop_covered(operations: &mut Vec<Operation, Heap>, by: &Lent<'_>)
+pub(crate) fn drop_covered(operations: &mut Vec<Operation, Heap>, by: &BorrowedOperations<'_>)
     ensures items { operations.new.items
         ≡ filter (λ operation. not (is_covered by.now (record_bytes operation))) operations.old.items }
     ensures capacity { vec_capacity operations.new ≡ vec_capacity operations.old }
@@ -180,7 +180,7 @@ pub(crate) fn drop_retired(operations: &mut Vec<Operation, Heap>, key: &SliceKey
         operations.old.items }
 {
     let only = [retirement(*key, *digest)];
-    let by = Lent::of(&only);
+    let by = BorrowedOperations::of(&only);
     keep_digests_under(operations, *key);
     let (start, count) = range_of(operations, RecordKind::Admission, Scope::OfKey(*key));
     let mut index = start + count;

@@ -22,7 +22,7 @@ ghost use Rattle.archive_core.specs.Names.{name_view};
 ghost use Rattle.sorted_archive.specs.InnerNames.{names_of, names_among};
 
 use crate::asked::{Answering, AskedSlice, answer_of_one, is_kind};
-use crate::covered::{Lent, drop_covered, drop_retired, retirement};
+use crate::covered::{BorrowedOperations, drop_covered, drop_retired, retirement};
 use crate::hashed::{HashedRecord, rows_of};
 use crate::name_rows::{put_in_order, rows_in};
 use crate::range::{
@@ -192,11 +192,11 @@ impl PlainArchive {
     }
 
     // The operations, lent.
-    fn lend(&self) -> Lent<'_>
+    fn lend(&self) -> BorrowedOperations<'_>
         ensures lent { result ≡ self.now }
         ensures content { IsContent self.now }
     {
-        Lent::of(&self.operations)
+        BorrowedOperations::of(&self.operations)
     }
 
     /// Whether an operation is there, or admits a slice that a retirement covers: taking it would change nothing. A
@@ -238,7 +238,7 @@ impl PlainArchive {
         ensures valid { IsValid slice }
         ensures refused { OnErr result (self.new ≡ self.old) }
     {
-        let lent = Lent::of(&self.operations);
+        let lent = BorrowedOperations::of(&self.operations);
         lent.keep_digest(&mut slice, &mut self.near);
         if lent.retires(&slice, &mut self.near) {
             return Ok(None);

@@ -1,6 +1,6 @@
 use Rattle.std.proofs.Common.{◌≡◌, ◌++◌, take, map}
 use Rattle.archive_files.specs.AtTurns.{told}
-use Rattle.archive_files.specs.Turns.{AreWaiting}
+use Rattle.archive_files.specs.InputStates.{AreWaiting}
 use Rattle.archive_files.proofs.inputs.make_inputs.Given as goal
 
 abbrev pub invariant-paths : goal.invariant-paths

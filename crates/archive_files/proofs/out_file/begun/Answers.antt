@@ -1,6 +1,6 @@
 use Rattle.std.proofs.Common.{subst}
 use Rattle.archive_files.specs.OutFiles.{IsWayTo}
-use Rattle.archive_files.proofs.Placings.{begun_through}
+use Rattle.archive_files.proofs.Publishings.{begun_through}
 use Rattle.archive_files.proofs.out_file.begun.Goals as goal
 
 pub returns-in-Ok-clause-calls : goal.returns-in-Ok-clause-calls

@@ -1,6 +1,6 @@
 use Rattle.std.proofs.Common.{◌≡◌, ◌<◌, length, arith, refl}
 use Rattle.std.proofs.lemmas.Result.{err_from_is_err_and}
-use Rattle.command_ends.specs.Archives.{file_place}
+use Rattle.command_ends.specs.Archives.{further_name}
 use Rattle.command_ends.specs.Inputs.{IsArchive, IsArchiveRefused}
 use Rattle.command_ends.proofs.Readers.{all_read, none_failed, one_more, refused_at, rest_kept, same_at, unfailed_more}
 use Rattle.archive_queries.proofs.Parts.{parts_archives, parts_more, parts_none}
@@ -25,7 +25,7 @@ returns-in_err-join_part g c =
     let p = err_from_is_err_and c.from_residual-in_err-join_part.result c.from_residual-in_err-join_part.ensures.1 in
     let lt : c.others.index < length c.args.others.now = omega arith in
     let is = same_at c.others.others c.args.others.now c.others.index c.index-others-index.result c.others.invariant.rest c.index-others-index.is in
-    rw (p.1, p.2) (refused_at _ _ file_place IsArchive IsArchiveRefused _ _ _ _ _ _ lt c.others.auto.others is (parts_archives _ _ _ _ c.others.invariant.joined) c.others.invariant.rest c.others.invariant.unfailed
+    rw (p.1, p.2) (refused_at _ _ further_name IsArchive IsArchiveRefused _ _ _ _ _ _ lt c.others.auto.others is (parts_archives _ _ _ _ c.others.invariant.joined) c.others.invariant.rest c.others.invariant.unfailed
     (rw (← c.index-others-index.is) at c.in_err-join_part.ensures))
 
 pub returns : goal.returns

@@ -3,7 +3,7 @@ use Rattle.byte_device.specs.Devices.{FailedIn}
 use Rattle.byte_device.proofs.Known.{Consumes-none}
 use Rattle.archive_records.proofs.Blamed.{device_blames, end_blames}
 use Rattle.archive_records.proofs.FaultKinds.{memory_blames}
-use Rattle.archive_records.proofs.Laid.{Fills-room, Fills-then}
+use Rattle.archive_records.proofs.Fills.{Fills-room, Fills-then}
 use Rattle.archive_records.proofs.buffer.fill.Goals as goal
 
 pub filling-init : goal.filling-init

@@ -2,7 +2,7 @@ use Rattle.std.proofs.Common.{◌≡◌, ◌≤◌, ◌+◌, ◌∙◌, ◌++◌
 use Rattle.byte_device.proofs.Known.{Consumes-keeps, Consumes-none}
 use Rattle.archive_records.specs.Reader.{bytes_so_far}
 use Rattle.archive_records.proofs.Blamed.{failed}
-use Rattle.archive_records.proofs.Laid.{Fills-behind, bytes_before, bytes_behind}
+use Rattle.archive_records.proofs.Fills.{Fills-behind, bytes_before, bytes_behind}
 use Rattle.archive_records.proofs.buffer.pull_behind.Goals as goal
 
 pub returns-in_err-n : goal.returns-in_err-n

@@ -3,7 +3,7 @@ use Rattle.std.specs.Ordering.{nat_cmp}
 use Rattle.std.specs.Cmp.Lexicographic.{slice_cmp}
 use Rattle.byte_device.proofs.Known.{Consumes-keeps, Consumes-none}
 use Rattle.archive_records.proofs.Blamed.{failed}
-use Rattle.archive_records.proofs.Laid.{Fills-laid, Fills-room}
+use Rattle.archive_records.proofs.Fills.{Fills-laid, Fills-room}
 use Rattle.archive_records.proofs.buffer.pull_over.Goals as goal
 
 pub returns : goal.returns

@@ -9,7 +9,7 @@ use Rattle.archive_records.specs.declared.buffer.Buffer.{Buffer}
 use Rattle.archive_records.specs.Reader.{IsHead, bytes_so_far, seen_as}
 use Rattle.archive_records.specs.declared.format.Format.{Format}
 use Rattle.archive_records.proofs.Holds.{tag_two}
-use Rattle.archive_records.proofs.Laid.{Fills-room, length-bytes_so_far}
+use Rattle.archive_records.proofs.Fills.{Fills-room, length-bytes_so_far}
 use Rattle.archive_records.proofs.frame.read_body.Goals as goal
 
 pub returns-then-body-gt-LARGEST_SLICE-clause-fills : goal.returns-then-body-gt-LARGEST_SLICE-clause-fills

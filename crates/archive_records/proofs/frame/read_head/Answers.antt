@@ -3,7 +3,7 @@ use Rattle.archive_records.proofs.Blamed.{blames_behind, failed, text_blames}
 use Rattle.archive_records.proofs.Framed.{framed-empty, framed-bad, grown-head, tag_kept}
 use Rattle.archive_records.specs.declared.fault.RecordFaultKind.TheVariants.{BadTag}
 use Rattle.archive_records.specs.Reader.{bytes_so_far}
-use Rattle.archive_records.proofs.Laid.{Fills-then, length-bytes_so_far}
+use Rattle.archive_records.proofs.Fills.{Fills-then, length-bytes_so_far}
 use Rattle.archive_records.proofs.frame.read_head.Goals as goal
 
 pub returns-in_err-fill : goal.returns-in_err-fill

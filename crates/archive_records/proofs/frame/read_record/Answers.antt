@@ -1,6 +1,6 @@
 use Rattle.std.proofs.Common.{refl}
 use Rattle.archive_records.proofs.Blamed.{blamed_behind, failed, filled_first}
-use Rattle.archive_records.proofs.Laid.{Fills-then}
+use Rattle.archive_records.proofs.Fills.{Fills-then}
 use Rattle.archive_records.proofs.frame.read_record.Goals as goal
 
 pub returns-in_err-head : goal.returns-in_err-head

@@ -5,7 +5,7 @@ use Rattle.std.proofs.lemmas.List.{length-take}
 use Rattle.archive_records.specs.declared.fault.RecordFaultKind.TheVariants.{BadMagic}
 use Rattle.archive_records.proofs.Blamed.{text_blames}
 use Rattle.archive_records.proofs.Formats.{other_magic, other_front}
-use Rattle.archive_records.proofs.Laid.{length-bytes_so_far}
+use Rattle.archive_records.proofs.Fills.{length-bytes_so_far}
 use Rattle.archive_records.proofs.reader.read_magic.Goals as goal
 
 pub returns-in-None-clause-stops : goal.returns-in-None-clause-stops

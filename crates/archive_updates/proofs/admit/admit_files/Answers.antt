@@ -1,6 +1,6 @@
 use Rattle.std.proofs.Common.{◌≡◌, ◌<◌, length, arith, refl, ap, ◌∙◌}
 use Rattle.std.proofs.lemmas.Result.{err_from_is_err_and}
-use Rattle.command_ends.specs.declared.faults.Place.TheVariants.{File}
+use Rattle.command_ends.specs.declared.faults.InputName.TheVariants.{File}
 use Rattle.join_core.specs.Listing.{listing}
 use Rattle.archive_core.specs.Content.{Operations}
 use Rattle.command_ends.specs.Inputs.{IsAccepted, IsFileRefused}

@@ -10,7 +10,7 @@ use Rattle.archive_core.specs.Content.{Operations}
 use Rattle.archive_core.specs.Record.{record_bytes}
 use Rattle.archive_records.proofs.Puts.{bytes_same}
 use Rattle.byte_device.proofs.Known.{Appends-none}
-use Rattle.record_merge.specs.Turns.{turn_of}
+use Rattle.record_merge.specs.Arrivals.{arrival_of}
 use Rattle.command_ends.specs.declared.faults.CommandFault.TheVariants.{OutOfMemory}
 use Rattle.archive_updates.proofs.Taking.{always}
 use Rattle.archive_updates.proofs.Told.{told_published, told_stopped}
@@ -33,7 +33,7 @@ pub tell_arrivals-requires-clause-told : goal.tell_arrivals-requires-clause-told
 tell_arrivals-requires-clause-told g c =
     let same = same_set c.args.arrivals.came (map record_bytes c.operations.result.now) c.operations.ensures.listed in
     let told = rw same at c.in_ok-sizes.ensures in
-    ap length (c.deref.ensures.value ∙ told.turns_are) ∙ length-map (listing c.args.arrivals.came) (turn_of told.joined.content)
+    ap length (c.deref.ensures.value ∙ told.arrivals_are) ∙ length-map (listing c.args.arrivals.came) (arrival_of told.joined.content)
 
 pub returns-in_err-lines-clause-ends : goal.returns-in_err-lines-clause-ends
 returns-in_err-lines-clause-ends g c = λ records placed.
@@ -48,7 +48,7 @@ returns-clause-ends g c = λ records placed.
     let same = same_set c.args.arrivals.came (map record_bytes c.operations.result.now) c.operations.ensures.listed in
     let j = rw same at c.in_ok-sizes.ensures in
     let whole = j.joined.written_is in
-    told_published _ _ _ _ _ _ _ j _ (c.in_ok-lines.ensures.lines j.joined.content records placed (c.deref.ensures.value ∙ j.turns_are)) _ _ c.publish_draft.result
+    told_published _ _ _ _ _ _ _ j _ (c.in_ok-lines.ensures.lines j.joined.content records placed (c.deref.ensures.value ∙ j.arrivals_are)) _ _ c.publish_draft.result
     (c.publish_draft.ensures c.args.out.now.draft _ (whole.written, whole.unfailed) whole.bytes_are)
 
 pub returns-clause-noted : goal.returns-clause-noted
@@ -59,5 +59,5 @@ returns-clause-noted g c =
       before = j.joined.content;
       is_content = j.joined.is_content;
       archive = j.joined.archive;
-      added = c.in_ok-lines.ensures.noted j.joined.content (c.deref.ensures.value ∙ j.turns_are);
+      added = c.in_ok-lines.ensures.noted j.joined.content (c.deref.ensures.value ∙ j.arrivals_are);
     })

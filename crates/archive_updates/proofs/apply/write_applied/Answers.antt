@@ -3,7 +3,7 @@ use Rattle.std.specs.List.{count_by}
 use Rattle.std.proofs.lemmas.Result.{err_from_is_err_and}
 use Rattle.archive_core.specs.Record.{record_bytes}
 use Rattle.byte_device.proofs.Known.{Appends-none}
-use Rattle.record_merge.specs.Turns.{is_new, turn_of}
+use Rattle.record_merge.specs.Arrivals.{is_new, arrival_of}
 use Rattle.record_merge.proofs.Lost.{count_new}
 use Rattle.report_text.specs.Report.{apply_line}
 use Rattle.command_ends.specs.declared.faults.CommandFault.TheVariants.{OutOfMemory}
@@ -20,7 +20,7 @@ overflow_sub-number g c =
     let operations = c.args.operations.now in
     let j = c.in_ok-sizes.ensures in
     let o = j.joined.content in
-    let counted = c.count_new-new.ensures.counted ∙ ap (count_by is_new) (c.deref.ensures.value ∙ j.turns_are ∙ ap (map (turn_of o)) (listed_in_order operations c.requires.ascending)) ∙ count_new o (map record_bytes operations) in
+    let counted = c.count_new-new.ensures.counted ∙ ap (count_by is_new) (c.deref.ensures.value ∙ j.arrivals_are ∙ ap (map (arrival_of o)) (listed_in_order operations c.requires.ascending)) ∙ count_new o (map record_bytes operations) in
     let few = c.requires.few o j.joined.is_content.itself in
     omega (arith, counted, few)
 
@@ -37,6 +37,6 @@ returns g c =
     let j = c.in_ok-sizes.ensures in
     let o = j.joined.content in
     let whole = j.joined.written_is in
-    let counted = c.count_new-new.ensures.counted ∙ ap (count_by is_new) (c.deref.ensures.value ∙ j.turns_are ∙ ap (map (turn_of o)) (listed_in_order operations c.requires.ascending)) ∙ count_new o (map record_bytes operations) in
+    let counted = c.count_new-new.ensures.counted ∙ ap (count_by is_new) (c.deref.ensures.value ∙ j.arrivals_are ∙ ap (map (arrival_of o)) (listed_in_order operations c.requires.ascending)) ∙ count_new o (map record_bytes operations) in
     told_published _ _ _ _ _ _ _ j _ (c.in_ok-lines.ensures ∙ ap (λ (n : ℕ). apply_line n (c.args.number - n)) counted) _ _ c.publish_draft.result
     (c.publish_draft.ensures c.args.out.now.draft _ (whole.written, whole.unfailed) whole.bytes_are)

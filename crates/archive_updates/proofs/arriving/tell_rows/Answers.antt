@@ -1,9 +1,9 @@
 use Rattle.std.proofs.Common.{◌≡◌, ◌<◌, ◌∙◌, List, [], ap, refl, get_or, length, arith}
 use Rattle.std.proofs.lemmas.List.{get_or-map, length-map, length-set}
 use Rattle.std.proofs.lemmas.Option.{slice_get-get_or}
-use Rattle.record_merge.specs.declared.turns.Turn.{Turn}
-use Rattle.record_merge.specs.declared.turns.Turn.TheVariants.{New}
-use Rattle.record_merge.specs.Turns.{is_new}
+use Rattle.record_merge.specs.declared.arrivals.Arrival.{Arrival}
+use Rattle.record_merge.specs.declared.arrivals.Arrival.TheVariants.{New}
+use Rattle.record_merge.specs.Arrivals.{is_new}
 use Rattle.archive_updates.proofs.Marked.{all_marked, as_many, marked_more, marked_none, no_row, record_at, row_inside}
 use Rattle.archive_updates.proofs.arriving.tell_rows.Goals as goal
 
@@ -25,9 +25,9 @@ told-preserved c =
       marked = λ f came records placed is.
           let many = as_many came c.args.places.now c.args.rows.now records placed in
           let low : index < length came = omega (arith, many, lt) in
-          let turn_is = ap (λ (xs : List Turn). get_or xs index New) is ∙ get_or-map f came index [] New low ∙ ap f (record_at came c.args.places.now c.args.rows.now records placed index _ at) in
+          let arrival_is = ap (λ (xs : List Arrival). get_or xs index New) is ∙ get_or-map f came index [] New low ∙ ap f (record_at came c.args.places.now c.args.rows.now records placed index _ at) in
           marked_more (λ r. is_new (f r)) _ records _ index _ c.told.rows _ c.is_new.result (c.told.invariant.marked f came records placed is) at (row_inside came _ _ records placed index _ at)
-          (c.is_new.ensures ∙ ap is_new turn_is) (c.tell_row.ensures no_row);
+          (c.is_new.ensures ∙ ap is_new arrival_is) (c.tell_row.ensures no_row);
     }
 
 pub tell_row-requires : goal.tell_row-requires

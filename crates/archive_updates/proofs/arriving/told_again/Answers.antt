@@ -1,6 +1,6 @@
 use Rattle.std.proofs.Common.{◌≡◌, ◌++◌, ◌∙◌, ℕ, List, ap, arith, drop, length, take}
 use Rattle.std.proofs.Math.Seq.{take-append_seam}
-use Rattle.record_merge.specs.Turns.{is_new}
+use Rattle.record_merge.specs.Arrivals.{is_new}
 use Rattle.report_text.specs.declared.rows.AdmitRow.{AdmitRow}
 use Rattle.archive_updates.specs.InnerArriving.{rows_again}
 use Rattle.archive_updates.proofs.arriving.told_again.Goals as goal

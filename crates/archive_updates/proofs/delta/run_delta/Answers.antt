@@ -15,7 +15,7 @@ returns-in_err-kept g c =
 pub returns-in-Ok : goal.returns-in-Ok
 returns-in-Ok g c =
     named (reader g.R.Source.left g.R.Source.failures c.args.archive.now c.write_unnamed.new.archive) g.S.Source.left g.S.Source.failures c.args.summary.now c.read_summary_input.new.summary
-    (out_of (outs g.T.Draft.Sink.held g.T.Draft.Sink.failures g.T.Target.placed g.T.Target.failures c.args.out.now c.write_unnamed.new.out))
+    (out_of (outs g.T.Draft.Sink.held g.T.Draft.Sink.failures g.T.Target.published g.T.Target.failures c.args.out.now c.write_unnamed.new.out))
     (writer g.P.Sink.held g.P.Sink.failures c.args.report.now c.write_unnamed.new.report) c.in-Ok.named c.in-Ok.ensures.is.0 c.in-Ok.ensures.is.1 c.in-Ok.ensures.unfailed c.write_unnamed.result c.write_unnamed.ensures
 
 pub returns-in-Err : goal.returns-in-Err

@@ -1,7 +1,7 @@
 use Rattle.std.proofs.Common.{◌≡◌, ◌<◌, length, arith, refl}
 use Rattle.std.proofs.lemmas.Result.{err_from_is_err_and}
 use Rattle.command_ends.specs.Inputs.{IsArchive, IsArchiveRefused}
-use Rattle.command_ends.specs.Archives.{file_place}
+use Rattle.command_ends.specs.Archives.{further_name}
 use Rattle.archive_updates.proofs.Joins.{joined_none, joined_more, joined_archives}
 use Rattle.command_ends.proofs.Readers.{all_read, none_failed, one_more, refused_at, rest_kept, same_at, unfailed_more}
 use Rattle.archive_updates.proofs.merge.join_files.Goals as goal
@@ -25,7 +25,7 @@ returns-in_err-join_file g c =
     let p = err_from_is_err_and c.from_residual-in_err-join_file.result c.from_residual-in_err-join_file.ensures.1 in
     let lt : c.files.index < length c.args.files.now = omega arith in
     let is = same_at c.files.files c.args.files.now c.files.index c.index-files-index.result c.files.invariant.rest c.index-files-index.is in
-    rw (p.1, p.2) (refused_at _ _ file_place IsArchive IsArchiveRefused _ _ _ _ _ _ lt c.files.auto.files is (joined_archives _ _ _ c.files.invariant.joined) c.files.invariant.rest c.files.invariant.unfailed
+    rw (p.1, p.2) (refused_at _ _ further_name IsArchive IsArchiveRefused _ _ _ _ _ _ lt c.files.auto.files is (joined_archives _ _ _ c.files.invariant.joined) c.files.invariant.rest c.files.invariant.unfailed
     (rw (← c.index-files-index.is) at c.in_err-join_file.ensures))
 
 pub returns : goal.returns

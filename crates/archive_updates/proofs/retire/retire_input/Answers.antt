@@ -2,7 +2,7 @@ use Rattle.std.proofs.Common.{ap, arith, length, map, subst, ◌∙◌}
 use Rattle.std.specs.List.Sorted.{IsStrictlySortedBy}
 use Rattle.std.proofs.lemmas.Result.{err_from_is_err_and}
 use Rattle.archive_core.specs.Record.{IsOperation}
-use Rattle.record_merge.specs.Turns.{is_new, turn_of}
+use Rattle.record_merge.specs.Arrivals.{is_new, arrival_of}
 use Rattle.archive_updates.proofs.Retired.{listed_alone, retire_stops, retired}
 use Rattle.archive_updates.proofs.retire.retire_input.Goals as goal
 
@@ -21,8 +21,8 @@ index-requires g c =
     let is = subst IsOperation c.retirement.ensures.is c.retirement.ensures.operation in
     let told = c.in_ok-sizes.ensures in
     let j = rw c.retirement.ensures.is at told in
-    let one = ap length (j.turns_are ∙ ap (map (turn_of j.joined.content)) (listed_alone c.args.key.now c.args.digest.now is)) in
-    omega (arith, one, c.in_ok-sizes.told.turns.ok.0)
+    let one = ap length (j.arrivals_are ∙ ap (map (arrival_of j.joined.content)) (listed_alone c.args.key.now c.args.digest.now is)) in
+    omega (arith, one, c.in_ok-sizes.told.arrivals.ok.0)
 
 pub returns : goal.returns
 returns g c =

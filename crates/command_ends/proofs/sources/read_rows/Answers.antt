@@ -1,4 +1,4 @@
-use Rattle.command_ends.proofs.Lent.{read_lent}
+use Rattle.command_ends.proofs.BorrowedSources.{read_lent}
 use Rattle.command_ends.proofs.sources.read_rows.Goals as goal
 
 pub returns-in-Ok : goal.returns-in-Ok

@@ -1,5 +1,5 @@
 use Rattle.std.proofs.Common.{◌∙◌, ℕ, List, Bor, ap, map, option_map, sym}
-use Rattle.plan_commands.proofs.OutPlaces.{path_from}
+use Rattle.plan_commands.proofs.OutPublished.{path_from}
 use Rattle.plan_commands.proofs.files.begin.Goals as goal
 
 pub returns-clause-path : goal.returns-clause-path

@@ -4,14 +4,14 @@ use mathlib.Core.Logic.{∥∥₁_map}
 use Rattle.std.proofs.lemmas.Result.{err_from_is_err_and}
 use Rattle.std.specs.Io.KnownBytes.{Appends}
 use Rattle.archive_files.specs.FileCalls.{bytes_in}
-use Rattle.archive_files.specs.OutFiles.{draft_account, is_settled, placed_account, placing_calls, Untouched}
+use Rattle.archive_files.specs.OutFiles.{draft_account, is_settled, published_account, publishing_calls, Untouched}
 use Rattle.archive_files.specs.OutFiles.{stage_of}
-use Rattle.archive_files.specs.Placing.{IsPlaced, IsRemoved, account}
+use Rattle.archive_files.specs.Publishing.{IsPublished, IsRemoved, account}
 use Rattle.command_line.specs.LineView.{line_view}
 use Rattle.command_line.specs.Lines.{inputs_of}
 use Rattle.plan_commands.specs.Files.{command_fault_of}
-use Rattle.plan_commands.proofs.OutPlaces.{draft_took, first_from, none_asked, nothing_taken, nothing_there}
-use Rattle.plan_commands.proofs.OutPlaces.{placed_there, settled_of, settled_without_calls}
+use Rattle.plan_commands.proofs.OutPublished.{draft_took, first_from, none_asked, nothing_taken, nothing_there}
+use Rattle.plan_commands.proofs.OutPublished.{published_there, settled_of, settled_without_calls}
 use Rattle.plan_commands.proofs.Noting.{on_any, told_done}
 use Rattle.plan_commands.proofs.Outcomes.{carried_outcome}
 use Rattle.plan_commands.proofs.Saying.{none_called}
@@ -45,7 +45,7 @@ returns-in_err-begin g c =
     rw (wanting.1, wanting.2) (inl (record {
       wanting = refl;
       asked = (0, c.begin.ensures.asked ∙ sym (append-nil _));
-      uncalled = none_called _ _ c.begin.ensures.placed c.begin.ensures.calls;
+      uncalled = none_called _ _ c.begin.ensures.published c.begin.ensures.calls;
       report_same = refl;
       report_unfailed = refl;
     }))
@@ -57,7 +57,7 @@ returns-in_err-inputs g c =
       wanting = refl;
       asked = first_from _ _ _ _ c.begin.ensures.asked c.inputs_for.ensures.first;
       uncalled = none_called _ _
-          (ap (λ out. out.target.placed) c.inputs_for.ensures.out ∙ c.begin.ensures.placed)
+          (ap (λ out. out.target.published) c.inputs_for.ensures.out ∙ c.begin.ensures.published)
           (ap (λ out. out.draft.calls.entries) c.inputs_for.ensures.out ∙ c.begin.ensures.calls);
       report_same = refl;
       report_unfailed = refl;
@@ -71,7 +71,7 @@ returns g c =
     ap (λ out. stage_of out.draft.state) same ∙ c.begin.ensures.untouched in
     let uncalled : before.draft.calls.entries ≡ [] = ap (λ out. out.draft.calls.entries) same ∙ c.begin.ensures.calls in
     let unfailed : before.draft.failures ≡ 0 = ap (λ out. out.draft.failures) same ∙ c.begin.ensures.unfailed in
-    let unplaced : before.target.placed ≡ None = ap (λ out. out.target.placed) same ∙ c.begin.ensures.placed in
+    let unpublished : before.target.published ≡ None = ap (λ out. out.target.published) same ∙ c.begin.ensures.published in
     let done = c.execute_on-ended.new.out in
     let last = c.discard.new.self in
     let path = option_map string_bytes before.draft.path in
@@ -80,7 +80,7 @@ returns g c =
     ≡ Some (account path rule []) =
     ap (λ stage. Some (draft_account (is_settled stage) path rule before.draft.calls.entries)) untouched
     ∙ ap (λ calls. Some (account path rule (bytes_in calls))) uncalled in
-    let none_before : placed_account before.target.placed ≡ None = ap placed_account unplaced in
+    let none_before : published_account before.target.published ≡ None = ap published_account unpublished in
     let settled = is_settled (stage_of done.draft.state) in
     let after = option_map string_bytes done.draft.path in
     let took : (bytes : List ℕ)
@@ -91,10 +91,10 @@ returns g c =
     (subst (λ held. Appends held (Some (draft_account settled after done.draft.replaces done.draft.calls.entries)) bytes)
     begun is) in
     let none_called : (took_none : bytes_in done.draft.calls.entries ≡ [])
-    → done.draft.failures ≡ before.draft.failures → placed_account done.target.placed ≡ placed_account before.target.placed
-    → placing_calls done.target.placed ++ last.calls.entries ≡ [] =
+    → done.draft.failures ≡ before.draft.failures → published_account done.target.published ≡ published_account before.target.published
+    → publishing_calls done.target.published ++ last.calls.entries ≡ [] =
     λ none as_often kept.
-    ap (λ calls. calls ++ last.calls.entries) (nothing_there done.target.placed (kept ∙ none_before))
+    ap (λ calls. calls ++ last.calls.entries) (nothing_there done.target.published (kept ∙ none_before))
     ∙ last.first (nothing_taken _ _ (c.discard.ensures.bytes ∙ none)
     (c.discard.ensures.failures ∙ as_often ∙ unfailed)) in
     let noted = c.execute_on-ended.new.notes.items in
@@ -110,7 +110,7 @@ returns g c =
           ap (λ out. out.draft.replaces) same ∙ c.in_ok-begin.ensures.rule some ∙ c.replaces.ensures;
       begun_is = begun;
       begun_unfailed = unfailed;
-      nothing_placed = none_before;
+      nothing_published = none_before;
       asked = c.in_ok-inputs.ensures.asked
           ∙ ap (λ asked. asked ++ inputs_of (line_view c.args.line.now)) c.begin.ensures.asked;
       before = c.deref_mut.result.now;
@@ -120,22 +120,22 @@ returns g c =
       carried = carried;
       notes_are = on_any (command_fault_of c.fault.result c.execute_on-ended.result) refl;
       outcome = carried_outcome _ _ _ _ _ _ _ _ _ _ carried;
-      placed = λ text is.
-          let there = placed_there path rule done.target.placed text
-          (subst (λ held. Appends held (placed_account done.target.placed) text) begun is.placed) in
+      published = λ text is.
+          let there = published_there path rule done.target.published text
+          (subst (λ held. Appends held (published_account done.target.published) text) begun is.published) in
           let gone : last.calls.entries ≡ [] = last.empty (settled_without_calls (stage_of last.state)
           (c.discard.ensures.settled ∙ settled_of settled after done.draft.replaces done.draft.calls.entries is.emptied)) in (
             there.0,
             there.1,
-            ∥∥₁_map there.2 (λ whole. subst (λ calls. IsPlaced there.0 rule text calls)
-                (sym (ap (λ calls. placing_calls done.target.placed ++ calls) gone
-                ∙ append-nil (placing_calls done.target.placed))) whole),
+            ∥∥₁_map there.2 (λ whole. subst (λ calls. IsPublished there.0 rule text calls)
+                (sym (ap (λ calls. publishing_calls done.target.published ++ calls) gone
+                ∙ append-nil (publishing_calls done.target.published))) whole),
           );
       removed = λ not.
           let is = took not.bytes not.took in
-          let gone : placing_calls done.target.placed ≡ [] =
-          nothing_there done.target.placed (not.kept ∙ none_before) in
-          let called : placing_calls done.target.placed ++ last.calls.entries ≡ last.calls.entries =
+          let gone : publishing_calls done.target.published ≡ [] =
+          nothing_there done.target.published (not.kept ∙ none_before) in
+          let called : publishing_calls done.target.published ++ last.calls.entries ≡ last.calls.entries =
           ap (λ calls. calls ++ last.calls.entries) gone in (
             ∥∥₁_map c.discard.ensures.removed (λ removed. subst (λ calls. IsRemoved path calls) (sym called)
                 (subst (λ p. IsRemoved p last.calls.entries)

@@ -1,6 +1,6 @@
 use Rattle.std.proofs.Common.{◌∙◌, ap, sym}
 use Rattle.std.specs.List.{list_any}
-use Rattle.plan_commands.specs.Said.{has_line_feed, is_control}
+use Rattle.plan_commands.specs.StandardError.{has_line_feed, is_control}
 use Rattle.plan_commands.proofs.Helping.{feedless}
 use Rattle.plan_commands.proofs.help_lines.shown.Goals as goal
 

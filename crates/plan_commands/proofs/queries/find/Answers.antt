@@ -1,5 +1,5 @@
 use Rattle.std.proofs.Common.{◌≡◌, arith, length, suc}
-use Rattle.plan_commands.proofs.Asked.{dropped, taken}
+use Rattle.plan_commands.proofs.Dispatched.{dropped, taken}
 use Rattle.plan_commands.proofs.queries.find.Goals as goal
 
 pub returns : goal.returns

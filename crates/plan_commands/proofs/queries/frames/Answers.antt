@@ -1,4 +1,4 @@
-use Rattle.plan_commands.proofs.Asked.{dropped, taken}
+use Rattle.plan_commands.proofs.Dispatched.{dropped, taken}
 use Rattle.plan_commands.proofs.queries.frames.Goals as goal
 
 pub returns : goal.returns

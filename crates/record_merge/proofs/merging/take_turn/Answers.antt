@@ -9,8 +9,8 @@ returns-then-is_covered-clause-merging g c = λ b1 b2 a1 a2 w0 p.
     rw (rw c.is_covered.ensures.same at c.pass_over.ensures) (passed _ _ _ _ _ _ (sides_of g.B.Side.seen c.args.m.now) p c.requires.before c.if-is_covered.ensures.covered)
 
 pub returns-then-is_covered-clause-telling : goal.returns-then-is_covered-clause-telling
-returns-then-is_covered-clause-telling g c = λ a1 b1 a2 b2 w0 told withdraws turn t tells.
-    rw (rw c.is_covered.ensures.same at c.pass_over.ensures) (tells_passed _ _ _ _ _ _ (sides_of g.B.Side.seen c.args.m.now) told withdraws turn t tells c.requires.before c.if-is_covered.ensures.covered)
+returns-then-is_covered-clause-telling g c = λ a1 b1 a2 b2 w0 told withdraws arrival t tells.
+    rw (rw c.is_covered.ensures.same at c.pass_over.ensures) (tells_passed _ _ _ _ _ _ (sides_of g.B.Side.seen c.args.m.now) told withdraws arrival t tells c.requires.before c.if-is_covered.ensures.covered)
 
 pub returns-in_err-test_number-clause-merging : goal.returns-in_err-test_number-clause-merging
 returns-in_err-test_number-clause-merging g c = λ b1 b2 a1 a2 w0 p.
@@ -30,8 +30,8 @@ returns-clause-merging g c = λ b1 b2 a1 a2 w0 p.
     rw is (wrote _ _ _ _ _ _ (sides_of g.B.Side.seen c.args.m.now) p c.requires.before c.if-is_covered.ensures.covered _ c.write_first.new.m.written more.records put.size_is put.gained)
 
 pub returns-clause-telling : goal.returns-clause-telling
-returns-clause-telling g c = λ a1 b1 a2 b2 w0 told withdraws turn t tells.
+returns-clause-telling g c = λ a1 b1 a2 b2 w0 told withdraws arrival t tells.
     let put = rw c.is_covered.ensures.same at c.in_default.ensures.puts in
     let more = rw c.is_covered.ensures.same at c.in_default.ensures.more in
     let is = rw c.is_covered.ensures.same at c.in_default.ensures.turned in
-    rw is (tells_wrote _ _ _ _ _ _ (sides_of g.B.Side.seen c.args.m.now) told withdraws turn t tells c.requires.before c.if-is_covered.ensures.covered _ c.write_first.new.m.written more.records put.size_is put.gained)
+    rw is (tells_wrote _ _ _ _ _ _ (sides_of g.B.Side.seen c.args.m.now) told withdraws arrival t tells c.requires.before c.if-is_covered.ensures.covered _ c.write_first.new.m.written more.records put.size_is put.gained)

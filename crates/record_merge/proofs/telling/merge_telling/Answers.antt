@@ -2,7 +2,7 @@ use Rattle.std.proofs.Common.{Ok, Err}
 use Rattle.std.proofs.lemmas.Result.{err_from_is_err_and}
 use Rattle.byte_device.specs.Devices.{stream}
 use Rattle.record_merge.proofs.Merges.{merges, no_memory}
-use Rattle.record_merge.proofs.Tellings.{merged_telling, turns_of_texts, withdraws_of_texts}
+use Rattle.record_merge.proofs.Tellings.{merged_telling, arrivals_of_texts, withdraws_of_texts}
 use Rattle.record_merge.proofs.telling.merge_telling.Goals as goal
 
 pub returns-in_default-clause-merges : goal.returns-in_default-clause-merges
@@ -22,14 +22,14 @@ returns-clause-merges g c =
 pub returns-clause-tells : goal.returns-clause-tells
 returns-clause-tells g c =
     let taken = c.in_ok-sizes.ensures in
-    merged_telling (stream g.R.Source.left g.R.Source.failures c.args.left.now c.tell_taken.new.r1) (stream g.B.ReadFrom.left g.B.ReadFrom.failures c.args.right.now c.tell_taken.new.r2) (stream g.W.Sink.held g.W.Sink.failures c.args.w.now c.tell_taken.new.w) c.in_ok-sizes.sizes c.tell_taken.new.told.turns.items c.tell_taken.new.told.withdraws taken.told taken.devices
+    merged_telling (stream g.R.Source.left g.R.Source.failures c.args.left.now c.tell_taken.new.r1) (stream g.B.ReadFrom.left g.B.ReadFrom.failures c.args.right.now c.tell_taken.new.r2) (stream g.W.Sink.held g.W.Sink.failures c.args.w.now c.tell_taken.new.w) c.in_ok-sizes.sizes c.tell_taken.new.told.arrivals.items c.tell_taken.new.told.withdraws taken.told taken.devices
 
-pub returns-clause-turns : goal.returns-clause-turns
-returns-clause-turns g c =
+pub returns-clause-arrivals : goal.returns-clause-arrivals
+returns-clause-arrivals g c =
     let taken = c.in_ok-sizes.ensures in
-    turns_of_texts (stream g.R.Source.left g.R.Source.failures c.args.left.now c.tell_taken.new.r1) (stream g.B.ReadFrom.left g.B.ReadFrom.failures c.args.right.now c.tell_taken.new.r2) (stream g.W.Sink.held g.W.Sink.failures c.args.w.now c.tell_taken.new.w) c.in_ok-sizes.sizes c.tell_taken.new.told.turns.items c.tell_taken.new.told.withdraws taken.told taken.devices
+    arrivals_of_texts (stream g.R.Source.left g.R.Source.failures c.args.left.now c.tell_taken.new.r1) (stream g.B.ReadFrom.left g.B.ReadFrom.failures c.args.right.now c.tell_taken.new.r2) (stream g.W.Sink.held g.W.Sink.failures c.args.w.now c.tell_taken.new.w) c.in_ok-sizes.sizes c.tell_taken.new.told.arrivals.items c.tell_taken.new.told.withdraws taken.told taken.devices
 
 pub returns-clause-withdraws : goal.returns-clause-withdraws
 returns-clause-withdraws g c =
     let taken = c.in_ok-sizes.ensures in
-    withdraws_of_texts (stream g.R.Source.left g.R.Source.failures c.args.left.now c.tell_taken.new.r1) (stream g.B.ReadFrom.left g.B.ReadFrom.failures c.args.right.now c.tell_taken.new.r2) (stream g.W.Sink.held g.W.Sink.failures c.args.w.now c.tell_taken.new.w) c.in_ok-sizes.sizes c.tell_taken.new.told.turns.items c.tell_taken.new.told.withdraws taken.told taken.devices
+    withdraws_of_texts (stream g.R.Source.left g.R.Source.failures c.args.left.now c.tell_taken.new.r1) (stream g.B.ReadFrom.left g.B.ReadFrom.failures c.args.right.now c.tell_taken.new.r2) (stream g.W.Sink.held g.W.Sink.failures c.args.w.now c.tell_taken.new.w) c.in_ok-sizes.sizes c.tell_taken.new.told.arrivals.items c.tell_taken.new.told.withdraws taken.told taken.devices

@@ -8,12 +8,12 @@ use Rattle.record_merge.proofs.telling.tell_taken.Goals as goal
 pub returns-in_err-tell_records-clause-leaves : goal.returns-in_err-tell_records-clause-leaves
 returns-in_err-tell_records-clause-leaves g c =
     let e = err_from_is_err_and c.from_residual-in_err-tell_records.result c.from_residual-in_err-tell_records.ensures.1 in
-    let begun = tells_as _ _ _ _ _ _ (sides_of g.B.Side.seen c.in_ok-m.m) [] c.args.told.now.turns.items false c.args.told.now.withdraws c.requires.turns c.requires.withdraws c.in_ok-m.ensures.telling in
+    let begun = tells_as _ _ _ _ _ _ (sides_of g.B.Side.seen c.in_ok-m.m) [] c.args.told.now.arrivals.items false c.args.told.now.withdraws c.requires.arrivals c.requires.withdraws c.in_ok-m.ensures.telling in
     rw (e.1, e.2) (stops_later _ _ _ _ _ _ _ (c.in_err-tell_records.ensures.telling _ _ _ begun))
 
 pub returns-clause-leaves : goal.returns-clause-leaves
 returns-clause-leaves g c =
-    let begun = tells_as _ _ _ _ _ _ (sides_of g.B.Side.seen c.in_ok-m.m) [] c.args.told.now.turns.items false c.args.told.now.withdraws c.requires.turns c.requires.withdraws c.in_ok-m.ensures.telling in
+    let begun = tells_as _ _ _ _ _ _ (sides_of g.B.Side.seen c.in_ok-m.m) [] c.args.told.now.arrivals.items false c.args.told.now.withdraws c.requires.arrivals c.requires.withdraws c.in_ok-m.ensures.telling in
     let told = c.in_ok-tell_records.ensures.telling _ _ _ begun in
     c.finish.ensures.leaves _ _ _ _ _ told.merging
 

@@ -2,7 +2,7 @@ use Rattle.std.proofs.Common.{◌≡◌, Bool, true, false, List, [], ◌∷◌,
 use Rattle.std.specs.List.Retain.{IsFiltered, ReturnsInTurn}
 use Rattle.std.specs.List.{items_where_true}
 use denote.Ref.{Bor}
-use Rattle.sorted_archive.specs.declared.covered.Lent.{Lent}
+use Rattle.sorted_archive.specs.declared.covered.BorrowedOperations.{BorrowedOperations}
 use Rattle.archive_core.specs.declared.operations.Operation.{Operation}
 use Rattle.sorted_archive.specs.contracts.covered.fn.drop_covered.retain as closure
 use Rattle.archive_core.specs.Content.{is_covered}
@@ -35,7 +35,7 @@ returns-clause-items c =
     kept _ (λ f. (closure.captures f).by ≡ c.args.by) test (λ f x b f' i k.
     let told : b ≡ not (is_covered (closure.captures f).by.now (record_bytes x)) = search rules in
     let same : (closure.captures f').by ≡ (closure.captures f).by = search rules in
-    (told ∙ ap (λ (by : Bor Lent). not (is_covered by.now (record_bytes x))) i, same ∙ i)) _ refl _ _ c.retain.ensures.filtered
+    (told ∙ ap (λ (by : Bor BorrowedOperations). not (is_covered by.now (record_bytes x))) i, same ∙ i)) _ refl _ _ c.retain.ensures.filtered
     ∙ ap (filter test) same
 
 pub returns-then-not-has_retirements-clause-items : goal.returns-then-not-has_retirements-clause-items

@@ -1,7 +1,7 @@
 use Rattle.std.proofs.Common.{option_map, string_bytes}
 use mathlib.Core.Logic.{∥∥₁_map}
 use Rattle.archive_files.specs.OutFiles.{stage_of}
-use Rattle.archive_files.proofs.Placings.{kept_empty, kept_first}
+use Rattle.archive_files.proofs.Publishings.{kept_empty, kept_first}
 use Rattle.archive_files.proofs.out_file.OutFile.discard.Goals as goal
 
 pub invariant_of-self : goal.invariant_of-self

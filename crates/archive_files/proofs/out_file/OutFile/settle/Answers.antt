@@ -3,8 +3,8 @@ use Rattle.std.proofs.lemmas.Grind.{not_there}
 use mathlib.Core.Logic.{∥∥₁_map}
 use Rattle.archive_files.specs.FileCalls.{bytes_in}
 use Rattle.archive_files.specs.OutFiles.{stage_of}
-use Rattle.archive_files.specs.Placing.{HandsOn, IsPlaced}
-use Rattle.archive_files.proofs.Placings.{kept_empty, kept_first, none_handed_on, placed_at}
+use Rattle.archive_files.specs.Publishing.{HandsOn, IsPublished}
+use Rattle.archive_files.proofs.Publishings.{kept_empty, kept_first, none_handed_on, published_at}
 use Rattle.archive_files.proofs.out_file.OutFile.settle.Goals as goal
 
 pub invariant_of-self : goal.invariant_of-self
@@ -25,11 +25,11 @@ invariant_of-result g c =
     let path = option_map string_bytes old.path in
     record {
       whole = ∥∥₁_map old.so_far (λ so.
-          subst (λ calls. IsPlaced (string_bytes c.in-Some.path) old.replaces (bytes_in calls.entries) calls.entries)
+          subst (λ calls. IsPublished (string_bytes c.in-Some.path) old.replaces (bytes_in calls.entries) calls.entries)
           (sym c.replace-calls.ensures.value)
-          (placed_at path old.replaces (string_bytes c.in-Some.path) c.finish.new.calls.entries
+          (published_at path old.replaces (string_bytes c.in-Some.path) c.finish.new.calls.entries
           (ap (option_map string_bytes) (sym c.replace.ensures.value ∙ c.in-Some.is))
-          (c.if-not-finish.ensures.placed refl path so)));
+          (c.if-not-finish.ensures.published refl path so)));
     }
 
 pub unreachable-requires : goal.unreachable-requires
@@ -39,4 +39,4 @@ unreachable-requires g c =
     not_there old.so_far (λ so. none_handed_on old.replaces c.finish.new.calls.entries
     (subst (λ p. HandsOn p old.replaces c.finish.new.calls.entries)
     (ap (option_map string_bytes) (sym c.replace.ensures.value ∙ c.in-None.is))
-    (c.if-not-finish.ensures.placed refl path so)))
+    (c.if-not-finish.ensures.published refl path so)))

@@ -1,7 +1,7 @@
 use Rattle.std.proofs.Common.{◌∙◌, sym, ap, option_map, string_bytes, subst, take}
 use mathlib.Core.Logic.{∥∥₁_map}
 use Rattle.archive_files.specs.OutFiles.{IsSoFar, has_calls, is_settled, stage_of}
-use Rattle.archive_files.proofs.Placings.{failed_some, more_account, more_so_far, takes_has_calls, took_some, written_anyhow}
+use Rattle.archive_files.proofs.Publishings.{failed_some, more_account, more_so_far, takes_has_calls, took_some, written_anyhow}
 use Rattle.archive_files.proofs.out_file.OutFileSink.push.Goals as goal
 
 pub invariant_of-self : goal.invariant_of-self

@@ -1,7 +1,7 @@
 use Rattle.std.proofs.Common.{◌≡◌, rules, sym, ap, ◌∙◌}
 use Rattle.std.specs.Ordering.{is_eq}
 use Rattle.record_merge.specs.declared.side.Lookahead.TheVariants.{Held}
-use Rattle.record_merge.proofs.Lents.{equal_bytes}
+use Rattle.record_merge.proofs.BorrowedSides.{equal_bytes}
 use Rattle.record_merge.proofs.merging.Merge.is_last_of_both.Goals as goal
 
 pub returns-then-eq : goal.returns-then-eq

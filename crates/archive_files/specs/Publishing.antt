@@ -1,0 +1,156 @@
+-- How a text is put in place at OUT's path.
+use Rattle.std.specs.Prelude.{◌≡◌, ◌≢◌, ◌≤◌, ◌<◌, ◌⊎◌, ℕ, suc, Bool, true, ◌&&◌, ◌==◌, List, [], ◌∷◌, ◌++◌}
+use Rattle.std.specs.Prelude.{All, Contains, codes, if◌then◌else◌, length, Option, Some, None, unwrap_or}
+use Rattle.std.specs.Fmt.{decimal}
+use Rattle.std.specs.List.{concat}
+use Rattle.std.specs.Path.{path_parent, path_with_file_name}
+use Rattle.archive_files.specs.FileCalls.{Agrees, Covers, FileCall, FindsFile, FindsNoArchive, FindsNoLink, FindsNothing}
+use Rattle.archive_files.specs.FileCalls.{FindsOther, Leads, Removes, Syncs, are_looks, bytes_in, drafting, publishing}
+use Rattle.archive_files.specs.FileCalls.{writing}
+use Rattle.archive_files.specs.declared.replaceable.Replaces.{Replaces}
+use Rattle.archive_files.specs.declared.replaceable.Replaces.TheVariants.{OwnFiles, ArchivesBelow, SameBytes}
+
+-- ---- paths
+
+-- the name of a draft of this process
+abbrev pub draft_name : ℕ → ℕ → List ℕ
+draft_name process number = codes ".symarch-" ++ decimal process ++ codes "-" ++ decimal number
+
+-- the folder that a path stands in
+abbrev pub folder_of : List ℕ → List ℕ
+folder_of path =
+    let folder = unwrap_or (path_parent path) [] in if length folder == 0 then codes "." else folder
+
+-- a number, in digits
+abbrev pub IsNumber : List ℕ → Type 0
+IsNumber text = (0 < length text) × All (λ digit. 48 ≤ digit × digit ≤ 57) text
+
+-- A process, as it is named under /proc.
+abbrev pub IsProcess : List ℕ → Type 0
+IsProcess name = (name ≡ codes "self") ⊎ (name ≡ codes "thread-self") ⊎ IsNumber name
+
+-- A descriptor in this folder of descriptors.
+pub record IsNumbered (folder path : List ℕ) : Type 0 where
+  pub number : List ℕ
+  pub is_number : IsNumber number
+  pub path_is : path ≡ folder ++ number
+
+-- The path of a descriptor that a process has.
+abbrev pub IsDescriptor : List ℕ → Type 0
+IsDescriptor path =
+    (path ≡ codes "/dev/stdout") ⊎ (path ≡ codes "/dev/stderr") ⊎ IsNumbered (codes "/dev/fd/") path
+    ⊎ ((process : List ℕ) × IsProcess process × IsNumbered (codes "/proc/" ++ process ++ codes "/fd/") path)
+
+-- The draft stands in the folder of the target, with a name of its own.
+pub record IsBeside (draft target : List ℕ) : Type 0 where
+  pub process : ℕ
+  pub number : ℕ
+  pub draft_is : draft ≡ path_with_file_name target (draft_name process number)
+  pub apart : draft ≢ target
+
+-- ---- calls
+
+-- What a path leads to is replaced at the target, as the system said: a regular file, or nothing, at the path itself;
+-- or a regular file that a link leads to.
+abbrev pub IsTargetOf : List ℕ → List ℕ → List FileCall → Type 0
+IsTargetOf path target looks =
+    ((target ≡ path) × (looks ≡ FindsNothing path ∷ FindsNoLink path ∷ []))
+    ⊎ ((target ≡ path) × (looks ≡ FindsFile path ∷ FindsNoLink path ∷ []))
+    ⊎ (looks ≡ FindsFile path ∷ Leads path target ∷ [])
+
+-- What a path leads to is written to: the system said that it is no regular file, or it is a descriptor.
+abbrev pub IsWritable : List ℕ → List FileCall → Type 0
+IsWritable path looks = (looks ≡ FindsOther path ∷ []) ⊎ ((looks ≡ []) × IsDescriptor path)
+
+-- The draft may take the place of what is at the target: each of symarch's own files may be replaced; or else what is
+-- there is no archive, or one of which the draft has or covers each record; or it has no other bytes than the draft.
+abbrev pub IsTested : Replaces → List ℕ → List ℕ → List FileCall → Type 0
+IsTested OwnFiles draft target tests = tests ≡ []
+IsTested ArchivesBelow draft target tests = (tests ≡ FindsNoArchive target ∷ []) ⊎ (tests ≡ Covers draft target ∷ [])
+IsTested SameBytes draft target tests = tests ≡ Agrees draft target ∷ []
+
+-- Pieces of the text went to a draft beside the target of a path, and the draft, which may replace what is there, was
+-- put in its place.
+pub record IsReplaced (path : List ℕ) (replaces : Replaces) (text : List ℕ) (calls : List FileCall) : Type 0 where
+  pub draft : List ℕ
+  pub target : List ℕ
+  pub looks : List FileCall
+  pub pieces : List (List ℕ)
+  pub target_is : IsTargetOf path target looks
+  pub beside : IsBeside draft target
+  pub tests : List FileCall
+  pub tested : IsTested replaces draft target tests
+  pub whole : concat pieces ≡ text
+  pub calls_are : calls ≡ looks ++ drafting draft pieces ++ tests ++ publishing draft target (folder_of target)
+
+-- Pieces of the text went to what is at the path, which is no regular file, or a descriptor.
+pub record IsWrittenThrough (path text : List ℕ) (calls : List FileCall) : Type 0 where
+  pub looks : List FileCall
+  pub pieces : List (List ℕ)
+  pub writable : IsWritable path looks
+  pub whole : concat pieces ≡ text
+  pub calls_are : calls ≡ looks ++ writing path pieces
+
+-- The text is at the path: it was put in the place of what was there, or went to what is there.
+abbrev pub IsPublished : List ℕ → Replaces → List ℕ → List FileCall → Type 0
+IsPublished path replaces text calls = IsReplaced path replaces text calls ⊎ IsWrittenThrough path text calls
+
+-- Pieces of a text went to a draft beside the target of a path.
+pub record IsDrafted (path draft target : List ℕ) (calls : List FileCall) : Type 0 where
+  pub looks : List FileCall
+  pub pieces : List (List ℕ)
+  pub target_is : IsTargetOf path target looks
+  pub beside : IsBeside draft target
+  pub calls_are : calls ≡ looks ++ drafting draft pieces
+
+-- They did, and the draft, which may have been compared and synced before, was removed.
+pub record IsDraftRemoved (path : List ℕ) (calls : List FileCall) : Type 0 where
+  pub draft : List ℕ
+  pub target : List ℕ
+  pub drafted : List FileCall
+  pub is_drafted : IsDrafted path draft target drafted
+  pub tests : List FileCall
+  pub are_tests : are_looks tests ≡ true
+  pub calls_are : (calls ≡ drafted ++ tests ++ Removes draft ∷ [])
+      ⊎ (calls ≡ drafted ++ tests ++ Syncs ∷ Removes draft ∷ [])
+
+-- Nothing was called for OUT; or it has this path, and the system was only asked; or it had a draft, which was removed;
+-- or, at this path, it is no regular file, and bytes went to it.
+abbrev pub IsRemoved : Option (List ℕ) → List FileCall → Type 0
+IsRemoved path calls =
+    (calls ≡ []) ⊎ ((p : List ℕ) × (path ≡ Some p) × (are_looks calls ≡ true))
+    ⊎ ((p : List ℕ) × (path ≡ Some p) × IsDraftRemoved p calls)
+    ⊎ ((p : List ℕ) × (path ≡ Some p) × (text : List ℕ) × IsWrittenThrough p text calls)
+
+-- OUT has a path, at which the bytes of these calls are
+abbrev pub HandsOn : Option (List ℕ) → Replaces → List FileCall → Type 0
+HandsOn path replaces calls = (p : List ℕ) × (path ≡ Some p) × IsPublished p replaces (bytes_in calls) calls
+
+-- ---- what is known
+
+-- OUT has the path that the command has for it, if any, and each input was found to be another file; or it has none,
+-- and is never created, since an input was found to be its own file.
+abbrev pub IsPath : Option (List ℕ) → List (List ℕ) → List (List ℕ) → List (List ℕ) → Option (List ℕ) → Type 0
+IsPath asked inputs others same path =
+    ((path ≡ asked) × (asked ≡ None ⊎ others ≡ inputs))
+    ⊎ ((path ≡ None) × (input : List ℕ) × Contains inputs input × (same ≡ input ∷ []))
+
+-- neither did bytes go to the file, nor did it fail
+abbrev pub took_nothing : List ℕ → ℕ → Bool
+took_nothing bytes failures = length bytes == 0 && failures == 0
+
+-- a path, or that there is none, in front of what else is known
+abbrev pub place : Option (List ℕ) → List ℕ
+place None = 0 ∷ []
+place (Some path) = suc (length path) ∷ path
+
+-- a number for which files may be replaced
+abbrev pub number_of : Replaces → ℕ
+number_of OwnFiles = 0
+number_of ArchivesBelow = 1
+number_of SameBytes = 2
+
+-- What is known of OUT: its path, which files may be replaced there, and the bytes that were written for it. A text
+-- that it takes stands behind what was known, so that the path and the rule stay with it.
+abbrev pub account : Option (List ℕ) → Replaces → List ℕ → List ℕ
+account path replaces bytes = place path ++ (number_of replaces ∷ bytes)

@@ -1,0 +1,17 @@
+//! An output that is in place.
+
+ghost use Rattle.std.specs.Prelude.{string_bytes};
+ghost use Rattle.archive_files.specs.FileCalls.{bytes_in};
+ghost use Rattle.archive_files.specs.Publishing.{IsPublished};
+
+use crate::file_calls::FileCalls;
+use crate::replaceable::Replaces;
+
+/// The path of an output that is in place, which files could be replaced there, and what was called for it.
+#[derive(Drop)]
+pub struct Published {
+    pub path: String,
+    pub replaces: Replaces,
+    pub calls: FileCalls,
+    ghost whole: { ∥ IsPublished (string_bytes path) replaces (bytes_in calls.entries) calls.entries ∥₁ },
+}

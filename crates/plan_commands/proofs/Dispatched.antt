@@ -1,0 +1,151 @@
+-- Archives and indexes that are handed on, and the query that they make.
+use Rattle.std.proofs.Common.{◌≡◌, ◌∙◌, ℕ, ◌<◌, ◌≤◌, suc, List, [], ◌∷◌, ◌++◌, length, take, drop, Option, Result}
+use Rattle.std.proofs.Common.{Bool, false, Err, refl, ap, sym, subst, arith, inl, inr}
+use Rattle.std.proofs.KnownBytes.{Appends-nil}
+use Rattle.std.proofs.lemmas.Bool.{le-ltb, lt-ltb}
+use Rattle.std.proofs.lemmas.Bool.Decides.{nat_tests}
+use Rattle.std.proofs.Math.Seq.{drop-append_seam, take-append_seam}
+use Rattle.std.specs.Prelude.{◌==◌, nat_lt}
+use Rattle.command_ends.specs.Ends.{EndsReport, Query}
+use Rattle.command_ends.specs.Outputs.{Writer, writer}
+use Rattle.command_ends.specs.declared.faults.CommandFault.{CommandFault}
+use Rattle.command_ends.specs.declared.faults.Status.{Status}
+use Rattle.byte_device.specs.declared.disks.CannotOpen.{CannotOpen}
+use Rattle.archive_core.specs.declared.keys.SliceKey.{SliceKey}
+use Rattle.command_ends.specs.Inputs.{Reader, reader, readers}
+use Rattle.indexed_queries.specs.Find.{find_together}
+use Rattle.indexed_symbols.specs.Frames.{frames_at}
+use Rattle.indexed_symbols.specs.Symbolicate.{symbolicate_at}
+use Rattle.plan_commands.specs.QueryDispatch.{IsAlone, find_of, frames_of, if_paired, paired, symbolicate_of}
+
+-- ---- inputs in two parts
+
+module _ {S : Type 0} (left : S → Option (List ℕ)) (failures : S → ℕ) where
+  -- there are as many as inputs
+  pub as_many_readers : (a c : List (Result S CannotOpen)) → length c ≡ length a
+      → length (readers left failures a c) ≡ length a
+  as_many_readers [] [] is = refl
+  as_many_readers [] (y ∷ c) is = absurd (omega arith)
+  as_many_readers (x ∷ a) [] is = absurd (omega arith)
+  as_many_readers (x ∷ a) (y ∷ c) is = ap suc (as_many_readers a c (omega arith))
+
+  -- there is one where there is an input
+  pub some_read : (a c : List (Result S CannotOpen)) → length c ≡ length a → 0 < length a
+      → 0 < length (readers left failures a c)
+  some_read a c same some = omega (arith, as_many_readers a c same)
+
+  joined : (a b c d : List (Result S CannotOpen)) → length c ≡ length a
+      → readers left failures (a ++ b) (c ++ d) ≡ readers left failures a c ++ readers left failures b d
+  joined [] b [] d is = refl
+  joined [] b (y ∷ c) d is = absurd (omega arith)
+  joined (x ∷ a) b [] d is = absurd (omega arith)
+  joined (x ∷ a) b (y ∷ c) d is = ap (λ rest. reader left failures x y ∷ rest) (joined a b c d (omega arith))
+
+  -- the first part, between its states
+  pub taken : (n : ℕ) (a b c d : List (Result S CannotOpen)) → length a ≡ n → length c ≡ length a
+      → take n (readers left failures (a ++ b) (c ++ d)) ≡ readers left failures a c
+  taken n a b c d is same =
+      rw (← is, ← as_many_readers a c same, joined a b c d same)
+      (take-append_seam (readers left failures a c) (readers left failures b d))
+
+  -- the second part
+  pub dropped : (n : ℕ) (a b c d : List (Result S CannotOpen)) → length a ≡ n → length c ≡ length a
+      → drop n (readers left failures (a ++ b) (c ++ d)) ≡ readers left failures b d
+  dropped n a b c d is same =
+      rw (← is, ← as_many_readers a c same, joined a b c d same)
+      (drop-append_seam (readers left failures a c) (readers left failures b d))
+
+-- ---- queries by indexes
+
+-- there is one
+pub not_none : {A : Type 0} (xs : List A) → false ≡ (length xs == 0) → 0 < length xs
+not_none xs is = grind (arith, nat_tests)
+
+pub symbolicate_by : {S : Type 0} (archives places indexes : List (Reader S)) (key : SliceKey) (load : Option ℕ)
+    (lines : Bool) (addresses : List ℕ) → 0 < length indexes
+    → symbolicate_of archives places indexes key load lines addresses
+    ≡ if_paired (paired (length archives) (length indexes)) (symbolicate_at indexes places key load lines addresses)
+symbolicate_by archives places [] key load lines addresses some = absurd (omega arith)
+symbolicate_by [] places (i ∷ indexes) key load lines addresses some = refl
+symbolicate_by (a ∷ archives) places (i ∷ indexes) key load lines addresses some = refl
+
+pub frames_by : {S : Type 0} (lines : Bool) (crash : Reader S) (archives places indexes : List (Reader S))
+    → 0 < length indexes
+    → frames_of lines crash archives places indexes
+    ≡ if_paired (paired (length archives) (length indexes)) (frames_at lines crash indexes places)
+frames_by lines crash archives places [] some = absurd (omega arith)
+frames_by lines crash [] places (i ∷ indexes) some = refl
+frames_by lines crash (a ∷ archives) places (i ∷ indexes) some = refl
+
+-- of more than one archive
+pub find_by : {S : Type 0} (archives places indexes : List (Reader S)) (uuid : List ℕ) → 0 < length indexes
+    → (length archives ≡ 1 → length indexes ≡ 1 → ⊥)
+    → find_of archives places indexes uuid
+    ≡ if_paired (paired (length archives) (length indexes)) (find_together indexes places uuid)
+find_by archives places [] uuid some several = absurd (omega arith)
+find_by [] places (i ∷ indexes) uuid some several = refl
+find_by (a ∷ b ∷ archives) places (i ∷ indexes) uuid some several = refl
+find_by (a ∷ []) [] (i ∷ indexes) uuid some several = refl
+find_by (a ∷ []) (p ∷ q ∷ places) (i ∷ indexes) uuid some several = refl
+find_by (a ∷ []) (p ∷ []) (i ∷ j ∷ indexes) uuid some several = refl
+find_by (a ∷ []) (p ∷ []) (i ∷ []) uuid some several = absurd (several refl refl)
+
+-- ---- how they end
+
+-- one of them has no fellow
+refused_by : {W : Type 0} (held : W → Option (List ℕ)) (failures : W → ℕ) (report : W) (archives indexes : ℕ)
+    (query : Query) (fault : CommandFault) → IsAlone archives indexes fault
+    → EndsReport (if_paired (paired archives indexes) query) (writer held failures report report) (Err fault)
+refused_by held failures report archives indexes query fault (inl more) =
+    rw (more.1, lt-ltb archives indexes more.0) (refl, (Appends-nil (held report), refl))
+refused_by held failures report archives indexes query fault (inr fewer) =
+    rw (fewer.1, le-ltb archives indexes (omega (arith, fewer.0)), lt-ltb indexes archives fewer.0)
+    (refl, (Appends-nil (held report), refl))
+
+-- they are not one each
+pub apart : (archives indexes : ℕ) (fault : CommandFault) → IsAlone archives indexes fault → archives ≡ 1 → indexes ≡ 1 → ⊥
+apart archives indexes fault (inl more) one single = omega (arith, more.0, one, single)
+apart archives indexes fault (inr fewer) one single = omega (arith, fewer.0, one, single)
+
+-- each has one
+kept_by : (archives indexes : ℕ) (query : Query) (report : Writer) (result : Result Status CommandFault)
+    → indexes ≡ archives → EndsReport query report result
+    → EndsReport (if_paired (paired archives indexes) query) report result
+kept_by archives indexes query report result same ends =
+    rw (le-ltb archives indexes (omega (arith, same)), le-ltb indexes archives (omega (arith, same))) ends
+
+-- of any query that is made of indexes and archives so
+module _ {S W : Type 0} (left whole : S → Option (List ℕ)) (failures place_failures : S → ℕ)
+    (held : W → Option (List ℕ)) (write_failures : W → ℕ) (make : List (Reader S) → List (Reader S) → Query) where
+  pub alone_refused : (archives ix : List (Result S CannotOpen)) (query : Query) (report : W) (fault : CommandFault)
+      → IsAlone (length archives) (length ix) fault
+      → query ≡ if_paired
+      (paired (length (readers left failures archives archives)) (length (readers whole place_failures ix ix)))
+      (make (readers whole place_failures ix ix) (readers whole place_failures archives archives))
+      → EndsReport query (writer held write_failures report report) (Err fault)
+  alone_refused archives ix query report fault alone by =
+      let known = readers left failures archives archives in
+      let named = readers whole place_failures ix ix in
+      let many = as_many_readers left failures archives archives refl in
+      let numbered = as_many_readers whole place_failures ix ix refl in
+      subst (λ (q : Query). EndsReport q (writer held write_failures report report) (Err fault)) (sym by)
+      (refused_by held write_failures report (length known) (length named)
+      (make named (readers whole place_failures archives archives)) fault
+      (subst (λ (m : ℕ). IsAlone m (length named) fault) (sym many)
+      (subst (λ (n : ℕ). IsAlone (length archives) n fault) (sym numbered) alone)))
+
+  pub paired_kept : (a c ix iy : List (Result S CannotOpen)) (query : Query) (report : Writer)
+      (result : Result Status CommandFault) → length ix ≡ length a → length c ≡ length a → length iy ≡ length ix
+      → query ≡ if_paired
+      (paired (length (readers left failures a c)) (length (readers whole place_failures ix iy)))
+      (make (readers whole place_failures ix iy) (readers whole place_failures a c))
+      → EndsReport (make (readers whole place_failures ix iy) (readers whole place_failures a c)) report result
+      → EndsReport query report result
+  paired_kept a c ix iy query report result as_many same indexes by ends =
+      let known = readers left failures a c in
+      let named = readers whole place_failures ix iy in
+      let many = as_many_readers left failures a c same in
+      let numbered = as_many_readers whole place_failures ix iy indexes in
+      subst (λ (q : Query). EndsReport q report result) (sym by)
+      (kept_by (length known) (length named) (make named (readers whole place_failures a c)) report result
+      (omega (arith, many, numbered, as_many)) ends)
