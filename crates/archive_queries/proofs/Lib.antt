@@ -1,3 +1,4 @@
+mod Found
 pub mod Parts
 pub mod NamesTogether
 pub mod Sourced

@@ -10,16 +10,16 @@ use Rattle.command_ends.specs.Archives.{AreRefused, AreUnfailed, HoldTogether}
 use Rattle.command_ends.specs.Ends.{Query}
 use Rattle.command_ends.specs.Inputs.{Reader}
 
--- an empty answer is told by the status
-abbrev pub find_status : List FindRow → Status
-find_status [] = Partial
-find_status (_ ∷ _) = Done
+-- how a search ends that gave these rows: an empty answer is told by the status
+abbrev pub found_status : {T : Type 0} → List T → Status
+found_status [] = Partial
+found_status (_ ∷ _) = Done
 
 -- what a content tells of a UUID: the status of its rows, and their lines
 pub record TellsFound (content : Operations) (uuid : List ℕ) (status : Status) (text : List ℕ) : Type 0 where
   pub rows : List FindRow
   pub finds : IsFinds content uuid rows
-  pub status_is : status ≡ find_status rows
+  pub status_is : status ≡ found_status rows
   pub text_is : text ≡ find_lines rows
 
 -- ARCHIVE and the others are the texts of contents, and the join of these tells this of the UUID.

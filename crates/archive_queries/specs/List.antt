@@ -6,7 +6,7 @@ use Rattle.archive_core.specs.declared.find.FindRow.{FindRow}
 use Rattle.report_text.specs.Finds.{list_lines}
 use Rattle.command_ends.specs.declared.faults.Status.{Status}
 use Rattle.command_ends.specs.Ends.{Query}
-use Rattle.archive_queries.specs.Find.{find_status}
+use Rattle.archive_queries.specs.Find.{found_status}
 use Rattle.command_ends.specs.Inputs.{Reader, Unfailed, IsRefusedArchive, HoldsArchive}
 
 -- ARCHIVE is the text of a content; this is the status of all its rows, and these are their lines.
@@ -16,7 +16,7 @@ pub record MakesListed {R : Type 0} (archive : Reader R) (status : Status) (text
   pub is_content : IsContent content
   pub archive_is : HoldsArchive archive content
   pub lists : IsList content rows
-  pub status_is : status ≡ find_status rows
+  pub status_is : status ≡ found_status rows
   pub text_is : text ≡ list_lines rows
 
 -- `list`, over this archive

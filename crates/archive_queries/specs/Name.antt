@@ -1,24 +1,19 @@
 -- What `name` tells of archives.
-use Rattle.std.specs.Prelude.{◌≡◌, ℕ, Bool, true, false, List, [], ◌∷◌, ◌++◌, codes}
+use Rattle.std.specs.Prelude.{◌≡◌, ℕ, Bool, true, false, List, ◌++◌, codes}
 use Rattle.archive_core.specs.Content.{Operations}
 use Rattle.archive_core.specs.Names.{IsNameRow, IsNames, NameRecord}
 use Rattle.report_text.specs.Names.{name_lines}
 use Rattle.command_ends.specs.declared.faults.Status.{Status}
-use Rattle.command_ends.specs.declared.faults.Status.TheVariants.{Done, Partial}
 use Rattle.command_ends.specs.Archives.{AreRefused, AreUnfailed, HoldTogether}
 use Rattle.command_ends.specs.Ends.{Query}
 use Rattle.command_ends.specs.Inputs.{Reader}
-
--- that no symbol has the name is told by the status
-abbrev pub name_status : List NameRecord → Status
-name_status [] = Partial
-name_status (_ ∷ _) = Done
+use Rattle.archive_queries.specs.Find.{found_status}
 
 -- what a content tells of a name: the status of its rows, and their lines
 pub record TellsNamed (content : Operations) (name : List ℕ) (status : Status) (text : List ℕ) : Type 0 where
   pub rows : List NameRecord
   pub names : IsNames content name rows
-  pub status_is : status ≡ name_status rows
+  pub status_is : status ≡ found_status rows
   pub text_is : text ≡ name_lines rows
 
 -- a name with a `_` before it

@@ -1,12 +1,12 @@
 //! `find ARCHIVE UUID`, over one archive or several.
 ghost use Rattle.std.specs.Prelude.{◌≡◌, length};
 ghost use Rattle.command_ends.specs.Ends.{EndsReport};
-ghost use Rattle.archive_queries.specs.Find.{find, find_status};
+ghost use Rattle.archive_queries.specs.Find.{find, found_status};
 ghost use Rattle.command_ends.specs.Inputs.{reader, readers};
 ghost use Rattle.command_ends.specs.Outputs.{writer};
 
 use crate::together::read_parts;
-use archive_core::{Archive, FindRow};
+use archive_core::Archive;
 use archive_reading::Under;
 use byte_device::{CannotOpen, Sink, Source};
 use command_ends::{CommandFault, Status, publish_report};
@@ -15,8 +15,8 @@ use report_text::find_lines;
 use uuid::Uuid;
 
 /// How a search ends that gave these rows.
-pub fn status_of(rows: &[FindRow]) -> Status
-    ensures { result ≡ find_status rows.now }
+pub fn status_of<T>(rows: &[T]) -> Status
+    ensures { result ≡ found_status rows.now }
 {
     if rows.is_empty() {
         Status::Partial

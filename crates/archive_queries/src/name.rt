@@ -6,9 +6,9 @@ ghost use Rattle.archive_reading.specs.Names.{AddsNames};
 ghost use Rattle.command_ends.specs.Archives.{ReadsOthers, ReadsTogether};
 ghost use Rattle.command_ends.specs.Inputs.{HoldsContent, IsRefusedArchive, Reads, reader, readers};
 ghost use Rattle.archive_queries.specs.InnerNames.{HaveAdded};
-ghost use Rattle.archive_queries.specs.Name.{Answers, name_status, underscored};
+ghost use Rattle.archive_queries.specs.Name.{Answers, underscored};
 
-use archive_core::OwnedNameRow;
+use crate::find::status_of;
 use archive_reading::{NamesFound, NamesTold, SoughtNames, gather_names, live_names, read_names};
 use byte_device::{CannotOpen, Source};
 use command_ends::{CommandFault, InputName, Status, opened, refusal};
@@ -125,17 +125,6 @@ fn read_rows<R: Source>(
     }
 }
 
-/// How a search ends that gave these rows.
-fn status_of_names(rows: &[OwnedNameRow]) -> Status
-    ensures { result ≡ name_status (map owned_name_view rows.now) }
-{
-    if rows.is_empty() {
-        Status::Partial
-    } else {
-        Status::Done
-    }
-}
-
 /// Whether there is no row of the name, and one of the other.
 fn is_underscored(told: &NamesTold) -> bool
     ensures { result ≡ (nat_eq (length told.now.rows.items) 0 && not (nat_eq (length told.now.others.items) 0)) }
@@ -190,7 +179,7 @@ pub fn answer_name<R: Source>(
     let told = read_rows(heap.clone()?, names, archive, others)?;
     let text = name_lines(heap, &told.rows)?;
     Ok(NameAnswer {
-        status: status_of_names(&told.rows),
+        status: status_of(&told.rows),
         text,
         is_underscored: is_underscored(&told),
     })

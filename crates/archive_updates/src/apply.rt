@@ -13,7 +13,6 @@ ghost use Rattle.archive_updates.specs.Begun.{EndsBegun};
 ghost use Rattle.command_ends.specs.Ends.{EndsStreamed};
 ghost use Rattle.command_ends.specs.Inputs.{IsRefusedOps, Reads, reader};
 ghost use Rattle.command_ends.specs.Outputs.{out_of, outs, writer};
-ghost use Rattle.record_merge.specs.Arrivals.{is_new};
 
 use crate::telling::tell_operations;
 use archive_core::Operation;
@@ -22,17 +21,9 @@ use command_ends::{
     CommandFault, Output, Status, Target, publish_draft, read_operations, refused_behind,
 };
 use memory::Heap;
-use record_merge::Arrival;
+use record_merge::number_of_new;
 use report_text::apply_line;
 use sorted_archive::new_in_turn;
-
-/// How many are new.
-fn count_new(arrived: &[Arrival]) -> u64
-    ensures counted { result ≡ count_by is_new arrived.now }
-    ensures within { result ≤ length arrived.now }
-{
-    arrived.iter().filter(|arrival| arrival.is_new()).count() as u64
-}
 
 /// Writes IN's archive to OUT with those operations of so many that are new in their turn, and to the report how many
 /// were new and how many were known, and the sizes.
@@ -54,7 +45,7 @@ fn write_applied<R: Source, T: Target, P: Sink>(
         (writer P.held P.failures report.old report.new) result }
 {
     let (sizes, told) = tell_operations(&heap, input, operations, &mut out.draft)?;
-    let new = count_new(&told.arrivals);
+    let new = number_of_new(&told.arrivals);
     let lines = apply_line(heap, new, number - new)?;
     publish_draft(lines, sizes, out, report)
 }

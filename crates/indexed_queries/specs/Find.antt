@@ -7,7 +7,7 @@ use Rattle.command_ends.specs.declared.faults.Status.{Status}
 use Rattle.command_ends.specs.Ends.{Query}
 use Rattle.indexed_queries.specs.Indexes.{IsIndexOf, IsRefusedByIndex}
 use Rattle.command_ends.specs.Inputs.{Reader, Unfailed}
-use Rattle.archive_queries.specs.Find.{TellsFound, find_status}
+use Rattle.archive_queries.specs.Find.{TellsFound, found_status}
 use Rattle.indexed_queries.specs.Rows.{AreIndexRows}
 use Rattle.indexed_queries.specs.Several.{asks_together}
 
@@ -15,7 +15,7 @@ use Rattle.indexed_queries.specs.Several.{asks_together}
 pub record TellsFoundAt (entries : Entries) (uuid : List ℕ) (status : Status) (text : List ℕ) : Type 0 where
   pub rows : List FindRow
   pub are_rows : AreIndexRows uuid entries rows
-  pub status_is : status ≡ find_status rows
+  pub status_is : status ≡ found_status rows
   pub text_is : text ≡ find_lines rows
 
 -- INDEX says entries that tell this of the UUID, and ARCHIVE has the length that they tell.

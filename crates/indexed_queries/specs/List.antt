@@ -7,14 +7,14 @@ use Rattle.command_ends.specs.declared.faults.Status.{Status}
 use Rattle.command_ends.specs.Ends.{Query}
 use Rattle.indexed_queries.specs.Indexes.{IsIndexOf, IsRefusedByIndex}
 use Rattle.command_ends.specs.Inputs.{Reader, Unfailed}
-use Rattle.archive_queries.specs.Find.{find_status}
+use Rattle.archive_queries.specs.Find.{found_status}
 use Rattle.indexed_queries.specs.Rows.{AreIndexRows}
 
 -- what an index tells: the status of the rows of all its entries, and their lines
 pub record TellsListedAt (entries : Entries) (status : Status) (text : List ℕ) : Type 0 where
   pub rows : List FindRow
   pub are_rows : AreIndexRows [] entries rows
-  pub status_is : status ≡ find_status rows
+  pub status_is : status ≡ found_status rows
   pub text_is : text ≡ list_lines rows
 
 -- INDEX says entries that tell this, and ARCHIVE has the length that they tell.

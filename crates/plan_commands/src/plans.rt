@@ -15,7 +15,7 @@ use crate::query_dispatch::{self, Input, first_and_rest};
 use crate::{queries, updates};
 use archive_core::{ArchKey, Archive, Digest, SliceKey};
 use archive_files::Replaces;
-use archive_updates::{Note, run_migrate, run_new, run_retire};
+use archive_updates::{Note, run_migrate, run_new};
 use byte_device::{Sink, Source};
 use command_ends::{CommandFault, Output, Status, Target};
 use command_line::Amount::{Flag, One, Perhaps, Several};
@@ -28,7 +28,7 @@ use rehearse::run_rehearse;
 use uuid::Uuid;
 
 /// What a line asks for: its command, with the values that it is carried out with. The paths of its inputs stay in the
-/// line; `others` are the archives behind the first one, and `indexes` the indexes of the first archives.
+/// line; `more` is how many archives stand behind the first one, and `indexes` the indexes of the first archives.
 #[derive(Clone, Copy, Debug)]
 pub enum Plan<'l> {
     /// To write the empty archive.
@@ -49,7 +49,7 @@ pub enum Plan<'l> {
     /// To tell what the archives have of a build.
     Find {
         uuid: Uuid,
-        others: usize,
+        more: usize,
     },
     /// To tell all that the archive has.
     List,
@@ -57,7 +57,7 @@ pub enum Plan<'l> {
     Extract {
         key: SliceKey,
         digest: Option<Digest>,
-        others: usize,
+        more: usize,
     },
     /// To tell where symbols of a name stand. The name is the word itself.
     Name {
@@ -69,7 +69,7 @@ pub enum Plan<'l> {
         key: SliceKey,
         load: Option<u64>,
         lines: bool,
-        others: usize,
+        more: usize,
         addresses: &'l [u64],
     },
     /// To answer each frame of a crash, in the order of the lines of FRAMES; `lines` as of `Symbolicate`.
@@ -172,7 +172,7 @@ fn find<'l>(values: &'l [Values]) -> Option<Plan<'l>>
             Texts(Several(_)),
         ] => Some(Plan::Find {
             uuid: *uuid,
-            others: others.len(),
+            more: others.len(),
         }),
         _ => None,
     }
@@ -192,7 +192,7 @@ fn extract<'l>(values: &'l [Values]) -> Option<Plan<'l>>
         [Texts(Several(others)), Texts(Several(_))] => Some(Plan::Extract {
             key: key(uuid, arch),
             digest: *digest,
-            others: others.len(),
+            more: others.len(),
         }),
         _ => None,
     }
@@ -227,7 +227,7 @@ fn symbolicate<'l>(values: &'l [Values]) -> Option<Plan<'l>>
             key: key(uuid, arch),
             load: *load,
             lines: *lines,
-            others: others.len(),
+            more: others.len(),
             addresses,
         }),
         _ => None,
@@ -284,24 +284,19 @@ pub fn execute<A: Archive + Drop, L: Archive + Drop, S: Source + Placed, T: Targ
         Plan::New => run_new::<A, _, _>(heap, out, report),
         Plan::Admit => updates::admit(heap, inputs, notes, out, report),
         Plan::Retire { key, digest } => {
-            let (first, _) = first_and_rest(inputs);
-            run_retire(heap, first, *key, *digest, notes, out, report)
+            updates::retire(heap, inputs, *key, *digest, notes, out, report)
         }
         Plan::Merge => updates::merge::<A, _, _, _>(heap, inputs, out, report),
         Plan::Migrate => run_migrate(heap, first_and_rest(inputs).0, out, report),
         Plan::Apply => updates::apply(heap, inputs, out, report),
-        Plan::Find { uuid, others } => {
-            queries::find::<A, _, _>(heap, inputs, *others, uuid, report)
-        }
+        Plan::Find { uuid, more } => queries::find::<A, _, _>(heap, inputs, *more, uuid, report),
         Plan::List => {
             let (archive, indexes) = first_and_rest(inputs);
             query_dispatch::list(heap, archive, indexes, report)
         }
-        Plan::Extract {
-            key,
-            digest,
-            others,
-        } => updates::extract::<A, _, _, _>(heap, inputs, *others, key, digest, out, report),
+        Plan::Extract { key, digest, more } => {
+            updates::extract::<A, _, _, _>(heap, inputs, *more, key, digest, out, report)
+        }
         Plan::Name { name } => {
             let (archive, others) = first_and_rest(inputs);
             query_dispatch::name(heap, archive, others, name.as_bytes(), notes, report)
@@ -310,10 +305,10 @@ pub fn execute<A: Archive + Drop, L: Archive + Drop, S: Source + Placed, T: Targ
             key,
             load,
             lines,
-            others,
+            more,
             addresses,
         } => queries::symbolicate::<L, _, _>(
-            heap, inputs, *others, key, *load, *lines, addresses, report,
+            heap, inputs, *more, key, *load, *lines, addresses, report,
         ),
         Plan::Frames { lines, indexes } => {
             let (crash, rest) = first_and_rest(inputs);

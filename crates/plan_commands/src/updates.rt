@@ -6,11 +6,11 @@ ghost use Rattle.command_ends.specs.Outputs.{out_of, outs, writer};
 ghost use Rattle.plan_commands.specs.QueryDispatch.{extract_of};
 ghost use Rattle.plan_commands.specs.Plans.{Executes, Notes};
 ghost use Rattle.slice_extraction.specs.Extract.{Extracts};
-ghost use Rattle.plan_commands.specs.declared.plans.Plan.TheVariants.{Admit, Apply, Delta, Merge, Summary};
+ghost use Rattle.plan_commands.specs.declared.plans.Plan.TheVariants.{Admit, Apply, Delta, Merge, Retire, Summary};
 
 use crate::query_dispatch::{self, Input, first_and_rest};
 use archive_core::{Archive, Digest, SliceKey};
-use archive_updates::{Note, run_admit, run_apply, run_delta, run_merge, run_summary};
+use archive_updates::{Note, run_admit, run_apply, run_delta, run_merge, run_retire, run_summary};
 use byte_device::{Sink, Source};
 use command_ends::{CommandFault, Output, Status, Target};
 use indexed_queries::run_summary_at;
@@ -37,6 +37,30 @@ pub fn admit<S: Source + Placed, T: Target, P: Sink>(
 {
     let (first, files) = first_and_rest(inputs);
     run_admit(heap, first, files, notes, out, report)
+}
+
+/// `retire`, of an archive.
+pub fn retire<S: Source + Placed, T: Target, P: Sink>(
+    heap: Heap,
+    inputs: &mut [Input<S>],
+    key: SliceKey,
+    digest: Digest,
+    notes: &mut Vec<Note, Heap>,
+    out: &mut Output<T::Draft, T>,
+    report: &mut P,
+) -> Result<Status, CommandFault>
+    requires { 1 ≤ length inputs.old }
+    ensures ends { Executes (Retire key digest)
+        (readers ⟦<S as Source>⟧.left ⟦<S as Source>⟧.failures inputs.old inputs.new)
+        (readers ⟦<S as Placed>⟧.whole ⟦<S as Placed>⟧.failures inputs.old inputs.new)
+        (outs T.Draft.held T.Draft.failures T.published T.failures out.old out.new)
+        (writer P.held P.failures report.old report.new) result }
+    ensures noted { OnOk result (Notes (Retire key digest)
+        (readers ⟦<S as Source>⟧.left ⟦<S as Source>⟧.failures inputs.old inputs.new)
+        notes.old.items notes.new.items) }
+{
+    let (first, _) = first_and_rest(inputs);
+    run_retire(heap, first, key, digest, notes, out, report)
 }
 
 /// `merge`, of an archive and of those behind it.

@@ -12,7 +12,7 @@ ghost use Rattle.archive_core.specs.declared.find.FindRow.{FindRow};
 ghost use Rattle.archive_core.specs.declared.keys.SliceKey.{SliceKey};
 ghost use Rattle.archive_records.specs.Text.{summary_text, written};
 ghost use Rattle.archive_index.specs.Index.{index};
-ghost use Rattle.archive_queries.specs.Find.{TellsFound, find_status};
+ghost use Rattle.archive_queries.specs.Find.{TellsFound, found_status};
 ghost use Rattle.archive_queries.specs.Frames.{TellsFrames};
 ghost use Rattle.archive_queries.specs.Symbolicate.{TellsAddresses};
 ghost use Rattle.crash_frames.specs.Frames.{frames_of};
@@ -57,7 +57,7 @@ pub fn found_by_index<I: Placed, P: Placed>()
 pub fn listed_by_index<I: Placed, P: Placed>()
     ensures { (input : Reader I) (archive : Reader P) (o : Operations) (status : Status) (text : List ℕ)
         → IsIndexGiven input o → MakesListedAt input archive status text
-        → (rows : List FindRow) × IsList o rows × (status ≡ find_status rows) × (text ≡ list_lines rows) }
+        → (rows : List FindRow) × IsList o rows × (status ≡ found_status rows) × (text ≡ list_lines rows) }
 {}
 
 /// If INDEX is that of a content, `summary` makes the summary of that content, whatever bytes ARCHIVE has.

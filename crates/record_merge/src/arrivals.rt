@@ -1,6 +1,6 @@
 //! What a merge tells of its sides.
 
-ghost use Rattle.std.specs.Prelude.{◌≡◌, ◌&&◌, ◌||◌, false, []};
+ghost use Rattle.std.specs.Prelude.{◌≡◌, ◌≤◌, ◌&&◌, ◌||◌, count_by, false, [], length};
 ghost use Rattle.record_merge.specs.Arrivals.{is_new, arrival_by};
 
 use memory::Heap;
@@ -23,6 +23,14 @@ impl Arrival {
     {
         *self == Arrival::New
     }
+}
+
+/// How many are new.
+pub fn number_of_new(arrivals: &[Arrival]) -> u64
+    ensures counted { result ≡ count_by is_new arrivals.now }
+    ensures within { result ≤ length arrivals.now }
+{
+    arrivals.iter().filter(|arrival| arrival.is_new()).count() as u64
 }
 
 /// What a merge tells of its sides.

@@ -58,7 +58,7 @@ mod side;
 mod streams;
 mod telling;
 
-pub use arrivals::{Arrival, Told};
+pub use arrivals::{Arrival, Told, number_of_new};
 pub use borrowed::{BorrowedSide, BorrowedText};
 pub use losses::lost_operations;
 pub use side::{MergeInput, ReadFrom, Side};

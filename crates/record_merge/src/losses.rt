@@ -1,24 +1,16 @@
 //! What is lost where one archive takes the place of another.
 
-ghost use Rattle.std.specs.Prelude.{◌≡◌, IfErr, IfOk, count_by};
+ghost use Rattle.std.specs.Prelude.{IfErr, IfOk};
 ghost use Rattle.byte_device.specs.Devices.{stream};
 ghost use Rattle.record_merge.specs.Losses.{IsNotCompared, Loses};
-ghost use Rattle.record_merge.specs.Arrivals.{is_new};
 
-use crate::arrivals::Arrival;
+use crate::arrivals::number_of_new;
 use crate::nowhere::Nowhere;
 use crate::side::MergeInput;
 use crate::telling::merge_telling;
 use archive_records::MergeFault;
 use byte_device::Source;
 use memory::Heap;
-
-/// How many are new.
-fn number_of_new(arrivals: &[Arrival]) -> u64
-    ensures { result ≡ count_by is_new arrivals.now }
-{
-    arrivals.iter().filter(|arrival| arrival.is_new()).count() as u64
-}
 
 /// How many operations of the old archive the new one neither has nor covers by a retirement: those that are lost where
 /// it takes the place of the old one. Each may be of either version. The two are read side by side, as

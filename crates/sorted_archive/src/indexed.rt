@@ -8,8 +8,10 @@ use memory::{Heap, NoMemory};
 use std::marker::Model;
 use uuid::Uuid;
 
-/// An archive as a sorted list of operations, in which each slice has its table of addresses beside it, and its digest
-/// where a lookup of its key may tell it.
+/// An archive with tables of addresses in memory; they have nothing to do with the indexes of `--index`.
+///
+/// It is a sorted list of operations, in which each slice has its table beside it, and its digest where a lookup of its
+/// key may tell it.
 ///
 /// A table is built before its slice is taken, unless that is there, and moves with it; a copy that a join takes in
 /// gets its own. So a lookup scans no symbols.

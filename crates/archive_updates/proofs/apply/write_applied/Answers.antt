@@ -20,7 +20,7 @@ overflow_sub-number g c =
     let operations = c.args.operations.now in
     let j = c.in_ok-sizes.ensures in
     let o = j.joined.content in
-    let counted = c.count_new-new.ensures.counted ∙ ap (count_by is_new) (c.deref.ensures.value ∙ j.arrivals_are ∙ ap (map (arrival_of o)) (listed_in_order operations c.requires.ascending)) ∙ count_new o (map record_bytes operations) in
+    let counted = c.number_of_new-new.ensures.counted ∙ ap (count_by is_new) (c.deref.ensures.value ∙ j.arrivals_are ∙ ap (map (arrival_of o)) (listed_in_order operations c.requires.ascending)) ∙ count_new o (map record_bytes operations) in
     let few = c.requires.few o j.joined.is_content.itself in
     omega (arith, counted, few)
 
@@ -37,6 +37,6 @@ returns g c =
     let j = c.in_ok-sizes.ensures in
     let o = j.joined.content in
     let whole = j.joined.written_is in
-    let counted = c.count_new-new.ensures.counted ∙ ap (count_by is_new) (c.deref.ensures.value ∙ j.arrivals_are ∙ ap (map (arrival_of o)) (listed_in_order operations c.requires.ascending)) ∙ count_new o (map record_bytes operations) in
+    let counted = c.number_of_new-new.ensures.counted ∙ ap (count_by is_new) (c.deref.ensures.value ∙ j.arrivals_are ∙ ap (map (arrival_of o)) (listed_in_order operations c.requires.ascending)) ∙ count_new o (map record_bytes operations) in
     told_published _ _ _ _ _ _ _ j _ (c.in_ok-lines.ensures ∙ ap (λ (n : ℕ). apply_line n (c.args.number - n)) counted) _ _ c.publish_draft.result
     (c.publish_draft.ensures c.args.out.now.draft _ (whole.written, whole.unfailed) whole.bytes_are)

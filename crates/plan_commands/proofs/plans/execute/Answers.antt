@@ -2,8 +2,7 @@ use Rattle.std.proofs.Common.{refl}
 use Rattle.plan_commands.proofs.plans.execute.Goals as goal
 
 pub returns-in-Retire-clause-ends : goal.returns-in-Retire-clause-ends
-returns-in-Retire-clause-ends g c =
-    rw (c.in-Retire.is, c.first_and_rest-first.ensures.parts) c.run_retire.ensures.ends
+returns-in-Retire-clause-ends g c = rw c.in-Retire.is c.retire.ensures.ends
 
 pub returns-in-Find-clause-ends : goal.returns-in-Find-clause-ends
 returns-in-Find-clause-ends g c = rw c.in-Find.is (c.find.ensures, refl)

@@ -10,7 +10,7 @@ returns-clause-lost g c =
     loses (stream g.R.Source.left g.R.Source.failures c.args.new.now c.merge_telling.new.left)
     (stream g.S.Source.left g.S.Source.failures c.args.old.now c.merge_telling.new.right) _ c.in_ok-told.field-0-0
     c.in_ok-told.told.arrivals.items c.in_ok-told.told.withdraws c.number_of_new.result c.in_ok-told.ensures.tells
-    (c.number_of_new.ensures ∙ ap (count_by is_new) c.deref.ensures.value)
+    (c.number_of_new.ensures.counted ∙ ap (count_by is_new) c.deref.ensures.value)
 
 pub returns-in_err-told-clause-refused : goal.returns-in_err-told-clause-refused
 returns-in_err-told-clause-refused g c =
