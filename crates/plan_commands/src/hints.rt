@@ -154,7 +154,9 @@ impl Display for Note {
             Note::SameFile => f.write_str("the file of an input"),
             Note::OldVersion => f.write_str("an archive of version 1, which `migrate` takes"),
             Note::Stale => f.write_str("not of this archive, of which `index` writes a new one"),
-            Note::Torn => f.write_str("changed since it was written: `index` writes a new one"),
+            Note::Torn => f.write_str(
+                "changed since it was written: run `symarch-keep check` if it keeps the archive, else `index`",
+            ),
             Note::Changed => f.write_str(
                 "of an archive in which a slice changed since it came in: run `symarch-keep check` first",
             ),
