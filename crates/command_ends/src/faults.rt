@@ -43,7 +43,7 @@ pub enum Place {
 pub enum Why {
     /// It could not be opened.
     CannotOpen,
-    /// Reading a file of slices, a script or frames failed, or an archive at the places of an index.
+    /// Reading a file of slices, a script or frames failed.
     Device,
     /// It is no text of an archive, of operations or of a summary, or reading it failed.
     Record(RecordFault),
