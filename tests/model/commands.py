@@ -165,8 +165,8 @@ class Run:
         """What is read of the archive of this number, at the places that its index names."""
         try:
             return read()
-        except Failed:
-            raise CommandFault(f"archive {number}", "Device") from None
+        except Fault as fault:
+            raise CommandFault(f"archive {number}", fault.text) from None
         except Stale as stale:
             raise CommandFault(f"index {number}", stale.text) from None
 

@@ -165,7 +165,7 @@ def what_is_wrong(place: str, text: str, there: Optional[bytes], obstacle: Optio
     if text.startswith("Stale at entry"):
         return ", of an archive in which a slice changed since it came in: run `symarch-keep check` first"
     if text.startswith("Damaged at entry"):
-        return ", changed since it was written: `index` writes a new one"
+        return ", changed since it was written: run `symarch-keep check` if it keeps the archive, else `index`"
     if place in ("frames", "script"):
         return faulty_line(text, there)
     look = look_of(there)

@@ -112,19 +112,24 @@ def length_in(entry: bytes) -> int:
 
 
 def part(placed: Placed, at: int, count: int) -> bytes:
-    """A part of an index, which begins at this offset."""
+    """A part of an index or of its archive, which begins at this offset."""
     try:
         return placed.take(at, count)
     except Failed:
         raise Fault("Device", at) from None
 
 
-def read_index(placed: Placed) -> List[bytes]:
-    """The entries of an index, which is read from its end: its magic, the end record and the entries."""
+def size_of(placed: Placed) -> int:
+    """How many bytes there are."""
     try:
-        size = placed.size()
+        return placed.size()
     except Failed:
         raise Fault("Device", 0) from None
+
+
+def read_index(placed: Placed) -> List[bytes]:
+    """The entries of an index, which is read from its end: its magic, the end record and the entries."""
+    size = size_of(placed)
     if not IDX.startswith(part(placed, 0, min(8, size))):
         raise Fault("BadMagic", 0)
     at = max(0, size - END_LEN)
@@ -190,7 +195,7 @@ class Stale(Exception):
 
 
 def test_length(entries: Iterable[bytes], placed: Placed) -> None:
-    if placed.size() != 17 + sum(map(length_in, entries)):
+    if size_of(placed) != 17 + sum(map(length_in, entries)):
         raise Stale
 
 
@@ -201,7 +206,7 @@ def record_at(entry: bytes, placed: Placed) -> Optional[bytes]:
     at, length = offset_in(entry), length_in(entry)
     if at + length > len(placed.data):
         return None
-    record = placed.take(at, length)
+    record = part(placed, at, length)
     if record[0] != ADMISSION or int.from_bytes(record[25:33], "big") != length - 33:
         return None
     found = slice_of(record[33:])

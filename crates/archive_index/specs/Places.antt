@@ -1,5 +1,5 @@
 -- What is read at the places that an index names.
-use Rattle.std.specs.Prelude.{◌≡◌, ℕ, ◌+◌, ◌^◌, ◌<◌, List, [], true, length, take, drop, filter}
+use Rattle.std.specs.Prelude.{◌≡◌, ℕ, ◌+◌, ◌^◌, ◌<◌, Bool, List, [], true, length, take, drop, filter}
 use Rattle.std.specs.Prelude.{slice_index_or, Contains}
 use Rattle.std.specs.Prelude.{Option, Some, None}
 use Rattle.std.specs.List.{AllZip}
@@ -11,7 +11,7 @@ use Rattle.archive_core.specs.Content.{Operations, is_admission, content_of}
 use Rattle.archive_core.specs.Part.{is_under}
 use Rattle.archive_core.specs.Summary.{Entries}
 use Rattle.byte_device.specs.Devices.{FailedIn}
-use Rattle.archive_index.specs.Entry.{placed_entry}
+use Rattle.archive_index.specs.Entry.{offset_in, placed_entry}
 use Rattle.archive_index.specs.Index.{lengths_of}
 use Rattle.archive_index.specs.declared.fault.PlaceFault.{PlaceFault}
 use Rattle.archive_index.specs.declared.fault.PlaceFault.TheVariants.{Stale, Device, OutOfMemory}
@@ -59,20 +59,20 @@ IsStale front entries text (Some k) =
     × ((r : List ℕ) → IsNamedBy text (slice_index_or (listing entries) k []) r → ⊥)
     × AreNamedBefore front (listing entries) text k
 
--- the same of a fault; the others are the machine's
-abbrev pub IsPlaceFault : List ℕ → Entries → List ℕ → PlaceFault → Type 0
-IsPlaceFault front entries text (Stale entry) = IsStale front entries text entry
-IsPlaceFault front entries text Device = Unit {0}
-IsPlaceFault front entries text OutOfMemory = Unit {0}
+-- one of these entries that pass is that of an admission, whose record begins at this offset
+pub record IsReadAmong (passes : List ℕ → Bool) (es : List (List ℕ)) (offset : ℕ) : Type 0 where
+  pub number : ℕ
+  pub within : number < length es
+  pub passing : passes (slice_index_or es number []) ≡ true
+  pub admits : is_admission (slice_index_or es number []) ≡ true
+  pub offset_is : offset ≡ offset_in (slice_index_or es number [])
 
--- what a fault says of the device: it failed, or it did not
-abbrev pub BlamesPlaced : {P : Type 0} → (P → ℕ) → P → P → PlaceFault → Type 0
-BlamesPlaced failures old new (Stale entry) = failures new ≡ failures old
-BlamesPlaced failures old new Device = FailedIn (failures old) (failures new)
-BlamesPlaced failures old new OutOfMemory = failures new ≡ failures old
+-- the record of an admission whose entry is under the front begins at this offset
+abbrev pub IsReadUnder : List ℕ → Entries → ℕ → Type 0
+IsReadUnder front entries offset = IsReadAmong (is_under front) (listing entries) offset
 
--- no archive is at fault
-abbrev pub IsOfPlaceMachine : PlaceFault → Type 0
-IsOfPlaceMachine (Stale entry) = ⊥
-IsOfPlaceMachine Device = Unit {0}
-IsOfPlaceMachine OutOfMemory = Unit {0}
+-- what a fault says of the device: it failed where something is read at such an offset, or it did not
+abbrev pub BlamesPlaced : {P : Type 0} → (ℕ → Type 0) → (P → ℕ) → P → P → PlaceFault → Type 0
+BlamesPlaced IsRead failures old new (Stale entry) = failures new ≡ failures old
+BlamesPlaced IsRead failures old new (Device offset) = FailedIn (failures old) (failures new) × IsRead offset
+BlamesPlaced IsRead failures old new OutOfMemory = failures new ≡ failures old

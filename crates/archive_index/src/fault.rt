@@ -19,8 +19,8 @@ pub enum PlaceFault {
     /// The index is not of this archive: the archive has another length, or at the place of this entry, from 0 on,
     /// stands no record that it names.
     Stale(Option<u64>),
-    /// The archive's device failed.
-    Device,
+    /// The archive's device failed while the record at this offset was read, or, at 0, when its length was asked for.
+    Device(u64),
     /// A growth of the memory was refused.
     OutOfMemory,
 }

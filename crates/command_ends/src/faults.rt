@@ -43,7 +43,7 @@ pub enum InputName {
 pub enum Why {
     /// It could not be opened.
     CannotOpen,
-    /// Reading a file of slices, a script or frames failed, or an archive at the places of an index.
+    /// Reading a file of slices, a script or frames failed.
     Device,
     /// It is no text of an archive, of operations or of a summary, or reading it failed.
     Record(RecordFault),
@@ -62,7 +62,7 @@ pub enum Why {
     },
     /// It is an archive of version 1, of which no index is made.
     OldArchive,
-    /// It is an archive with a record that stands after more bytes than an index counts.
+    /// It is an archive of which a record, or its table in the index, would stand after more bytes than an index counts.
     TooLong,
     /// It is no text of an index, or reading it failed.
     Index(IndexFault),

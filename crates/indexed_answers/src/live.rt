@@ -1,51 +1,45 @@
 //! The entries that live under a key.
 
-ghost use Rattle.std.specs.Prelude.{◌≡◌, ◌++◌, ◌<◌, ◌^◌, All, IfOk, OnOk, filter, length, map};
+ghost use Rattle.std.specs.Prelude.{◌≡◌, ◌++◌, ◌<◌, ◌^◌, IfOk, OnOk, filter, length, map};
 ghost use Rattle.std.specs.List.{list_any};
 ghost use Rattle.std.specs.List.Sorted.{IsSortedByKey};
 ghost use Rattle.std.specs.Ordering.{nat_cmp};
 ghost use Rattle.std.specs.Cmp.Lexicographic.{slice_cmp};
-ghost use Rattle.table_index.specs.Entry.{HasItsFields, entry_bytes};
+ghost use Rattle.table_index.specs.Entry.{entry_bytes};
 ghost use Rattle.indexed_answers.specs.Among.{all_of, answers_among, lives_under};
 ghost use Rattle.indexed_answers.specs.Told.{is_companion};
 ghost use Rattle.indexed_answers.specs.InnerAnswering.{all_at, entries_at, entry_at, lives_by};
 
 use crate::numbered::Numbered;
 use crate::retired::{is_retired, retired_under};
-use crate::words::{admits_under, is_companion};
+use crate::words::{ADMISSION, is_companion};
 use memory::{Heap, NoMemory};
-use table_index::{TableEntry, TableIndex};
+use table_index::TableIndex;
 
-/// Whether an entry is that of a slice under these bytes that is not among those which are retired.
-fn lives(front: &[u8], retired: &[[u8; 56]], entry: &TableEntry) -> bool
-    requires front { length front.now ≡ 24 }
-    requires sorted { IsSortedByKey (λ subject. subject) (slice_cmp nat_cmp) retired.now }
-    ensures { result ≡ lives_by front.now retired.now (entry_bytes entry.now) }
-{
-    admits_under(front, entry) && !is_retired(retired, entry)
-}
-
-/// Adds the entries of the index of this number that live under these bytes, in their order.
+/// Adds the entries of the index of this number that live under these bytes, in their order. Of its entries the
+/// admissions under these bytes are looked at.
 fn gather(
     front: &[u8],
     retired: &[[u8; 56]],
     input: u64,
-    entries: &[TableEntry],
+    index: &TableIndex,
     live: &mut Vec<Numbered, Heap>,
 ) -> Result<(), NoMemory>
     requires front { length front.now ≡ 24 }
     requires sorted { IsSortedByKey (λ subject. subject) (slice_cmp nat_cmp) retired.now }
-    requires fields { All HasItsFields entries.now }
     ensures { OnOk result (map entry_at live.new.items ≡ map entry_at live.old.items
-        ++ filter (λ x. lives_by front.now retired.now x.entry) (entries_at input 0 (map entry_bytes entries.now))) }
+        ++ filter (λ x. lives_by front.now retired.now x.entry) (entries_at input 0 index.now)) }
 {
-    'entries: for (number, entry) in entries.iter().enumerate() {
-        if !lives(front, retired, entry) {
-            continue 'entries;
+    let (start, stop) = index.run_under(ADMISSION, front);
+    let entries = index.entries();
+    let run = &entries[start..stop];
+    'run: for (place, entry) in run.iter().enumerate() {
+        if is_retired(retired, entry) {
+            continue 'run;
         }
         live.push(Numbered {
             input,
-            number: number as u64,
+            number: (start + place) as u64,
             entry: *entry,
         })?;
     }
@@ -66,7 +60,7 @@ fn live_besides(
 {
     let mut live = Vec::new(heap);
     'indexes: for (input, index) in indexes.iter().enumerate() {
-        gather(front, retired, input as u64, index.entries(), &mut live)?;
+        gather(front, retired, input as u64, index, &mut live)?;
     }
     Ok(live)
 }

@@ -8,7 +8,7 @@ ghost use Rattle.table_index.specs.Entry.{entry_bytes};
 ghost use Rattle.indexed_answers.specs.Among.{all_of};
 ghost use Rattle.indexed_answers.specs.InnerAnswering.{is_retired, retired_of};
 
-use crate::words::{retires_under, subject_of};
+use crate::words::{RETIREMENT, subject_of};
 use memory::{Heap, NoMemory};
 use std::cmp::Ordering;
 use table_index::{TableEntry, TableIndex};
@@ -20,20 +20,19 @@ fn compare(subject: &[u8; 56], other: &[u8; 56]) -> Ordering
     subject[..].cmp(&other[..])
 }
 
-/// Adds what the retirements of an index under these bytes are of.
+/// Adds what the retirements of an index under these bytes are of. None of its other entries is looked at.
 fn gather(
     front: &[u8],
-    entries: &[TableEntry],
+    index: &TableIndex,
     retired: &mut Vec<[u8; 56], Heap>,
 ) -> Result<(), NoMemory>
     requires { length front.now ≡ 24 }
-    ensures { OnOk result (retired.new.items
-        ≡ retired.old.items ++ retired_of front.now (map entry_bytes entries.now)) }
+    ensures { OnOk result (retired.new.items ≡ retired.old.items ++ retired_of front.now index.now) }
 {
-    'entries: for entry in entries {
-        if !retires_under(front, entry) {
-            continue 'entries;
-        }
+    let (start, stop) = index.run_under(RETIREMENT, front);
+    let entries = index.entries();
+    let run = &entries[start..stop];
+    'run: for entry in run {
         retired.push(subject_of(entry))?;
     }
     Ok(())
@@ -50,7 +49,7 @@ fn gathered(
 {
     let mut retired = Vec::new(heap);
     'indexes: for index in indexes {
-        gather(front, index.entries(), &mut retired)?;
+        gather(front, index, &mut retired)?;
     }
     Ok(retired)
 }

@@ -1,44 +1,24 @@
 //! What an entry says.
 
-ghost use Rattle.std.specs.Prelude.{◌≡◌, ◌==◌, ◌&&◌, length, take};
+ghost use Rattle.std.specs.Prelude.{◌≡◌, ◌==◌, take};
 ghost use Rattle.std.specs.Str.{bytes_eq};
 ghost use Rattle.archive_index.specs.Entry.{length_in};
 ghost use Rattle.table_index.specs.Entry.{entry_bytes};
 ghost use Rattle.indexed_answers.specs.Among.{subject_of};
-ghost use Rattle.indexed_answers.specs.Told.{admits_under, is_companion};
-ghost use Rattle.indexed_answers.specs.InnerAnswering.{entry_at, is_elsewhere, place_in, retires_under};
+ghost use Rattle.indexed_answers.specs.Told.{is_companion};
+ghost use Rattle.indexed_answers.specs.InnerAnswering.{entry_at, is_elsewhere, place_in};
 
 use crate::numbered::Numbered;
 use table_index::TableEntry;
 
 /// The tag of a retirement.
-const RETIREMENT: u8 = 1;
+pub(crate) const RETIREMENT: u8 = 1;
 
 /// The tag of an admission.
-const ADMISSION: u8 = 2;
+pub(crate) const ADMISSION: u8 = 2;
 
 /// How many bytes the tag, the key and the digest of an entry are.
 const SLICE_LEN: usize = 57;
-
-/// Whether an entry is that of an admission, and its key begins with these bytes.
-#[tactic(auto, unfolding(archive_core::specs::Part::is_under))]
-pub(crate) fn admits_under(front: &[u8], entry: &TableEntry) -> bool
-    requires { length front.now ≡ 24 }
-    ensures { result ≡ admits_under front.now (entry_bytes entry.now) }
-{
-    let bytes = entry.bytes();
-    bytes[0] == ADMISSION && front == &bytes[1..25]
-}
-
-/// Whether an entry is that of a retirement, and its key begins with these bytes.
-#[tactic(auto, unfolding(archive_core::specs::Part::is_under))]
-pub(crate) fn retires_under(front: &[u8], entry: &TableEntry) -> bool
-    requires { length front.now ≡ 24 }
-    ensures { result ≡ retires_under front.now (entry_bytes entry.now) }
-{
-    let bytes = entry.bytes();
-    bytes[0] == RETIREMENT && front == &bytes[1..25]
-}
 
 /// The key and the digest of an entry.
 pub(crate) fn subject_of(entry: &TableEntry) -> [u8; 56]

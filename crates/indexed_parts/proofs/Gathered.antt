@@ -12,22 +12,23 @@ use Rattle.std.specs.List.Sorted.{IsPermutation}
 use Rattle.std.proofs.lemmas.List.Sorted.{IsPermutation-map, list_any-IsPermutation}
 use Rattle.std.specs.FinSet as set
 use Rattle.std.specs.FinSet.{contains-from_list, contains-union, contains-empty, same_set}
-use Rattle.archive_core.specs.Content.{Operations, IsMade, is_covered, content_of, with_records}
+use Rattle.archive_core.specs.Content.{Operations, IsMade, is_admission, is_covered, content_of, with_records}
 use Rattle.archive_core.specs.Part.{is_under}
 use Rattle.archive_core.proofs.Made.{and_right, bytes_same}
 use Rattle.archive_core.specs.Record.{record_bytes}
 use Rattle.archive_core.specs.declared.operations.Operation.{Operation}
 use Rattle.archive_core.proofs.Taken.{IsUnderWay, taken_are_joined}
 use Rattle.archive_core.specs.Order.{made_again, contains_made}
-use Rattle.archive_index.specs.Entry.{IsPlacedEntry}
+use Rattle.archive_index.specs.Entry.{IsPlacedEntry, offset_in}
 use Rattle.archive_index.specs.Index.{AreIndexed}
-use Rattle.archive_index.specs.Places.{BlamesPlaced, IsNamedBy}
+use Rattle.archive_index.specs.Places.{BlamesPlaced, IsNamedBy, IsReadAmong}
+use Rattle.byte_device.specs.Devices.{FailedIn}
 use Rattle.archive_index.specs.declared.fault.PlaceFault.{PlaceFault}
 use Rattle.archive_index.specs.declared.fault.PlaceFault.TheVariants.{Stale, Device, OutOfMemory}
 use Rattle.archive_core.specs.Summary.{Entries}
 use Rattle.archive_records.proofs.Puts.{length_written}
 use Rattle.join_core.specs.Listing.{listing}
-use Rattle.indexed_parts.specs.InnerPlaces.{AreGathered, IsGathered, IsStaleAmong, IsUnnamed}
+use Rattle.indexed_parts.specs.InnerPlaces.{AreGathered, IsGathered, IsReadOf, IsStaleAmong, IsUnnamed}
 use Rattle.indexed_parts.specs.Places.{AreGatheredUnder, IsEntryFault, ReadsPlaces}
 use Rattle.indexed_parts.specs.InnerRuns.{is_tagged}
 use Rattle.indexed_parts.proofs.Ordered.{not_second, one_of_two, two_runs}
@@ -98,6 +99,26 @@ partner R p (x ∷ xs) ys (suc n) (suc j) zip below lt passes =
     by : ((zs : List (List ℕ)) → AllZip R (filter p (take n xs)) zs → (y : List ℕ) × R (get_or xs j []) y) → (b : Bool) (zs : List (List ℕ)) → AllZip R (cond b (x ∷ filter p (take n xs)) (filter p (take n xs))) zs → (y : List ℕ) × R (get_or xs j []) y
     by rest b zs z = grind arith
 
+-- the record of an entry that passes is read
+pub read_at : (p : List ℕ → Bool) (entries : List (List ℕ)) (k : ℕ) (x : List ℕ) (n : ℕ) → k < length entries → x ≡ get_or entries k [] → p x ≡ true → IsReadOf x n → IsReadAmong p entries n
+read_at p entries k x n lt is passes h = record {
+  number = k;
+  within = lt;
+  passing = ap p (sym is) ∙ passes;
+  admits = ap is_admission (sym is) ∙ h.0;
+  offset_is = h.1 ∙ ap offset_in is;
+}
+
+-- one that has a tag besides is under the front
+pub read_tagged : (tag : ℕ) (front : List ℕ) (entries : List (List ℕ)) (n : ℕ) → IsReadAmong (is_tagged tag front) entries n → IsReadAmong (is_under front) entries n
+read_tagged tag front entries n h = record {
+  number = h.number;
+  within = h.within;
+  passing = and_right _ _ h.passing;
+  admits = h.admits;
+  offset_is = h.offset_is;
+}
+
 -- where no record is that an entry names, and each before it that passes names one
 pub stale_at : (whole now : Option (List ℕ)) (p : List ℕ → Bool) (entries : List (List ℕ)) (i : ℕ) (x : List ℕ) (old new : List (List ℕ)) (fault : PlaceFault) → i < length entries → x ≡ get_or entries i [] → p x ≡ true → now ≡ whole
     → AreGathered whole p entries i old new → IfSome now (λ text. IsUnnamed i x text fault) → IfSome whole (λ text. IsStaleAmong p entries text fault)
@@ -112,7 +133,7 @@ stale_at whole now p entries i x old new fault lt is passes keeps before none =
       λ r n. h.1 r (subst (λ (y : List ℕ). IsNamedBy text y r) (sym is) n),
       λ j below there. partner (IsNamedBy text) p entries before.records i j zip below (omega arith) there,
     )
-    by Device text zip h = tt
+    by (Device offset) text zip h = tt
     by OutOfMemory text zip h = tt
 
 -- ---- the retirements under a front, and then the admissions
@@ -152,7 +173,7 @@ module _ (whole : Option (List ℕ)) (front : List ℕ) (entries : List (List �
         t.2,
         λ j below under. one_of_two front _ (get_or entries j []) (entry_at j (omega (arith, t.0, below))) under (t.3 j below) (λ two. absurd (not_second front entries j k are below t.0 two t.1)),
       )
-      by Device text t = tt
+      by (Device offset) text t = tt
       by OutOfMemory text t = tt
 
   -- and among the admissions, where each retirement names one
@@ -172,7 +193,7 @@ module _ (whole : Option (List ℕ)) (front : List ℕ) (entries : List (List �
             (λ one. partner (IsNamedBy text) (is_tagged 1 front) entries first.records n j zip (omega (arith, t.0, below, all)) (omega (arith, t.0, below)) one)
             (t.3 j below),
       )
-      by Device text zip t = tt
+      by (Device offset) text zip t = tt
       by OutOfMemory text zip t = tt
 
   -- ---- under a front of an index
@@ -191,21 +212,27 @@ module _ (whole : Option (List ℕ)) (front : List ℕ) (entries : List (List �
       by : (f : PlaceFault) (text : List ℕ) → IsStaleAmong (is_under front) (listing s) text f → IsEntryFault front s text f
       by (Stale None) text t = t
       by (Stale (Some k)) text t = (omega (arith, t.0, length_written s), t.1, t.2, t.3)
-      by Device text t = tt
+      by (Device offset) text t = tt
       by OutOfMemory text t = tt
 
 -- ---- behind what was read before
 
 module _ {P : Type 0} (whole : P → Option (List ℕ)) (failures : P → ℕ) (old mid new : P) (keeps : whole mid ≡ whole old) (same : failures mid ≡ failures old) where
+  -- what a fault says of the device
+  pub blamed_behind : (M N : ℕ → Type 0) (fault : PlaceFault) → ((n : ℕ) → M n → N n) → BlamesPlaced M failures mid new fault → BlamesPlaced N failures old new fault
+  blamed_behind M N (Stale entry) read h = h ∙ same
+  blamed_behind M N (Device offset) read h = (subst (λ (n : ℕ). FailedIn n (failures new)) same h.0, read offset h.1)
+  blamed_behind M N OutOfMemory read h = h ∙ same
+
   -- a fault
-  pub refused_behind : {A B : Type 0} (fault : PlaceFault) → (A → B) → A × (whole new ≡ whole mid) × BlamesPlaced failures mid new fault → B × (whole new ≡ whole old) × BlamesPlaced failures old new fault
-  refused_behind fault told h = grind arith
+  pub refused_behind : {A B : Type 0} (M N : ℕ → Type 0) (fault : PlaceFault) → (A → B) → ((n : ℕ) → M n → N n) → A × (whole new ≡ whole mid) × BlamesPlaced M failures mid new fault → B × (whole new ≡ whole old) × BlamesPlaced N failures old new fault
+  refused_behind M N fault told read h = (told h.0, h.1 ∙ keeps, blamed_behind M N fault read h.2)
 
   -- a value or a fault
-  pub reads_behind : {T : Type 0} {A B : T → Type 0} (R S : List ℕ → PlaceFault → Type 0) (r : Result T PlaceFault) → ((v : T) → A v → B v) → ((f : PlaceFault) → IfSome (whole mid) (λ text. R text f) → IfSome (whole old) (λ text. S text f))
-      → ReadsPlaces whole failures mid new r A R → ReadsPlaces whole failures old new r B S
-  reads_behind R S (Ok v) made told h = (made v h.0, h.1 ∙ keeps, h.2 ∙ same)
-  reads_behind R S (Err fault) made told h = refused_behind fault (told fault) h
+  pub reads_behind : {T : Type 0} {A B : T → Type 0} (R S : List ℕ → PlaceFault → Type 0) (M N : ℕ → Type 0) (r : Result T PlaceFault) → ((v : T) → A v → B v) → ((f : PlaceFault) → IfSome (whole mid) (λ text. R text f) → IfSome (whole old) (λ text. S text f))
+      → ((n : ℕ) → M n → N n) → ReadsPlaces whole failures mid new r A R M → ReadsPlaces whole failures old new r B S N
+  reads_behind R S M N (Ok v) made told read h = (made v h.0, h.1 ∙ keeps, h.2 ∙ same)
+  reads_behind R S M N (Err fault) made told read h = refused_behind M N fault (told fault) read h
 
 -- ---- what was taken together
 

@@ -17,7 +17,7 @@ use Rattle.archive_index.specs.declared.entry.PlacedEntry.{PlacedEntry}
 use Rattle.archive_index.specs.Entry.{IsPlacedEntry, length_in, offset_in, placed_bytes, placed_entry, tag_byte, dsym_byte}
 use Rattle.archive_index.specs.Places.{IsNamedBy}
 use Rattle.archive_index.specs.declared.fault.PlaceFault.TheVariants.{Stale}
-use Rattle.indexed_parts.specs.InnerPlaces.{IsUnnamed}
+use Rattle.indexed_parts.specs.InnerPlaces.{IsReadOf, IsUnnamed}
 use Rattle.archive_index.proofs.Entries.{length_of_bytes, offset_of_bytes}
 use Rattle.archive_index.proofs.Placed.{length_is, offset_is, tag_is}
 
@@ -53,6 +53,10 @@ admission_at text e r is offset_fits length_fits other n =
       }
       | inr b ↦ absurd (omega (arith, ap (λ (t : List ℕ). get_or t 0 0) b.is, tag))
     ]
+
+-- the record of an admission is read where it stands
+pub read_of : (e : PlacedEntry) → IsPlacedEntry (placed_bytes e) → e.offset < 2 ^ 64 → e.row.state ≢ Retired → IsReadOf (placed_bytes e) e.offset
+read_of e is fits other = (ap (λ (n : ℕ). eqb n 2) (first_byte e ∙ tag_two e.row.state other), sym (offset_of_bytes e is.long fits))
 
 -- none where fewer bytes stand
 pub none_short : (whole : Option (List ℕ)) (number : ℕ) (e : PlacedEntry) → IsPlacedEntry (placed_bytes e) → e.offset < 2 ^ 64 → e.length < 2 ^ 64 → e.row.state ≢ Retired → EndsBefore whole (e.offset + e.length)

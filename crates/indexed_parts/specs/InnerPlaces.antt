@@ -5,6 +5,8 @@ use Rattle.std.specs.Prelude.{slice_index_or, Option, Some, None, IfSome}
 use Rattle.std.specs.List.{AllZip}
 use Rattle.archive_index.specs.declared.fault.PlaceFault.{PlaceFault}
 use Rattle.archive_index.specs.declared.fault.PlaceFault.TheVariants.{Stale, Device, OutOfMemory}
+use Rattle.archive_core.specs.Content.{is_admission}
+use Rattle.archive_index.specs.Entry.{offset_in}
 use Rattle.archive_index.specs.Places.{IsNamedBy}
 
 -- the record that this entry names stands behind what was gathered
@@ -21,10 +23,14 @@ pub record AreGathered (whole : Option (List ℕ)) (passes : List ℕ → Bool) 
   pub named : IfSome whole (λ text. AllZip (IsNamedBy text) (filter passes (take n entries)) records)
   pub behind : new ≡ old ++ records
 
+-- the entry is that of an admission, whose record begins at this offset
+abbrev pub IsReadOf : List ℕ → ℕ → Type 0
+IsReadOf entry offset = (is_admission entry ≡ true) × (offset ≡ offset_in entry)
+
 -- the entry with this number names no record of the text
 abbrev pub IsUnnamed : ℕ → List ℕ → List ℕ → PlaceFault → Type 0
 IsUnnamed number entry text (Stale told) = (told ≡ Some number) × ((r : List ℕ) → IsNamedBy text entry r → ⊥)
-IsUnnamed number entry text Device = Unit {0}
+IsUnnamed number entry text (Device offset) = Unit {0}
 IsUnnamed number entry text OutOfMemory = Unit {0}
 
 -- at the place of this entry, which passes, stands no record that it names, and it is the first such
@@ -35,5 +41,5 @@ IsStaleAmong passes entries text (Stale (Some k)) =
     × ((r : List ℕ) → IsNamedBy text (slice_index_or entries k []) r → ⊥)
     × ((j : ℕ) → j < k → passes (slice_index_or entries j []) ≡ true
     → (r : List ℕ) × IsNamedBy text (slice_index_or entries j []) r)
-IsStaleAmong passes entries text Device = Unit {0}
+IsStaleAmong passes entries text (Device offset) = Unit {0}
 IsStaleAmong passes entries text OutOfMemory = Unit {0}

@@ -7,13 +7,15 @@ use Rattle.archive_index.specs.declared.fault.PlaceFault.TheVariants.{Stale, Dev
 use Rattle.archive_index.specs.Places.{BlamesPlaced, IsNamedBy, HasIndexedLength, IsStale, entries_under}
 
 -- What comes of reading at places of a device that keeps its bytes: a value of which this is true, with no failure; or
--- a fault, which tells whether the device failed, and of which this is true where the bytes are known.
+-- a fault, which tells whether the device failed and at which such offset, and of which this is true where the bytes are
+-- known.
 abbrev pub ReadsPlaces : {P T : Type 0} → (P → Option (List ℕ)) → (P → ℕ) → P → P → Result T PlaceFault
-    → (T → Type 0) → (List ℕ → PlaceFault → Type 0) → Type 0
-ReadsPlaces whole failures old new (Ok value) IsTrue IsRefused =
+    → (T → Type 0) → (List ℕ → PlaceFault → Type 0) → (ℕ → Type 0) → Type 0
+ReadsPlaces whole failures old new (Ok value) IsTrue IsRefused IsRead =
     IsTrue value × (whole new ≡ whole old) × (failures new ≡ failures old)
-ReadsPlaces whole failures old new (Err fault) IsTrue IsRefused =
-    IfSome (whole old) (λ text. IsRefused text fault) × (whole new ≡ whole old) × BlamesPlaced failures old new fault
+ReadsPlaces whole failures old new (Err fault) IsTrue IsRefused IsRead =
+    IfSome (whole old) (λ text. IsRefused text fault) × (whole new ≡ whole old)
+    × BlamesPlaced IsRead failures old new fault
 
 -- Each entry under the front names one of these records, in their order, and they stand behind what was gathered.
 pub record AreGatheredUnder (whole : Option (List ℕ)) (front : List ℕ) (entries : Entries) (old new : List (List ℕ))
@@ -26,12 +28,12 @@ pub record AreGatheredUnder (whole : Option (List ℕ)) (front : List ℕ) (entr
 abbrev pub IsEntryFault : List ℕ → Entries → List ℕ → PlaceFault → Type 0
 IsEntryFault front entries text (Stale None) = ⊥
 IsEntryFault front entries text (Stale (Some k)) = IsStale front entries text (Some k)
-IsEntryFault front entries text Device = Unit {0}
+IsEntryFault front entries text (Device offset) = Unit {0}
 IsEntryFault front entries text OutOfMemory = Unit {0}
 
 -- why the size of an archive is refused: it is another than the index tells
 abbrev pub IsLengthFault : Entries → List ℕ → PlaceFault → Type 0
 IsLengthFault entries text (Stale None) = (HasIndexedLength entries text → ⊥) × (length text < 2 ^ 64)
 IsLengthFault entries text (Stale (Some k)) = ⊥
-IsLengthFault entries text Device = Unit {0}
+IsLengthFault entries text (Device offset) = Unit {0}
 IsLengthFault entries text OutOfMemory = Unit {0}

@@ -6,7 +6,8 @@ ghost use Rattle.archive_core.specs.Record.{record_bytes};
 ghost use Rattle.placed_bytes.specs.Places.{HasSize};
 ghost use Rattle.archive_index.specs.Entry.{IsPlacedEntry, placed_bytes};
 ghost use Rattle.archive_index.specs.Index.{AreIndexed};
-ghost use Rattle.indexed_parts.specs.InnerPlaces.{AreGathered, IsGathered, IsStaleAmong, IsUnnamed};
+ghost use Rattle.archive_index.specs.Places.{IsReadAmong, IsReadUnder};
+ghost use Rattle.indexed_parts.specs.InnerPlaces.{AreGathered, IsGathered, IsReadOf, IsStaleAmong, IsUnnamed};
 ghost use Rattle.indexed_parts.specs.InnerRuns.{is_tagged};
 ghost use Rattle.indexed_parts.specs.Places.{AreGatheredUnder, IsEntryFault, ReadsPlaces};
 
@@ -30,7 +31,8 @@ fn gather_entry<P: Placed>(
     requires entry { IsPlacedEntry (placed_bytes entry.now) }
     ensures { ReadsPlaces P.whole P.failures archive.old archive.new result
         (λ _. IsGathered (P.whole archive.old) (placed_bytes entry.now) (map record_bytes gathered.old.items)
-        (map record_bytes gathered.new.items)) (IsUnnamed number (placed_bytes entry.now)) }
+        (map record_bytes gathered.new.items)) (IsUnnamed number (placed_bytes entry.now))
+        (IsReadOf (placed_bytes entry.now)) }
 {
     let operation = operation_at(heap, archive, size, number, entry)?;
     let Ok(()) = gathered.push(operation) else {
@@ -55,7 +57,8 @@ fn gather_run<P: Placed>(
     ensures { ReadsPlaces P.whole P.failures archive.old archive.new result
         (λ _. AreGathered (P.whole archive.old) (is_tagged tag front.now) (map placed_bytes entries.now)
         (length entries.now) (map record_bytes gathered.old.items) (map record_bytes gathered.new.items))
-        (IsStaleAmong (is_tagged tag front.now) (map placed_bytes entries.now)) }
+        (IsStaleAmong (is_tagged tag front.now) (map placed_bytes entries.now))
+        (IsReadAmong (is_tagged tag front.now) (map placed_bytes entries.now)) }
 {
     let (start, stop) = run_under(entries, tag, front);
     let run = &entries[start..stop];
@@ -81,7 +84,8 @@ fn gather_under<P: Placed>(
     ensures { ReadsPlaces P.whole P.failures archive.old archive.new result
         (λ _. AreGathered (P.whole archive.old) (is_under front.now) (map placed_bytes entries.now)
         (length entries.now) (map record_bytes gathered.old.items) (map record_bytes gathered.new.items))
-        (IsStaleAmong (is_under front.now) (map placed_bytes entries.now)) }
+        (IsStaleAmong (is_under front.now) (map placed_bytes entries.now))
+        (IsReadAmong (is_under front.now) (map placed_bytes entries.now)) }
 {
     gather_run(heap, gathered, RETIREMENT, front, entries, archive, size)?;
     gather_run(heap, gathered, ADMISSION, front, entries, archive, size)
@@ -93,7 +97,8 @@ fn gather_under<P: Placed>(
 ///
 /// # Errors
 ///
-/// `Stale` at the first entry at whose place stands no record that it names; `Device`; `OutOfMemory`.
+/// `Stale` at the first entry at whose place stands no record that it names; `Device` at the record that was being read;
+/// `OutOfMemory`.
 pub fn gather_at<P: Placed>(
     heap: &Heap,
     gathered: &mut Vec<Operation, Heap>,
@@ -106,7 +111,8 @@ pub fn gather_at<P: Placed>(
     requires size { HasSize (P.whole archive.old) size }
     ensures { ReadsPlaces P.whole P.failures archive.old archive.new result
         (λ _. AreGatheredUnder (P.whole archive.old) front.now entries.now (map record_bytes gathered.old.items)
-        (map record_bytes gathered.new.items)) (IsEntryFault front.now entries.now) }
+        (map record_bytes gathered.new.items)) (IsEntryFault front.now entries.now)
+        (IsReadUnder front.now entries.now) }
 {
     let _count = entries.len();
     gather_under(heap, gathered, front, entries.entries(), archive, size)

@@ -58,14 +58,14 @@ pub fn has_length<P: Placed>(entries: &Index, archive: &mut P) -> Result<bool, F
 ///
 /// # Errors
 ///
-/// `Stale` where the archive has another length; `Device`.
+/// `Stale` where the archive has another length; `Device` at 0.
 pub fn indexed_size<P: Placed>(entries: &Index, archive: &mut P) -> Result<u64, PlaceFault>
     ensures { ReadsPlaces P.whole P.failures archive.old archive.new result
         (λ size. HasSize (P.whole archive.old) size × IfSome (P.whole archive.old) (HasIndexedLength entries.now))
-        (IsLengthFault entries.now) }
+        (IsLengthFault entries.now) (λ offset. offset ≡ 0) }
 {
     let Ok(size) = archive.size() else {
-        return Err(PlaceFault::Device);
+        return Err(PlaceFault::Device(0));
     };
     if tells_size(entries, size) {
         Ok(size)

@@ -10,7 +10,7 @@ ghost use Rattle.byte_device.specs.Devices.{FailedIn};
 ghost use Rattle.placed_bytes.specs.Places.{EndsBefore, HasSize, Stands};
 ghost use Rattle.archive_index.specs.Entry.{IsPlacedEntry, placed_bytes, placed_entry};
 ghost use Rattle.archive_index.specs.Places.{IsNamedBy};
-ghost use Rattle.indexed_parts.specs.InnerPlaces.{IsUnnamed};
+ghost use Rattle.indexed_parts.specs.InnerPlaces.{IsReadOf, IsUnnamed};
 ghost use Rattle.indexed_parts.specs.Places.{ReadsPlaces};
 
 use archive_core::{Digest, FindState, Operation, Record, Slice, SliceKey};
@@ -183,7 +183,7 @@ pub(crate) fn operation_at<P: Placed>(
     requires entry { IsPlacedEntry (placed_bytes entry.now) }
     ensures { ReadsPlaces P.whole P.failures archive.old archive.new result
         (λ operation. IfSome (P.whole archive.old) (λ text. IsNamedBy text (placed_bytes entry.now)
-        (record_bytes operation))) (IsUnnamed number (placed_bytes entry.now)) }
+        (record_bytes operation))) (IsUnnamed number (placed_bytes entry.now)) (IsReadOf (placed_bytes entry.now)) }
 {
     let _offset = offset_of(entry);
     let _length = length_of(entry);
@@ -196,7 +196,7 @@ pub(crate) fn operation_at<P: Placed>(
     let bytes = match bytes_at(place, archive, size, entry) {
         Ok(Some(bytes)) => bytes,
         Ok(None) => return Err(PlaceFault::Stale(Some(number))),
-        Err(ReadFault::Device) => return Err(PlaceFault::Device),
+        Err(ReadFault::Device) => return Err(PlaceFault::Device(entry.offset)),
         Err(ReadFault::OutOfMemory) => return Err(PlaceFault::OutOfMemory),
     };
     match admission_of(heap, entry, &bytes) {

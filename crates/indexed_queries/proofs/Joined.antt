@@ -10,7 +10,7 @@ use Rattle.std.proofs.lemmas.Option.{IfSome_then}
 use Rattle.archive_core.specs.Content.{Operations, IsMade, content_of, joined, with_record, with_records}
 use Rattle.archive_core.proofs.Taken.{made_taken, taken_are_joined}
 use Rattle.archive_core.specs.Summary.{Entries}
-use Rattle.archive_index.specs.Places.{BlamesPlaced, HasIndexedLength, IsNamedBy, IsStale, entries_under}
+use Rattle.archive_index.specs.Places.{BlamesPlaced, HasIndexedLength, IsNamedBy, IsReadUnder, IsStale, entries_under}
 use Rattle.archive_index.specs.declared.fault.PlaceFault.{PlaceFault}
 use Rattle.archive_index.specs.declared.fault.PlaceFault.TheVariants.{Stale, Device, OutOfMemory}
 use Rattle.command_ends.specs.Archives.{merged}
@@ -20,7 +20,7 @@ use Rattle.indexed_parts.specs.Places.{AreGatheredUnder, IsEntryFault}
 use Rattle.indexed_parts.proofs.Gathered.{along_both, known}
 use Rattle.indexed_queries.specs.declared.fronts.Front.{Front}
 use Rattle.table_index.specs.Text.{placed_of}
-use Rattle.indexed_queries.specs.Fronts.{AreNamedUnder, front_bytes}
+use Rattle.indexed_queries.specs.Fronts.{AreNamedUnder, IsReadFor, IsReadUnderOne, front_bytes}
 use Rattle.indexed_queries.specs.InnerParts.{HasJoinedNamed, HaveGathered, IsFaultAmong, IsFaultUnder, IsNamedIn, told_fault}
 use Rattle.indexed_queries.specs.Together.{IsRefusedAtPlaces}
 
@@ -59,6 +59,10 @@ module _ (whole now : Option (List ℕ)) (fronts : List Front) (i : ℕ) (front 
         behind = one.behind ∙ ap (λ (l : List (List ℕ)). l ++ one.records) before.behind ∙ flat_map_more (λ (records : List (List ℕ)). records) old before.groups one.records;
       }
 
+  -- a record under it is read
+  pub read_at_front : (n : ℕ) → IsReadUnder (front_bytes front) entries n → IsReadUnderOne (map front_bytes fronts) entries n
+  read_at_front n h = (i, omega (arith, lt, length-map fronts front_bytes), subst (λ (f : List ℕ). IsReadUnder f entries n) at h)
+
   -- a fault at a front
   pub fault_at : (old mid : List (List ℕ)) (fault : PlaceFault) → HaveGathered whole (take i (map front_bytes fronts)) entries old mid → IfSome now (λ text. IsEntryFault (front_bytes front) entries text fault) → IfSome whole (λ text. IsFaultAmong (map front_bytes fronts) entries text fault)
   fault_at old mid fault before h =
@@ -73,14 +77,14 @@ module _ (whole now : Option (List ℕ)) (fronts : List Front) (i : ℕ) (front 
         (map made before.groups, named_groups text (take i (map front_bytes fronts)) entries before.groups a),
         subst (λ (f : List ℕ). IsStale f entries text (Some k)) at b,
       )
-      by Device text a b = tt
+      by (Device offset) text a b = tt
       by OutOfMemory text a b = tt
 
 -- the text has the length that the index tells, and an entry names no record of it
 pub fault_then : (fronts : List (List ℕ)) (entries : Entries) (text : List ℕ) (fault : PlaceFault) → HasIndexedLength entries text → IsFaultAmong fronts entries text fault → IsFaultUnder fronts entries text fault
 fault_then fronts entries text (Stale None) long f = absurd f
 fault_then fronts entries text (Stale (Some k)) long f = (long, f)
-fault_then fronts entries text Device long f = tt
+fault_then fronts entries text (Device offset) long f = tt
 fault_then fronts entries text OutOfMemory long f = tt
 
 -- what was gathered is taken together, as its groups one after another
@@ -113,8 +117,8 @@ module _ {S : Type 0} (whole : S → Option (List ℕ)) (failures : S → ℕ) (
   })
 
   -- what is told where this fault came of it
-  pub told_refused : (number : ℕ) (fault : PlaceFault) → IfSome (whole source) (λ text. IsFaultUnder fronts entries text fault) → BlamesPlaced failures source after fault
+  pub told_refused : (number : ℕ) (fault : PlaceFault) → IfSome (whole source) (λ text. IsFaultUnder fronts entries text fault) → BlamesPlaced (IsReadFor fronts entries) failures source after fault
       → IsRefusal (IsRefusedAtPlaces fronts number archive tables) (Unfailed archive) (told_fault number fault)
   told_refused number (Stale entry) h b = inr (refl, b, (entry, refl, subst (λ (e : Entries). IfSome (whole source) (λ text. IsFaultUnder fronts e text (Stale entry))) placed h))
-  told_refused number Device h b = inl (refl, b)
+  told_refused number (Device offset) h b = inl (refl, (refl, subst (λ (e : Entries). IsReadFor fronts e offset) placed b.1, b.0))
   told_refused number OutOfMemory h b = b

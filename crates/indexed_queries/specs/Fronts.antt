@@ -1,10 +1,10 @@
 -- What an index names under several fronts of keys.
-use Rattle.std.specs.Prelude.{◌<◌, ℕ, List, [], Option, Some, None, length, take, slice_index_or}
+use Rattle.std.specs.Prelude.{◌≡◌, ◌<◌, ◌⊎◌, ℕ, List, [], Option, Some, None, length, take, slice_index_or}
 use Rattle.std.specs.List.{AllZip}
 use Rattle.archive_core.specs.Content.{Operations}
 use Rattle.archive_core.specs.Key.{key_bytes}
 use Rattle.archive_core.specs.Summary.{Entries}
-use Rattle.archive_index.specs.Places.{AreNamed, HasIndexedLength, IsStale}
+use Rattle.archive_index.specs.Places.{AreNamed, HasIndexedLength, IsReadUnder, IsStale}
 use Rattle.command_ends.specs.Inputs.{Reader, Gives}
 use Rattle.indexed_queries.specs.declared.fronts.Front.{Front}
 use Rattle.indexed_queries.specs.declared.fronts.Front.TheVariants.{Uuid, Key}
@@ -31,6 +31,15 @@ abbrev pub IsStaleUnder : List (List ℕ) → Entries → List ℕ → Option �
 IsStaleUnder fronts entries text None = HasIndexedLength entries text → ⊥
 IsStaleUnder fronts entries text (Some entry) =
     HasIndexedLength entries text × IsUnnamedUnder fronts entries text entry
+
+-- the record of an admission whose entry is under one of these fronts begins at this offset
+abbrev pub IsReadUnderOne : List (List ℕ) → Entries → ℕ → Type 0
+IsReadUnderOne fronts entries offset =
+    (number : ℕ) × (number < length fronts) × IsReadUnder (slice_index_or fronts number []) entries offset
+
+-- where an archive is read by its index: its length is asked for, at 0, or such a record is read
+abbrev pub IsReadFor : List (List ℕ) → Entries → ℕ → Type 0
+IsReadFor fronts entries offset = (offset ≡ 0) ⊎ IsReadUnderOne fronts entries offset
 
 -- ARCHIVE was opened and has the length that the index tells, and what the entries name in it under each of these
 -- fronts makes these contents.

@@ -11,7 +11,10 @@ use Rattle.command_ends.specs.Inputs.{Reader, Gives, IsUnread, IsUntouched, Unfa
 use Rattle.command_ends.specs.declared.faults.InputName.{InputName}
 use Rattle.command_ends.specs.declared.faults.InputName.TheVariants.{Archive, Index}
 use Rattle.command_ends.specs.declared.faults.Why.{Why}
-use Rattle.command_ends.specs.declared.faults.Why.TheVariants.{CannotOpen as NotOpened, Index as IndexFaulty, Stale}
+use Rattle.archive_records.specs.declared.fault.RecordFaultKind.TheVariants.{Device as DeviceFailed}
+use Rattle.command_ends.specs.declared.faults.Why.TheVariants.{CannotOpen as NotOpened, Device as CannotRead, Record, Take}
+use Rattle.command_ends.specs.declared.faults.Why.TheVariants.{Script, BadFrame, OldArchive, TooLong}
+use Rattle.command_ends.specs.declared.faults.Why.TheVariants.{Index as IndexFaulty, Stale, Damaged, NoArchive, NoIndex}
 
 -- The input is an index with these entries, where its bytes are known.
 abbrev pub HoldsTables : {S : Type 0} → Reader S → List (List ℕ) → Type 0
@@ -33,6 +36,23 @@ IsUnreadIndex {S = S} input why =
     × (fault.kind ≢ IndexOutOfMemory) × ReadsIndex input.left input.failures device after (Err fault))
     (λ _. (why ≡ NotOpened) × IsUntouched input)
 
+-- why an archive is not read by its index: it was not opened; or its device failed, and the fault tells such an offset
+abbrev pub IsUnreadAt : {S : Type 0} → (ℕ → Type 0) → Reader S → Why → Type 0
+IsUnreadAt IsRead archive NotOpened = IsUnread archive NotOpened
+IsUnreadAt IsRead archive CannotRead = ⊥
+IsUnreadAt IsRead archive (Record fault) =
+    (fault.kind ≡ DeviceFailed) × IsRead fault.offset × IsUnread archive CannotRead
+IsUnreadAt IsRead archive (Take _) = ⊥
+IsUnreadAt IsRead archive (Script _ _ _) = ⊥
+IsUnreadAt IsRead archive (BadFrame _ _) = ⊥
+IsUnreadAt IsRead archive OldArchive = ⊥
+IsUnreadAt IsRead archive TooLong = ⊥
+IsUnreadAt IsRead archive (IndexFaulty _) = ⊥
+IsUnreadAt IsRead archive (Stale _) = ⊥
+IsUnreadAt IsRead archive (Damaged _) = ⊥
+IsUnreadAt IsRead archive NoArchive = ⊥
+IsUnreadAt IsRead archive NoIndex = ⊥
+
 -- INDEX says these entries, and ARCHIVE has the length that they tell.
 pub record IsIndexOf {R S : Type 0} (index : Reader R) (archive : Reader S) (entries : Entries) : Type 0 where
   pub index_is : HoldsIndex index entries
@@ -43,10 +63,10 @@ abbrev pub HasOtherLength : {S : Type 0} → Reader S → Entries → Type 0
 HasOtherLength archive entries = Gives archive (λ text. HasIndexedLength entries text → ⊥)
 
 -- An archive whose length is compared with that of its index, which have this number among those of the words, is
--- refused: it was not opened, or its device failed; or it did not, and the archive has another length.
+-- refused: it was not opened, or its device failed, which is told at 0; or it did not, and the archive has another length.
 abbrev pub IsOfOtherLength : {S : Type 0} → ℕ → Reader S → Entries → InputName → Why → Type 0
 IsOfOtherLength number archive entries at why =
-    ((at ≡ Archive number) × IsUnread archive why)
+    ((at ≡ Archive number) × IsUnreadAt (λ offset. offset ≡ 0) archive why)
     ⊎ ((at ≡ Index number) × Unfailed archive × (why ≡ Stale None) × HasOtherLength archive entries)
 
 -- An archive with its index, which have this number among those of the words, is refused: INDEX is refused, and ARCHIVE

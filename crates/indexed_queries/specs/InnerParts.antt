@@ -6,6 +6,7 @@ use Rattle.archive_core.specs.Summary.{Entries}
 use Rattle.archive_index.specs.declared.fault.PlaceFault.{PlaceFault}
 use Rattle.archive_index.specs.declared.fault.PlaceFault.TheVariants.{Stale, Device, OutOfMemory}
 use Rattle.archive_index.specs.Places.{IsNamedBy, entries_under}
+use Rattle.archive_records.specs.declared.fault.RecordFaultKind.TheVariants.{Device as DeviceFailed}
 use Rattle.command_ends.specs.Archives.{merged}
 use Rattle.command_ends.specs.Inputs.{Reader}
 use Rattle.command_ends.specs.declared.faults.CommandFault.{CommandFault}
@@ -28,7 +29,7 @@ pub record HaveGathered (whole : Option (List ℕ)) (fronts : List (List ℕ)) (
 abbrev pub IsFaultAmong : List (List ℕ) → Entries → List ℕ → PlaceFault → Type 0
 IsFaultAmong fronts entries text (Stale None) = ⊥
 IsFaultAmong fronts entries text (Stale (Some entry)) = IsUnnamedUnder fronts entries text entry
-IsFaultAmong fronts entries text Device = Unit {0}
+IsFaultAmong fronts entries text (Device offset) = Unit {0}
 IsFaultAmong fronts entries text OutOfMemory = Unit {0}
 
 -- what the entries under these fronts name was joined to the content
@@ -48,13 +49,14 @@ pub record IsNamedIn {S : Type 0} (archive : Reader S) (fronts : List (List ℕ)
 -- why it was not
 abbrev pub IsFaultUnder : List (List ℕ) → Entries → List ℕ → PlaceFault → Type 0
 IsFaultUnder fronts entries text (Stale entry) = IsStaleUnder fronts entries text entry
-IsFaultUnder fronts entries text Device = Unit {0}
+IsFaultUnder fronts entries text (Device offset) = Unit {0}
 IsFaultUnder fronts entries text OutOfMemory = Unit {0}
 
 -- the same, as it is told of the archive with this number
 abbrev pub told_fault : ℕ → PlaceFault → CommandFault
 told_fault number (Stale entry) = command.Input (place.Index number) (why.Stale entry)
-told_fault number Device = command.Input (place.Archive number) why.Device
+told_fault number (Device offset) =
+    command.Input (place.Archive number) (why.Record (record { kind = DeviceFailed; offset = offset }))
 told_fault number OutOfMemory = command.OutOfMemory
 
 -- what entries name in each of these archives was joined

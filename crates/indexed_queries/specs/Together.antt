@@ -7,13 +7,13 @@ use Rattle.archive_index.specs.Places.{HasIndexedLength}
 use Rattle.byte_device.specs.declared.disks.CannotOpen.{CannotOpen}
 use Rattle.table_index.specs.Text.{placed_of}
 use Rattle.command_ends.specs.Archives.{merged}
-use Rattle.command_ends.specs.Inputs.{Reader, Gives, EachUnfailed, EachUntouched, IsUnread, Unfailed}
+use Rattle.command_ends.specs.Inputs.{Reader, Gives, EachUnfailed, EachUntouched, Unfailed}
 use Rattle.command_ends.specs.declared.faults.InputName.{InputName}
 use Rattle.command_ends.specs.declared.faults.InputName.TheVariants.{Archive, Index}
 use Rattle.command_ends.specs.declared.faults.Why.{Why}
 use Rattle.command_ends.specs.declared.faults.Why.TheVariants.{Stale}
-use Rattle.indexed_queries.specs.Fronts.{HoldsNamed, IsStaleFor}
-use Rattle.indexed_queries.specs.Indexes.{HoldsTables, IsRefusedByIndex}
+use Rattle.indexed_queries.specs.Fronts.{HoldsNamed, IsReadFor, IsStaleFor}
+use Rattle.indexed_queries.specs.Indexes.{HoldsTables, IsRefusedByIndex, IsUnreadAt}
 
 -- three lists have the same length, and this is true of those at each place
 abbrev pub AllThree : {X Y Z : Type 0} → (X → Y → Z → Type 0) → List X → List Y → List Z → Type 0
@@ -89,11 +89,12 @@ pub record HoldNamed {P : Type 0} (fronts : List (List ℕ)) (archives : List (R
   pub named : AreNamedBy fronts archives all groups
   pub content_is : p ≡ merged_each set.empty groups
 
--- An archive is refused at the places that its index names: it is not open, or its device failed; or it did not, and
--- an entry names no record; or it has another length by now.
+-- An archive is refused at the places that its index names: it is not open, or its device failed, at 0 where its length
+-- was asked for, or at the record that was read; or it did not, and an entry names no record; or it has another length
+-- by now.
 abbrev pub IsRefusedAtPlaces : {P : Type 0} → List (List ℕ) → ℕ → Reader P → List (List ℕ) → InputName → Why → Type 0
 IsRefusedAtPlaces fronts number archive entries at why =
-    ((at ≡ Archive number) × IsUnread archive why)
+    ((at ≡ Archive number) × IsUnreadAt (IsReadFor fronts (placed_of entries)) archive why)
     ⊎ ((at ≡ Index number) × Unfailed archive
     × ((entry : Option ℕ) × (why ≡ Stale entry) × IsStaleFor fronts archive (placed_of entries) entry))
 

@@ -5,13 +5,16 @@ ghost use Rattle.archive_index.specs.Places.{HasIndexedLength};
 ghost use Rattle.index_faults.specs.declared.fault.IndexFaultKind.TheVariants.{OutOfMemory as IndexOutOfMemory};
 ghost use Rattle.table_index.specs.Text.{placed_of};
 ghost use Rattle.command_ends.specs.Inputs.{Gives, IsRefusal, Reads, ReadsInputs, Unfailed, reader};
-ghost use Rattle.command_ends.specs.declared.faults.InputName.TheVariants.{Index as IndexPlace};
-ghost use Rattle.command_ends.specs.declared.faults.Why.TheVariants.{Index as IndexFaulty};
+ghost use Rattle.archive_records.specs.declared.fault.RecordFaultKind.TheVariants.{Device as DeviceFailed};
+ghost use Rattle.command_ends.specs.declared.faults.CommandFault.TheVariants.{Input};
+ghost use Rattle.command_ends.specs.declared.faults.InputName.TheVariants.{Archive as ArchivePlace, Index as IndexPlace};
+ghost use Rattle.command_ends.specs.declared.faults.Why.TheVariants.{Index as IndexFaulty, Record};
 ghost use Rattle.indexed_queries.specs.Indexes.{HoldsTables, IsIndexOf, IsOfOtherLength, IsRefusedByIndex};
 ghost use Rattle.indexed_queries.specs.Indexes.{IsUnreadIndex};
 ghost use Rattle.indexed_queries.specs.Together.{IsKept, IsReadWith};
 
 use archive_index::Index;
+use archive_records::{RecordFault, RecordFaultKind};
 use byte_device::{CannotOpen, Failed};
 use command_ends::{CommandFault, InputName, Why, opened};
 use index_faults::{IndexFault, IndexFaultKind};
@@ -29,6 +32,17 @@ fn refusal(number: u64, fault: IndexFault) -> CommandFault
         IndexFaultKind::OutOfMemory => CommandFault::OutOfMemory,
         _ => CommandFault::Input(InputName::Index(number), Why::Index(fault)),
     }
+}
+
+/// The refusal of the archive with this number, whose device failed while what begins at this offset was read.
+pub(crate) fn unread(number: u64, offset: u64) -> CommandFault
+    ensures { result ≡ Input (ArchivePlace number) (Record (record { kind = DeviceFailed; offset = offset })) }
+{
+    let fault = RecordFault {
+        kind: RecordFaultKind::Device,
+        offset: u128::from(offset),
+    };
+    CommandFault::Input(InputName::Archive(number), Why::Record(fault))
 }
 
 /// Reads the index with this number among those of the words.
@@ -63,7 +77,7 @@ fn test_length<P: Placed>(
     match has_length(entries, device) {
         Ok(true) => Ok(()),
         Ok(false) => Err(CommandFault::Input(InputName::Index(number), Why::Stale(None))),
-        Err(Failed) => Err(CommandFault::Input(InputName::Archive(number), Why::Device)),
+        Err(Failed) => Err(unread(number, 0)),
     }
 }
 

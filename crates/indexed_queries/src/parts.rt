@@ -5,16 +5,17 @@ ghost use Rattle.std.specs.FinSet as set;
 ghost use Rattle.archive_core.specs.Content.{content_of, joined};
 ghost use Rattle.archive_core.specs.Record.{record_bytes};
 ghost use Rattle.placed_bytes.specs.Places.{HasSize};
-ghost use Rattle.archive_index.specs.Places.{HasIndexedLength};
+ghost use Rattle.archive_index.specs.Places.{HasIndexedLength, IsReadUnder};
 ghost use Rattle.table_index.specs.Text.{placed_of};
 ghost use Rattle.command_ends.specs.Inputs.{Reads, reader};
 ghost use Rattle.indexed_parts.specs.Places.{AreGatheredUnder, IsEntryFault, ReadsPlaces};
-ghost use Rattle.indexed_queries.specs.Fronts.{front_bytes};
+ghost use Rattle.indexed_queries.specs.Fronts.{IsReadFor, IsReadUnderOne, front_bytes};
 ghost use Rattle.indexed_queries.specs.InnerParts.{HasJoinedNamed, HaveGathered, IsFaultAmong, IsFaultUnder, IsNamedIn};
 ghost use Rattle.indexed_queries.specs.InnerParts.{told_fault};
 ghost use Rattle.indexed_queries.specs.Together.{IsRefusedAtPlaces};
 
 use crate::fronts::{Front, key_of, uuid_bytes};
+use crate::inputs::unread;
 use archive_core::{Archive, Operation, take_all};
 use archive_index::{Index, PlaceFault};
 use byte_device::CannotOpen;
@@ -37,7 +38,7 @@ fn gather_front<P: Placed>(
     ensures { ReadsPlaces P.whole P.failures device.old device.new result
         (λ _. AreGatheredUnder (P.whole device.old) (front_bytes front.now) entries.now
         (map record_bytes gathered.old.items) (map record_bytes gathered.new.items))
-        (IsEntryFault (front_bytes front.now) entries.now) }
+        (IsEntryFault (front_bytes front.now) entries.now) (IsReadUnder (front_bytes front.now) entries.now) }
 {
     match front {
         Front::Uuid(uuid) => {
@@ -60,7 +61,7 @@ fn gather_fronts<P: Placed>(
     ensures { ReadsPlaces P.whole P.failures device.old device.new result
         (λ _. HaveGathered (P.whole device.old) (map front_bytes fronts.now) entries.now
         (map record_bytes gathered.old.items) (map record_bytes gathered.new.items))
-        (IsFaultAmong (map front_bytes fronts.now) entries.now) }
+        (IsFaultAmong (map front_bytes fronts.now) entries.now) (IsReadUnderOne (map front_bytes fronts.now) entries.now) }
 {
     'fronts: for front in fronts {
         gather_front(heap, gathered, front, entries, device, size)?;
@@ -93,7 +94,7 @@ fn join_fronts<A: Archive + Drop, P: Placed>(
     ensures { ReadsPlaces P.whole P.failures device.old device.new result
         (λ _. IfSome (P.whole device.old) (HasIndexedLength entries.now) × HasJoinedNamed (P.whole device.old)
         (map front_bytes fronts.now) entries.now (A.content kept.old) (A.content kept.new))
-        (IsFaultUnder (map front_bytes fronts.now) entries.now) }
+        (IsFaultUnder (map front_bytes fronts.now) entries.now) (IsReadFor (map front_bytes fronts.now) entries.now) }
 {
     let _held = kept.len();
     let size = indexed_size(entries, device)?;
@@ -113,11 +114,8 @@ fn told(number: u64, fault: PlaceFault) -> CommandFault
     ensures { result ≡ told_fault number fault }
 {
     match fault {
-        PlaceFault::Stale(entry) => CommandFault::Input(
-            InputName::Index(number),
-            Why::Stale(entry),
-        ),
-        PlaceFault::Device => CommandFault::Input(InputName::Archive(number), Why::Device),
+        PlaceFault::Stale(entry) => CommandFault::Input(InputName::Index(number), Why::Stale(entry)),
+        PlaceFault::Device(offset) => unread(number, offset),
         PlaceFault::OutOfMemory => CommandFault::OutOfMemory,
     }
 }

@@ -1,29 +1,26 @@
 -- How a command ends that asks by tables, or by slices.
-use Rattle.std.proofs.Common.{◌≡◌, ℕ, ◌⊎◌, Bool, false, List, [], ◌∷◌, length, Option, Some, Result, Ok, Err, refl, sym, ap, ◌∙◌, subst, inl, inr}
+use Rattle.std.proofs.Common.{◌≡◌, ℕ, ◌⊎◌, Bool, false, List, [], length, Option, Result, Ok, Err, sym, ap, ◌∙◌, subst, inl, inr}
 use Rattle.std.specs.Prelude.{slice_get, slice_set}
 use Rattle.std.specs.List.{AllZip}
 use Rattle.byte_device.specs.declared.disks.CannotOpen.{CannotOpen}
 use Rattle.archive_core.specs.Content.{HaveSameMembers, Operations}
-use Rattle.archive_core.specs.declared.keys.SliceKey.{SliceKey}
 use Rattle.command_ends.specs.Ends.{EndsReport, Query}
-use Rattle.command_ends.specs.Inputs.{Reader, reader, readers, AreRead, EachUnfailed, IsRefusal}
+use Rattle.command_ends.specs.Inputs.{Reader, readers, EachUnfailed, IsRefusal}
 use Rattle.command_ends.specs.Outputs.{Takes, Writer}
 use Rattle.command_ends.specs.declared.faults.CommandFault.{CommandFault}
 use Rattle.command_ends.specs.declared.faults.CommandFault.TheVariants.{Input, Output, Report, OutOfMemory}
 use Rattle.command_ends.specs.declared.faults.InputName.{InputName}
-use Rattle.command_ends.specs.declared.faults.InputName.TheVariants.{Index}
 use Rattle.command_ends.specs.declared.faults.Status.{Status}
 use Rattle.command_ends.specs.declared.faults.Why.{Why}
 use Rattle.command_ends.specs.declared.faults.Why.TheVariants as why
-use Rattle.index_faults.specs.declared.fault.IndexFaultKind.TheVariants.{Device as DeviceKind}
 use Rattle.indexed_answers.specs.Among.{EntryAt}
 use Rattle.indexed_answers.specs.AmongAsked.{BlamesAmong, HasText, HaveTexts, IsUntoldAmong, each_known}
 use Rattle.indexed_answers.specs.declared.fault.AnswerFault.{AnswerFault}
 use Rattle.indexed_answers.specs.declared.fault.AnswerFault.TheVariants as answer
-use Rattle.indexed_queries.specs.Several.{AreRefusedLater, AreUnfailedTogether, HoldTogether, MakesTogether}
-use Rattle.indexed_queries.specs.Together.{AreAllKept, AreReadWith, IsFirstRefusedAtPlaces, IsFirstRefusedByIndex}
+use Rattle.indexed_queries.specs.Several.{AreRefusedLater, AreUnfailedTogether, MakesTogether}
+use Rattle.indexed_queries.specs.Together.{AreAllKept, AreReadWith, IsFirstRefusedAtPlaces}
 use Rattle.indexed_queries.proofs.Groups.{later_readers, read_earlier, unfailed_through}
-use Rattle.indexed_symbols.specs.Asking.{AreGiven, AreRefusedAsking, AreTiedUnder, AreUntold, IsAnsweredByTables, IsChanged, IsUntoldUnder, IsUnreadTable, TellTables, WantsSlices}
+use Rattle.indexed_symbols.specs.Asking.{AreGiven, AreRefusedAsking, AreUntold, IsChanged, IsUntoldUnder, IsUnreadTable, WantsSlices}
 use Rattle.indexed_symbols.specs.InnerAsking.{AreHeldUnder, AreRefusedUnder, IsUntoldBy, NoneFailed, command_fault}
 use Rattle.indexed_symbols.proofs.States.{fails_alone, kept_counts, kept_texts, none_failed_of, read_before, texts_of}
 

@@ -1,11 +1,11 @@
 -- What is shown of places, one after another.
-use Rattle.std.proofs.Common.{◌≡◌, ℕ, zero, suc, ◌+◌, ◌<◌, ◌⊎◌, Bool, if◌then◌else◌, List, [], ◌∷◌, ◌++◌, length, take, map, get_or, Option, Some, refl, sym, ap, ◌∙◌, subst, arith, inl, inr}
+use Rattle.std.proofs.Common.{◌≡◌, ℕ, zero, suc, ◌+◌, ◌<◌, ◌⊎◌, if◌then◌else◌, List, [], ◌∷◌, ◌++◌, length, take, map, get_or, Option, Some, refl, sym, ap, ◌∙◌, subst, arith, inl, inr}
 use Rattle.std.specs.Prelude.{slice_get}
-use Rattle.std.specs.List.{All, AllZip, Contains}
+use Rattle.std.specs.List.{All, AllZip}
 use Rattle.std.proofs.Math.ListN.{length-map}
 use Rattle.std.proofs.lemmas.List.{flat_map_more, get_or-map, length-take, map-append, take_more}
 use Rattle.std.proofs.lemmas.List.Elements.{All-contains}
-use Rattle.std.proofs.lemmas.Option.{get_or_from_slice_get, slice_get_within, slice_get-get_or}
+use Rattle.std.proofs.lemmas.Option.{slice_get-get_or}
 use Rattle.archive_core.specs.Key.{key_bytes}
 use Rattle.archive_core.specs.Lookup.{AnswerRecord, answer_view}
 use Rattle.archive_core.specs.declared.keys.SliceKey.{SliceKey}
@@ -17,10 +17,10 @@ use Rattle.command_ends.specs.declared.faults.Status.{Status}
 use Rattle.command_ends.specs.declared.faults.Status.TheVariants.{Done, Partial}
 use Rattle.command_ends.proofs.Readers.{pairs_more}
 use Rattle.archive_queries.proofs.Answered.{status_more}
-use Rattle.archive_queries.specs.Symbolicate.{Answered, answers_status, asked_of, is_symbol}
+use Rattle.archive_queries.specs.Symbolicate.{Answered, asked_of, is_symbol}
 use Rattle.indexed_answers.specs.AmongTold.{IsAnswerAmong}
 use Rattle.indexed_answers.specs.declared.answers.Answers.{Answers}
-use Rattle.indexed_symbols.specs.Asking.{IsAnsweredByTables, TellTables}
+use Rattle.indexed_symbols.specs.Asking.{TellTables}
 use Rattle.indexed_symbols.specs.Frames.{IsFrameByTables, TellTablesOfFrames}
 use Rattle.indexed_symbols.specs.InnerPlaces.{AreAskedOf}
 use Rattle.indexed_symbols.specs.InnerTold.{AreTold, AreToldOf, HasTold, HaveToldEach, IsFrameTold, IsToldIn, IsToldUnder, ShowsAddresses, ShowsFrames, answer_at}

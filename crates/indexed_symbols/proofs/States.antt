@@ -1,14 +1,13 @@
 -- The devices of indexes, before they were asked and after.
-use Rattle.std.proofs.Common.{◌≡◌, ℕ, zero, suc, ◌+◌, ◌<◌, List, [], ◌∷◌, length, take, drop, get_or, Option, Some, Result, Ok, Err, refl, sym, ap, ◌∙◌, subst, arith}
+use Rattle.std.proofs.Common.{◌≡◌, ℕ, zero, suc, ◌+◌, ◌<◌, List, [], ◌∷◌, length, drop, get_or, Option, Some, Result, Ok, Err, refl, sym, ap, subst, arith}
 use Rattle.std.specs.Prelude.{IsOk, slice_get, slice_set}
-use Rattle.std.specs.List.{All, AllZip}
 use Rattle.std.proofs.lemmas.Option.{slice_get_within}
 use Rattle.byte_device.specs.Devices.{FailedIn}
 use Rattle.byte_device.specs.declared.disks.CannotOpen.{CannotOpen}
-use Rattle.command_ends.specs.Inputs.{Reader, reader, readers, EachUnfailed, Gives, IsGiven, Unfailed, failures_of}
+use Rattle.command_ends.specs.Inputs.{Reader, reader, readers, EachUnfailed, Gives, IsGiven, failures_of}
 use Rattle.indexed_answers.specs.Among.{AreAnsweringAmong, EntryAt}
 use Rattle.indexed_answers.specs.AmongAsked.{AreOpened, HasText, HaveTexts, IsOpenedAt, each_known, known_of}
-use Rattle.indexed_queries.specs.Together.{AllThree, AreAllKept, AreReadWith, IsKept, IsReadWith}
+use Rattle.indexed_queries.specs.Together.{AreAllKept, AreReadWith, IsKept}
 use Rattle.indexed_symbols.specs.Asking.{AreGiven, FailsAlone}
 use Rattle.indexed_symbols.specs.InnerAsking.{AreAllOpened}
 

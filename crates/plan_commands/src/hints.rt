@@ -12,8 +12,8 @@ ghost use Rattle.plan_commands.specs.declared.hints.Hint.TheVariants.{Torn};
 ghost use Rattle.plan_commands.specs.Hints.{IsOfInput, IsOfNoFile, IsOfOut, faulty_line_of, file_of};
 ghost use Rattle.plan_commands.specs.Hints.{stale_hint, subject_of, subject_text};
 
-use crate::file_kinds::FileKind;
 use crate::flaws::FaultyLine;
+use crate::file_kinds::FileKind;
 use crate::line_inputs::input_at;
 use archive_files::{Obstacle, OutFile, SystemInput, Unopened};
 use command_ends::{CommandFault, Failure, InputName, Status, Why};
@@ -154,7 +154,9 @@ impl Display for Hint {
             Hint::SameFile => f.write_str("the file of an input"),
             Hint::OldVersion => f.write_str("an archive of version 1, which `migrate` takes"),
             Hint::Stale => f.write_str("not of this archive, of which `index` writes a new one"),
-            Hint::Torn => f.write_str("changed since it was written: `index` writes a new one"),
+            Hint::Torn => f.write_str(
+                "changed since it was written: run `symarch-keep check` if it keeps the archive, else `index`",
+            ),
             Hint::Changed => f.write_str(
                 "of an archive in which a slice changed since it came in: run `symarch-keep check` first",
             ),

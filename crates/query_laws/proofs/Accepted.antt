@@ -29,10 +29,12 @@ use Rattle.indexed_tables.proofs.Accepted.{accepted}
 use Rattle.command_ends.specs.Inputs.{IsDeviceFault, IsGiven, IsUnread, Reader, reader}
 use Rattle.command_ends.specs.declared.faults.InputName.{InputName}
 use Rattle.command_ends.specs.declared.faults.Why.{Why}
-use Rattle.command_ends.specs.declared.faults.Why.TheVariants.{Index as IndexFaulty}
+use Rattle.command_ends.specs.declared.faults.Why.TheVariants.{CannotOpen as NotOpened, Device as CannotRead, Record, Take}
+use Rattle.command_ends.specs.declared.faults.Why.TheVariants.{Script, BadFrame, OldArchive, TooLong}
+use Rattle.command_ends.specs.declared.faults.Why.TheVariants.{Index as IndexFaulty, Stale, Damaged, NoArchive, NoIndex}
 use Rattle.index_laws.specs.Indexes.{IsIndexFile}
-use Rattle.indexed_queries.specs.Fronts.{IsStaleFor, IsStaleUnder, IsUnnamedUnder}
-use Rattle.indexed_queries.specs.Indexes.{HasOtherLength, IsOfOtherLength, IsRefusedByIndex, IsUnreadIndex}
+use Rattle.indexed_queries.specs.Fronts.{IsReadFor, IsStaleFor, IsStaleUnder, IsUnnamedUnder}
+use Rattle.indexed_queries.specs.Indexes.{HasOtherLength, IsOfOtherLength, IsRefusedByIndex, IsUnreadAt, IsUnreadIndex}
 use Rattle.indexed_queries.specs.Together.{IsKept, IsLater, IsRefusedAtPlaces}
 use Rattle.query_laws.specs.Contents.{IsIndexGiven}
 use Rattle.query_laws.proofs.OfIndex.{entries_are, of_given}
@@ -60,13 +62,29 @@ archive_device left failures old new text why given r = grind arith
 opened_device : {S : Type 0} (archive : Reader S) (text : List ℕ) (why : Why) → IsGiven archive text → IsUnread archive why → IsDeviceFault why
 opened_device archive text why given r = archive_device archive.left archive.failures archive.old archive.new text why given r
 
+-- one that is not read by its index is refused for its device alone
+unread_at_device : {S : Type 0} (IsRead : ℕ → Type 0) (archive : Reader S) (text : List ℕ) (why : Why) → IsGiven archive text → IsUnreadAt IsRead archive why → IsDeviceFault why
+unread_at_device IsRead archive text NotOpened given r = opened_device archive text NotOpened given r
+unread_at_device IsRead archive text CannotRead given r = absurd r
+unread_at_device IsRead archive text (Record fault) given r = r.0
+unread_at_device IsRead archive text (Take _) given r = absurd r
+unread_at_device IsRead archive text (Script _ _ _) given r = absurd r
+unread_at_device IsRead archive text (BadFrame _ _) given r = absurd r
+unread_at_device IsRead archive text OldArchive given r = absurd r
+unread_at_device IsRead archive text TooLong given r = absurd r
+unread_at_device IsRead archive text (IndexFaulty _) given r = absurd r
+unread_at_device IsRead archive text (Stale _) given r = absurd r
+unread_at_device IsRead archive text (Damaged _) given r = absurd r
+unread_at_device IsRead archive text NoArchive given r = absurd r
+unread_at_device IsRead archive text NoIndex given r = absurd r
+
 -- it has the length that the index tells
 same_length : {P : Type 0} (archive : Reader P) (o : Operations) (text : List ℕ) → IsIndexFile o text → IsGiven archive (written o) → HasOtherLength archive (index o) → ⊥
 same_length archive o text file known other =
     of_given archive (written o) (λ t. HasIndexedLength (index o) t → ⊥) known other (right_length o file.content file.archive_fits)
 
 other_length : {P : Type 0} (number : ℕ) (archive : Reader P) (entries : Entries) (o : Operations) (text : List ℕ) (at : InputName) (why : Why) → IsIndexFile o text → IsGiven archive (written o) → entries ≡ index o → IsOfOtherLength number archive entries at why → IsDeviceFault why
-other_length number archive entries o text at why file known is (inl (place, unread)) = opened_device archive (written o) why known unread
+other_length number archive entries o text at why file known is (inl (place, unread)) = unread_at_device (λ offset. offset ≡ 0) archive (written o) why known unread
 other_length number archive entries o text at why file known is (inr (place, unfailed, stale, other)) =
     absurd (same_length archive o text file known (subst (λ (s : Entries). HasOtherLength archive s) is other))
 
@@ -99,7 +117,7 @@ module _ (o : Operations) (text : List ℕ) (file : IsIndexFile o text) where
   never_stale archive fronts entry known h = not_stale fronts entry (of_given archive (written o) (λ t. IsStaleUnder fronts (index o) t entry) known h)
 
   pub at_places : {P : Type 0} (fronts : List (List ℕ)) (number : ℕ) (archive : Reader P) (entries : List (List ℕ)) (at : InputName) (why : Why) → placed_of entries ≡ index o → IsGiven archive (written o) → IsRefusedAtPlaces fronts number archive entries at why → IsDeviceFault why
-  at_places fronts number archive entries at why is known (inl (place, unread)) = opened_device archive (written o) why known unread
+  at_places fronts number archive entries at why is known (inl (place, unread)) = unread_at_device (IsReadFor fronts (placed_of entries)) archive (written o) why known unread
   at_places fronts number archive entries at why is known (inr (place, unfailed, (entry, why_is, stale))) =
       absurd (never_stale archive fronts entry known (subst (λ (s : Entries). IsStaleFor fronts archive s entry) is stale))
 

@@ -6,3 +6,4 @@ pub mod EndLemmas
 pub mod Faults
 pub mod PlaceLemmas
 pub mod Decided
+pub mod RunLemmas

@@ -2,8 +2,13 @@
 use Rattle.std.proofs.Common.{◌≡◌, ℕ, ◌+◌, ◌*◌, ◌≤◌, Bool, true, not, cond, List, [], ◌∷◌, ◌++◌, length, take, drop, refl, sym, ap, ◌∙◌, subst, arith, length-append, append_assoc}
 use Rattle.std.specs.Prelude.{Result, Ok, Err}
 use Rattle.std.specs.List.{concat}
+use Rattle.std.specs.List.{AllByRecursion}
+use Rattle.std.specs.List.Sorted.{IsStrictlySortedBy}
 use Rattle.std.specs.Ordering.{nat_cmp, is_lt}
-use Rattle.std.specs.Cmp.Lexicographic.{slice_cmp}
+use Rattle.std.specs.declared.cmp.Ordering.{Ordering}
+use Rattle.std.specs.declared.cmp.Ordering.TheVariants.{Less}
+use Rattle.std.specs.Cmp.Lexicographic.{slice_cmp, nat_list_cmp_total}
+use Rattle.std.proofs.lemmas.List.Elements.{All-from_recursion, All-weaker, recursion_from_All}
 use Rattle.std.proofs.Math.Seq.{take-append_seam, take-add}
 use Rattle.archive_core.proofs.Records.{same_parts}
 use Rattle.archive_records.specs.Text.{last_of}
@@ -52,6 +57,19 @@ last_push low (y ∷ ys) x = last_push y ys x
 pub long_entries : (end : ℕ) (low : List ℕ) (xs : List (List ℕ)) → PassTests end low xs → length (concat xs) ≡ 122 * length xs
 long_entries end low [] a = refl
 long_entries end low (x ∷ xs) a = omega (arith, length-append x (concat xs), a.0, long_entries end x xs a.2)
+
+less_is : (o : Ordering) → is_lt o ≡ true → o ≡ Less
+less_is o e = grind arith
+
+-- entries that pass their tests are strictly sorted, and above what they are after
+pub pass_ascending : (end : ℕ) (low : List ℕ) (xs : List (List ℕ)) → PassTests end low xs → AllByRecursion (λ y. slice_cmp nat_cmp low y ≡ Less) xs × IsStrictlySortedBy (slice_cmp nat_cmp) xs
+unfolding IsStrictlySortedBy
+pass_ascending end low [] a = (tt, tt)
+pass_ascending end low (x ∷ xs) a =
+    let rest = pass_ascending end x xs a.2 in
+    let lt = less_is (slice_cmp nat_cmp low x) (passed end low x a.1).above in
+    let above = λ (low : List ℕ) (y : List ℕ). slice_cmp nat_cmp low y ≡ Less in
+    ((lt, recursion_from_All (above low) xs (All-weaker (above x) (above low) (λ y. nat_list_cmp_total.trans low x y lt) xs (All-from_recursion (above x) xs rest.0))), rest)
 
 -- the bytes of one entry more
 pub concat_more : (bytes : List ℕ) (xs : List (List ℕ)) (k : ℕ) → concat xs ≡ take (122 * k) bytes → concat (xs ++ take 122 (drop (122 * k) bytes) ∷ []) ≡ take (122 * (k + 1)) bytes

@@ -1,7 +1,10 @@
 -- Entries of an index: what a record is, where it stands in its archive, and where the table of its slice is stored.
-use Rattle.std.specs.Prelude.{◌≡◌, ℕ, ◌+◌, ◌*◌, zero, suc, List, [], ◌∷◌, ◌++◌, length, take, drop}
+use Rattle.std.specs.Prelude.{◌≡◌, ℕ, ◌+◌, ◌*◌, zero, suc, List, [], ◌∷◌, ◌++◌, length, map, take, drop, All}
 use Rattle.std.specs.Prelude.{Bool, nat_le, if◌then◌else◌}
 use Rattle.std.specs.Int.{w64, to_be_bytes, from_be_bytes}
+use Rattle.std.specs.List.Sorted.{IsStrictlySortedBy}
+use Rattle.std.specs.Ordering.{nat_cmp}
+use Rattle.std.specs.Cmp.Lexicographic.{slice_cmp}
 use Rattle.std.specs.Str.{bytes_eq}
 use Rattle.sha2.specs.Sha256.{sha256}
 use Rattle.checked_pages.specs.Pages.{Claim, page_digests, pages_in}
@@ -56,3 +59,8 @@ pub record HasItsFields (e : TableEntry) : Type 0 where
   pub length_is : length_in (entry_bytes e) ≡ e.placed.length
   pub claim_is : claim_in (entry_bytes e) ≡ claim_view e.claim
   pub placed : IsPlacedEntry (placed_bytes e.placed)
+
+-- Each of these entries has its fields, and they ascend strictly in byte order.
+pub record AreTableEntries (entries : List TableEntry) : Type 0 where
+  pub fields : All HasItsFields entries
+  pub ascending : IsStrictlySortedBy (slice_cmp nat_cmp) (map entry_bytes entries)

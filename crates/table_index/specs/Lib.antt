@@ -1,5 +1,6 @@
 pub mod Entry
 pub mod Text
+pub mod Runs
 pub mod Fault
 pub mod Reading
 pub mod InnerReading

@@ -1,10 +1,12 @@
 //! The entries of an index that was read.
 
-ghost use Rattle.std.specs.Prelude.{◌≡◌, All, IfOk, length, map};
-ghost use Rattle.table_index.specs.Entry.{HasItsFields, entry_bytes};
+ghost use Rattle.std.specs.Prelude.{◌≡◌, ◌≤◌, All, IfOk, length, map};
+ghost use Rattle.table_index.specs.Entry.{AreTableEntries, HasItsFields, entry_bytes};
+ghost use Rattle.table_index.specs.Runs.{IsRun, is_tagged};
 ghost use Rattle.table_index.specs.Text.{placed_of};
 
 use crate::TableEntry;
+use crate::runs::run_under;
 use archive_index::{Index, PlacedEntry};
 use memory::{Heap, NoMemory};
 use std::marker::Model;
@@ -16,14 +18,14 @@ pub struct TableIndex {
 }
 
 impl Model for TableIndex {
-    ghost use Rattle.std.specs.Prelude.{ℕ, List, All, map};
-    ghost use Rattle.table_index.specs.Entry.{HasItsFields, entry_bytes};
+    ghost use Rattle.std.specs.Prelude.{ℕ, List, map};
+    ghost use Rattle.table_index.specs.Entry.{AreTableEntries, entry_bytes};
 
     ghost Value = { List (List ℕ) };
 
     ghost view = { λ index. map entry_bytes index.entries.items };
 
-    ghost invariant = { λ index. All HasItsFields index.entries.items };
+    ghost invariant = { λ index. AreTableEntries index.entries.items };
 }
 
 /// What entries say of their records.
@@ -36,7 +38,7 @@ fn placed_in(heap: Heap, entries: &[TableEntry]) -> Result<Vec<PlacedEntry, Heap
 impl TableIndex {
     /// The index of these entries.
     pub(crate) fn of_entries(entries: Vec<TableEntry, Heap>) -> TableIndex
-        requires { All HasItsFields entries.items }
+        requires { AreTableEntries entries.items }
         ensures { result ≡ map entry_bytes entries.items }
     {
         TableIndex { entries }
@@ -55,6 +57,15 @@ impl TableIndex {
         ensures fields { All HasItsFields result.now }
     {
         &self.entries
+    }
+
+    /// From which number on, and up to which, the entries of a tag under a front stand, a key or less: the retirements
+    /// under it, tag 1, or the admissions, tag 2. They are found by halving.
+    pub fn run_under(&self, tag: u8, front: &[u8]) -> (usize, usize)
+        requires { length front.now ≤ 24 }
+        ensures { IsRun (is_tagged tag front.now) self.now result.0 result.1 }
+    {
+        run_under(&self.entries, tag, front)
     }
 
     /// What the entries say of their records, without the claims. It is refused for want of memory alone.

@@ -7,7 +7,7 @@
 //! the SHA-256 of its page digests.
 //!
 //! - `entry`: [`TableEntry`], what a record is, where it stands, and where its table is stored;
-//! - `index`: [`TableIndex`], the entries of an index that was read;
+//! - `index`: [`TableIndex`], the entries of an index that was read; `runs`: those of one tag under a front;
 //! - `ends`: the magic and the end record; `testing`: the tests of an entry; `places`: whether records and tables
 //!   follow one another; `reading`: [`read_index`];
 //! - [`laws`]: a text is the index with one list of entries, or has one fault.
@@ -25,6 +25,7 @@ mod index;
 pub mod laws;
 mod places;
 mod reading;
+mod runs;
 mod testing;
 
 pub use ends::{END_LEN, MAGIC_LEN, magic};

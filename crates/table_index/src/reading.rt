@@ -1,8 +1,8 @@
 //! An index that is read.
 
-ghost use Rattle.std.specs.Prelude.{◌≡◌, ◌≢◌, ◌⊎◌, ◌+◌, ◌*◌, ◌<◌, ◌^◌, ◌↔◌, ℕ, List, All, IfOk, IfErr, IsTrue, length};
+ghost use Rattle.std.specs.Prelude.{◌≡◌, ◌≢◌, ◌⊎◌, ◌+◌, ◌*◌, ◌<◌, ◌^◌, ◌↔◌, ℕ, List, IfOk, IfErr, IsTrue, length};
 ghost use Rattle.sha2.specs.Sha256.{sha256};
-ghost use Rattle.table_index.specs.Entry.{HasItsFields};
+ghost use Rattle.table_index.specs.Entry.{AreTableEntries};
 ghost use Rattle.table_index.specs.InnerReading.{AreEndsOf, AreEntriesOf, AreReadOf, FailsBehindEnds};
 ghost use Rattle.table_index.specs.Fault.{FailsDigest, FailsInEntries, FailsInPlaces};
 ghost use Rattle.table_index.specs.Reading.{IsRefused, ReadsIndex, ReadsText};
@@ -52,7 +52,7 @@ fn read_bytes<P: Placed>(
 fn test_entries(heap: Heap, bytes: &[u8], ends: &Ends) -> Result<Vec<TableEntry, Heap>, IndexFault>
     requires whole { length bytes.now ≡ 122 * ends.now.count }
     requires fits { ends.now.start + 122 * ends.now.count + 41 < 2 ^ 64 }
-    ensures fields { IfOk result (λ entries. All HasItsFields entries.items) }
+    ensures sorted { IfOk result (λ entries. AreTableEntries entries.items) }
     ensures read { IfOk result (λ entries. (text : List ℕ) → AreEndsOf text ends.now → AreEntriesOf text bytes.now
         → AreReadOf text entries.items) }
     ensures faulty { IfErr result (λ fault. ((fault.kind ≡ OutOfMemory) × (fault.offset ≡ ends.now.start))
@@ -81,7 +81,7 @@ fn read_entries<P: Placed>(
     ends: &Ends,
 ) -> Result<Vec<TableEntry, Heap>, IndexFault>
     requires { ends.now.start + 122 * ends.now.count + 41 < 2 ^ 64 }
-    ensures fields { IfOk result (λ entries. All HasItsFields entries.items) }
+    ensures sorted { IfOk result (λ entries. AreTableEntries entries.items) }
     ensures read { ReadsText P.whole P.failures device.old device.new result
         (λ text entries. AreEndsOf text ends.now → AreReadOf text entries.items)
         (λ text fault. AreEndsOf text ends.now → IsRefused FailsBehindEnds text fault) }

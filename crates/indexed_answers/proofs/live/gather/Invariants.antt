@@ -1,8 +1,7 @@
-use Rattle.std.proofs.Common.{◌≡◌, ◌++◌, map, take}
+use Rattle.std.proofs.Common.{◌≡◌, ◌+◌, ◌++◌, map, take}
 use Rattle.std.specs.Prelude.{filter}
-use Rattle.table_index.specs.Entry.{entry_bytes}
 use Rattle.indexed_answers.specs.InnerAnswering.{entries_at, entry_at, lives_by}
 use Rattle.indexed_answers.proofs.live.gather.Given as goal
 
-abbrev pub invariant-entries : goal.invariant-entries
-invariant-entries l = map entry_at l.live.items ≡ map entry_at l.initial.live.items ++ filter (λ x. lives_by l.front l.retired x.entry) (take l.number (entries_at l.input 0 (map entry_bytes l.entries)))
+abbrev pub invariant-run : goal.invariant-run
+invariant-run l = map entry_at l.live.items ≡ map entry_at l.initial.live.items ++ filter (λ x. lives_by l.front l.retired x.entry) (take (l.start + l.place) (entries_at l.input 0 l.index))

@@ -4,9 +4,10 @@ use Rattle.archive_core.specs.Record.{record_bytes}
 use Rattle.archive_records.proofs.Blamed.{failed}
 use Rattle.archive_index.specs.Entry.{IsPlacedEntry, placed_bytes}
 use Rattle.archive_index.proofs.Entries.{each_of}
-use Rattle.indexed_parts.specs.InnerPlaces.{AreGathered, IsGathered}
+use Rattle.archive_index.specs.Places.{IsReadAmong}
+use Rattle.indexed_parts.specs.InnerPlaces.{AreGathered, IsGathered, IsReadOf}
 use Rattle.indexed_parts.specs.InnerRuns.{is_tagged}
-use Rattle.indexed_parts.proofs.Gathered.{gathered_more, gathered_none, gathered_rest, refused_behind, stale_at}
+use Rattle.indexed_parts.proofs.Gathered.{gathered_more, gathered_none, gathered_rest, read_at, refused_behind, stale_at}
 use Rattle.indexed_parts.proofs.Ordered.{in_run, length_run}
 use Rattle.indexed_parts.proofs.gathering.gather_run.Goals as goal
 
@@ -35,9 +36,11 @@ returns-in_err-gather_entry g c =
     let passes = ap (is_tagged c.args.tag c.args.front.now) there.3 ∙ run.ensures.inside k [] (omega arith) there.0 in
     let fault = c.in_err-gather_entry.field-0.0 in
     rw (failed c.from_residual.result fault c.from_residual.ensures.1)
-    (refused_behind g.P.Placed.whole g.P.Placed.failures c.args.archive.now c.run.archive _ c.run.invariant.keeps c.run.invariant.unfailed fault
+    (refused_behind g.P.Placed.whole g.P.Placed.failures c.args.archive.now c.run.archive _ c.run.invariant.keeps c.run.invariant.unfailed
+    (IsReadOf (placed_bytes e)) (IsReadAmong (is_tagged c.args.tag c.args.front.now) (map placed_bytes entries)) fault
     (stale_at (g.P.Placed.whole c.args.archive.now) (g.P.Placed.whole c.run.archive) (is_tagged c.args.tag c.args.front.now) (map placed_bytes entries) k (placed_bytes e) (map record_bytes c.args.gathered.now.items) (map record_bytes c.run.gathered.items) fault
     (omega (arith, length-map entries placed_bytes, there.1)) there.3 passes c.run.invariant.keeps c.run.invariant.gathered)
+    (λ n h. read_at (is_tagged c.args.tag c.args.front.now) (map placed_bytes entries) k (placed_bytes e) n (omega (arith, length-map entries placed_bytes, there.1)) there.3 passes h)
     c.in_err-gather_entry.ensures)
 
 pub run-preserved : goal.run-preserved

@@ -1,9 +1,10 @@
-use Rattle.std.proofs.Common.{◌∙◌, sym, ap, subst, refl, arith, length}
+use Rattle.std.proofs.Common.{◌∙◌, Err, sym, ap, subst, refl, arith, length}
 use Rattle.std.proofs.lemmas.Option.{IfSome_then}
 use Rattle.placed_bytes.specs.Places.{Stands}
 use Rattle.archive_index.specs.Entry.{placed_bytes}
 use Rattle.archive_index.specs.Places.{IsNamedBy}
-use Rattle.indexed_parts.proofs.Named.{named_retirement, none_other, none_short}
+use Rattle.indexed_parts.proofs.Gathered.{known}
+use Rattle.indexed_parts.proofs.Named.{named_retirement, none_other, none_short, read_of}
 use Rattle.indexed_parts.proofs.records.operation_at.Goals as goal
 
 pub returns-then-is_retirement : goal.returns-then-is_retirement
@@ -31,4 +32,12 @@ returns-in-Ok-None-admission_of g c =
           (ap length c.deref.ensures.value ∙ read.0) stands (rw c.in-Ok-None-admission_of.field-0-is at c.in-Ok-None-admission_of.ensures.none),
       h.keeps,
       h.unfailed,
+    )
+
+pub returns-in-Err-Device : goal.returns-in-Err-Device
+returns-in-Err-Device g c =
+    let h = c.in-Err-Device.ensures in (
+      known _ (g.P.Placed.whole c.args.archive.now) (λ text. tt),
+      h.keeps,
+      (h.device (ap Err c.in-Err-Device.field-0-is), read_of c.args.entry.now c.requires.entry (omega arith) (c.is_retirement.ensures.no c.if-is_retirement.false)),
     )

@@ -1,10 +1,10 @@
-use Rattle.std.proofs.Common.{ℕ, List, Option, ap, map, subst, ◌∙◌}
+use Rattle.std.proofs.Common.{ℕ, List, Option, ap, inr, map, subst, ◌∙◌}
 use Rattle.std.specs.Prelude.{IfSome}
 use Rattle.archive_core.specs.Record.{record_bytes}
 use Rattle.archive_index.specs.Places.{HasIndexedLength}
 use Rattle.archive_records.proofs.Blamed.{failed}
 use Rattle.indexed_parts.proofs.Gathered.{along_both, refused_behind}
-use Rattle.indexed_queries.specs.Fronts.{front_bytes}
+use Rattle.indexed_queries.specs.Fronts.{IsReadFor, IsReadUnderOne, front_bytes}
 use Rattle.indexed_queries.specs.InnerParts.{HaveGathered, IsFaultAmong, IsFaultUnder}
 use Rattle.indexed_queries.proofs.Joined.{fault_then, joined_together}
 use Rattle.indexed_queries.proofs.parts.join_fronts.Goals as goal
@@ -15,9 +15,9 @@ returns-in_err-gather_fronts g c =
     let fronts = map front_bytes c.args.fronts.now in
     let first = c.in_ok-size.ensures in
     rw (failed c.from_residual-in_err-gather_fronts.result fault c.from_residual-in_err-gather_fronts.ensures.1)
-    (refused_behind g.P.Placed.whole g.P.Placed.failures c.args.device.now c.indexed_size.new.archive _ first.1 first.2 fault
+    (refused_behind g.P.Placed.whole g.P.Placed.failures c.args.device.now c.indexed_size.new.archive _ first.1 first.2 (IsReadUnderOne fronts c.args.entries.now) (IsReadFor fronts c.args.entries.now) fault
     (λ h. along_both (HasIndexedLength c.args.entries.now) (λ text. IsFaultAmong fronts c.args.entries.now text fault) (λ text. IsFaultUnder fronts c.args.entries.now text fault) (g.P.Placed.whole c.args.device.now)
-    (λ text long among. fault_then fronts c.args.entries.now text fault long among) first.0.1 (subst (λ (w : Option (List ℕ)). IfSome w (λ text. IsFaultAmong fronts c.args.entries.now text fault)) first.1 h)) c.in_err-gather_fronts.ensures)
+    (λ text long among. fault_then fronts c.args.entries.now text fault long among) first.0.1 (subst (λ (w : Option (List ℕ)). IfSome w (λ text. IsFaultAmong fronts c.args.entries.now text fault)) first.1 h)) (λ n h. inr h) c.in_err-gather_fronts.ensures)
 
 pub returns-in-Ok-join_gathered : goal.returns-in-Ok-join_gathered
 returns-in-Ok-join_gathered g c =

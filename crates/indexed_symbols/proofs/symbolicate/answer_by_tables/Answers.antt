@@ -1,4 +1,4 @@
-use Rattle.std.proofs.Common.{◌<◌, length, get_or, refl, arith}
+use Rattle.std.proofs.Common.{get_or, refl, arith}
 use Rattle.indexed_symbols.proofs.Shown.{more_addresses}
 use Rattle.indexed_symbols.proofs.symbolicate.answer_by_tables.Goals as goal
 

@@ -1,4 +1,4 @@
-use Rattle.std.proofs.Common.{◌<◌, length, sym, arith}
+use Rattle.std.proofs.Common.{sym, arith}
 use Rattle.indexed_symbols.proofs.Shown.{more_frames}
 use Rattle.indexed_symbols.proofs.told.answer_frames_by_tables.Goals as goal
 

@@ -1,12 +1,8 @@
 use Rattle.std.proofs.Common.{◌≡◌, ◌∙◌, List, ap, get_or, rules, subst, sym}
-use Rattle.std.specs.List.{HoldsAt}
-use Rattle.std.specs.List.Sorted.{IsBinarySearchResult}
 use Rattle.std.proofs.lemmas.Fn.{always_returns_same}
 use Rattle.std.proofs.lemmas.Result.{IfOk-weaker}
 use Rattle.archive_core.specs.Lookup.{answer_view}
 use Rattle.archive_core.specs.Key.{key_bytes}
-use Rattle.archive_queries.specs.Symbolicate.{asked_of}
-use Rattle.archive_core.specs.declared.keys.SliceKey.{SliceKey}
 use Rattle.archive_core.specs.declared.lookup.Where.{Where}
 use Rattle.indexed_symbols.specs.declared.places.AskedPlace.{AskedPlace}
 use Rattle.indexed_symbols.specs.declared.told.KeyAnswers.{KeyAnswers}

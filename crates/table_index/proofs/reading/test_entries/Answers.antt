@@ -1,4 +1,4 @@
-use Rattle.std.proofs.Common.{ℕ, List, sym, subst, inl, inr, refl, map}
+use Rattle.std.proofs.Common.{ℕ, List, [], sym, subst, inl, inr, refl, map}
 use Rattle.archive_records.proofs.Blamed.{failed}
 use Rattle.table_index.specs.Entry.{entry_bytes}
 use Rattle.table_index.specs.Fault.{FailsAfter}
@@ -6,6 +6,7 @@ use Rattle.table_index.specs.InnerReading.{AreEndsOf, AreEntriesOf, AreTested}
 use Rattle.table_index.specs.Text.{AreLaid, entries_in, start_in}
 use Rattle.table_index.specs.declared.ends.Ends.{Ends}
 use Rattle.table_index.specs.declared.entry.TableEntry.{TableEntry}
+use Rattle.table_index.proofs.Tests.{pass_ascending}
 use Rattle.table_index.proofs.reading.test_entries.Goals as goal
 
 -- the same of the text
@@ -40,6 +41,11 @@ returns-in-Ok-true-clause-read c = λ text are of.
       tested = tested_in text c.args.bytes.now c.args.ends.now entries are of c.in_ok-entries.ensures.read;
       laid = subst (λ (n : ℕ). AreLaid n (map entry_bytes entries)) are.start_is laid;
     }
+
+pub returns-in-Ok-true-clause-sorted : goal.returns-in-Ok-true-clause-sorted
+returns-in-Ok-true-clause-sorted c =
+    let read = c.in_ok-entries.ensures.read in
+    record { fields = read.fields; ascending = (pass_ascending c.args.ends.now.start [] (map entry_bytes c.in_ok-entries.entries.items) read.pass).1 }
 
 pub returns-in-Ok-false-clause-faulty : goal.returns-in-Ok-false-clause-faulty
 returns-in-Ok-false-clause-faulty c = inr (λ text are of.

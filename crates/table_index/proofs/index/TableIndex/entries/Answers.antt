@@ -7,4 +7,4 @@ pub returns-clause-bytes : goal.returns-clause-bytes
 returns-clause-bytes c = ap (map entry_bytes) c.deref.ensures.value ∙ c.self.view_is
 
 pub returns-clause-fields : goal.returns-clause-fields
-returns-clause-fields c = subst (All HasItsFields) (sym c.deref.ensures.value) c.self.invariant
+returns-clause-fields c = subst (All HasItsFields) (sym c.deref.ensures.value) c.self.invariant.fields
