@@ -1,7 +1,8 @@
 -- What the entries of indexes choose, and what is sent of it: the words of inner functions. No contract of a public one
 -- has them.
-use Rattle.std.specs.Prelude.{◌≡◌, ◌⊎◌, ℕ, List, Option, None, Some, Result, Ok, Err}
+use Rattle.std.specs.Prelude.{◌≡◌, ◌⊎◌, ℕ, List, [], ◌∷◌, Option, None, Some, Result, Ok, Err}
 use Rattle.std.specs.List.{AllZip}
+use Rattle.archive_core.specs.Content.{Operations}
 use Rattle.archive_core.specs.Key.{key_bytes}
 use Rattle.archive_core.specs.declared.keys.Digest.{Digest}
 use Rattle.archive_core.specs.declared.keys.SliceKey.{SliceKey}
@@ -16,7 +17,9 @@ use Rattle.placed_passes.specs.declared.sending.SendFault.{SendFault}
 use Rattle.placed_passes.specs.declared.sending.SendFault.TheVariants.{Other, Device, Sink}
 use Rattle.indexed_answers.specs.Among.{AreTied, EntryAt}
 use Rattle.indexed_answers.specs.Named.{IsRowAt, Names}
+use Rattle.indexed_queries.specs.Together.{HoldNamed, IsFirstRefusedAtPlaces}
 use Rattle.slice_extraction.specs.Entries.{AreUnchosen, HoldsSlice, IsChosen, StopsSlice}
+use Rattle.slice_extraction.specs.InnerChoice.{PublishesWanted}
 use Rattle.slice_extraction.specs.Wanted.{written_line}
 use Rattle.slice_extraction.specs.declared.entries.EntryChoice.{EntryChoice}
 use Rattle.slice_extraction.specs.declared.entries.EntryChoice.TheVariants.{One, Undecided, Tied}
@@ -49,3 +52,14 @@ PublishesSlice archive key x out report result =
     × Publishes (out_of out) report slice (written_line key slice) result)
     ⊎ ((fault : CommandFault) × (result ≡ Err fault) × StopsSlice archive x (out_of out).draft fault
     × PlacesNothing (out_of out) × Takes report [])
+
+-- What the slices under the key make, which these entries name in archives, is published; or an archive is refused or
+-- memory is wanting, OUT is as it was, and nothing was reported.
+abbrev pub PublishesTied : {P D T : Type 0} → SliceKey → List (List (List ℕ)) → List (Reader P) → Outs D T → Writer
+    → Result Status CommandFault → Type 0
+PublishesTied key all archives out report result =
+    ((kept : Operations) × HoldNamed (key_bytes key ∷ []) archives all kept × EachUnfailed archives
+    × PublishesWanted kept key None out report result)
+    ⊎ ((fault : CommandFault) × (result ≡ Err fault)
+    × IsRefusal (IsFirstRefusedAtPlaces (key_bytes key ∷ []) archives all) (EachUnfailed archives) fault
+    × (out.new ≡ out.old) × Takes report [])

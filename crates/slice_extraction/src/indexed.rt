@@ -5,6 +5,7 @@ ghost use Rattle.command_ends.specs.Inputs.{readers};
 ghost use Rattle.command_ends.specs.Outputs.{out_of, outs, writer};
 ghost use Rattle.slice_extraction.specs.Extract.{Extracts};
 ghost use Rattle.slice_extraction.specs.Indexed.{extract_at};
+ghost use Rattle.slice_extraction.specs.InnerEntries.{PublishesTied};
 
 use crate::entries::{EntryChoice, choose_entry};
 use crate::extract::bytes_of;
