@@ -4,4 +4,5 @@ pub mod AmongTold
 pub mod AmongAsked
 pub mod Views
 pub mod Contents
+pub mod Named
 pub mod InnerAnswering

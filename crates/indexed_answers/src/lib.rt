@@ -7,6 +7,7 @@
 //! - `numbered`: an entry of one of several indexes; `words`: what it says;
 //! - `retired`: what the retirements under a key are of; `live`: the entries that none of these covers;
 //! - `order`: the order of their records; `answering`: [`answering_among`], those that answer;
+//! - `named`: [`NamedSlice`], a slice that an entry names, and which of them answer or have a digest;
 //! - `own`: what a table tells of a place; `told`: what those of entries tell of several;
 //! - `answers`: [`Answers`], what all of them tell; `asking`: [`answer_among`].
 //! - [`laws`]: what is told of several places is told of each.
@@ -18,6 +19,7 @@ mod asking;
 mod fault;
 pub mod laws;
 mod live;
+mod named;
 mod numbered;
 mod order;
 mod own;
@@ -29,3 +31,4 @@ pub use answering::{Answering, answering_among};
 pub use answers::{Answers, EntryAnswers};
 pub use asking::answer_among;
 pub use fault::AnswerFault;
+pub use named::{NamedSlice, named_among, named_with};

@@ -2,6 +2,7 @@
 -- of a public one has them.
 use Rattle.std.specs.Prelude.{◌≡◌, ℕ, List, [], Option, Result, Err, map, ◌⊎◌}
 use Rattle.archive_core.specs.Content.{Operations}
+use Rattle.archive_core.specs.declared.find.FindRow.{FindRow}
 use Rattle.archive_core.specs.declared.keys.Digest.{Digest}
 use Rattle.archive_core.specs.declared.keys.SliceKey.{SliceKey}
 use Rattle.command_ends.specs.declared.faults.CommandFault.{CommandFault}
@@ -9,6 +10,7 @@ use Rattle.command_ends.specs.declared.faults.CommandFault.TheVariants.{OutOfMem
 use Rattle.command_ends.specs.declared.faults.Status.{Status}
 use Rattle.command_ends.specs.declared.faults.Status.TheVariants.{Partial}
 use Rattle.command_ends.specs.Outputs.{Outs, Publishes, Reports, Takes, Writer, out_of}
+use Rattle.report_text.specs.Finds.{find_lines}
 use Rattle.slice_extraction.specs.Wanted.{AreUndecided, IsWanted, slice_line, slice_row, slices_text}
 use Rattle.slice_extraction.specs.declared.choosing.Choice.{Choice}
 use Rattle.slice_extraction.specs.declared.choosing.Choice.TheVariants.{One, Undecided}
@@ -28,3 +30,8 @@ PublishesWanted o key digest out report result =
     ⊎ ((slices : List (List ℕ)) × AreUndecided o key digest slices × (out.new ≡ out.old)
     × Reports report Partial (slices_text slices) result)
     ⊎ ((result ≡ Err OutOfMemory) × (out.new ≡ out.old) × Takes report [])
+
+-- Which answer is reported; or memory is wanting, and nothing is.
+abbrev pub PublishesRows : List FindRow → Writer → Result Status CommandFault → Type 0
+PublishesRows rows report result =
+    Reports report Partial (find_lines rows) result ⊎ ((result ≡ Err OutOfMemory) × Takes report [])

@@ -1,4 +1,6 @@
 pub mod Wanted
 pub mod Extract
+pub mod Entries
 pub mod Indexed
 pub mod InnerChoice
+pub mod InnerEntries

@@ -34,6 +34,14 @@ abbrev pub slices_text : List (List ℕ) → List ℕ
 slices_text slices = find_lines (map slice_row slices)
 
 -- the line of a slice that was written: its key and digest, and how many bytes it has
+abbrev pub line_of : SliceKey → Digest → ℕ → List ℕ
+line_of key digest size = line (codes "slice " ++ key_text key ++ codes " " ++ digest_text digest ++ codes ", "
+    ++ decimal size ++ codes " bytes")
+
+-- the same of these bytes under a key
+abbrev pub written_line : SliceKey → List ℕ → List ℕ
+written_line key slice = line_of key (record { 0 = sha256 slice }) (length slice)
+
+-- and under the slice's own
 abbrev pub slice_line : List ℕ → List ℕ
-slice_line slice = line (codes "slice " ++ key_text (key_of slice) ++ codes " "
-    ++ digest_text (record { 0 = sha256 slice }) ++ codes ", " ++ decimal (length slice) ++ codes " bytes")
+slice_line slice = written_line (key_of slice) slice

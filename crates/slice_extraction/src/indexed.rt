@@ -5,15 +5,19 @@ ghost use Rattle.command_ends.specs.Inputs.{readers};
 ghost use Rattle.command_ends.specs.Outputs.{out_of, outs, writer};
 ghost use Rattle.slice_extraction.specs.Extract.{Extracts};
 ghost use Rattle.slice_extraction.specs.Indexed.{extract_at};
+ghost use Rattle.slice_extraction.specs.InnerEntries.{PublishesTied};
 
+use crate::entries::{EntryChoice, choose_entry};
 use crate::extract::bytes_of;
-use crate::publishing::publish_wanted;
+use crate::publishing::{publish_rows, publish_wanted};
+use crate::sending::publish_named;
 use archive_core::{Archive, Digest, SliceKey};
 use byte_device::{CannotOpen, Sink};
 use command_ends::{CommandFault, Output, Status, Target};
-use indexed_queries::{Front, read_together};
+use indexed_queries::{Front, read_fronts, read_indexes};
 use memory::Heap;
 use placed_bytes::Placed;
+use table_index::TableIndex;
 
 /// Writes the bytes of the wanted slice to OUT, as [`run_extract`](crate::run_extract) does. The indexes are read, and
 /// then the slices that they name under the key at their places, tested and hashed, before OUT is begun.
@@ -37,7 +41,33 @@ pub fn run_extract_at<A: Archive + Drop, I: Placed, P: Placed, T: Target, W: Sin
         (readers P.whole P.failures archives.old archives.new) key.now digest.now (out_of known).draft) known
         (writer W.held W.failures report.old report.new) result }
 {
+    let read = read_indexes(&heap, indexes, archives)?;
+    match choose_entry(&heap, key, digest, &read)? {
+        EntryChoice::One(named) => {
+            let archive = &mut archives[named.input as usize];
+            publish_named(&heap, key, &named, archive, out, report)
+        }
+        EntryChoice::Undecided(rows) => publish_rows(heap, &rows, report),
+        EntryChoice::Tied => publish_tied::<A, _, _, _>(&heap, key, &read, archives, out, report),
+    }
+}
+
+/// Publishes what [`publish_wanted`] does of the slices that the indexes name under a key, which were read before. The
+/// slices are read at their places, tested and hashed, before OUT is begun.
+fn publish_tied<A: Archive + Drop, P: Placed, T: Target, W: Sink>(
+    heap: &Heap,
+    key: &SliceKey,
+    read: &[TableIndex],
+    archives: &mut [Result<P, CannotOpen>],
+    out: &mut Output<T::Draft, T>,
+    report: &mut W,
+) -> Result<Status, CommandFault>
+    requires { length read.now ≡ length archives.old }
+    ensures { PublishesTied key.now read.now (readers P.whole P.failures archives.old archives.new)
+        (outs T.Draft.held T.Draft.failures T.published T.failures out.old out.new)
+        (writer W.held W.failures report.old report.new) result }
+{
     let _front = bytes_of(key);
-    let kept: A = read_together(&heap, &[Front::Key(*key)], indexes, archives)?;
-    publish_wanted(&heap, &kept, key, digest, out, report)
+    let kept: A = read_fronts(heap, &[Front::Key(*key)], read, archives)?;
+    publish_wanted(heap, &kept, key, &None, out, report)
 }

@@ -20,9 +20,11 @@
 #![tactic(auto)]
 
 mod choosing;
+mod entries;
 mod extract;
 mod indexed;
 mod publishing;
+mod sending;
 
 pub use extract::run_extract;
 pub use indexed::run_extract_at;

@@ -3,27 +3,22 @@
 ghost use Rattle.std.specs.Prelude.{◌≡◌, IfOk, length, string_bytes};
 ghost use Rattle.archive_core.specs.Key.{key_bytes};
 ghost use Rattle.command_ends.specs.Outputs.{Publishes, out_of, outs, writer};
-ghost use Rattle.slice_extraction.specs.InnerChoice.{PublishesWanted};
+ghost use Rattle.slice_extraction.specs.InnerChoice.{PublishesRows, PublishesWanted};
 ghost use Rattle.slice_extraction.specs.Wanted.{slice_line};
 
 use crate::choosing::{Choice, choose};
-use archive_core::{Archive, CheckedSlice, Digest, SliceKey};
-use archive_words::Spelled;
+use crate::sending::line_of;
+use archive_core::{Archive, CheckedSlice, Digest, FindRow, SliceKey};
 use byte_device::{Sink, push_all};
 use command_ends::{CommandFault, Output, Status, Target, publish_report, put_in_place};
 use memory::{Heap, NoMemory};
-use report_text::{Text, find_lines};
+use report_text::find_lines;
 
 /// The line of a slice that was written.
 fn slice_line(heap: Heap, slice: &CheckedSlice<'_>) -> Result<String<Heap>, NoMemory>
     ensures { IfOk result (λ text. string_bytes text ≡ slice_line slice.now) }
 {
-    let mut text = String::new(heap);
-    let key = Text(slice.key());
-    let digest = Spelled(slice.digest());
-    let bytes = slice.bytes().len();
-    writeln!(text, "slice {key} {digest}, {bytes} bytes")?;
-    Ok(text)
+    line_of(heap, slice.key(), slice.digest(), slice.bytes().len() as u64)
 }
 
 /// Writes the bytes of a slice to OUT, puts it in place, and then writes its line to the report.
@@ -67,4 +62,16 @@ pub(crate) fn publish_wanted<A: Archive, T: Target, P: Sink>(
             publish_report(Status::Partial, &text, report)
         }
     }
+}
+
+/// Reports which answer, of which none is wanted.
+pub(crate) fn publish_rows<P: Sink>(
+    heap: Heap,
+    rows: &[FindRow],
+    report: &mut P,
+) -> Result<Status, CommandFault>
+    ensures { PublishesRows rows.now (writer P.held P.failures report.old report.new) result }
+{
+    let text = find_lines(heap, rows)?;
+    publish_report(Status::Partial, &text, report)
 }

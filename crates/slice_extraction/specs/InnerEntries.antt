@@ -1,0 +1,65 @@
+-- What the entries of indexes choose, and what is sent of it: the words of inner functions. No contract of a public one
+-- has them.
+use Rattle.std.specs.Prelude.{◌≡◌, ◌⊎◌, ℕ, List, [], ◌∷◌, Option, None, Some, Result, Ok, Err}
+use Rattle.std.specs.List.{AllZip}
+use Rattle.archive_core.specs.Content.{Operations}
+use Rattle.archive_core.specs.Key.{key_bytes}
+use Rattle.archive_core.specs.declared.keys.Digest.{Digest}
+use Rattle.archive_core.specs.declared.keys.SliceKey.{SliceKey}
+use Rattle.command_ends.specs.Inputs.{EachUnfailed, IsRefusal, Reader, Unfailed}
+use Rattle.command_ends.specs.Outputs.{Outs, PlacesNothing, Publishes, Takes, Writer, out_of}
+use Rattle.command_ends.specs.declared.faults.CommandFault.{CommandFault}
+use Rattle.command_ends.specs.declared.faults.CommandFault.TheVariants.{Input, Output}
+use Rattle.command_ends.specs.declared.faults.InputName.TheVariants as place
+use Rattle.command_ends.specs.declared.faults.Status.{Status}
+use Rattle.command_ends.specs.declared.faults.Why.TheVariants as why
+use Rattle.placed_passes.specs.declared.sending.SendFault.{SendFault}
+use Rattle.placed_passes.specs.declared.sending.SendFault.TheVariants.{Other, Device, Sink}
+use Rattle.indexed_answers.specs.Among.{AreTied, EntryAt}
+use Rattle.indexed_answers.specs.Named.{IsRowAt, Names}
+use Rattle.indexed_queries.specs.Together.{HoldNamed, IsFirstRefusedAtPlaces}
+use Rattle.slice_extraction.specs.Entries.{AreUnchosen, HoldsSlice, IsChosen, StopsSlice}
+use Rattle.slice_extraction.specs.InnerChoice.{PublishesWanted}
+use Rattle.slice_extraction.specs.Wanted.{written_line}
+use Rattle.slice_extraction.specs.declared.entries.EntryChoice.{EntryChoice}
+use Rattle.slice_extraction.specs.declared.entries.EntryChoice.TheVariants.{One, Undecided, Tied}
+
+-- the choice is of the wanted slice, by its entry; or there is none, and these are the rows of those that answer; or
+-- entries that answer are tied
+abbrev pub IsEntryChoice : SliceKey → Option Digest → List (List (List ℕ)) → EntryChoice → Type 0
+IsEntryChoice key digest all (One named) = (x : EntryAt) × IsChosen key digest all x × Names x named
+IsEntryChoice key digest all (Undecided rows) =
+    (xs : List EntryAt) × AreUnchosen key digest all xs × AllZip IsRowAt xs rows.items
+IsEntryChoice key digest all Tied = (digest ≡ None) × AreTied (key_bytes key) all
+
+-- how a command tells why bytes were not sent
+abbrev pub told_fault : ℕ → ℕ → SendFault → CommandFault
+told_fault input number Other = Input (place.Index input) (why.Stale (Some number))
+told_fault input number Device = Input (place.Archive input) why.Device
+told_fault input number (Sink written) = Output written
+
+-- what came of sending the slice of an entry: the draft took it, or why it did not
+abbrev pub SendsSlice : {P : Type 0} → Reader P → EntryAt → Writer → Result (Unit {0}) CommandFault → Type 0
+SendsSlice archive x draft (Ok _) =
+    (slice : List ℕ) × HoldsSlice archive x slice × Takes draft slice × Unfailed archive
+SendsSlice archive x draft (Err fault) = StopsSlice archive x draft fault
+
+-- The slice was sent, and is published; or it was not, nothing is in place, and nothing was reported.
+abbrev pub PublishesSlice : {P D T : Type 0} → Reader P → SliceKey → EntryAt → Outs D T → Writer
+    → Result Status CommandFault → Type 0
+PublishesSlice archive key x out report result =
+    ((slice : List ℕ) × HoldsSlice archive x slice × Unfailed archive
+    × Publishes (out_of out) report slice (written_line key slice) result)
+    ⊎ ((fault : CommandFault) × (result ≡ Err fault) × StopsSlice archive x (out_of out).draft fault
+    × PlacesNothing (out_of out) × Takes report [])
+
+-- What the slices under the key make, which these entries name in archives, is published; or an archive is refused or
+-- memory is wanting, OUT is as it was, and nothing was reported.
+abbrev pub PublishesTied : {P D T : Type 0} → SliceKey → List (List (List ℕ)) → List (Reader P) → Outs D T → Writer
+    → Result Status CommandFault → Type 0
+PublishesTied key all archives out report result =
+    ((kept : Operations) × HoldNamed (key_bytes key ∷ []) archives all kept × EachUnfailed archives
+    × PublishesWanted kept key None out report result)
+    ⊎ ((fault : CommandFault) × (result ≡ Err fault)
+    × IsRefusal (IsFirstRefusedAtPlaces (key_bytes key ∷ []) archives all) (EachUnfailed archives) fault
+    × (out.new ≡ out.old) × Takes report [])

@@ -1,0 +1,105 @@
+//! A slice that an entry names, sent from its archive to OUT.
+
+ghost use Rattle.std.specs.Prelude.{◌≡◌, ◌<◌, IfOk, length, string_bytes};
+ghost use Rattle.command_ends.specs.Inputs.{reader};
+ghost use Rattle.command_ends.specs.Outputs.{outs, writer};
+ghost use Rattle.indexed_answers.specs.Among.{EntryAt};
+ghost use Rattle.indexed_answers.specs.Named.{Names};
+ghost use Rattle.slice_extraction.specs.InnerEntries.{PublishesSlice, SendsSlice, told_fault};
+ghost use Rattle.slice_extraction.specs.Wanted.{line_of};
+
+use archive_core::{Digest, SliceKey};
+use archive_words::Spelled;
+use byte_device::{CannotOpen, Sink};
+use command_ends::{
+    CommandFault, Output, InputName, Status, Target, Why, opened, publish_report, put_in_place,
+};
+use indexed_answers::NamedSlice;
+use memory::{Heap, NoMemory};
+use placed_bytes::Placed;
+use placed_passes::{SendFault, send_at};
+use report_text::Text;
+
+/// How many bytes of a record stand before its slice.
+const HEAD_LEN: u128 = 33;
+
+/// How many bytes of a slice are held at a time.
+const PIECE_LEN: usize = 64 * 1024;
+
+/// The line of a slice under a key that was written: its digest, and how many bytes it has.
+pub(crate) fn line_of(
+    heap: Heap,
+    key: SliceKey,
+    digest: Digest,
+    size: u64,
+) -> Result<String<Heap>, NoMemory>
+    ensures { IfOk result (λ text. string_bytes text ≡ line_of key digest size) }
+{
+    let mut text = String::new(heap);
+    let key = Text(key);
+    let digest = Spelled(digest);
+    writeln!(text, "slice {key} {digest}, {size} bytes")?;
+    Ok(text)
+}
+
+/// Room for a piece.
+fn room_for_piece(heap: Heap) -> Result<Vec<u8, Heap>, NoMemory>
+    ensures { IfOk result (λ piece. 0 < length piece.items) }
+{
+    let mut piece = Vec::new(heap);
+    piece.resize(PIECE_LEN, 0)?;
+    Ok(piece)
+}
+
+/// Why a slice was not sent, as a command tells it.
+fn told(named: &NamedSlice, fault: SendFault) -> CommandFault
+    ensures { result ≡ told_fault named.now.input named.now.number fault }
+{
+    match fault {
+        SendFault::Other => {
+            CommandFault::Input(InputName::Index(named.input), Why::Stale(Some(named.number)))
+        }
+        SendFault::Device => CommandFault::Input(InputName::Archive(named.input), Why::Device),
+        SendFault::Sink(written) => CommandFault::Output(written),
+    }
+}
+
+/// Sends the slice that an entry names from its archive to a draft.
+fn send_named<P: Placed, W: Sink>(
+    heap: Heap,
+    named: &NamedSlice,
+    archive: &mut Result<P, CannotOpen>,
+    draft: &mut W,
+) -> Result<(), CommandFault>
+    ensures { (x : EntryAt) → Names x named.now → SendsSlice (reader P.whole P.failures archive.old archive.new) x
+        (writer W.held W.failures draft.old draft.new) result }
+{
+    let mut piece = room_for_piece(heap)?;
+    let device = opened(archive, InputName::Archive(named.input))?;
+    let at = u128::from(named.offset) + HEAD_LEN;
+    match send_at(device, at, named.size, &named.row.digest.0, &mut piece, draft) {
+        Ok(()) => Ok(()),
+        Err(fault) => Err(told(named, fault)),
+    }
+}
+
+/// Sends the slice that an entry names under a key from its archive to OUT, puts it in place, and then writes its line to
+/// the report.
+pub(crate) fn publish_named<P: Placed, T: Target, W: Sink>(
+    heap: &Heap,
+    key: &SliceKey,
+    named: &NamedSlice,
+    archive: &mut Result<P, CannotOpen>,
+    out: &mut Output<T::Draft, T>,
+    report: &mut W,
+) -> Result<Status, CommandFault>
+    ensures { (x : EntryAt) → Names x named.now
+        → PublishesSlice (reader P.whole P.failures archive.old archive.new) key.now x
+        (outs T.Draft.held T.Draft.failures T.published T.failures out.old out.new)
+        (writer W.held W.failures report.old report.new) result }
+{
+    let text = line_of(heap.clone()?, *key, named.row.digest, named.size)?;
+    send_named(heap.clone()?, named, archive, &mut out.draft)?;
+    put_in_place(out, named.size as u128)?;
+    publish_report(Status::Done, &text, report)
+}
