@@ -114,7 +114,10 @@ fn told(number: u64, fault: PlaceFault) -> CommandFault
     ensures { result ≡ told_fault number fault }
 {
     match fault {
-        PlaceFault::Stale(entry) => CommandFault::Input(InputName::Index(number), Why::Stale(entry)),
+        PlaceFault::Stale(entry) => CommandFault::Input(
+            InputName::Index(number),
+            Why::Stale(entry),
+        ),
         PlaceFault::Device(offset) => unread(number, offset),
         PlaceFault::OutOfMemory => CommandFault::OutOfMemory,
     }

@@ -12,8 +12,8 @@ ghost use Rattle.plan_commands.specs.declared.hints.Hint.TheVariants.{Torn};
 ghost use Rattle.plan_commands.specs.Hints.{IsOfInput, IsOfNoFile, IsOfOut, faulty_line_of, file_of};
 ghost use Rattle.plan_commands.specs.Hints.{stale_hint, subject_of, subject_text};
 
-use crate::flaws::FaultyLine;
 use crate::file_kinds::FileKind;
+use crate::flaws::FaultyLine;
 use crate::line_inputs::input_at;
 use archive_files::{Obstacle, OutFile, SystemInput, Unopened};
 use command_ends::{CommandFault, Failure, InputName, Status, Why};

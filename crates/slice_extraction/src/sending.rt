@@ -12,7 +12,7 @@ use archive_core::{Digest, SliceKey};
 use archive_words::Spelled;
 use byte_device::{CannotOpen, Sink};
 use command_ends::{
-    CommandFault, Output, InputName, Status, Target, Why, opened, publish_report, put_in_place,
+    CommandFault, InputName, Output, Status, Target, Why, opened, publish_report, put_in_place,
 };
 use indexed_answers::NamedSlice;
 use memory::{Heap, NoMemory};
@@ -57,7 +57,10 @@ fn told(named: &NamedSlice, fault: SendFault) -> CommandFault
 {
     match fault {
         SendFault::Other => {
-            CommandFault::Input(InputName::Index(named.input), Why::Stale(Some(named.number)))
+            CommandFault::Input(
+                InputName::Index(named.input),
+                Why::Stale(Some(named.number)),
+            )
         }
         SendFault::Device => CommandFault::Input(InputName::Archive(named.input), Why::Device),
         SendFault::Sink(written) => CommandFault::Output(written),
@@ -77,7 +80,14 @@ fn send_named<P: Placed, W: Sink>(
     let mut piece = room_for_piece(heap)?;
     let device = opened(archive, InputName::Archive(named.input))?;
     let at = u128::from(named.offset) + HEAD_LEN;
-    match send_at(device, at, named.size, &named.row.digest.0, &mut piece, draft) {
+    match send_at(
+        device,
+        at,
+        named.size,
+        &named.row.digest.0,
+        &mut piece,
+        draft,
+    ) {
         Ok(()) => Ok(()),
         Err(fault) => Err(told(named, fault)),
     }
