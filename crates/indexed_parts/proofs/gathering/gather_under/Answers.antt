@@ -12,9 +12,11 @@ pub returns-in_err-gather_run : goal.returns-in_err-gather_run
 returns-in_err-gather_run g c =
     let entries = c.args.entries.now in
     let fault = c.in_err-gather_run.field-0.0 in
-    rw (failed c.from_residual.result fault c.from_residual.ensures.1)
-    (stale_first (g.P.Placed.whole c.args.archive.now) c.args.front.now (map placed_bytes entries) c.requires.indexed (length entries) (omega (arith, length-map entries placed_bytes)) fault c.in_err-gather_run.ensures.0, c.in_err-gather_run.ensures.1,
-    blamed_behind g.P.Placed.whole g.P.Placed.failures c.args.archive.now c.args.archive.now _ refl refl (IsReadAmong (is_tagged 1 c.args.front.now) (map placed_bytes entries)) (IsReadAmong (is_under c.args.front.now) (map placed_bytes entries)) fault (read_tagged 1 c.args.front.now (map placed_bytes entries)) c.in_err-gather_run.ensures.2)
+    rw (failed c.from_residual.result fault c.from_residual.ensures.1) (
+      stale_first (g.P.Placed.whole c.args.archive.now) c.args.front.now (map placed_bytes entries) c.requires.indexed (length entries) (omega (arith, length-map entries placed_bytes)) fault c.in_err-gather_run.ensures.0,
+      c.in_err-gather_run.ensures.1,
+      blamed_behind g.P.Placed.whole g.P.Placed.failures c.args.archive.now c.args.archive.now _ refl refl (IsReadAmong (is_tagged 1 c.args.front.now) (map placed_bytes entries)) (IsReadAmong (is_under c.args.front.now) (map placed_bytes entries)) fault (read_tagged 1 c.args.front.now (map placed_bytes entries)) c.in_err-gather_run.ensures.2,
+    )
 
 pub returns : goal.returns
 returns g c =
