@@ -62,7 +62,8 @@ pub enum Why {
     },
     /// It is an archive of version 1, of which no index is made.
     OldArchive,
-    /// It is an archive of which a record, or its table in the index, would stand after more bytes than an index counts.
+    /// It is an archive of which a record, or its table in the index, would stand after more bytes than an index
+    /// counts.
     TooLong,
     /// It is no text of an index, or reading it failed.
     Index(IndexFault),

@@ -7,8 +7,8 @@ use Rattle.archive_index.specs.declared.fault.PlaceFault.TheVariants.{Stale, Dev
 use Rattle.archive_index.specs.Places.{BlamesPlaced, IsNamedBy, HasIndexedLength, IsStale, entries_under}
 
 -- What comes of reading at places of a device that keeps its bytes: a value of which this is true, with no failure; or
--- a fault, which tells whether the device failed and at which such offset, and of which this is true where the bytes are
--- known.
+-- a fault, which tells whether the device failed, and at which such offset, and of which this is true where the bytes
+-- are known.
 abbrev pub ReadsPlaces : {P T : Type 0} → (P → Option (List ℕ)) → (P → ℕ) → P → P → Result T PlaceFault
     → (T → Type 0) → (List ℕ → PlaceFault → Type 0) → (ℕ → Type 0) → Type 0
 ReadsPlaces whole failures old new (Ok value) IsTrue IsRefused IsRead =

@@ -97,8 +97,8 @@ fn gather_under<P: Placed>(
 ///
 /// # Errors
 ///
-/// `Stale` at the first entry at whose place stands no record that it names; `Device` at the record that was being read;
-/// `OutOfMemory`.
+/// `Stale` at the first entry at whose place stands no record that it names; `Device` at the record that was being
+/// read; `OutOfMemory`.
 pub fn gather_at<P: Placed>(
     heap: &Heap,
     gathered: &mut Vec<Operation, Heap>,

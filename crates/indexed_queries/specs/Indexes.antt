@@ -12,8 +12,8 @@ use Rattle.command_ends.specs.declared.faults.InputName.{InputName}
 use Rattle.command_ends.specs.declared.faults.InputName.TheVariants.{Archive, Index}
 use Rattle.command_ends.specs.declared.faults.Why.{Why}
 use Rattle.archive_records.specs.declared.fault.RecordFaultKind.TheVariants.{Device as DeviceFailed}
-use Rattle.command_ends.specs.declared.faults.Why.TheVariants.{CannotOpen as NotOpened, Device as CannotRead, Record, Take}
-use Rattle.command_ends.specs.declared.faults.Why.TheVariants.{Script, BadFrame, OldArchive, TooLong}
+use Rattle.command_ends.specs.declared.faults.Why.TheVariants.{CannotOpen as NotOpened, Device as CannotRead, Record}
+use Rattle.command_ends.specs.declared.faults.Why.TheVariants.{Take, Script, BadFrame, OldArchive, TooLong}
 use Rattle.command_ends.specs.declared.faults.Why.TheVariants.{Index as IndexFaulty, Stale, Damaged, NoArchive, NoIndex}
 
 -- The input is an index with these entries, where its bytes are known.
@@ -63,7 +63,8 @@ abbrev pub HasOtherLength : {S : Type 0} → Reader S → Entries → Type 0
 HasOtherLength archive entries = Gives archive (λ text. HasIndexedLength entries text → ⊥)
 
 -- An archive whose length is compared with that of its index, which have this number among those of the words, is
--- refused: it was not opened, or its device failed, which is told at 0; or it did not, and the archive has another length.
+-- refused: it was not opened, or its device failed, which is told at 0; or it did not, and the archive has another
+-- length.
 abbrev pub IsOfOtherLength : {S : Type 0} → ℕ → Reader S → Entries → InputName → Why → Type 0
 IsOfOtherLength number archive entries at why =
     ((at ≡ Archive number) × IsUnreadAt (λ offset. offset ≡ 0) archive why)

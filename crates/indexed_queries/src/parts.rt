@@ -61,7 +61,8 @@ fn gather_fronts<P: Placed>(
     ensures { ReadsPlaces P.whole P.failures device.old device.new result
         (λ _. HaveGathered (P.whole device.old) (map front_bytes fronts.now) entries.now
         (map record_bytes gathered.old.items) (map record_bytes gathered.new.items))
-        (IsFaultAmong (map front_bytes fronts.now) entries.now) (IsReadUnderOne (map front_bytes fronts.now) entries.now) }
+        (IsFaultAmong (map front_bytes fronts.now) entries.now)
+        (IsReadUnderOne (map front_bytes fronts.now) entries.now) }
 {
     'fronts: for front in fronts {
         gather_front(heap, gathered, front, entries, device, size)?;

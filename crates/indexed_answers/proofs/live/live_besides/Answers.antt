@@ -1,7 +1,6 @@
-use Rattle.std.proofs.Common.{List, ℕ, Bool, map, ◌++◌, take, sym, ap, ◌∙◌, arith}
+use Rattle.std.proofs.Common.{List, ℕ, Bool, ◌++◌, take, sym, ap, ◌∙◌, arith}
 use Rattle.std.specs.Prelude.{filter}
 use Rattle.std.proofs.lemmas.List.{take_all}
-use Rattle.table_index.specs.Entry.{entry_bytes}
 use Rattle.indexed_answers.specs.Among.{EntryAt}
 use Rattle.indexed_answers.specs.InnerAnswering.{all_at, entries_at, lives_by}
 use Rattle.indexed_answers.proofs.Entries.{picked_more}
@@ -13,8 +12,7 @@ indexes-preserved c =
     let i = c.indexes.input in
     let p : EntryAt → Bool = λ x. lives_by c.args.front.now c.args.retired.now x.entry in
     c.in_ok-gather.ensures
-    ∙ ap (λ (zs : List EntryAt). zs ++ filter p (entries_at i 0 (map entry_bytes c.entries.result.now))) c.indexes.invariant
-    ∙ ap (λ (es : List (List ℕ)). filter p (all_at 0 (take i indexes)) ++ filter p (entries_at i 0 es)) c.entries.ensures.bytes
+    ∙ ap (λ (zs : List EntryAt). zs ++ filter p (entries_at i 0 c.index-indexes-input.result)) c.indexes.invariant
     ∙ sym (picked_more p indexes i c.index-indexes-input.result c.indexes-test.true c.index-indexes-input.is)
 
 pub returns : goal.returns

@@ -1,6 +1,5 @@
-use Rattle.std.proofs.Common.{List, ℕ, ◌++◌, map, take, sym, ap, ◌∙◌, arith}
+use Rattle.std.proofs.Common.{List, ℕ, ◌++◌, take, sym, ap, ◌∙◌, arith}
 use Rattle.std.proofs.lemmas.List.{take_all}
-use Rattle.table_index.specs.Entry.{entry_bytes}
 use Rattle.indexed_answers.specs.Among.{all_of}
 use Rattle.indexed_answers.specs.InnerAnswering.{retired_of}
 use Rattle.indexed_answers.proofs.Retirements.{retired_more}
@@ -12,8 +11,7 @@ indexes-preserved c =
     let indexes = c.args.indexes.now in
     let i = c.indexes.index-index in
     c.in_ok-gather.ensures
-    ∙ ap (λ (zs : List (List ℕ)). zs ++ retired_of front (map entry_bytes c.entries.result.now)) c.indexes.invariant
-    ∙ ap (λ (es : List (List ℕ)). retired_of front (all_of (take i indexes)) ++ retired_of front es) c.entries.ensures.bytes
+    ∙ ap (λ (zs : List (List ℕ)). zs ++ retired_of front c.index-item.result) c.indexes.invariant
     ∙ sym (retired_more front indexes i c.index-item.result c.indexes-test.true c.index-item.is)
 
 pub returns : goal.returns
