@@ -120,7 +120,7 @@ impl fmt::Display for InputName {
     ghost use Rattle.std.specs.Prelude.{Some};
     ghost use Rattle.command_ends.specs.FaultTexts.{name_text};
 
-    ghost output = { λ place. Some (name_text name) };
+    ghost output = { λ name. Some (name_text name) };
 
     fn fmt<W: fmt::Write>(&self, f: &mut fmt::Formatter<W>) -> fmt::Result {
         match self {
