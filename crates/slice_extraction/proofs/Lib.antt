@@ -1,2 +1,4 @@
 pub mod Held
 pub mod Extracted
+pub mod Sent
+pub mod ByEntry
