@@ -1,11 +1,12 @@
 -- Slices that entries name.
 use Rattle.std.proofs.Common.{◌≡◌, ◌≢◌, ℕ, ◌+◌, ◌<◌, Bool, true, List, length, take, get_or, sym, subst, inl, inr}
-use Rattle.std.specs.Prelude.{All, Contains, filter}
+use Rattle.std.specs.Prelude.{All, Contains, MatchOption, None, Option, Some, filter}
 use Rattle.std.proofs.lemmas.List.{take_more}
 use Rattle.std.proofs.lemmas.List.Elements.{All-contains, All-filter, Contains-push_cases, filter_passes}
 use Rattle.indexed_answers.specs.Among.{EntryAt, IsAmong, all_of, lives_under}
 use Rattle.indexed_answers.specs.InnerAnswering.{all_at}
-use Rattle.indexed_answers.specs.Named.{LivesAmong, digest_at}
+use Rattle.indexed_answers.specs.Named.{LivesAmong, Names, digest_at}
+use Rattle.indexed_answers.specs.declared.named.NamedSlice.{NamedSlice}
 use Rattle.indexed_answers.proofs.Entries.{are_among, has_among}
 use Rattle.indexed_answers.proofs.Lists.{contains_filter}
 
@@ -39,3 +40,9 @@ module _ (front digest : List ℕ) (indexes : List (List (List ℕ))) (live : Li
   pub none_lives : ((x : EntryAt) → Contains live x → digest_at x ≢ digest) → (x : EntryAt) → LivesAmong front digest indexes x → ⊥
   none_lives none x h =
       none x (subst (λ (xs : List EntryAt). Contains xs x) (sym is) (contains_filter lives (all_at 0 indexes) x (has_among indexes x h.among) h.lives)) h.digest_is
+
+  -- what was found of them
+  pub with_digest : (result : Option NamedSlice) → MatchOption result ((x : EntryAt) → Contains live x → digest_at x ≢ digest) (λ named. (x : EntryAt) × Contains live x × (digest_at x ≡ digest) × Names x named)
+      → MatchOption result ((x : EntryAt) → LivesAmong front digest indexes x → ⊥) (λ named. (x : EntryAt) × LivesAmong front digest indexes x × Names x named)
+  with_digest None none = none_lives none
+  with_digest (Some named) (x, there, same, names) = (x, lives_there x there same, names)

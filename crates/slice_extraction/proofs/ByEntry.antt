@@ -128,12 +128,12 @@ module _ {I P D T : Type 0} (indexes : List (Reader I)) (whole : P → Option (L
 
     wanted_tied : (result : Result Status CommandFault) (p : Operations) → HoldNamed (key_bytes key ∷ []) later all p → EachUnfailed later → PublishesWanted p key None out report result → Extracts command out report result
     wanted_tied result p named each (inl (slice, is, published)) =
-        published_so command out report result slice (slice_line slice) (unfailed_all each) (inr (none, hold_tied p (λ o. IsWanted o key None slice) named is, refl)) published
+        published_so command out report result slice (slice_line slice) (unfailed_all each) (inr (none, (hold_tied p (λ o. IsWanted o key None slice) named is, refl))) published
     wanted_tied result p named each (inr (inl (slices, are, same, reported))) =
         inr (record {
           unfailed = unfailed_all each;
           text = slices_text slices;
-          lacks = inr (none, slices, hold_tied p (λ o. AreUndecided o key None slices) named are, refl);
+          lacks = inr (none, (slices, hold_tied p (λ o. AreUndecided o key None slices) named are, refl));
           kept = same;
           reported = reported;
         })

@@ -2,3 +2,4 @@ pub mod Held
 pub mod Extracted
 pub mod Sent
 pub mod ByEntry
+pub mod Chosen

@@ -45,21 +45,21 @@ unopened left failures (Err reason) number x draft fault same took is =
     subst (λ (f : CommandFault). StopsSlice (reader left failures (Err reason) (Err reason)) x draft f) (sym is)
     (unbegun (reader left failures (Err reason) (Err reason)) x draft (Input (Archive number) NotOpened) took (inl (ap Archive same, refl), took.1))
 
-module _ {P W : Type 0} (whole : P → Option (List ℕ)) (failures : P → ℕ) (held : W → Option (List ℕ)) (failures_of_draft : W → ℕ) (device after : P) (before behind : W) (named : NamedSlice) (x : EntryAt) (names : Names x named) where
+module _ {P W : Type 0} (whole : P → Option (List ℕ)) (failures : P → ℕ) (held : W → Option (List ℕ)) (failures_of_draft : W → ℕ) (device after : P) (before behind : W) (named : NamedSlice) (x : EntryAt) (names : Names x named) (start : ℕ) (start_is : start ≡ named.offset) where
   abbrev archive : Reader P
   archive = reader whole failures (Ok device) (Ok after)
 
   abbrev draft : Writer
   draft = writer held failures_of_draft before behind
 
-  place : named.offset + 33 ≡ offset_in x.entry + 33
-  place = ap (λ (n : ℕ). n + 33) names.offset_is
+  place : start + 33 ≡ offset_in x.entry + 33
+  place = ap (λ (n : ℕ). n + 33) (start_is ∙ names.offset_is)
 
-  stand_for : (bytes : List ℕ) → Stands (whole device) (named.offset + 33) bytes → Gives archive (StandFor x bytes)
+  stand_for : (bytes : List ℕ) → Stands (whole device) (start + 33) bytes → Gives archive (StandFor x bytes)
   stand_for bytes stand = subst (λ (k : ℕ). Stands (whole device) k bytes) place stand
 
   -- so many bytes with the SHA-256 are a slice as the entry says
-  holds_slice : HaveSome (whole device) (named.offset + 33) named.size named.row.digest.0 → (slice : List ℕ) × HoldsSlice archive x slice
+  holds_slice : HaveSome (whole device) (start + 33) named.size named.row.digest.0 → (slice : List ℕ) × HoldsSlice archive x slice
   holds_slice have =
       let d = have.1 in (
         d.bytes,
@@ -70,7 +70,7 @@ module _ {P W : Type 0} (whole : P → Option (List ℕ)) (failures : P → ℕ)
       )
 
   -- others are none
-  holds_other : (known : Option (List ℕ)) → HaveOther known (named.offset + 33) named.size named.row.digest.0 → IfSome known (λ text. (slice : List ℕ) → IsSliceOf x slice → StandFor x slice text → ⊥)
+  holds_other : (known : Option (List ℕ)) → HaveOther known (start + 33) named.size named.row.digest.0 → IfSome known (λ text. (slice : List ℕ) → IsSliceOf x slice → StandFor x slice text → ⊥)
   holds_other None other = tt
   holds_other (Some text) other = λ slice of stands. other (
     omega (arith, of.some, of.long, names.size_is),
@@ -82,14 +82,14 @@ module _ {P W : Type 0} (whole : P → Option (List ℕ)) (failures : P → ℕ)
     },
   )
 
-  hindered : (sent : ℕ) (fault : SendFault) → HindersSending (stream whole failures device after) (stream held failures_of_draft before behind) (named.offset + 33) named.size named.row.digest.0 sent fault
+  hindered : (sent : ℕ) (fault : SendFault) → HindersSending (stream whole failures device after) (stream held failures_of_draft before behind) (start + 33) named.size named.row.digest.0 sent fault
       → Hinders archive x draft sent (told_fault named.input named.number fault)
   hindered sent Other h = (inr (ap Index names.input_is, ap (λ (n : ℕ). Stale (Some n)) names.number_is, h.1, holds_other (whole device) h.0), h.2)
   hindered sent Device h = (inl (ap Archive names.input_is, h.0), h.1)
   hindered sent (Sink written) h = (h.0, omega (arith, h.1, names.size_is), h.2, h.3)
 
   -- the slice was not sent
-  pub unsent : (fault : SendFault) → StopsSending (stream whole failures device after) (stream held failures_of_draft before behind) (named.offset + 33) named.size named.row.digest.0 fault
+  pub unsent : (fault : SendFault) → StopsSending (stream whole failures device after) (stream held failures_of_draft before behind) (start + 33) named.size named.row.digest.0 fault
       → StopsSlice archive x draft (told_fault named.input named.number fault)
   unsent fault stops = record {
     bytes = stops.bytes;

@@ -1,8 +1,16 @@
-use Rattle.std.proofs.Common.{◌≡◌, ◌<◌, ◌∙◌, ℕ, List, length, refl, sym, ap, subst, arith}
+use Rattle.std.proofs.Common.{◌≡◌, ◌<◌, ◌∙◌, ℕ, List, Result, length, refl, sym, ap, subst, arith}
+use Rattle.std.proofs.Math.ListN.{length-set}
 use Rattle.std.proofs.lemmas.Result.{err_from_is_err_and}
 use Rattle.byte_device.proofs.Known.{Appends-none}
 use Rattle.command_ends.specs.Inputs.{readers}
-use Rattle.command_ends.specs.Outputs.{outs, writer}
+use Rattle.byte_device.specs.declared.disks.CannotOpen.{CannotOpen}
+use Rattle.archive_core.specs.Key.{key_bytes}
+use Rattle.archive_core.specs.declared.find.FindRow.{FindRow}
+use Rattle.command_ends.specs.Outputs.{out_of, outs, writer}
+use Rattle.indexed_answers.specs.Among.{AreTied}
+use Rattle.slice_extraction.specs.Extract.{Extracts}
+use Rattle.slice_extraction.specs.Indexed.{extract_at}
+use Rattle.slice_extraction.specs.InnerEntries.{IsEntryChoice}
 use Rattle.command_ends.proofs.Readers.{none_failed, readers_long}
 use Rattle.indexed_queries.specs.Together.{AreReadWith, IsReadWith}
 use Rattle.indexed_queries.proofs.Groups.{three_long}
@@ -30,6 +38,30 @@ returns-in_err-named g c =
     (wanting indexes whole failures before seen seen c.deref.result.now c.read_indexes.auto.archives c.read_indexes.auto.archives read c.in_ok-read.ensures.read.unfailed c.in_ok-read.ensures.kept.1
     c.args.key.now c.args.digest.now _ _ (none_failed whole failures seen) refl (Appends-none _, refl))
 
+pub publish_from-requires : goal.publish_from-requires
+publish_from-requires g c =
+    let whole = g.P.Placed.whole in
+    let failures = g.P.Placed.failures in
+    let before = c.args.archives.now in
+    let seen = c.read_indexes.new.archives in
+    let indexes = readers g.I.Placed.whole g.I.Placed.failures c.args.indexes.now c.read_indexes.new.indexes in
+    let long = c.read_indexes.auto.archives in
+    let choice = subst (IsEntryChoice c.args.key.now c.args.digest.now c.deref.result.now) c.in-One.is c.in_ok-named.ensures in
+    let many : length c.in_ok-read.read.items ≡ length seen =
+    three_long IsReadWith indexes (readers whole failures before seen) c.in_ok-read.read.items c.in_ok-read.ensures.read.is ∙ readers_long whole failures before seen long ∙ sym long in
+    omega (arith, archive_there c.args.key.now c.args.digest.now c.deref.result.now choice.0 choice.1, choice.2.input_is, many, ap length c.deref.ensures.value)
+
+pub publish_tied-requires : goal.publish_tied-requires
+publish_tied-requires g c =
+    let whole = g.P.Placed.whole in
+    let failures = g.P.Placed.failures in
+    let before = c.args.archives.now in
+    let seen = c.read_indexes.new.archives in
+    let indexes = readers g.I.Placed.whole g.I.Placed.failures c.args.indexes.now c.read_indexes.new.indexes in
+    let long = c.read_indexes.auto.archives in
+    ap length c.deref-in-Tied.ensures.value ∙ three_long IsReadWith indexes (readers whole failures before seen) c.in_ok-read.read.items c.in_ok-read.ensures.read.is
+    ∙ readers_long whole failures before seen long ∙ sym long
+
 pub returns-in-One : goal.returns-in-One
 returns-in-One g c =
     let whole = g.P.Placed.whole in
@@ -39,13 +71,17 @@ returns-in-One g c =
     let indexes = readers g.I.Placed.whole g.I.Placed.failures c.args.indexes.now c.read_indexes.new.indexes in
     let all = c.deref.result.now in
     let read = subst (AreReadWith indexes (readers whole failures before seen)) (sym c.deref.ensures.value) c.in_ok-read.ensures.read.is in
-    let choice = c.in-One.ensures in
+    let choice = subst (IsEntryChoice c.args.key.now c.args.digest.now all) c.in-One.is c.in_ok-named.ensures in
+    let x = choice.0 in
     let long = c.read_indexes.auto.archives in
     let many : length all ≡ length seen = three_long IsReadWith indexes (readers whole failures before seen) all read ∙ readers_long whole failures before seen long ∙ sym long in
-    let there = archive_there c.args.key.now c.args.digest.now all choice.0 choice.1 in
-    let within : c.in-One.named.input < length seen = omega (arith, there, choice.2.input_is, many) in
-    sent_so indexes whole failures before seen c.in-One.named.input c.index-archives-named.result c.publish_named.new.archive all long ? read c.in_ok-read.ensures.read.unfailed c.in_ok-read.ensures.kept.1
-    c.args.key.now c.args.digest.now _ _ choice.0 choice.1 choice.2.input_is within c.index-archives-named.is c.publish_named.result (c.publish_named.ensures choice.0 choice.2)
+    let within : x.input < length seen = omega (arith, archive_there c.args.key.now c.args.digest.now all x choice.1, many) in
+    let s = c.publish_from.ensures x choice.2 in
+    let out = outs g.T.Draft.held g.T.Draft.failures g.T.Target.placed g.T.Target.failures c.args.out.now c.publish_from.new.out in
+    let report = writer g.W.Sink.held g.W.Sink.failures c.args.report.now c.publish_from.new.report in
+    subst (λ (after : List (Result _ CannotOpen)). Extracts (extract_at indexes (readers whole failures before after) c.args.key.now c.args.digest.now (out_of out).draft) out report c.publish_from.result) (sym s.3)
+    (sent_so indexes whole failures before seen x.input s.0 s.1 all long (length-set seen x.input s.1 ∙ long) read c.in_ok-read.ensures.read.unfailed c.in_ok-read.ensures.kept.1
+    c.args.key.now c.args.digest.now out report x choice.1 refl within s.2 c.publish_from.result s.4)
 
 pub returns-in-Undecided : goal.returns-in-Undecided
 returns-in-Undecided g c =
@@ -54,11 +90,13 @@ returns-in-Undecided g c =
     let before = c.args.archives.now in
     let seen = c.read_indexes.new.archives in
     let indexes = readers g.I.Placed.whole g.I.Placed.failures c.args.indexes.now c.read_indexes.new.indexes in
+    let all = c.deref.result.now in
     let read = subst (AreReadWith indexes (readers whole failures before seen)) (sym c.deref.ensures.value) c.in_ok-read.ensures.read.is in
-    let choice = c.in-Undecided.ensures in
-    rows_so indexes whole failures before seen seen c.deref.result.now c.read_indexes.auto.archives c.read_indexes.auto.archives read c.in_ok-read.ensures.read.unfailed c.in_ok-read.ensures.kept.1
-    c.args.key.now c.args.digest.now _ _ c.publish_rows.result choice.0 c.in-Undecided.rows.items choice.1 choice.2 (none_failed whole failures seen) refl
-    (subst (λ rows. PublishesRows rows _ c.publish_rows.result) c.deref-rows.ensures.value c.publish_rows.ensures)
+    let choice = subst (IsEntryChoice c.args.key.now c.args.digest.now all) c.in-Undecided.is c.in_ok-named.ensures in
+    let report = writer g.W.Sink.held g.W.Sink.failures c.args.report.now c.publish_rows.new.report in
+    rows_so indexes whole failures before seen seen all c.read_indexes.auto.archives c.read_indexes.auto.archives read c.in_ok-read.ensures.read.unfailed c.in_ok-read.ensures.kept.1
+    c.args.key.now c.args.digest.now _ report c.publish_rows.result choice.0 c.in-Undecided.rows.items choice.1 choice.2 (none_failed whole failures seen) refl
+    (subst (λ (rows : List FindRow). PublishesRows rows report c.publish_rows.result) c.deref-in-Undecided.ensures.value c.publish_rows.ensures)
 
 pub returns-in-Tied : goal.returns-in-Tied
 returns-in-Tied g c =
@@ -68,17 +106,10 @@ returns-in-Tied g c =
     let seen = c.read_indexes.new.archives in
     let after = c.publish_tied.new.archives in
     let indexes = readers g.I.Placed.whole g.I.Placed.failures c.args.indexes.now c.read_indexes.new.indexes in
+    let all = c.deref-in-Tied.result.now in
     let long = c.read_indexes.auto.archives in
-    let read = subst (AreReadWith indexes (readers whole failures before seen)) (sym c.deref.ensures.value) c.in_ok-read.ensures.read.is in
-    let choice = c.in-Tied.ensures in
-    tied_so indexes whole failures before seen after c.deref.result.now long (c.publish_tied.auto.archives ∙ long) read c.in_ok-read.ensures.read.unfailed c.in_ok-read.ensures.kept.1
-    c.args.key.now c.args.digest.now _ _ choice.0 choice.1 c.publish_tied.result ?
-
-pub publish_tied-requires : goal.publish_tied-requires
-publish_tied-requires g c = ?
-
-pub bounds-archives-named : goal.bounds-archives-named
-bounds-archives-named g c = ?
-
-pub offset_bounds-archives-named : goal.offset_bounds-archives-named
-offset_bounds-archives-named g c = ?
+    let read = subst (AreReadWith indexes (readers whole failures before seen)) (sym c.deref-in-Tied.ensures.value) c.in_ok-read.ensures.read.is in
+    let choice = subst (IsEntryChoice c.args.key.now c.args.digest.now c.deref.result.now) c.in-Tied.is c.in_ok-named.ensures in
+    let tied = subst (AreTied (key_bytes c.args.key.now)) (c.deref.ensures.value ∙ sym c.deref-in-Tied.ensures.value) choice.1 in
+    tied_so indexes whole failures before seen after all long (c.publish_tied.auto.archives ∙ long) read c.in_ok-read.ensures.read.unfailed c.in_ok-read.ensures.kept.1
+    c.args.key.now c.args.digest.now _ _ choice.0 tied c.publish_tied.result c.publish_tied.ensures

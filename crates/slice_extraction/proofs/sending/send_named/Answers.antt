@@ -23,4 +23,4 @@ returns-in_err-device g c =
 pub returns : goal.returns
 returns g c =
     rw (lent_from c.args.archive.now _ c.in_ok-device.ensures.source, c.told.ensures)
-    (λ x names. unsent g.P.Placed.whole g.P.Placed.failures g.W.Sink.held g.W.Sink.failures c.in_ok-device.device.now c.send_at.new.device c.args.draft.now c.send_at.new.w c.args.named.now x names c.in-Err.fault c.in-Err.ensures.sends)
+    (λ x names. unsent g.P.Placed.whole g.P.Placed.failures g.W.Sink.held g.W.Sink.failures c.in_ok-device.device.now c.send_at.new.device c.args.draft.now c.send_at.new.w c.args.named.now x names c.from-at.result c.from-at.ensures c.in-Err.fault c.in-Err.ensures.sends)
