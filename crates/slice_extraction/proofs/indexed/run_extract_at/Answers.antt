@@ -77,7 +77,7 @@ returns-in-One g c =
     let many : length all ≡ length seen = three_long IsReadWith indexes (readers whole failures before seen) all read ∙ readers_long whole failures before seen long ∙ sym long in
     let within : x.input < length seen = omega (arith, archive_there c.args.key.now c.args.digest.now all x choice.1, many) in
     let s = c.publish_from.ensures x choice.2 in
-    let out = outs g.T.Draft.held g.T.Draft.failures g.T.Target.placed g.T.Target.failures c.args.out.now c.publish_from.new.out in
+    let out = outs g.T.Draft.Sink.held g.T.Draft.Sink.failures g.T.Target.placed g.T.Target.failures c.args.out.now c.publish_from.new.out in
     let report = writer g.W.Sink.held g.W.Sink.failures c.args.report.now c.publish_from.new.report in
     subst (λ (after : List (Result _ CannotOpen)). Extracts (extract_at indexes (readers whole failures before after) c.args.key.now c.args.digest.now (out_of out).draft) out report c.publish_from.result) (sym s.3)
     (sent_so indexes whole failures before seen x.input s.0 s.1 all long (length-set seen x.input s.1 ∙ long) read c.in_ok-read.ensures.read.unfailed c.in_ok-read.ensures.kept.1
