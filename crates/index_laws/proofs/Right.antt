@@ -126,9 +126,9 @@ module _ (os : List Operations) (texts : List (List ℕ)) (indexes : List (List 
   -- ---- two entries of slices under one key
 
   -- the entry is that of a slice that answers
-  pub record IsAnsweringSlice (key : SliceKey) (x : EntryAt) (slice : List ℕ) : Type 0 where
-    pub of : IsOfSlice os texts indexes x slice
-    pub answers : IsAnswering (all_joined os) key slice
+  record IsAnsweringSlice (key : SliceKey) (x : EntryAt) (slice : List ℕ) : Type 0 where
+    of : IsOfSlice os texts indexes x slice
+    answers : IsAnswering (all_joined os) key slice
 
   before : (key : SliceKey) (x y : EntryAt) (a b : List ℕ) → IsAnsweringSlice key x a → IsAnsweringSlice key y b → StandsBefore x y → order (admission_record a) (admission_record b) ≡ Less
   before key x y a b is_x is_y (inl shorter) =
@@ -222,7 +222,7 @@ module _ (os : List Operations) (texts : List (List ℕ)) (indexes : List (List 
           let s = slice_of_entry os texts indexes x r.0 r.1 (tagged (key_bytes key) x h) in
           (s.0, record { of = s.1; answers = answers_if os texts indexes all key is_key x s.0 s.1 h })
 
-      pub slices_at : (xs : List EntryAt) → AllByRecursion (IsAmong indexes) xs → AllByRecursion (λ x. answers_among (key_bytes key) every x.entry ≡ true) xs → (ss : List (List ℕ)) × AllZip (IsAnsweringSlice key) xs ss
+      slices_at : (xs : List EntryAt) → AllByRecursion (IsAmong indexes) xs → AllByRecursion (λ x. answers_among (key_bytes key) every x.entry ≡ true) xs → (ss : List (List ℕ)) × AllZip (IsAnsweringSlice key) xs ss
       slices_at [] among answers = ([], tt)
       slices_at (x ∷ xs) among answers =
           let s = slice_at x among.0 answers.0 in
@@ -277,7 +277,7 @@ module _ (os : List Operations) (texts : List (List ℕ)) (indexes : List (List 
                   subst (Contains ss) (sym (one_of_two x.0 other.0 slice s.0 tell x.2 s.2.of other.2)) s.1
             ]
 
-        pub are_slices : AreAnswering (all_joined os) key ss
+        are_slices : AreAnswering (all_joined os) key ss
         are_slices = record {
           ascending = ascending key answering ss zip are.ordered;
           exactly = λ slice. (λ c. (zip_right (IsAnsweringSlice key) answering ss slice zip c).1.answers, to_slices slice);

@@ -35,11 +35,14 @@ module _ {D T : Type 0} (out : Outs D T) (report : Writer) where
         → out.placed out.new.target ≡ out.placed out.old.target → FailedIn (out.failures out.old.target) (out.failures out.new.target) → Takes report [] → Publishes (out_of out) report slice told (Err fault)
     not_placed told fault n is n_is held unfailed kept failed unreported =
         subst (λ (f : CommandFault). Publishes (out_of out) report slice told (Err f)) (sym is) (
-          inr (n_is, record {
-            took = (subst (λ (o : Option (List ℕ)). Appends (out.held out.old.draft) o slice) (sym held) took.0, unfailed ∙ took.1);
-            kept = kept;
-            failed = failed;
-          }),
+          inr (
+            n_is,
+            record {
+              took = (subst (λ (o : Option (List ℕ)). Appends (out.held out.old.draft) o slice) (sym held) took.0, unfailed ∙ took.1);
+              kept = kept;
+              failed = failed;
+            },
+          ),
           unreported,
         )
 

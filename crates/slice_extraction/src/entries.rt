@@ -40,11 +40,7 @@ fn rows_of(heap: Heap, named: &[NamedSlice]) -> Result<Vec<FindRow, Heap>, NoMem
 }
 
 /// The one slice that answers under a key, or the rows of all that do.
-fn answering(
-    heap: &Heap,
-    key: &SliceKey,
-    read: &[TableIndex],
-) -> Result<EntryChoice, NoMemory>
+fn answering(heap: &Heap, key: &SliceKey, read: &[TableIndex]) -> Result<EntryChoice, NoMemory>
     ensures { IfOk result (IsEntryChoice key.now None read.now) }
 {
     let Some(named) = named_among(heap, key, read)? else {

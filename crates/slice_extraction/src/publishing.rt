@@ -18,7 +18,12 @@ use report_text::find_lines;
 fn slice_line(heap: Heap, slice: &CheckedSlice<'_>) -> Result<String<Heap>, NoMemory>
     ensures { IfOk result (λ text. string_bytes text ≡ slice_line slice.now) }
 {
-    line_of(heap, slice.key(), slice.digest(), slice.bytes().len() as u64)
+    line_of(
+        heap,
+        slice.key(),
+        slice.digest(),
+        slice.bytes().len() as u64,
+    )
 }
 
 /// Writes the bytes of a slice to OUT, puts it in place, and then writes its line to the report.

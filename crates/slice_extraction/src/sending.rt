@@ -77,7 +77,14 @@ fn send_named<P: Placed, W: Sink>(
     let mut piece = room_for_piece(heap)?;
     let device = opened(archive, Place::Archive(named.input))?;
     let at = u128::from(named.offset) + HEAD_LEN;
-    match send_at(device, at, named.size, &named.row.digest.0, &mut piece, draft) {
+    match send_at(
+        device,
+        at,
+        named.size,
+        &named.row.digest.0,
+        &mut piece,
+        draft,
+    ) {
         Ok(()) => Ok(()),
         Err(fault) => Err(told(named, fault)),
     }

@@ -44,8 +44,13 @@ returns-in_err-put_in_place g c =
     let p = err_from_is_err_and c.from_residual-in_err-put_in_place.result c.from_residual-in_err-put_in_place.ensures.1 in
     rw (p.1, p.2) (λ x names.
     let sent = c.in_ok-send_named.ensures x names in
-    inl (sent.0, sent.1, sent.3, not_placed out _ c.send_named.new.draft sent.0 sent.2 (written_line c.args.key.now sent.0) c.in_err-put_in_place.field-0.0 c.args.named.now.size put.failed.0 (names.size_is ∙ sym sent.1.of.long)
-    put.held put.draft put.kept put.failed.1 (Appends-none _, refl)))
+    inl (
+      sent.0,
+      sent.1,
+      sent.3,
+      not_placed out _ c.send_named.new.draft sent.0 sent.2 (written_line c.args.key.now sent.0) c.in_err-put_in_place.field-0.0 c.args.named.now.size put.failed.0 (names.size_is ∙ sym sent.1.of.long)
+          put.held put.draft put.kept put.failed.1 (Appends-none _, refl),
+    ))
 
 pub returns : goal.returns
 returns g c = λ x names.
@@ -53,5 +58,10 @@ returns g c = λ x names.
     let report = writer g.W.Sink.held g.W.Sink.failures c.args.report.now c.publish_report.new.report in
     let put = c.in_ok-put_in_place.ensures in
     let sent = c.in_ok-send_named.ensures x names in
-    inl (sent.0, sent.1, sent.3, placed_so out report c.send_named.new.draft sent.0 sent.2 put.placed put.emptied put.draft put.unfailed c.deref.result.now (written_line c.args.key.now sent.0) c.publish_report.result
-    (c.deref.ensures ∙ c.in_ok-text.ensures ∙ same_line c.args.key.now c.args.named.now x sent.0 names sent.1.of) c.publish_report.ensures)
+    inl (
+      sent.0,
+      sent.1,
+      sent.3,
+      placed_so out report c.send_named.new.draft sent.0 sent.2 put.placed put.emptied put.draft put.unfailed c.deref.result.now (written_line c.args.key.now sent.0) c.publish_report.result
+          (c.deref.ensures ∙ c.in_ok-text.ensures ∙ same_line c.args.key.now c.args.named.now x sent.0 names sent.1.of) c.publish_report.ensures,
+    )
