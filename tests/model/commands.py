@@ -8,8 +8,8 @@ from .contents import OLD_ARCHIVE, Content, Fault, MergeFault, Source, admission
 from .contents import merge_streams, merged_by_definition, read_archive, read_ops, read_summary, retirement
 from .contents import summary_text
 from .images import parts_of_file, sha
-from .indexes import EntryAt, Failed, Placed, Stale, answering, claim_in, index_stream, parts_at, read_index
-from .indexes import test_length
+from .indexes import EntryAt, Failed, Placed, Stale, answering, claim_in, index_stream, living, parts_at, read_index
+from .indexes import slice_at, test_length
 from .lines import Answer, answer_lines, escaped, find_lines, find_rows, index_rows, key_text, name_lines, row_of
 from .lines import Told, table_text, told_lines
 from .parts import Store
@@ -410,7 +410,36 @@ class Run:
 
     @takes("archive uuid arch out", is_asking=True, indexes=ANY_NUMBER)
     def run_extract(self, plan: Plan) -> int:
-        live = self.asked(plan, plan.key).live()
+        if plan.indexes:
+            return self.extract_by_entry(plan)
+        return self.extract_of(plan, self.join([plan.one["archive"], *plan.more]))
+
+    def extract_by_entry(self, plan: Plan) -> int:
+        indexed = self.indexed([plan.one["archive"], *plan.more], plan.indexes)
+        entries = [it.entries for it in indexed]
+        if plan.wanted is not None:
+            found = [it for it in living(plan.key, entries) if it.entry[25:57] == plan.wanted][:1]
+        else:
+            those = answering(plan.key, entries)
+            if those is None:
+                return self.extract_of(plan, self.named(indexed, [plan.key]))
+            found = those
+        if len(found) != 1:
+            self.tell(find_lines(index_rows([it.entry for it in found]), False))
+            return 1
+        one = found[0]
+        archive = indexed[one.input].archive
+        content = self.by_places(one.input, functools.partial(slice_at, one, archive))
+        given = archive.left
+        try:
+            self.by_places(one.input, functools.partial(slice_at, one, archive))
+        except CommandFault:
+            self.push(content[:given])
+            raise
+        return self.extracted(plan, content)
+
+    def extract_of(self, plan: Plan, content: Content) -> int:
+        live = content.live()
         held = sorted(it for it in live if it[1:25] == plan.key)
         if plan.wanted is not None:
             found = [it for it in held if sha(it[33:]) == plan.wanted]
@@ -419,7 +448,9 @@ class Run:
         if len(found) != 1:
             self.tell(find_lines([row_of(it) for it in found], False))
             return 1
-        content = found[0][33:]
+        return self.extracted(plan, found[0][33:])
+
+    def extracted(self, plan: Plan, content: bytes) -> int:
         self.write(content)
         self.tell([f"slice {key_text(plan.key)} {sha(content).hex()}, {len(content)} bytes"])
         return 0

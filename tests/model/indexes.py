@@ -246,13 +246,29 @@ class EntryAt(NamedTuple):
     entry: bytes
 
 
-def answering(key: bytes, indexes: Sequence[Sequence[bytes]]) -> Optional[List[EntryAt]]:
-    """The entries that answer for a key, each slice once, in the order of their records: the companions, if there are
-    any, of the admissions that no index retires. None where no entry says which of two records comes first."""
+def living(key: bytes, indexes: Sequence[Sequence[bytes]]) -> List[EntryAt]:
+    """The entries of the admissions for a key that no index retires."""
     every = [EntryAt(place, number, it) for place, those in enumerate(indexes) for number, it in enumerate(those)]
     under = [it for it in every if it.entry[1:25] == key]
     retired = {it.entry[1:57] for it in under if it.entry[0] == RETIREMENT}
-    live = [it for it in under if it.entry[0] == ADMISSION and it.entry[1:57] not in retired]
+    return [it for it in under if it.entry[0] == ADMISSION and it.entry[1:57] not in retired]
+
+
+def slice_at(it: EntryAt, placed: Placed) -> bytes:
+    """The slice of an entry, if it has the SHA-256 that the entry says."""
+    size = length_in(it.entry) - 33
+    if offset_in(it.entry) + length_in(it.entry) > placed.size():
+        raise Stale(it.number)
+    found = placed.take(offset_in(it.entry) + 33, size)
+    if len(found) != size or sha(found) != it.entry[25:57]:
+        raise Stale(it.number)
+    return found
+
+
+def answering(key: bytes, indexes: Sequence[Sequence[bytes]]) -> Optional[List[EntryAt]]:
+    """The entries that answer for a key, each slice once, in the order of their records: the companions, if there are
+    any, of the admissions that no index retires. None where no entry says which of two records comes first."""
+    live = living(key, indexes)
     those = [it for it in live if it.entry[57] == 1] or live
     those.sort(key=lambda it: (length_in(it.entry), it.input, offset_in(it.entry)))
     by_length = [list(same) for _, same in itertools.groupby(those, key=lambda it: length_in(it.entry))]

@@ -8,3 +8,4 @@ pub mod Together
 pub mod Asked
 pub mod EachTold
 pub mod RunLemmas
+pub mod Named

@@ -49,7 +49,7 @@ module _ {D T : Type 0} (command : Extraction) (out : Outs D T) (report : Writer
   published_so (Err OutOfMemory) text told u makes p = inl (inr (u, record { text = text; told = told; makes = makes; published = p }))
 
 -- nothing is written where OUT is as it was
-took_nothing : {D T : Type 0} (out : Outs D T) → out.new ≡ out.old → Takes (out_of out).draft []
+pub took_nothing : {D T : Type 0} (out : Outs D T) → out.new ≡ out.old → Takes (out_of out).draft []
 took_nothing out same = (
   subst (λ (o : Out_value _ _). Appends (out.held out.old.draft) (out.held o.draft) []) (sym same) (Appends-nil (out.held out.old.draft)),
   ap (λ (o : Out_value _ _). out.draft_failures o.draft) same,

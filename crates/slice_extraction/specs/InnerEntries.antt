@@ -1,12 +1,13 @@
 -- What the entries of indexes choose, and what is sent of it: the words of inner functions. No contract of a public one
 -- has them.
-use Rattle.std.specs.Prelude.{◌≡◌, ◌⊎◌, ℕ, List, [], ◌∷◌, Option, None, Some, Result, Ok, Err}
+use Rattle.std.specs.Prelude.{◌≡◌, ◌⊎◌, ℕ, List, [], ◌∷◌, Option, None, Some, Result, Ok, Err, slice_index_or, slice_set}
 use Rattle.std.specs.List.{AllZip}
 use Rattle.archive_core.specs.Content.{Operations}
 use Rattle.archive_core.specs.Key.{key_bytes}
 use Rattle.archive_core.specs.declared.keys.Digest.{Digest}
 use Rattle.archive_core.specs.declared.keys.SliceKey.{SliceKey}
-use Rattle.command_ends.specs.Inputs.{EachUnfailed, IsRefusal, Reader, Unfailed}
+use Rattle.byte_device.specs.declared.disks.CannotOpen.{CannotOpen}
+use Rattle.command_ends.specs.Inputs.{EachUnfailed, IsRefusal, Reader, Unfailed, reader}
 use Rattle.command_ends.specs.Outputs.{Outs, PlacesNothing, Publishes, Takes, Writer, out_of}
 use Rattle.command_ends.specs.declared.faults.CommandFault.{CommandFault}
 use Rattle.command_ends.specs.declared.faults.CommandFault.TheVariants.{Input, Output}
@@ -52,6 +53,13 @@ PublishesSlice archive key x out report result =
     × Publishes (out_of out) report slice (written_line key slice) result)
     ⊎ ((fault : CommandFault) × (result ≡ Err fault) × StopsSlice archive x (out_of out).draft fault
     × PlacesNothing (out_of out) × Takes report [])
+
+-- The same from its archive among several, of which no other is touched.
+abbrev pub PublishesFrom : {P D T : Type 0} → (P → Option (List ℕ)) → (P → ℕ) → List (Result P CannotOpen)
+    → List (Result P CannotOpen) → SliceKey → EntryAt → Outs D T → Writer → Result Status CommandFault → Type 0
+PublishesFrom {P} whole failures old new key x out report result =
+    (before : Result P CannotOpen) × (after : Result P CannotOpen) × (before ≡ slice_index_or old x.input before)
+    × (new ≡ slice_set old x.input after) × PublishesSlice (reader whole failures before after) key x out report result
 
 -- What the slices under the key make, which these entries name in archives, is published; or an archive is refused or
 -- memory is wanting, OUT is as it was, and nothing was reported.

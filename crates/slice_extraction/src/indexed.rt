@@ -1,11 +1,13 @@
 //! `extract ARCHIVE UUID ARCH OUT [--digest DIGEST] --index INDEX`, over one archive or several.
 
-ghost use Rattle.std.specs.Prelude.{◌≡◌, length};
+ghost use Rattle.std.specs.Prelude.{◌≡◌, ◌<◌, length};
 ghost use Rattle.command_ends.specs.Inputs.{readers};
 ghost use Rattle.command_ends.specs.Outputs.{out_of, outs, writer};
+ghost use Rattle.indexed_answers.specs.Among.{EntryAt};
+ghost use Rattle.indexed_answers.specs.Named.{Names};
 ghost use Rattle.slice_extraction.specs.Extract.{Extracts};
 ghost use Rattle.slice_extraction.specs.Indexed.{extract_at};
-ghost use Rattle.slice_extraction.specs.InnerEntries.{PublishesTied};
+ghost use Rattle.slice_extraction.specs.InnerEntries.{PublishesFrom, PublishesTied};
 
 use crate::entries::{EntryChoice, choose_entry};
 use crate::extract::bytes_of;
@@ -14,18 +16,21 @@ use crate::sending::publish_named;
 use archive_core::{Archive, Digest, SliceKey};
 use byte_device::{CannotOpen, Sink};
 use command_ends::{CommandFault, Output, Status, Target};
+use indexed_answers::NamedSlice;
 use indexed_queries::{Front, read_fronts, read_indexes};
 use memory::Heap;
 use placed_bytes::Placed;
 use table_index::TableIndex;
 
 /// Writes the bytes of the wanted slice to OUT, as [`run_extract`](crate::run_extract) does. The indexes are read, and
-/// then the slices that they name under the key at their places, tested and hashed, before OUT is begun.
+/// their entries say which slice is wanted. It is gone through at its place, piece by piece: once to compare its SHA-256,
+/// before OUT is begun, and once as it goes out, before OUT is put in place. No other slice is read, unless two that
+/// answer have one length and stand in two archives.
 ///
 /// # Errors
 ///
-/// `Input` for the first index or archive that is refused; `Output` and `Report` where that writer failed;
-/// `OutOfMemory`.
+/// `Input` for the first index or archive that is refused, `Stale` at the entry whose slice has another SHA-256; `Output`
+/// and `Report` where that writer failed; `OutOfMemory`.
 pub fn run_extract_at<A: Archive + Drop, I: Placed, P: Placed, T: Target, W: Sink>(
     heap: Heap,
     indexes: &mut [Result<I, CannotOpen>],
@@ -43,13 +48,28 @@ pub fn run_extract_at<A: Archive + Drop, I: Placed, P: Placed, T: Target, W: Sin
 {
     let read = read_indexes(&heap, indexes, archives)?;
     match choose_entry(&heap, key, digest, &read)? {
-        EntryChoice::One(named) => {
-            let archive = &mut archives[named.input as usize];
-            publish_named(&heap, key, &named, archive, out, report)
-        }
+        EntryChoice::One(named) => publish_from(&heap, key, &named, archives, out, report),
         EntryChoice::Undecided(rows) => publish_rows(heap, &rows, report),
         EntryChoice::Tied => publish_tied::<A, _, _, _>(&heap, key, &read, archives, out, report),
     }
+}
+
+/// Publishes the slice that an entry names under a key, from its archive among these.
+fn publish_from<P: Placed, T: Target, W: Sink>(
+    heap: &Heap,
+    key: &SliceKey,
+    named: &NamedSlice,
+    archives: &mut [Result<P, CannotOpen>],
+    out: &mut Output<T::Draft, T>,
+    report: &mut W,
+) -> Result<Status, CommandFault>
+    requires { named.now.input < length archives.old }
+    ensures { (x : EntryAt) → Names x named.now → PublishesFrom P.whole P.failures archives.old archives.new key.now x
+        (outs T.Draft.held T.Draft.failures T.published T.failures out.old out.new)
+        (writer W.held W.failures report.old report.new) result }
+{
+    let archive = &mut archives[named.input as usize];
+    publish_named(heap, key, named, archive, out, report)
 }
 
 /// Publishes what [`publish_wanted`] does of the slices that the indexes name under a key, which were read before. The

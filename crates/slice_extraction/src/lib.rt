@@ -2,21 +2,26 @@
 //!
 //! - `choosing`: which slice is wanted under a key, among those that an archive holds;
 //! - `publishing`: the end of the command, OUT and the report;
+//! - `entries`: which slice is wanted by the entries of indexes; `sending`: how it goes from its archive to OUT;
 //! - `extract`: the command; `indexed`: the same over archives that are asked by their indexes.
 //!
 //! # What is proved
 //!
-//! - [`run_extract`] and [`run_extract_at`] put in place at OUT, where they end `Done`, the bytes of the one slice that
-//!   answers under the key in the join of the archives, or of a held one with the digest of the words; and then its line
-//!   is in the report. Where there is no such slice, or several answer, OUT is as it was, and the report has a line for
-//!   each that answers (`Extracts`).
-//! - An index or an archive is refused before OUT is begun, the first of them in the order of the words.
+//! - [`run_extract`] puts in place at OUT, where it ends `Done`, the bytes of the one slice that answers under the key in
+//!   the join of the archives, or of a held one with the digest of the words; and then its line is in the report. Where
+//!   there is no such slice, or several answer, OUT is as it was, and the report has a line for each that answers
+//!   (`Extracts`). An archive is refused before OUT is begun, the first of them in the order of the words.
+//! - [`run_extract_at`] does it by the entries of the indexes, which are read first. What it puts in place stands where
+//!   the entry says, has its length and its SHA-256, and so had what was read there before OUT was begun; otherwise the
+//!   index is `Stale` at that entry, and nothing is in place.
 //!
 //! # Why it is so
 //!
 //! - A digest of the words finds a slice that does not answer too, as an image whose companion does.
 //! - The line of the slice is made before OUT is begun, so that nothing was written if memory is wanting for it.
-//! - The slice is whole and tested before OUT is begun, so that a pipe gets no byte of one that is refused.
+//! - The slice is whole and tested before OUT is begun, so that a pipe gets no byte of one that is refused. By an entry it
+//!   is gone through twice, in the memory of one piece.
+//! - Of two slices of one length in two archives no entry says which comes first: these are read, to be told in order.
 #![tactic(auto)]
 
 mod choosing;
