@@ -1,7 +1,7 @@
 //! Answers out of several indexes: by their entries, and by the tables of those that answer.
 //!
-//! Of the indexes the entries under a key are looked at, and of the tables of those that answer the pages that are
-//! needed, each compared with its digest. No slice is read.
+//! Of the indexes the entries under a key are looked at, two runs that are found by halving, and of the tables of those
+//! that answer the pages that are needed, each compared with its digest. No slice is read.
 //!
 //! - `fault`: why nothing is told;
 //! - `numbered`: an entry of one of several indexes; `words`: what it says;

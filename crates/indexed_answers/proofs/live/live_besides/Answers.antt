@@ -1,4 +1,4 @@
-use Rattle.std.proofs.Common.{List, ℕ, Bool, ◌++◌, take, sym, ap, ◌∙◌, arith}
+use Rattle.std.proofs.Common.{List, ℕ, Bool, ◌++◌, sym, ap, ◌∙◌, arith}
 use Rattle.std.specs.Prelude.{filter}
 use Rattle.std.proofs.lemmas.List.{take_all}
 use Rattle.indexed_answers.specs.Among.{EntryAt}
