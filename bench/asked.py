@@ -1,9 +1,10 @@
 """What is asked of archives: images with symbols among others without, and frames of them."""
 import io
 import random
+import struct
 
-from images import FUNCTION, IMAGE_SIZE, SYMBOLS, TEXT, admission, image
-from measure import write_image
+from images import FUNCTION, IMAGE_SIZE, SYMBOLS, TEXT, admission, admission_front, image
+from measure import HEADER, LC_UUID, write_image
 
 MANY = 20_000
 
@@ -18,6 +19,21 @@ def plain_image(number):
 
 def record_of(number, asked):
     return admission(number, image(number) if number in asked else plain_image(number))
+
+
+def write_hollow_archive(path, count, asked):
+    """Writes an archive of so many images, of which those that are asked for have symbols. Behind their headers the
+    others are holes of the file, so they take no room on the disk."""
+    with path.open("wb") as file:
+        file.write(b"MSYMARC2")
+        for number in range(count):
+            if number in asked:
+                file.write(admission(number, image(number)))
+                continue
+            front = HEADER + LC_UUID + number.to_bytes(16, "big")
+            file.write(admission_front(number, IMAGE_SIZE) + front)
+            file.seek(IMAGE_SIZE - len(front), 1)
+        file.write(b"\x03" + struct.pack(">Q", count))
 
 
 def write_frames(path, numbers):

@@ -1,5 +1,6 @@
 """What the benchmarks share. The environment variable SYMARCH may name another program than that of this tree, and RUNS
-another number of runs than five."""
+another number of runs than five. With BUSY the seconds of a command are those for which it keeps a processor busy, as
+serves on a machine that has other work."""
 import os
 import pathlib
 import random
@@ -18,6 +19,7 @@ from tests.support.program import symarch as program  # noqa: E402
 
 MEGABYTE = 1_000_000
 RUNS = int(os.environ.get("RUNS", 5))
+BUSY = bool(os.environ.get("BUSY"))
 
 HEADER = bytes.fromhex("cffaedfe0700000103000000020000000100000018000000" "0000000000000000")
 LC_UUID = bytes.fromhex("1b00000018000000")
@@ -43,15 +45,21 @@ def write_image(file, size, uuid=UUID):
         left -= MEGABYTE
 
 
+def busy_seconds():
+    """The seconds for which the commands that ended kept a processor busy."""
+    used = resource.getrusage(resource.RUSAGE_CHILDREN)
+    return used.ru_utime + used.ru_stime
+
+
 def run(words, out=None, status=0):
     """The seconds that a command takes, and its peak memory in bytes, which GNU time tells: a child of this process
     counts also what this one has where it forks. What is at OUT is removed, if the command writes it."""
     if out in words:
         out.unlink(missing_ok=True)
-    told = folder / "peak"
-    start = time.monotonic()
+    told, clock = folder / "peak", busy_seconds if BUSY else time.monotonic
+    start = clock()
     ended = subprocess.run(["time", "-q", "-f", "%M", "-o", told, *words], stdout=subprocess.DEVNULL).returncode
-    seconds = time.monotonic() - start
+    seconds = clock() - start
     if ended != status:
         sys.exit(f"{words[0]} ended with status {ended}")
     return seconds, int(told.read_text()) * 1024
@@ -66,12 +74,11 @@ def medians(*commands, out=None, status=0):
 def busy(words, out):
     """The seconds for which a command keeps a processor busy. What is at OUT is removed first."""
     out.unlink(missing_ok=True)
-    before = resource.getrusage(resource.RUSAGE_CHILDREN)
+    before = busy_seconds()
     ended = subprocess.run(words, stdout=subprocess.DEVNULL).returncode
     if ended != 0:
         sys.exit(f"{words[0]} ended with status {ended}")
-    after = resource.getrusage(resource.RUSAGE_CHILDREN)
-    return after.ru_utime - before.ru_utime + after.ru_stime - before.ru_stime
+    return busy_seconds() - before
 
 
 def least_busy(*commands, out):
