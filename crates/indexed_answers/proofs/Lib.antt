@@ -7,4 +7,4 @@ pub mod Retirements
 pub mod Together
 pub mod Asked
 pub mod EachTold
-pub mod Named
+pub mod NamedSlices
