@@ -8,4 +8,4 @@ pub mod Together
 pub mod Asked
 pub mod EachTold
 pub mod RunLemmas
-pub mod Named
+pub mod NamedSlices

@@ -8,7 +8,7 @@ use Rattle.indexed_answers.specs.Among.{EntryAt}
 use Rattle.indexed_answers.specs.InnerAnswering.{entry_at}
 use Rattle.indexed_answers.specs.Named.{digest_at}
 use Rattle.indexed_answers.proofs.Lists.{read_map}
-use Rattle.indexed_answers.proofs.Named.{others_more}
+use Rattle.indexed_answers.proofs.NamedSlices.{others_more}
 use Rattle.indexed_answers.proofs.named.first_with.Goals as goal
 
 pub live-preserved : goal.live-preserved
@@ -18,7 +18,7 @@ live-preserved c =
     let n = c.numbered-item.result in
     let lt : i < length xs = omega (arith, c.live-test.true, length-map c.args.live.now entry_at) in
     let other : digest_at (entry_at n) ≢ c.args.digest.now.0 = λ e.
-    cc (c.if-eq.false, c.eq.ensures, (bytes_eq-Decides c.named_by.result.row.digest.0 c.args.digest.now.0).1 (c.named_by.ensures.row.digest_is ∙ e)) in
+    cc (c.if-eq.false, c.eq.ensures, (bytes_eq-Decides c.named_by-named.result.row.digest.0 c.args.digest.now.0).1 (c.named_by-named.ensures.row.digest_is ∙ e)) in
     others_more c.args.digest.now.0 xs i (entry_at n) lt (read_map entry_at c.args.live.now i n c.live-test.true c.numbered-item.is) c.live.invariant other
 
 pub returns-then-eq : goal.returns-then-eq
@@ -30,8 +30,8 @@ returns-then-eq c =
     let here = read_map entry_at c.args.live.now i n c.live-test.true c.numbered-item.is in (
       entry_at n,
       subst (Contains xs) (sym here) (Contains-get_or xs i (entry_at n) lt),
-      sym c.named_by.ensures.row.digest_is ∙ (bytes_eq-Decides c.named_by.result.row.digest.0 c.args.digest.now.0).0 (sym c.eq.ensures ∙ c.if-eq.true),
-      c.named_by.ensures,
+      sym c.named_by-named.ensures.row.digest_is ∙ (bytes_eq-Decides c.named_by-named.result.row.digest.0 c.args.digest.now.0).0 (sym c.eq.ensures ∙ c.if-eq.true),
+      c.named_by-named.ensures,
     )
 
 pub returns : goal.returns

@@ -3,7 +3,7 @@ use Rattle.std.specs.Prelude.{MatchOption}
 use Rattle.indexed_answers.specs.Among.{EntryAt}
 use Rattle.indexed_answers.specs.InnerAnswering.{entry_at}
 use Rattle.indexed_answers.specs.Named.{LivesAmong, Names}
-use Rattle.indexed_answers.proofs.Named.{with_digest}
+use Rattle.indexed_answers.proofs.NamedSlices.{with_digest}
 use Rattle.indexed_answers.proofs.named.named_with.Goals as goal
 
 pub returns : goal.returns
