@@ -255,12 +255,14 @@ def living(key: bytes, indexes: Sequence[Sequence[bytes]]) -> List[EntryAt]:
 
 
 def slice_at(it: EntryAt, placed: Placed) -> bytes:
-    """The slice of an entry, if it has the SHA-256 that the entry says."""
-    size = length_in(it.entry) - 33
-    if offset_in(it.entry) + length_in(it.entry) > placed.size():
-        raise Stale(it.number)
-    found = placed.take(offset_in(it.entry) + 33, size)
-    if len(found) != size or sha(found) != it.entry[25:57]:
+    """The slice of an entry, if it has the SHA-256 that the entry says. A fault of the device is told at the record."""
+    at, size = offset_in(it.entry), length_in(it.entry) - 33
+    try:
+        is_within = at + 33 + size <= placed.size()
+        found = placed.take(at + 33, size) if is_within else b""
+    except Failed:
+        raise Fault("Device", at) from None
+    if not found or len(found) != size or sha(found) != it.entry[25:57]:
         raise Stale(it.number)
     return found
 

@@ -83,14 +83,14 @@ module _ {P W : Type 0} (whole : P → Option (List ℕ)) (failures : P → ℕ)
   )
 
   hindered : (sent : ℕ) (fault : SendFault) → HindersSending (stream whole failures device after) (stream held failures_of_draft before behind) (start + 33) named.size named.row.digest.0 sent fault
-      → Hinders archive x draft sent (told_fault named.input named.number fault)
+      → Hinders archive x draft sent (told_fault named.input named.number named.offset fault)
   hindered sent Other h = (inr (ap Index names.input_is, ap (λ (n : ℕ). Stale (Some n)) names.number_is, h.1, holds_other (whole device) h.0), h.2)
-  hindered sent Device h = (inl (ap Archive names.input_is, h.0), h.1)
+  hindered sent Device h = (inl (ap Archive names.input_is, (refl, names.offset_is, h.0)), h.1)
   hindered sent (Sink written) h = (h.0, omega (arith, h.1, names.size_is), h.2, h.3)
 
   -- the slice was not sent
   pub unsent : (fault : SendFault) → StopsSending (stream whole failures device after) (stream held failures_of_draft before behind) (start + 33) named.size named.row.digest.0 fault
-      → StopsSlice archive x draft (told_fault named.input named.number fault)
+      → StopsSlice archive x draft (told_fault named.input named.number named.offset fault)
   unsent fault stops = record {
     bytes = stops.bytes;
     took = stops.gains.gained;

@@ -7,7 +7,7 @@ use Rattle.archive_core.specs.Key.{key_bytes}
 use Rattle.archive_core.specs.declared.keys.Digest.{Digest}
 use Rattle.archive_core.specs.declared.keys.SliceKey.{SliceKey}
 use Rattle.archive_index.specs.Entry.{offset_in}
-use Rattle.command_ends.specs.Inputs.{Gives, IsUnread, Reader, Unfailed}
+use Rattle.command_ends.specs.Inputs.{Gives, Reader, Unfailed}
 use Rattle.command_ends.specs.Outputs.{Takes, Writer}
 use Rattle.command_ends.specs.declared.faults.CommandFault.{CommandFault}
 use Rattle.command_ends.specs.declared.faults.CommandFault.TheVariants.{Input, Output, Report, OutOfMemory}
@@ -17,6 +17,7 @@ use Rattle.command_ends.specs.declared.faults.Why.{Why}
 use Rattle.command_ends.specs.declared.faults.Why.TheVariants.{Stale}
 use Rattle.indexed_answers.specs.Among.{AreAnsweringAmong, EntryAt}
 use Rattle.indexed_answers.specs.Named.{LivesAmong, digest_at, size_at}
+use Rattle.indexed_queries.specs.Indexes.{IsUnreadAt}
 
 -- the entry is that of the wanted slice: the only one that answers; or one that lives under the key and has the digest
 abbrev pub IsChosen : SliceKey → Option Digest → List (List (List ℕ)) → EntryAt → Type 0
@@ -48,10 +49,11 @@ pub record HoldsSlice {P : Type 0} (archive : Reader P) (x : EntryAt) (slice : L
 abbrev pub HoldsOther : {P : Type 0} → Reader P → EntryAt → Type 0
 HoldsOther archive x = Gives archive (λ text. (slice : List ℕ) → IsSliceOf x slice → StandFor x slice text → ⊥)
 
--- ARCHIVE is refused while its slice is sent: it is not open, or its device failed; or it did not, and has other bytes
+-- ARCHIVE is refused while its slice is sent: it is not open, or its device failed, which is told at the record; or it
+-- did not, and has other bytes
 abbrev pub IsRefusedSlice : {P : Type 0} → Reader P → EntryAt → InputName → Why → Type 0
 IsRefusedSlice archive x at why =
-    ((at ≡ Archive x.input) × IsUnread archive why)
+    ((at ≡ Archive x.input) × IsUnreadAt (λ offset. offset ≡ offset_in x.entry) archive why)
     ⊎ ((at ≡ Index x.input) × (why ≡ Stale (Some x.number)) × Unfailed archive × HoldsOther archive x)
 
 -- why a slice was not sent, of which the draft has so many bytes: ARCHIVE is refused, or the draft failed, or memory was

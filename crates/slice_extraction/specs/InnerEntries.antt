@@ -6,6 +6,7 @@ use Rattle.archive_core.specs.Content.{Operations}
 use Rattle.archive_core.specs.Key.{key_bytes}
 use Rattle.archive_core.specs.declared.keys.Digest.{Digest}
 use Rattle.archive_core.specs.declared.keys.SliceKey.{SliceKey}
+use Rattle.archive_records.specs.declared.fault.RecordFaultKind.TheVariants.{Device as DeviceFailed}
 use Rattle.byte_device.specs.declared.disks.CannotOpen.{CannotOpen}
 use Rattle.command_ends.specs.Inputs.{EachUnfailed, IsRefusal, Reader, Unfailed, reader}
 use Rattle.command_ends.specs.Outputs.{Outs, PlacesNothing, Publishes, Takes, Writer, out_of}
@@ -13,6 +14,7 @@ use Rattle.command_ends.specs.declared.faults.CommandFault.{CommandFault}
 use Rattle.command_ends.specs.declared.faults.CommandFault.TheVariants.{Input, Output}
 use Rattle.command_ends.specs.declared.faults.InputName.TheVariants as place
 use Rattle.command_ends.specs.declared.faults.Status.{Status}
+use Rattle.command_ends.specs.declared.faults.Why.{Why}
 use Rattle.command_ends.specs.declared.faults.Why.TheVariants as why
 use Rattle.placed_passes.specs.declared.sending.SendFault.{SendFault}
 use Rattle.placed_passes.specs.declared.sending.SendFault.TheVariants.{Other, Device, Sink}
@@ -33,11 +35,15 @@ IsEntryChoice key digest all (Undecided rows) =
     (xs : List EntryAt) × AreUnchosen key digest all xs × AllZip IsRowAt xs rows.items
 IsEntryChoice key digest all Tied = (digest ≡ None) × AreTied (key_bytes key) all
 
--- how a command tells why bytes were not sent
-abbrev pub told_fault : ℕ → ℕ → SendFault → CommandFault
-told_fault input number Other = Input (place.Index input) (why.Stale (Some number))
-told_fault input number Device = Input (place.Archive input) why.Device
-told_fault input number (Sink written) = Output written
+-- why a record was not read which begins at this offset, when its device failed
+abbrev pub unread_record : ℕ → Why
+unread_record offset = why.Record (record { kind = DeviceFailed; offset = offset })
+
+-- how a command tells why the bytes of a record were not sent, which begins at this offset
+abbrev pub told_fault : ℕ → ℕ → ℕ → SendFault → CommandFault
+told_fault input number offset Other = Input (place.Index input) (why.Stale (Some number))
+told_fault input number offset Device = Input (place.Archive input) (unread_record offset)
+told_fault input number offset (Sink written) = Output written
 
 -- what came of sending the slice of an entry: the draft took it, or why it did not
 abbrev pub SendsSlice : {P : Type 0} → Reader P → EntryAt → Writer → Result (Unit {0}) CommandFault → Type 0

@@ -5,10 +5,11 @@ ghost use Rattle.command_ends.specs.Inputs.{reader};
 ghost use Rattle.command_ends.specs.Outputs.{outs, writer};
 ghost use Rattle.indexed_answers.specs.Among.{EntryAt};
 ghost use Rattle.indexed_answers.specs.Named.{Names};
-ghost use Rattle.slice_extraction.specs.InnerEntries.{PublishesSlice, SendsSlice, told_fault};
+ghost use Rattle.slice_extraction.specs.InnerEntries.{PublishesSlice, SendsSlice, told_fault, unread_record};
 ghost use Rattle.slice_extraction.specs.Wanted.{line_of};
 
 use archive_core::{Digest, SliceKey};
+use archive_records::{RecordFault, RecordFaultKind};
 use archive_words::Spelled;
 use byte_device::{CannotOpen, Sink};
 use command_ends::{
@@ -51,9 +52,19 @@ fn room_for_piece(heap: Heap) -> Result<Vec<u8, Heap>, NoMemory>
     Ok(piece)
 }
 
+/// Why a record was not read, whose device failed.
+fn unread(offset: u64) -> Why
+    ensures { result ≡ unread_record offset }
+{
+    Why::Record(RecordFault {
+        kind: RecordFaultKind::Device,
+        offset: u128::from(offset),
+    })
+}
+
 /// Why a slice was not sent, as a command tells it.
 fn told(named: &NamedSlice, fault: SendFault) -> CommandFault
-    ensures { result ≡ told_fault named.now.input named.now.number fault }
+    ensures { result ≡ told_fault named.now.input named.now.number named.now.offset fault }
 {
     match fault {
         SendFault::Other => {
@@ -62,7 +73,9 @@ fn told(named: &NamedSlice, fault: SendFault) -> CommandFault
                 Why::Stale(Some(named.number)),
             )
         }
-        SendFault::Device => CommandFault::Input(InputName::Archive(named.input), Why::Device),
+        SendFault::Device => {
+            CommandFault::Input(InputName::Archive(named.input), unread(named.offset))
+        }
         SendFault::Sink(written) => CommandFault::Output(written),
     }
 }
