@@ -1,0 +1,4 @@
+pub mod Steps
+pub mod Numbering
+pub mod LineText
+pub mod LineTable
