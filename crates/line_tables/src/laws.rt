@@ -20,6 +20,7 @@ pub fn frames_by_step()
         → AreFramesOf image address (frames_at steps found) }
 {
     one_list_of_frames();
+    one_step();
 }
 
 /// An image has one list of steps.
@@ -41,4 +42,5 @@ pub fn one_line_table()
     ensures { (image bytes others : List ℕ) → IsLineTable image bytes → IsLineTable image others → bytes ≡ others }
 {
     one_list_of_steps();
+    one_text();
 }
