@@ -1,1 +1,4 @@
 pub mod StepLemmas
+pub mod NumberingLemmas
+pub mod SameLemmas
+pub mod ChainLemmas
