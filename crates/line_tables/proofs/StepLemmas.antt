@@ -78,17 +78,17 @@ member_at xs k a l e = subst (Contains xs) e (Contains-get_or xs k 0 l)
 
 -- ---- steps
 
-no_step : StepRecord
+pub no_step : StepRecord
 no_step = record { start = 0; frames = [] }
 
 -- where a step starts, as one of the starts
-start_at : (steps : List StepRecord) (k : ℕ) (d : StepRecord) (e : ℕ) → k < length steps → get_or (starts_of steps) k e ≡ (get_or steps k d).start
+pub start_at : (steps : List StepRecord) (k : ℕ) (d : StepRecord) (e : ℕ) → k < length steps → get_or (starts_of steps) k e ≡ (get_or steps k d).start
 start_at steps k d e l = get_or-map (λ s. s.start) steps k d e l
 
-starts_long : (steps : List StepRecord) → length (starts_of steps) ≡ length steps
+pub starts_long : (steps : List StepRecord) → length (starts_of steps) ≡ length steps
 starts_long steps = length-map steps (λ s. s.start)
 
-frames_there : (steps : List StepRecord) (k : ℕ) (d : StepRecord) → k < length steps → frames_at steps (Some k) ≡ (get_or steps k d).frames
+pub frames_there : (steps : List StepRecord) (k : ℕ) (d : StepRecord) → k < length steps → frames_at steps (Some k) ≡ (get_or steps k d).frames
 frames_there steps k d l = ap (λ (o : Option StepRecord). option_map_or (λ s. s.frames) o []) (slice_get-get_or steps k d l)
 
 last_at : (starts : List ℕ) (a k : ℕ) → AreAscending starts → k < length starts → get_or starts k 0 ≡ a → IsLastNotAbove starts a k
