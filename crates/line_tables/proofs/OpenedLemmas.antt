@@ -9,7 +9,7 @@ use Rattle.checked_pages.specs.declared.pages.Pages.{Pages}
 use Rattle.line_programs.specs.Paths.{PathRecord}
 use Rattle.source_frames.specs.Frames.{FrameRecord}
 use Rattle.line_tables.specs.Inner.{IsChainNumber, IsFileNumber, IsFileRow, IsLocation, IsMaybeChain, IsMaybeFile, IsMaybeText, IsStepRow, IsTextNumber, IsTextRow}
-use Rattle.line_tables.specs.LineText.{LineParts, file_bytes, files_in, line_text, location_bytes, parts_of, path_texts}
+use Rattle.line_tables.specs.LineText.{LineParts, file_bytes, line_text, location_bytes, parts_of}
 use Rattle.line_tables.specs.Numbering.{number_in, number_or_zero, same_chain, same_path, same_text}
 use Rattle.line_tables.specs.Opened.{IsOpened}
 use Rattle.line_tables.specs.Steps.{StepRecord}
@@ -19,7 +19,7 @@ use Rattle.line_tables.specs.declared.row.Step.{Step}
 use Rattle.line_tables.specs.declared.row.Text.{Text}
 use Rattle.line_tables.specs.declared.table.LineTable.{LineTable}
 use Rattle.line_tables.proofs.ChainLemmas.{HasNumber, chain_fits, chains_are, name_has, path_has, step_has, text_has}
-use Rattle.line_tables.proofs.NumberingLemmas.{Has, IsExact, number_within, numbered_at}
+use Rattle.line_tables.proofs.NumberingLemmas.{IsExact, number_within, numbered_at}
 use Rattle.line_tables.proofs.SameLemmas.{chain_decides, path_decides, text_decides}
 use Rattle.line_tables.proofs.TextLemmas.{base_in, caller_in, column_in, directory_in, file_in, file_name_in, file_there, first_byte, first_file, first_location, first_text, length-line_text, length_in, line_in, location_in, location_there, name_in, place_in, place_of, start_in, step_there, text_there, text_within}
 
@@ -138,8 +138,6 @@ module _ (table : LineTable) (pages : Pages) (text all : List ℕ) (steps : List
       let here : bytes ≡ file_bytes parts path =
       came_as bytes n offset 12 (first_file parts + 12 * index) long (omega (arith, at, opened.head.steps, opened.head.locations)) came
       ∙ file_there steps index path within ∙ ap (file_bytes parts) (get_or_from_slice_get parts.files index path path stands) in
-      let few = λ (told : List ℕ). omega (arith, number_within same_text text_decides parts.texts told, opened.widths.few.texts) in
-      let has = λ (told : List ℕ) (h : Has (path_texts path) told). text_has parts.chains parts.files index path told stands h in
       let base_is : row.base ≡ number_in same_text parts.texts path.base = base ∙ ap (λ b. from_be_bytes w32 (take 4 (drop 0 b))) here ∙ base_in parts path (omega (arith, number_within same_text text_decides parts.texts path.base, opened.widths.few.texts)) in
       let directory_is : row.directory ≡ number_in same_text parts.texts path.directory = directory ∙ ap (λ b. from_be_bytes w32 (take 4 (drop 4 b))) here ∙ directory_in parts path (omega (arith, number_within same_text text_decides parts.texts path.directory, opened.widths.few.texts)) in
       let name_is : row.name ≡ number_in same_text parts.texts path.name = name ∙ ap (λ b. from_be_bytes w32 (take 4 (drop 8 b))) here ∙ file_name_in parts path (omega (arith, number_within same_text text_decides parts.texts path.name, opened.widths.few.texts)) in

@@ -1,6 +1,7 @@
 -- The head of a line table.
 use Rattle.std.proofs.Common.{◌≡◌, ℕ, ◌+◌, ◌*◌, ◌<◌, ◌≤◌, ◌^◌, List, length, take, drop, refl, sym, ap, ◌∙◌, subst, inl, inr, ◌⊎◌, arith, length-drop, lit<}
-use Rattle.std.specs.Prelude.{max}
+use Rattle.std.specs.Prelude.{Option, Some, None, MatchOption}
+use Rattle.std.proofs.lemmas.Option.{MatchOption-at_none, MatchOption-at_some}
 use Rattle.std.specs.Int.{w64, from_be_bytes}
 use Rattle.std.specs.List.{concat}
 use Rattle.std.proofs.lemmas.Nat.{from_be_bytes-to_be_bytes_8}
@@ -146,3 +147,17 @@ opens_not image all bytes offset size head stands is has some long none = by_tex
         let says = says_parts head is.steps bytes h.0.few h.1 has in
         none (omega (arith, stands.0, ap length stands.1, length-drop offset all, ap length h.1, length-line_text is.steps, long, says.steps, says.locations, says.files, says.texts, says.bytes))
     by_text (inr h) = some (no_lines_read head bytes h.1 has)
+
+-- ---- what was opened
+
+abbrev Opens : List ℕ → List ℕ → List ℕ → Pages → LineTable → Type 0
+Opens image all text pages table = (steps : List StepRecord) × AreFrameSteps image steps × IsOpened table pages text all steps
+
+pub found_some : (image all bytes text : List ℕ) (pages : Pages) (o : Option LineTable) (table : LineTable) → o ≡ Some table
+    → MatchOption o (bytes ≡ no_lines) (λ t. (steps : List StepRecord) × AreFrameSteps image steps × IsOpened t pages text all steps)
+    → (steps : List StepRecord) × AreFrameSteps image steps × IsOpened table pages text all steps
+found_some image all bytes text pages o table is found = MatchOption-at_some (bytes ≡ no_lines) (Opens image all text pages) table is found
+
+pub found_none : (image all bytes text : List ℕ) (pages : Pages) (o : Option LineTable) → o ≡ None
+    → MatchOption o (bytes ≡ no_lines) (λ t. (steps : List StepRecord) × AreFrameSteps image steps × IsOpened t pages text all steps) → bytes ≡ no_lines
+found_none image all bytes text pages o is found = MatchOption-at_none (bytes ≡ no_lines) (Opens image all text pages) is found

@@ -43,7 +43,10 @@ above_from steps address middle row rising is within above j low l =
     let here : get_or (starts_of steps) middle 0 ≡ row.start = start_at steps middle no_step 0 within ∙ sym (is.start no_step) in
     elim (cases_lt middle j) [
       | inl k ↦ omega (arith, here, above, rising middle j k l)
-      | inr k ↦ subst (λ n. address < get_or (starts_of steps) n 0) (omega (arith, low, k)) (omega (arith, here, above))
+      | inr k ↦
+          let same : middle ≡ j = omega (arith, low, k) in
+          let first : address < get_or (starts_of steps) middle 0 = omega (arith, here, above) in
+          subst (λ n. address < get_or (starts_of steps) n 0) same first
     ]
 
 -- the step that is left when the halving ends
@@ -75,6 +78,9 @@ pushed items more frame f fs rest chain is view next e =
     ap (λ xs. owned_frames xs ++ fs) is ∙ ap (λ xs. xs ++ fs) (map-append owned_frame_view items (frame ∷ []))
     ∙ append_assoc (owned_frames items) (owned_frame_view frame ∷ []) fs ∙ ap (λ (x : FrameRecord). owned_frames items ++ x ∷ fs) view
     ∙ ap (λ (xs : List FrameRecord). owned_frames items ++ xs) (sym next) ∙ e
+
+pub none_yet : (items : List OwnedFrame) (chain : List FrameRecord) → items ≡ [] → owned_frames items ++ chain ≡ chain
+none_yet items chain none = ap (λ (xs : List OwnedFrame). owned_frames xs ++ chain) none
 
 pub too_long : (items : List OwnedFrame) (f : FrameRecord) (fs rest chain : List FrameRecord) → length items ≡ 256 → rest ≡ f ∷ fs → owned_frames items ++ rest ≡ chain → length chain ≤ 256 → ⊥
 too_long items f fs rest chain long next e few =

@@ -4,9 +4,8 @@ use Rattle.std.proofs.lemmas.Option.{same_Some}
 use Rattle.checked_pages.specs.Pages.{AreStored}
 use Rattle.checked_pages.specs.Views.{claim_view}
 use Rattle.checked_pages.proofs.ReadLemmas.{after_ok, passed_on}
-use Rattle.std.specs.Prelude.{MatchOption}
 use Rattle.checked_pages.proofs.PageLemmas.{may_be}
-use Rattle.line_tables.specs.LineTable.{no_lines}
+use Rattle.line_tables.proofs.OpeningLemmas.{found_none, found_some}
 use Rattle.line_tables.proofs.asking.frames_by_claim.Goals as goal
 
 pub returns-in_err-pages : goal.returns-in_err-pages
@@ -32,8 +31,7 @@ returns-in_default g c =
     let table = after_ok _ _ _ _ _ _ _ _ opened.keeps opened.counts c.in_ok-table.ensures.read in
     record {
       says = λ text known image all bytes is stands may.
-          let found = table.says text known image all bytes (opened.says text known all may) stands is in
-          subst (λ o. MatchOption o (bytes ≡ no_lines) _) c.in_default.is found;
+          found_none image all bytes text c.open-2.new.pages _ c.in_default.is (table.says text known image all bytes (opened.says text known all may) stands is);
       keeps = table.keeps;
       counts = table.counts;
     }
@@ -45,7 +43,7 @@ returns-in_err-frames g c =
     let table = after_ok _ _ _ _ _ _ _ _ opened.keeps opened.counts c.in_ok-table.ensures.read in
     passed_on _ _ _ _ _ _ _ _ _ _ _ c.in_err-frames.was (p.1 ∙ ap Err p.2)
     (λ text known absent long image all bytes is stands stored.
-    let found = subst (λ o. MatchOption o _ _) c.in-Some.is (table.says text known image all bytes (opened.says text known all (may_be text all (claim_view c.args.claim) stored)) stands is) in
+    let found = found_some image all bytes text c.open-2.new.pages _ c.in-Some.table c.in-Some.is (table.says text known image all bytes (opened.says text known all (may_be text all (claim_view c.args.claim) stored)) stands is) in
     absent image all found.0 (subst (λ claim. AreStored text (claim_view claim) all) (sym (c.in_ok-table.ensures.claim ∙ c.in_ok-pages.ensures.claim)) stored) found.1 found.2)
     (after_ok _ _ _ _ _ _ _ _ table.keeps table.counts c.frames_at.ensures.read)
 
@@ -56,7 +54,7 @@ returns g c =
     let frames = after_ok _ _ _ _ _ _ _ _ table.keeps table.counts c.in_ok-frames.ensures.read in
     record {
       says = λ text known image all bytes is stands may.
-          let found = subst (λ o. MatchOption o _ _) c.in-Some.is (table.says text known image all bytes (opened.says text known all may) stands is) in
+          let found = found_some image all bytes text c.open-2.new.pages _ c.in-Some.table c.in-Some.is (table.says text known image all bytes (opened.says text known all may) stands is) in
           frames.says text known image all found.0 found.1 found.2;
       keeps = frames.keeps;
       counts = frames.counts;

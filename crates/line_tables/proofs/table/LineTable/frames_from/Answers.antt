@@ -7,7 +7,7 @@ use Rattle.checked_pages.proofs.ReadLemmas.{after_ok, passed_on}
 use Rattle.source_frames.specs.Frames.{FrameRecord}
 use Rattle.line_tables.specs.LineText.{parts_of}
 use Rattle.line_tables.proofs.OpenedLemmas.{kept}
-use Rattle.line_tables.proofs.SearchLemmas.{all_told, maybe_cons, maybe_nil, pushed, too_long}
+use Rattle.line_tables.proofs.SearchLemmas.{all_told, maybe_cons, maybe_nil, none_yet, pushed, too_long}
 use Rattle.line_tables.proofs.table.LineTable.frames_from.Goals as goal
 
 pub callers-init : goal.callers-init
@@ -16,15 +16,15 @@ callers-init g c = record {
   whole = refl;
   unfailed = refl;
   keeps = λ text all known pages. pages;
-  told = λ text all steps chain known opened is few. (chain, is, refl);
+  told = λ text all steps chain known opened is few. (chain, is, none_yet c.new-frames.result.items chain c.new-frames.ensures.items);
 }
 
-pub returns-then-frames-MOST_FRAMES-clause-read : goal.returns-then-frames-MOST_FRAMES-clause-read
-returns-then-frames-MOST_FRAMES-clause-read g c = record {
+pub returns-then-len-eq-MOST_FRAMES-clause-read : goal.returns-then-len-eq-MOST_FRAMES-clause-read
+returns-then-len-eq-MOST_FRAMES-clause-read g c = record {
   says = λ text known all steps chain stored opened is few.
       let told = c.callers.invariant.told text all steps chain known opened is few in
       let next = maybe_cons (parts_of steps) c.callers.number told.0 c.callers-test.true told.1 in
-      too_long c.callers.frames.items next.0 next.1 told.0 chain c.if-frames-MOST_FRAMES.true next.2 told.2 few;
+      too_long c.callers.frames.items next.0 next.1 told.0 chain (omega (arith, c.if-len-eq-MOST_FRAMES.true, c.len.ensures)) next.2 told.2 few;
   keeps = c.callers.invariant.whole;
   counts = c.callers.invariant.unfailed;
 }

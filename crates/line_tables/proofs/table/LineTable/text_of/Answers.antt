@@ -4,6 +4,7 @@ use Rattle.std.proofs.lemmas.Option.{same_Some}
 use Rattle.checked_pages.specs.Pages.{AreStored}
 use Rattle.checked_pages.specs.Views.{claim_view}
 use Rattle.checked_pages.proofs.ReadLemmas.{after_ok, passed_on}
+use Rattle.std.proofs.lemmas.List.{take_at}
 use Rattle.line_tables.proofs.OpenedLemmas.{opened_long, text_ends, text_read}
 use Rattle.line_tables.proofs.table.LineTable.text_of.Goals as goal
 
@@ -27,8 +28,10 @@ returns-in_err-read-clause-read g c =
 pub returns-clause-read : goal.returns-clause-read
 returns-clause-read g c = record {
   says = λ text known all steps index opened within is.
-      text_read _ _ _ _ _ opened _ index _ _ c.args.row within is (c.read.auto.buf ∙ c.in_ok-bytes.ensures.long)
-      (omega (arith, c.first_byte.ensures, c.from-3.ensures)) (c.in_ok-read.ensures.read.says text known all opened.are_pages);
+      let long = ap length c.deref_mut.ensures.value in
+      text_read _ _ _ _ _ opened c.read.new.buf index (length c.read.new.buf) _ c.args.row within is (omega (arith, c.read.auto.buf, long, c.in_ok-bytes.ensures.long))
+      (omega (arith, c.first_byte.ensures, c.from-3.ensures)) (c.in_ok-read.ensures.read.says text known all opened.are_pages)
+      ∙ ap Some (sym (take_at c.read.new.buf _ c.in_ok-bytes.bytes.len (omega (arith, c.read.auto.buf, long, c.in_ok-bytes.bytes.ok.0))));
   keeps = c.in_ok-read.ensures.read.keeps;
   counts = c.in_ok-read.ensures.read.counts;
 }
