@@ -1,7 +1,6 @@
 -- What is read of a line table that was opened.
-use Rattle.std.proofs.Common.{◌≡◌, ℕ, zero, suc, ◌+◌, ◌*◌, ◌-◌, ◌<◌, ◌≤◌, ◌^◌, Bool, List, [], ◌∷◌, length, take, drop, get_or, refl, sym, ap, ◌∙◌, subst, arith, length-drop, Option, Some, None, slice_get}
+use Rattle.std.proofs.Common.{◌≡◌, ℕ, ◌+◌, ◌*◌, ◌<◌, ◌≤◌, ◌^◌, Bool, List, [], ◌∷◌, length, take, drop, get_or, refl, sym, ap, ◌∙◌, subst, arith, length-drop, Option, Some, None, slice_get}
 use Rattle.std.specs.Int.{w32, w64, from_be_bytes}
-use Rattle.std.specs.List.{concat}
 use Rattle.std.proofs.lemmas.List.{drop-drop}
 use Rattle.std.proofs.lemmas.Option.{slice_get-get_or, slice_get_within, get_or_from_slice_get}
 use Rattle.checked_pages.specs.Views.{ArePagesOf}
@@ -105,14 +104,16 @@ module _ (table : LineTable) (pages : Pages) (text all : List ℕ) (steps : List
         let fit = chain_fits steps opened.widths.lines index f fs stands in
         let callers_few : number_in same_chain parts.chains fs < 2 ^ 32 = omega (arith, number_within same_chain chain_decides parts.chains fs, opened.widths.few.chains) in
         let caller_is : row.caller ≡ number_in same_chain parts.chains fs = caller ∙ ap (λ b. from_be_bytes w32 (take 4 (drop 16 b))) here ∙ caller_in parts f fs callers_few in
-        let below = (chains_are steps).callers f fs (omega (arith, is.is, is.some)) in
-        (record {
-          name = maybe_name row.name f.name refl (name ∙ ap (λ b. from_be_bytes w32 (take 4 (drop 0 b))) here ∙ name_in parts f fs texts_few);
-          file = maybe_file row.file f.path refl (file ∙ ap (λ b. from_be_bytes w32 (take 4 (drop 4 b))) here ∙ file_in parts f fs files_few);
-          line = line ∙ ap (λ b. from_be_bytes w32 (take 4 (drop 8 b))) here ∙ line_in parts f fs fit.0;
-          column = column ∙ ap (λ b. from_be_bytes w32 (take 4 (drop 12 b))) here ∙ column_in parts f fs fit.1;
-          caller = maybe_chain fs row.caller caller_is below.0;
-        }, omega (arith, caller_is, below.1, is.is))
+        let below = (chains_are steps).callers f fs (omega (arith, is.is, is.some)) in (
+          record {
+            name = maybe_name row.name f.name refl (name ∙ ap (λ b. from_be_bytes w32 (take 4 (drop 0 b))) here ∙ name_in parts f fs texts_few);
+            file = maybe_file row.file f.path refl (file ∙ ap (λ b. from_be_bytes w32 (take 4 (drop 4 b))) here ∙ file_in parts f fs files_few);
+            line = line ∙ ap (λ b. from_be_bytes w32 (take 4 (drop 8 b))) here ∙ line_in parts f fs fit.0;
+            column = column ∙ ap (λ b. from_be_bytes w32 (take 4 (drop 12 b))) here ∙ column_in parts f fs fit.1;
+            caller = maybe_chain fs row.caller caller_is below.0;
+          },
+          omega (arith, caller_is, below.1, is.is),
+        )
 
   pub location_read : (bytes : List ℕ) (number index n offset : ℕ) (row : Location) (f : FrameRecord) (fs : List FrameRecord) → IsChainNumber (parts_of steps) number (f ∷ fs) → index + 1 ≡ number
       → n ≡ 20 → offset ≡ table.offset + 48 + 12 * table.steps + 20 * index → bytes ≡ take n (drop offset all)

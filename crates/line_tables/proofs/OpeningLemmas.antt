@@ -1,5 +1,5 @@
 -- The head of a line table.
-use Rattle.std.proofs.Common.{◌≡◌, ℕ, ◌+◌, ◌*◌, ◌<◌, ◌≤◌, ◌^◌, List, length, take, drop, refl, sym, ap, ◌∙◌, subst, inl, inr, ◌⊎◌, arith, length-drop, lit<}
+use Rattle.std.proofs.Common.{◌≡◌, ℕ, ◌+◌, ◌*◌, ◌≤◌, List, length, take, drop, refl, sym, ap, ◌∙◌, subst, inl, inr, arith, length-drop, lit<}
 use Rattle.std.specs.Prelude.{Option, Some, None, MatchOption}
 use Rattle.std.proofs.lemmas.Option.{MatchOption-at_none, MatchOption-at_some}
 use Rattle.std.specs.Int.{w64, from_be_bytes}
@@ -7,13 +7,13 @@ use Rattle.std.specs.List.{concat}
 use Rattle.std.proofs.lemmas.Nat.{from_be_bytes-to_be_bytes_8}
 use Rattle.checked_pages.specs.Views.{ArePagesOf}
 use Rattle.checked_pages.specs.declared.pages.Pages.{Pages}
-use Rattle.line_tables.specs.LineTable.{AreFew, FitsLines, IsLineTable, IsLineTextWithin, no_lines, room_of}
+use Rattle.line_tables.specs.LineTable.{AreFew, IsLineTable, IsLineTextWithin, no_lines, room_of}
 use Rattle.line_tables.specs.LineText.{LineParts, head_bytes, line_text, parts_of}
-use Rattle.line_tables.specs.Opened.{HaveWidths, IsHeadOf, IsOpened, StandsAt}
+use Rattle.line_tables.specs.Opened.{IsOpened, StandsAt}
 use Rattle.line_tables.specs.Steps.{AreFrameSteps, StepRecord}
 use Rattle.line_tables.specs.declared.opening.Head.{Head}
 use Rattle.line_tables.specs.declared.table.LineTable.{LineTable}
-use Rattle.line_tables.proofs.TextLemmas.{first_byte, head_there, length-line_text}
+use Rattle.line_tables.proofs.TextLemmas.{head_there, length-line_text}
 
 length-no_lines : length no_lines ≡ 48
 unfolding no_lines
@@ -122,19 +122,22 @@ opens_some image all bytes text pages offset head table are stands is has some m
   where
     by_text : IsLineTextWithin (room_of image) is.steps bytes → (steps : List StepRecord) × AreFrameSteps image steps × IsOpened table pages text all steps
     by_text (inl h) =
-        let says = says_parts head is.steps bytes h.0.few h.1 has in
-        (is.steps, is.are_steps, record {
-          are_pages = are;
-          stands = subst (λ n. StandsAt all n (line_text is.steps)) (sym made.offset_is) (stands.0, stands.1 ∙ h.1);
-          widths = record { starts = is.are_steps.below; lines = h.0.lines; few = h.0.few };
-          head = record {
-            steps = made.steps ∙ says.steps;
-            locations = made.locations ∙ says.locations;
-            files = made.files ∙ says.files;
-            texts = made.texts ∙ says.texts;
-            bytes = made.bytes ∙ says.bytes;
-          };
-        })
+        let says = says_parts head is.steps bytes h.0.few h.1 has in (
+          is.steps,
+          is.are_steps,
+          record {
+            are_pages = are;
+            stands = subst (λ n. StandsAt all n (line_text is.steps)) (sym made.offset_is) (stands.0, stands.1 ∙ h.1);
+            widths = record { starts = is.are_steps.below; lines = h.0.lines; few = h.0.few };
+            head = record {
+              steps = made.steps ∙ says.steps;
+              locations = made.locations ∙ says.locations;
+              files = made.files ∙ says.files;
+              texts = made.texts ∙ says.texts;
+              bytes = made.bytes ∙ says.bytes;
+            };
+          },
+        )
     by_text (inr h) = absurd (some (no_lines_read head bytes h.1 has))
 
 pub opens_not : (image all bytes : List ℕ) (offset size : ℕ) (head : Head) → StandsAt all offset bytes → IsLineTable image bytes → IsHead head (take 48 bytes)

@@ -1,5 +1,5 @@
 -- The halving over the steps of a table.
-use Rattle.std.proofs.Common.{◌≡◌, ◌≢◌, ℕ, zero, suc, ◌+◌, ◌<◌, ◌≤◌, List, [], ◌∷◌, ◌++◌, length, map, get_or, refl, sym, ap, ◌∙◌, subst, inl, inr, arith, length-append, Option, Some, None}
+use Rattle.std.proofs.Common.{◌≡◌, ℕ, zero, suc, ◌+◌, ◌<◌, ◌≤◌, List, [], ◌∷◌, ◌++◌, length, get_or, refl, sym, ap, ◌∙◌, subst, inl, inr, arith, length-append, Option, Some, None}
 use Rattle.std.proofs.lemmas.Bool.{cases_lt}
 use Rattle.std.proofs.lemmas.List.{append-nil, append_assoc, map-append}
 use Rattle.std.proofs.Math.ListN.{length-map}
@@ -54,12 +54,15 @@ pub found_of : (steps : List StepRecord) (address low high number : ℕ) → low
     → (found : Option ℕ) × IsStepFor (starts_of steps) address found × IsMaybeChain (parts_of steps) number (frames_at steps found)
 found_of steps address zero high number within ends above best = (None, λ j l. above j (omega (arith, ends)) l, best.none refl)
 found_of steps address (suc k) high number within ends above best =
-    let here = best.some k (omega arith) in
-    (Some k, record {
-      stands = omega (arith, here.0, starts_long steps);
-      not_above = here.1;
-      others = λ j l m. above j (omega (arith, ends, within, l)) m;
-    }, here.2)
+    let here = best.some k (omega arith) in (
+      Some k,
+      record {
+        stands = omega (arith, here.0, starts_long steps);
+        not_above = here.1;
+        others = λ j l m. above j (omega (arith, ends, within, l)) m;
+      },
+      here.2,
+    )
 
 -- ---- the chain of a location
 

@@ -1,5 +1,5 @@
 -- The frames of an address by the steps of its image, and that these are one list.
-use Rattle.std.proofs.Common.{◌≡◌, ◌≢◌, ℕ, zero, suc, ◌<◌, ◌≤◌, ◌^◌, List, [], ◌∷◌, length, map, get_or, refl, sym, ap, ◌∙◌, subst, inl, inr, arith, Contains, Option, Some, None, ◌⊎◌, slice_get}
+use Rattle.std.proofs.Common.{◌≡◌, ℕ, zero, suc, ◌<◌, ◌^◌, List, [], ◌∷◌, length, get_or, refl, sym, ap, ◌∙◌, subst, inl, inr, arith, Contains, Option, Some, None, ◌⊎◌}
 use Rattle.std.specs.Option.{option_map_or}
 use Rattle.std.proofs.lemmas.Bool.{cases_eq}
 use Rattle.std.proofs.lemmas.List.{get_or-map, get_or_default, same_lists}
@@ -8,7 +8,7 @@ use Rattle.std.proofs.lemmas.Option.{slice_get-get_or}
 use Rattle.std.proofs.Math.ListN.{length-map}
 use Rattle.source_frames.specs.AddressFrames.{AreFramesOf}
 use Rattle.source_frames.specs.Frames.{FrameRecord}
-use Rattle.line_tables.specs.Steps.{StepRecord, starts_of, AreAscending, AreFramesBefore, Changes, Stays, AreFrameSteps, IsLastNotAbove, AreAbove, IsStepFor, frames_at}
+use Rattle.line_tables.specs.Steps.{StepRecord, starts_of, AreAscending, AreFramesBefore, Changes, Stays, AreFrameSteps, IsLastNotAbove, IsStepFor, frames_at}
 
 -- ---- numbers that ascend
 

@@ -1,9 +1,6 @@
-use Rattle.std.proofs.Common.{◌≡◌, ◌≢◌, ℕ, ◌+◌, ◌-◌, ◌/◌, ◌*◌, ◌<◌, ◌≤◌, List, [], ◌∷◌, ◌++◌, length, Ok, Err, Some, None, Option, refl, ap, sym, subst, ◌∙◌, arith}
+use Rattle.std.proofs.Common.{length, Err, refl, ap, ◌∙◌, arith}
 use Rattle.std.proofs.lemmas.Result.{err_from_is_err_and}
-use Rattle.std.proofs.lemmas.Option.{same_Some}
-use Rattle.checked_pages.specs.Pages.{AreStored}
-use Rattle.checked_pages.specs.Views.{claim_view}
-use Rattle.checked_pages.proofs.ReadLemmas.{after_ok, passed_on}
+use Rattle.checked_pages.proofs.ReadLemmas.{passed_on}
 use Rattle.line_tables.proofs.OpenedLemmas.{file_number, file_read, opened_long}
 use Rattle.line_tables.proofs.table.LineTable.file_row.Goals as goal
 

@@ -1,9 +1,6 @@
-use Rattle.std.proofs.Common.{◌≡◌, ◌≢◌, ℕ, ◌+◌, ◌-◌, ◌/◌, ◌*◌, ◌<◌, ◌≤◌, List, [], ◌∷◌, ◌++◌, length, Ok, Err, Some, None, Option, refl, ap, sym, subst, ◌∙◌, arith}
+use Rattle.std.proofs.Common.{Err, Some, refl, ap, sym, ◌∙◌}
 use Rattle.std.proofs.lemmas.Result.{err_from_is_err_and}
-use Rattle.std.proofs.lemmas.Option.{same_Some}
-use Rattle.checked_pages.specs.Pages.{AreStored}
-use Rattle.checked_pages.specs.Views.{claim_view}
-use Rattle.checked_pages.proofs.ReadLemmas.{after_ok, passed_on}
+use Rattle.checked_pages.proofs.ReadLemmas.{passed_on}
 use Rattle.line_tables.proofs.OpenedLemmas.{no_text, some_text}
 use Rattle.line_tables.specs.LineText.{parts_of}
 use Rattle.line_tables.proofs.table.LineTable.maybe_text.Goals as goal
