@@ -40,7 +40,8 @@ IsMaybeChain parts number [] = number ≡ 0
 IsMaybeChain parts number (frame ∷ callers) = IsChainNumber parts number (frame ∷ callers)
 
 -- a row is that of a chain
-pub record IsLocation (parts : LineParts) (row : Location) (frame : FrameRecord) (callers : List FrameRecord) : Type 0 where
+pub record IsLocation (parts : LineParts) (row : Location) (frame : FrameRecord) (callers : List FrameRecord)
+    : Type 0 where
   pub name : IsMaybeText parts row.name frame.name
   pub file : IsMaybeFile parts row.file frame.path
   pub line : row.line ≡ frame.line

@@ -4,12 +4,12 @@
 //! innermost one. A location says its function, file, line and column, and the location of its caller, which has a
 //! smaller number. So an answer is one halving over one list, and a chain that falls.
 //!
-//! - `row`: the rows of a table, 12 or 20 or 8 bytes each; `table`: [`LineTable`], a table whose head was read, and where
-//!   its parts stand;
+//! - `row`: the rows of a table, of 12, 20 or 8 bytes; `table`: [`LineTable`], a table whose head was read, and
+//!   where its parts stand;
 //! - `opening`: [`LineTable::open`]; `search`: the step that an address belongs to;
 //! - `frame`: [`OwnedFrame`]; `texts`, `files`: the texts and paths of a table by their numbers;
-//! - `asking`: [`LineTable::frames_at`], the frames of an address, and [`frames_by_claim`], of a table that is opened for
-//!   it;
+//! - `asking`: [`LineTable::frames_at`], the frames of an address, and [`frames_by_claim`], of a table that is opened
+//!   for it;
 //! - `laws`: what the definitions say of each other.
 //!
 //! Decided:
