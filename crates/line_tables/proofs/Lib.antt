@@ -1,0 +1,9 @@
+pub mod StepLemmas
+pub mod NumberingLemmas
+pub mod SameLemmas
+pub mod ChainLemmas
+pub mod TextLemmas
+pub mod OpenedLemmas
+pub mod OpeningLemmas
+pub mod SearchLemmas
+mod CountLemmas
