@@ -1,0 +1,4 @@
+mod NumbersLemmas
+mod FirstUsesLemmas
+mod KeptLemmas
+mod KeyLemmas
