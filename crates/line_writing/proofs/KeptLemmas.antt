@@ -139,7 +139,7 @@ grows_on one two three a b = record {
   locations = goes_further one.locations two.locations three.locations a.locations b.locations;
 }
 
-longer_on : {A : Type 0} (old new : List A) → GoesOn old new → length old ≤ length new
+pub longer_on : {A : Type 0} (old new : List A) → GoesOn old new → length old ≤ length new
 longer_on old new h = omega (arith, ap length h.is, length-append old h.more)
 
 or_on : {A : Type 0} (old new : List A) (d : A) (n : ℕ) → GoesOn old new → n ≤ length old → numbered_or new d n ≡ numbered_or old d n

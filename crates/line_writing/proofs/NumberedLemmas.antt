@@ -1,7 +1,7 @@
 -- Things in the order of their first use, and their numbers.
 use Rattle.std.proofs.Common.{◌≡◌, ℕ, zero, suc, ◌+◌, ◌<◌, ◌≤◌, Bool, true, false, cond, nat_eq, List, [], ◌∷◌, ◌++◌, map, length, get_or, Option, Some, None, refl, sym, ap, ◌∙◌, inl, inr, arith, unwrap_or, subst}
 use Rattle.std.specs.List.{list_any, position_from}
-use Rattle.std.proofs.lemmas.Bool.{cases_Bool, eqb-true, eq-eqb}
+use Rattle.std.proofs.lemmas.Bool.{cases_Bool, eqb-true, eq-eqb, ne_eqb}
 use Rattle.std.proofs.lemmas.List.{map-append}
 use Rattle.line_tables.specs.Numbering.{number_in, numbered_after, numbered_with, number_or_zero}
 use Rattle.line_tables.proofs.NumberingLemmas.{IsExact}
@@ -79,7 +79,7 @@ module _ {A : Type 0} (P : ℕ → Type 0) (f : ℕ → A) (same : A → A → B
 none_zero : (count : ℕ) (xs : List ℕ) → Each (IsNumber count) xs → list_any (nat_eq 0) xs ≡ false
 none_zero count [] each = refl
 none_zero count (zero ∷ xs) each = absurd (omega (arith, each.0.some))
-none_zero count (suc x ∷ xs) each = none_zero count xs each.1
+none_zero count (suc x ∷ xs) each = let ne : nat_eq 0 (suc x) ≡ false = ne_eqb 0 (suc x) (λ e. omega (arith, e)) in rw ne (none_zero count xs each.1)
 
 pub no_zero : (count : ℕ) (xs : List ℕ) → Each (IsNumber count) xs → number_in nat_eq xs 0 ≡ 0
 no_zero count xs each = number_zero xs 0 (none_zero count xs each)

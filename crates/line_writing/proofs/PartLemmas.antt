@@ -101,7 +101,7 @@ module _ (k : KeptRecord) (kept : IsKept k) where
   path_uses_are : (files : List ℕ) → Each (IsNumber (length k.files)) files → Each (IsNumber (length k.texts)) (path_uses k files)
   path_uses_are [] each = tt
   path_uses_are (n ∷ files) each =
-      let is = kept.each_file n each.0 in (is.base, is.directory, is.name, path_uses_are files each.1)
+      let is = kept.each_file n each.0 in (is.base, (is.directory, (is.name, path_uses_are files each.1)))
 
   pub text_uses_are : (locations files : List ℕ) → Each IsLocationNumber locations → Each (IsNumber (length k.files)) files → Each (IsNumber (length k.texts)) (name_uses k locations ++ path_uses k files)
   text_uses_are locations files a b = each_append (IsNumber (length k.texts)) (name_uses k locations) (path_uses k files) (name_uses_are locations a) (path_uses_are files b)

@@ -1,9 +1,11 @@
 -- The whole bytes of a table, by numbers. No contract of a public function has these words.
-use Rattle.std.specs.Prelude.{ℕ, List, [], ◌++◌, ◌≡◌, flat_map, length, nat_eq}
+use Rattle.std.specs.Prelude.{ℕ, List, [], ◌++◌, ◌≡◌, flat_map, length, nat_eq, Option, Some, None}
 use Rattle.std.specs.Int.{w64, to_be_bytes}
 use Rattle.std.specs.List.{concat}
-use Rattle.line_tables.specs.LineText.{text_rows}
+use Rattle.line_tables.specs.LineTable.{FitsLines}
+use Rattle.line_tables.specs.LineText.{line_text, text_rows}
 use Rattle.line_tables.specs.Numbering.{numbered_after}
+use Rattle.line_tables.specs.Steps.{StepRecord}
 use Rattle.line_writing.specs.Kept.{KeptRecord}
 use Rattle.line_writing.specs.PartBytes.{file_rows, location_rows, step_row, texts_at}
 use Rattle.line_writing.specs.PartNumbers.{file_uses, location_uses, name_uses, path_uses}
@@ -30,3 +32,8 @@ text_of_parts k steps locations files texts =
     ++ (file_rows k texts files
     ++ (text_rows 0 (texts_at k texts)
     ++ concat (texts_at k texts)))))
+
+-- the bytes of the table of steps, if it fits into so many
+abbrev pub IsTextIfFits : ℕ → List StepRecord → Option (List ℕ) → Type 0
+IsTextIfFits room steps None = FitsLines room steps → ⊥
+IsTextIfFits room steps (Some bytes) = FitsLines room steps × (bytes ≡ line_text steps)

@@ -15,14 +15,18 @@
 #![tactic(auto)]
 
 mod changes;
+mod finish;
 mod first_uses;
 mod kept;
 mod keys;
+pub mod laws;
 mod locate;
 mod lookups;
 mod numbers;
 mod parts;
+mod rows;
 mod step;
 mod store;
+mod texts;
 
 pub use store::LineStore;
