@@ -79,13 +79,15 @@ module _ (image : List ℕ) (one : (a : ℕ) (f g : List FrameRecord) → AreFra
 
   -- frames that stay are those of later addresses
   carried : (count low : ℕ) (before : List FrameRecord) → AreFramesBefore image low before → ((a : ℕ) → low ≤ a → a < low + count → Stays image a) → AreFramesBefore image (low + count) before
-  carried zero low before is stay = subst (λ n. AreFramesBefore image n before) (omega arith) is
+  carried zero low before is stay = let none : low ≡ low + 0 = omega arith in subst (λ n. AreFramesBefore image n before) none is
   carried (suc count) low before is stay =
       let earlier : AreFramesBefore image (low + count) before = carried count low before is (λ a from less. stay a from (omega arith)) in
       let s = stay (low + count) (omega arith) (omega arith) in
       let same : s.frames ≡ before = one_before (low + count) s.frames before s.are_before earlier in
       let here : AreFramesOf image (low + count) before = subst (AreFramesOf image (low + count)) same s.are_frames in
-      subst (λ n. AreFramesBefore image n before) (omega arith) (let next : AreFramesBefore image (suc (low + count)) before = here in next)
+      let next : AreFramesBefore image (suc (low + count)) before = here in
+      let more : suc (low + count) ≡ low + suc count = omega arith in
+      subst (λ n. AreFramesBefore image n before) more next
 
   record IsWalk (low : ℕ) (steps : List StepRecord) : Type 0 where
     pub rise : Rise low steps
@@ -163,20 +165,23 @@ module _ (image : List ℕ) (one : (a : ℕ) (f g : List FrameRecord) → AreFra
             let next : low ≡ suc s.start = omega (arith, again, up.0) in
             let same_frames : s.frames ≡ before = one s.start s.frames before frames.0 (subst (λ n. AreFramesBefore image n before) next is) in
             let t : same_chain s.frames before ≡ true = (chain_decides s.frames before).1 same_frames in
-            rw t (walk ss low before (subst (λ n. Up n ss) (omega (arith, next)) up.1) rest_below is frames.1 (λ a from less none. outside a from less (λ h. elim h [
+            let up_here : s.start + 1 ≡ low = omega (arith, next) in
+            rw t (walk ss low before (subst (λ n. Up n ss) up_here up.1) rest_below is frames.1 (λ a from less none. outside a from less (λ h. elim h [
               | inl e ↦ absurd (omega (arith, e, from, again))
               | inr more ↦ none more
             ])))
         | inr new ↦ elim (cases_Bool (same_chain s.frames before)) [
           | inl t ↦
               let same_frames : s.frames ≡ before = (chain_decides s.frames before).0 t in
-              let before_next : AreFramesBefore image (s.start + 1) before =
-              subst (λ n. AreFramesBefore image n before) (omega arith) (let next : AreFramesBefore image (suc s.start) before = subst (AreFramesOf image s.start) same_frames frames.0 in next) in
+              let next : AreFramesBefore image (suc s.start) before = subst (AreFramesOf image s.start) same_frames frames.0 in
+              let more : suc s.start ≡ s.start + 1 = omega arith in
+              let before_next : AreFramesBefore image (s.start + 1) before = subst (λ n. AreFramesBefore image n before) more next in
               rw t (kept_walk s ss low before new below up.1 is frames.0 outside same_frames
               (walk ss (s.start + 1) before up.1 rest_below before_next frames.1 (outside_next s ss low before new below up.1 is frames.0 outside)))
           | inr f ↦
-              let before_next : AreFramesBefore image (s.start + 1) s.frames =
-              subst (λ n. AreFramesBefore image n s.frames) (omega arith) (let next : AreFramesBefore image (suc s.start) s.frames = frames.0 in next) in
+              let next : AreFramesBefore image (suc s.start) s.frames = frames.0 in
+              let more : suc s.start ≡ s.start + 1 = omega arith in
+              let before_next : AreFramesBefore image (s.start + 1) s.frames = subst (λ n. AreFramesBefore image n s.frames) more next in
               rw f (changed_walk s ss low before new below up.1 is frames.0 outside (λ e. false≢true (sym f ∙ (chain_decides s.frames before).1 e))
               (walk ss (s.start + 1) s.frames up.1 rest_below before_next frames.1 (outside_next s ss low before new below up.1 is frames.0 outside)))
         ]

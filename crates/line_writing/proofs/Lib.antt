@@ -10,3 +10,4 @@ mod RowLemmas
 mod BytesLemmas
 mod StoreLemmas
 mod LeastLemmas
+mod AddedLemmas

@@ -3,6 +3,7 @@ use Rattle.std.proofs.Common.{◌≡◌, ℕ, zero, suc, ◌+◌, ◌<◌, ◌�
 use Rattle.std.specs.Int.{w32, w64, to_be_bytes}
 use Rattle.std.specs.List.{concat}
 use Rattle.std.proofs.lemmas.List.{append-nil, drop_all, drop_more, flat_map_more, length-append, take_all, take_more, map_more}
+use Rattle.std.specs.Option.{SomeIff}
 use Rattle.std.specs.Result.{OnOk}
 use Rattle.std.specs.declared.result.Result.{Result}
 use Rattle.std.specs.declared.result.Result.TheVariants.{Ok, Err}
@@ -130,3 +131,7 @@ too_much f xs i left most len less so_far is more =
 pub left_more : (f : ℕ → List ℕ) (xs : List ℕ) (i left most len next : ℕ) → i < length xs → left + length (concat (map f (take i xs))) ≡ most → len ≡ length (f (get_or xs i 0)) → next + len ≡ left → next + length (concat (map f (take (i + 1) xs))) ≡ most
 left_more f xs i left most len next less so_far is e =
     omega (arith, so_far, is, e, ap length (concat_more f xs i less), length-append (concat (map f (take i xs))) (f (get_or xs i 0)))
+
+pub none_not : (r : Option ℕ) (P : Type 0) (v : ℕ) → SomeIff r P v → r ≡ None → P → ⊥
+none_not None P v h is p = h p
+none_not (Some x) P v h is p = cc is

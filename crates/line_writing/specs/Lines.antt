@@ -17,6 +17,11 @@ abbrev pub after_step : Option (List StepRecord) → StepRecord → Option (List
 after_step None step = None
 after_step (Some added) step = if have_few_lines step.frames then Some (added ++ step ∷ []) else None
 
+-- what it has after those of some more
+abbrev pub after_steps : Option (List StepRecord) → List StepRecord → Option (List StepRecord)
+after_steps store [] = store
+after_steps store (step ∷ steps) = after_steps (after_step store step) steps
+
 -- steps, after these frames, without those whose frames are those of the one before
 unfoldable pub changes_after : List FrameRecord → List StepRecord → List StepRecord
 changes_after before [] = []
