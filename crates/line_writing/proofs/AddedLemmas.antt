@@ -135,15 +135,18 @@ after_all (s ∷ ss) before whole e = elim (cases_Bool (have_few_lines s.frames)
 
 all_by : (room : ℕ) (added : List StepRecord) (bytes : List ℕ) (store : Option (List StepRecord)) → after_steps (Some []) added ≡ store → IsWritten room store bytes → IsWritten room (Some added) bytes
 all_by room added bytes None e h =
-    let steps : List StepRecord = changes_after [] (in_order added) in
-    (steps, least_of added, inr (
-      λ fits.
-      let few : All (λ (s : StepRecord). All Few s.frames) (in_order added) = few_all (in_order added) [] (All-nil Few) fits.lines in
-      let gone : ◌≡◌ {A = Option (List StepRecord)} (Some added) None =
-      sym (after_few added [] (All-permutation (λ (s : StepRecord). All Few s.frames) (in_order added) added (IsPermutation-sym added (in_order added) (order_those added)) few)) ∙ e in
-      cc gone,
-      h,
-    ))
+    let steps : List StepRecord = changes_after [] (in_order added) in (
+      steps,
+      least_of added,
+      inr (
+        λ fits.
+            let few : All (λ (s : StepRecord). All Few s.frames) (in_order added) = few_all (in_order added) [] (All-nil Few) fits.lines in
+            let gone : ◌≡◌ {A = Option (List StepRecord)} (Some added) None =
+            sym (after_few added [] (All-permutation (λ (s : StepRecord). All Few s.frames) (in_order added) added (IsPermutation-sym added (in_order added) (order_those added)) few)) ∙ e in
+            cc gone,
+        h,
+      ),
+    )
 all_by room added bytes (Some whole) e h = subst (λ (l : List StepRecord). IsWritten room (Some l) bytes) (sym (after_all added [] whole e)) h
 
 pub of_all : (room : ℕ) (added : List StepRecord) (bytes : List ℕ) → IsWritten room (after_steps (Some []) added) bytes → IsWritten room (Some added) bytes

@@ -333,8 +333,11 @@ module _ (zero_k one_k two_k : KeptRecord) (kept : IsKept zero_k) (kept_two : Is
 
   pub located_grows : Grows zero_k (record two_k { locations = new })
   located_grows = grows_on zero_k two_k (record two_k { locations = new }) (grows_on zero_k one_k two_k first second)
-      (record { texts = stays two_k.texts two_k.texts refl; files = stays two_k.files two_k.files refl;
-        locations = goes_on (record { name = 0; file = 0; line = 0; column = 0; caller = 0 }) two_k.locations (record { name = name; file = file; line = line; column = column; caller = caller }) n new h })
+      (record {
+        texts = stays two_k.texts two_k.texts refl;
+        files = stays two_k.files two_k.files refl;
+        locations = goes_on (record { name = 0; file = 0; line = 0; column = 0; caller = 0 }) two_k.locations (record { name = name; file = file; line = line; column = column; caller = caller }) n new h;
+      })
 
   frame_is : frame_of_key two_k (record { name = name; file = file; line = line; column = column; caller = caller }) ≡ frame
   frame_is = λ i. record {

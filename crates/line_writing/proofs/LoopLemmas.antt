@@ -67,11 +67,10 @@ pub pushed_on : (k : KeptRecord) (kept : IsKept k) (n : ℕ) (key : LocationKey)
 pushed_on k kept zero key old now whole some within is push e = absurd (some refl)
 pushed_on k kept (suc i) key old now whole some within is push e =
     let caller : key.caller ≡ (location_key_at k (suc i)).caller = ap (λ (q : LocationKey). q.caller) is in
-    let below = (kept.each_location (suc i) (record { some = omega arith; within = within })).caller in
-    (
+    let below = (kept.each_location (suc i) (record { some = omega arith; within = within })).caller in (
       omega (arith, caller, below, within),
       (λ j. push j ++ callers_of k (caller j)) ∙ append_assoc old (suc i ∷ []) (callers_of k (location_key_at k (suc i)).caller)
-      ∙ ap (λ l. old ++ l) (sym (callers_step k kept i within)) ∙ e,
+          ∙ ap (λ l. old ++ l) (sym (callers_step k kept i within)) ∙ e,
     )
 
 pub pushed_end : (k : KeptRecord) (n : ℕ) (old whole : List ℕ) → n ≡ 0 → old ++ callers_of k n ≡ whole → old ≡ whole

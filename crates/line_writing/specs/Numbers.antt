@@ -1,11 +1,12 @@
 -- Keys and their numbers, from 1 on.
-use Rattle.std.specs.Prelude.{ℕ, suc, List, [], ◌∷◌, ◌++◌, ◌≡◌, ◌⊎◌, true, false, Contains, slice_get, Option, Some, None}
+use Rattle.std.specs.Prelude.{ℕ, suc, List, [], ◌∷◌, ◌++◌, ◌≡◌, ◌⊎◌, true, false, slice_get, Option, Some, None}
 use Rattle.std.specs.Ordering.{is_eq}
 use Rattle.std.specs.declared.cmp.Ordering.{Ordering}
 use Rattle.std.specs.BTreeMap as tree_map
 
 -- a map has the number of each key, and no other
-pub record AreNumbered {K : Type 0} (cmp : K → K → Ordering) (map : tree_map.BTreeMap K ℕ) (keys : List K) : Type 0 where
+pub record AreNumbered {K : Type 0} (cmp : K → K → Ordering) (map : tree_map.BTreeMap K ℕ) (keys : List K)
+    : Type 0 where
   pub each : (i : ℕ) (key : K) → slice_get keys i ≡ Some key → tree_map.get cmp map key ≡ Some (suc i)
   pub found : (key : K) (number : ℕ) → tree_map.get cmp map key ≡ Some number
       → (i : ℕ) × (k : K) × (number ≡ suc i) × (slice_get keys i ≡ Some k) × (is_eq (cmp key k) ≡ true)

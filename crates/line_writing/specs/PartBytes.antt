@@ -12,8 +12,8 @@ use Rattle.line_writing.specs.declared.step.Step.{Step}
 unfoldable pub step_row : List ℕ → Step → List ℕ
 step_row locations step = to_be_bytes w64 step.start ++ to_be_bytes w32 (number_in nat_eq locations step.location)
 
--- a location: the new numbers of its name and of its file, its line and column, and the new number of the one that it is
--- inlined into
+-- a location: the new numbers of its name and of its file, its line and column, and the new number of the one that it
+-- is inlined into
 unfoldable pub location_row : List ℕ → List ℕ → List ℕ → LocationKey → List ℕ
 location_row locations files texts key =
     to_be_bytes w32 (number_in nat_eq texts key.name)
@@ -34,7 +34,8 @@ texts_at k texts = map (text_at k) texts
 
 -- the rows of locations, and of files
 abbrev pub location_rows : KeptRecord → List ℕ → List ℕ → List ℕ → List ℕ → List ℕ
-location_rows k locations files texts numbers = flat_map (λ n. location_row locations files texts (location_key_at k n)) numbers
+location_rows k locations files texts numbers =
+    flat_map (λ n. location_row locations files texts (location_key_at k n)) numbers
 
 abbrev pub file_rows : KeptRecord → List ℕ → List ℕ → List ℕ
 file_rows k texts numbers = flat_map (λ n. file_row texts (file_key_at k n)) numbers

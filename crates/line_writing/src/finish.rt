@@ -33,12 +33,7 @@ fn no_lines(heap: Heap) -> Result<Vec<u8, Heap>, NoMemory>
 
 impl Parts {
     /// Adds the head of the table of so many steps, whose texts have so many bytes.
-    fn push_head(
-        &self,
-        text: &mut Vec<u8, Heap>,
-        steps: usize,
-        len: u64,
-    ) -> Result<(), NoMemory>
+    fn push_head(&self, text: &mut Vec<u8, Heap>, steps: usize, len: u64) -> Result<(), NoMemory>
         ensures { OnOk result (text.new.items ≡ text.old.items ++ head_of steps (length self.now.locations.order.items)
             (length self.now.files.order.items) (length self.now.texts.order.items) len) }
     {
@@ -105,9 +100,9 @@ impl<'a> Kept<'a> {
 }
 
 impl<'a> LineStore<'a> {
-    /// The table of the least steps that tell what was taken, if it fits into `room` bytes; else the head of a table that
-    /// has no lines. It takes the time of a sort of the addresses, and the memory of the table and of 4 bytes for each
-    /// thing that is kept.
+    /// The table of the least steps that tell what was taken, if it fits into `room` bytes; else the head of a table
+    /// that has no lines. It takes the time of a sort of the addresses, and the memory of the table, of the steps and
+    /// of 8 bytes for each thing that is kept.
     pub fn finish(self, heap: Heap, room: u64) -> Result<Vec<u8, Heap>, NoMemory>
         ensures { IfOk result (λ bytes. IsWritten room self.entry bytes.items) }
     {

@@ -7,8 +7,8 @@ ghost use Rattle.line_writing.specs.Lines.{AreLeastSteps, IsWritten, after_steps
 
 use source_frames::laws::one_list_of_frames;
 
-/// Where the frames of addresses were taken, and those of an image change at no other address, the least steps are those of
-/// the image.
+/// Where the frames of addresses were taken, and those of an image change at no other address, the least steps are
+/// those of the image.
 pub fn least_steps_are_frame_steps()
     ensures { (image : List ℕ) (added steps : List StepRecord) → AreLeastSteps added steps
         → All (λ s. s.start < 2 ^ 64) added → All (λ s. AreFramesOf image s.start s.frames) added

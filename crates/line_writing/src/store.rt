@@ -8,8 +8,8 @@ use memory::{Heap, NoMemory};
 use source_frames::Frame;
 use std::marker::Model;
 
-/// The frames of addresses. A contract sees those of each, as they came; none if a line or a column of one has more than
-/// four bytes.
+/// The frames of addresses. A contract sees those of each, as they came; none if a line or a column of one has more
+/// than four bytes.
 #[derive(Drop)]
 pub struct LineStore<'a> {
     pub(crate) kept: Kept<'a>,
@@ -46,8 +46,12 @@ impl<'a> LineStore<'a> {
         })
     }
 
-    /// Takes the frames of an address, the innermost first. It takes the time of a search for each frame, and the memory of
-    /// what has not come before, beside 16 bytes; texts are not copied.
+    /// Takes the frames of an address, the innermost first; an address is to come once. It takes the time of six
+    /// searches for each frame, and the memory of what has not come before, beside 16 bytes; texts are not copied.
+    ///
+    /// # Errors
+    ///
+    /// `NoMemory` if a growth was refused, or there are 2^32 texts, files or locations. Nothing is taken then.
     pub fn add(&mut self, address: u64, frames: &[Frame<'a>]) -> Result<(), NoMemory>
         ensures added { OnOk result (self.new ≡ after_step self.old
             (record { start = address; frames = map (λ f. frame_view f) frames.now })) }

@@ -26,11 +26,7 @@ impl<'a> Kept<'a> {
     }
 
     /// Adds the rows of texts.
-    pub fn push_text_rows(
-        &self,
-        bytes: &mut Vec<u8, Heap>,
-        texts: &[u32],
-    ) -> Result<(), NoMemory>
+    pub fn push_text_rows(&self, bytes: &mut Vec<u8, Heap>, texts: &[u32]) -> Result<(), NoMemory>
         requires texts { AreNumbers (length (kept_view self.now).texts) texts.now }
         requires fits { length (concat (texts_at (kept_view self.now) texts.now)) < 2 ^ 32 }
         ensures { OnOk result (bytes.new.items
