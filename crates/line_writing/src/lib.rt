@@ -1,10 +1,10 @@
 //! The line table of an image, written from the frames of its addresses, which come in any order.
 //!
 //! The modules in reading order: `numbers`, the numbers of things as they first come; `keys` and `kept`, what frames
-//! have, each thing once and told by number, and `lookups`, what a number tells of; `locate`, the location of the frames
-//! of an address; `step` and `store`, [`LineStore`], which takes them; `changes`, the steps at which frames change;
-//! `first_uses`, numbers anew by first use, and `parts`, those of a table; `rows` and `texts`, its bytes part by part;
-//! `finish`, [`LineStore::finish`]; `laws`, what the definitions say of each other.
+//! have, each thing once and told by number, and `lookups`, what a number tells of; `locate`, the location of the
+//! frames of an address; `step` and `store`, [`LineStore`], which takes them; `changes`, the steps at which frames
+//! change; `first_uses`, numbers anew by first use, and `parts`, those of a table; `rows` and `texts`, its bytes part by
+//! part; `finish`, [`LineStore::finish`]; `laws`, what the definitions say of each other.
 //!
 //! Decided:
 //!
