@@ -3,7 +3,7 @@ use Rattle.std.proofs.Common.{◌≡◌, ℕ, zero, suc, ◌+◌, ◌<◌, ◌�
 use Rattle.std.specs.Int.{w32, w64, to_be_bytes}
 use Rattle.std.specs.List.{concat}
 use Rattle.std.proofs.lemmas.List.{append-nil, drop_all, drop_more, flat_map_more, length-append, take_all, take_more, map_more}
-use Rattle.std.specs.Option.{SomeIff}
+use Rattle.std.specs.Option.{MatchOption, SomeIff}
 use Rattle.std.specs.Result.{OnOk}
 use Rattle.std.specs.declared.result.Result.{Result}
 use Rattle.std.specs.declared.result.Result.TheVariants.{Ok, Err}
@@ -135,3 +135,7 @@ left_more f xs i left most len next less so_far is e =
 pub none_not : (r : Option ℕ) (P : Type 0) (v : ℕ) → SomeIff r P v → r ≡ None → P → ⊥
 none_not None P v h is p = h p
 none_not (Some x) P v h is p = cc is
+
+pub match_none : (r : Option ℕ) (P : Type 0) (Q : ℕ → Type 0) → r ≡ None → P → MatchOption r P Q
+match_none None P Q e p = p
+match_none (Some x) P Q e p = cc e
