@@ -1,18 +1,16 @@
 -- All that was added, and its least steps.
-use Rattle.std.proofs.Common.{◌≡◌, ℕ, zero, suc, ◌+◌, ◌<◌, ◌≤◌, ◌^◌, nat_lt, ◌&&◌, Bool, true, false, cond, List, [], ◌∷◌, ◌++◌, map, length, get_or, Option, Some, None, refl, sym, ap, ◌∙◌, inl, inr, arith, subst, ◌⊎◌, append_assoc}
+use Rattle.std.proofs.Common.{◌≡◌, ℕ, zero, suc, ◌<◌, ◌≤◌, ◌^◌, nat_lt, ◌&&◌, true, cond, List, [], ◌∷◌, ◌++◌, Option, Some, None, refl, sym, ap, ◌∙◌, inl, inr, arith, subst, append_assoc}
 use Rattle.std.specs.Prelude.{All}
-use Rattle.std.specs.List.{list_all}
 use Rattle.std.specs.List.Sorted.{IsNonDecreasingBy, IsPermutation}
 use Rattle.std.proofs.lemmas.Bool.{and_from, cases_Bool, lt-ltb, ltb-false, ltb-true}
 use Rattle.std.proofs.lemmas.List.{append-nil}
 use Rattle.std.proofs.lemmas.List.Elements.{All-cons, All-get_or, All-head, All-nil, All-tail, All-weaker}
 use Rattle.std.proofs.lemmas.List.Sorted.{All-permutation, IsPermutation-cons, IsPermutation-middle, IsPermutation-refl, IsPermutation-sym, IsPermutation-trans}
 use Rattle.source_frames.specs.Frames.{FrameRecord}
-use Rattle.line_tables.specs.LineTable.{FitsLines, IsLineTextWithin, no_lines}
 use Rattle.line_tables.specs.Numbering.{same_chain}
 use Rattle.line_tables.specs.Steps.{StepRecord}
 use Rattle.line_tables.proofs.SameLemmas.{chain_decides}
-use Rattle.line_writing.specs.Lines.{AreLeastSteps, IsWritten, after_step, after_steps, changes_after, have_few_lines}
+use Rattle.line_writing.specs.Lines.{AreLeastSteps, IsWritten, after_steps, changes_after, have_few_lines}
 
 -- ---- steps in the order of their starts
 

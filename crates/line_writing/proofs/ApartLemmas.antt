@@ -1,13 +1,12 @@
 -- No two numbers tell of one thing.
-use Rattle.std.proofs.Common.{◌≡◌, ℕ, zero, suc, ◌+◌, ◌<◌, ◌≤◌, Bool, true, false, List, [], ◌∷◌, ◌++◌, map, length, reverse, Option, Some, None, refl, sym, ap, ◌∙◌, inl, inr, arith, subst}
+use Rattle.std.proofs.Common.{◌≡◌, ℕ, zero, suc, ◌≤◌, List, [], ◌∷◌, ◌++◌, map, length, reverse, refl, sym, ap, ◌∙◌, arith, subst}
 use Rattle.std.proofs.lemmas.List.{map-append, reverse-append}
 use Rattle.std.proofs.lemmas.Option.{same_Some}
 use Rattle.line_programs.specs.Paths.{PathRecord}
 use Rattle.source_frames.specs.Frames.{FrameRecord}
 use Rattle.line_tables.specs.LineText.{chains_of}
-use Rattle.line_writing.specs.Kept.{KeptRecord, numbered_or, at_number, text_at, file_key_at, path_of_key, file_at, location_key_at, frame_of_key, callers_of, chain_at, IsFileKey, IsLocationKey, IsKept}
+use Rattle.line_writing.specs.Kept.{KeptRecord, at_number, text_at, file_key_at, file_at, location_key_at, frame_of_key, callers_of, chain_at, IsKept}
 use Rattle.line_writing.specs.Numbering.{IsNumber}
-use Rattle.line_writing.specs.declared.keys.FileKey.{FileKey}
 use Rattle.line_writing.specs.declared.keys.LocationKey.{LocationKey}
 use Rattle.line_writing.proofs.KeptLemmas.{chain_step, chain_none, callers_step, callers_none}
 use Rattle.line_writing.proofs.NumberedLemmas.{Each, each_append}

@@ -1,12 +1,12 @@
 -- The bytes of a table, by numbers and as they are defined.
-use Rattle.std.proofs.Common.{◌≡◌, ℕ, zero, suc, ◌+◌, ◌<◌, ◌≤◌, ◌^◌, min, nat_eq, List, [], ◌∷◌, ◌++◌, map, length, flat_map, reverse, Option, Some, None, refl, sym, ap, ◌∙◌, inl, inr, arith, subst}
+use Rattle.std.proofs.Common.{◌≡◌, ℕ, zero, suc, ◌<◌, ◌≤◌, ◌^◌, min, List, [], ◌∷◌, ◌++◌, map, length, flat_map, refl, sym, ap, ◌∙◌, arith, subst}
 use Rattle.std.specs.Prelude.{All}
 use Rattle.std.specs.Int.{w32, w64, to_be_bytes}
 use Rattle.std.specs.List.{concat}
 use Rattle.std.proofs.lemmas.List.{length-append, length-map}
 use Rattle.std.proofs.lemmas.List.Elements.{All-cons, All-head, All-nil, All-tail}
 use Rattle.source_frames.specs.Frames.{FrameRecord}
-use Rattle.line_tables.specs.LineTable.{AreFew, FitsLines}
+use Rattle.line_tables.specs.LineTable.{FitsLines}
 use Rattle.line_tables.specs.LineText.{LineParts, chains_in, files_in, texts_in, file_bytes, head_bytes, line_text, location_bytes, parts_of, step_bytes, table_bytes, text_rows}
 use Rattle.line_tables.specs.Numbering.{same_chain, same_path, same_text}
 use Rattle.line_tables.specs.Steps.{StepRecord}
@@ -16,7 +16,6 @@ use Rattle.line_writing.specs.Numbering.{IsNumber}
 use Rattle.line_writing.specs.PartBytes.{file_row, file_rows, location_row, location_rows, step_row, texts_at}
 use Rattle.line_writing.specs.StepViews.{HaveLocations, step_of}
 use Rattle.line_writing.specs.WholeText.{AreOrders, head_of, text_of_parts}
-use Rattle.line_writing.specs.declared.keys.FileKey.{FileKey}
 use Rattle.line_writing.specs.declared.keys.LocationKey.{LocationKey}
 use Rattle.line_writing.specs.declared.step.Step.{Step}
 use Rattle.line_writing.proofs.KeptLemmas.{chain_none, chain_step}

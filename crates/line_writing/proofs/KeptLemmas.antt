@@ -1,12 +1,12 @@
 -- What is kept of frames: each thing once, told by number.
-use Rattle.std.proofs.Common.{◌≡◌, ◌≢◌, ℕ, zero, suc, ◌+◌, ◌<◌, ◌≤◌, ◌^◌, Bool, true, false, cond, List, [], ◌∷◌, ◌++◌, map, length, slice_get, get_or, Option, Some, None, refl, sym, ap, ◌∙◌, inl, inr, arith, ◌⊎◌, subst}
+use Rattle.std.proofs.Common.{◌≡◌, ℕ, zero, suc, ◌<◌, ◌≤◌, ◌^◌, true, false, List, [], ◌∷◌, ◌++◌, map, length, slice_get, get_or, Some, refl, sym, ap, ◌∙◌, inl, inr, arith, ◌⊎◌, subst}
 use Rattle.std.specs.Ordering.{is_eq}
 use Rattle.std.specs.declared.cmp.Ordering.{Ordering}
 use Rattle.std.proofs.lemmas.Bool.{cases_eq}
-use Rattle.std.proofs.lemmas.List.{append-nil, append_assoc, get_or_append_left, get_or_push, length-append, length-map, length_push, map-append, map-id}
+use Rattle.std.proofs.lemmas.List.{append-nil, append_assoc, get_or_append_left, get_or_push, length-append, length-map, length_push, map-append}
 use Rattle.line_programs.specs.Paths.{PathRecord}
 use Rattle.source_frames.specs.Frames.{FrameRecord}
-use Rattle.line_writing.specs.Kept.{KeptRecord, numbered_or, at_number, text_at, file_key_at, path_of_key, file_at, location_key_at, frame_of_key, callers_within, callers_of, chain_within, chain_at, IsFileKey, IsLocationKey, IsKept, IsNumberedIn, GoesOn, Grows, IsText, IsName, IsKeyOf, IsFile, IsLocation}
+use Rattle.line_writing.specs.Kept.{KeptRecord, numbered_or, at_number, text_at, file_key_at, path_of_key, file_at, location_key_at, frame_of_key, callers_within, callers_of, chain_within, chain_at, IsFileKey, IsLocationKey, IsKept, IsNumberedIn, GoesOn, Grows, IsName, IsKeyOf, IsFile, IsLocation}
 use Rattle.line_writing.specs.Numbering.{IsNumber}
 use Rattle.line_writing.specs.Numbers.{IsNumbered}
 use Rattle.line_writing.specs.declared.keys.FileKey.{FileKey}

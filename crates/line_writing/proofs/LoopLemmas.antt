@@ -1,7 +1,6 @@
 -- Steps of loops over numbers.
-use Rattle.std.proofs.Common.{◌≡◌, ◌≢◌, ℕ, zero, suc, ◌+◌, ◌-◌, ◌<◌, ◌≤◌, ◌^◌, nat_eq, nat_lt, ◌&&◌, Bool, true, false, cond, List, [], ◌∷◌, ◌++◌, map, length, flat_map, reverse, get_or, take, drop, slice_get, Option, Some, None, refl, sym, ap, ◌∙◌, inl, inr, arith, subst, append_assoc}
+use Rattle.std.proofs.Common.{◌≡◌, ◌≢◌, ℕ, zero, suc, ◌+◌, ◌-◌, ◌<◌, ◌≤◌, ◌^◌, nat_eq, nat_lt, ◌&&◌, Bool, true, false, cond, List, [], ◌∷◌, ◌++◌, map, length, flat_map, reverse, get_or, take, drop, slice_get, Some, refl, sym, ap, ◌∙◌, inl, inr, arith, subst, append_assoc}
 use Rattle.std.specs.Prelude.{All}
-use Rattle.std.specs.List.{list_all}
 use Rattle.std.proofs.lemmas.Bool.{cases_Bool, eqb-true, eq-eqb, ltb-true, ne_eqb}
 use Rattle.std.proofs.lemmas.List.{append-nil, at_drop_more, drop_all, flat_map_more, nil_from_length, reverse-append, take_more}
 use Rattle.std.proofs.lemmas.List.Elements.{All-from_get_or}
@@ -14,7 +13,7 @@ use Rattle.source_frames.specs.FrameViews.{frame_view}
 use Rattle.source_frames.specs.declared.frame.Frame.{Frame}
 use Rattle.line_tables.specs.Numbering.{numbered_after, numbered_with}
 use Rattle.line_tables.proofs.NumberingLemmas.{IsExact, after-append}
-use Rattle.line_writing.specs.Kept.{KeptRecord, numbered_or, location_key_at, callers_of, chain_at, IsKept, IsLocation, Grows}
+use Rattle.line_writing.specs.Kept.{KeptRecord, numbered_or, location_key_at, callers_of, IsKept, IsLocation, Grows}
 use Rattle.line_writing.specs.Lines.{have_few_lines}
 use Rattle.line_writing.specs.Numbering.{IsNumber}
 use Rattle.line_writing.specs.StepViews.{changed_after}

@@ -1,24 +1,22 @@
 -- The parts of a table, by numbers and as they are defined.
-use Rattle.std.proofs.Common.{◌≡◌, ℕ, zero, suc, ◌+◌, ◌<◌, ◌≤◌, nat_eq, List, [], ◌∷◌, ◌++◌, map, length, flat_map, reverse, Option, Some, None, refl, sym, ap, ◌∙◌, inl, inr, arith, subst}
-use Rattle.std.specs.Prelude.{All, filter_map}
+use Rattle.std.proofs.Common.{◌≡◌, ℕ, zero, suc, ◌≤◌, nat_eq, List, [], ◌∷◌, ◌++◌, map, length, flat_map, reverse, Option, refl, sym, ap, ◌∙◌, arith}
+use Rattle.std.specs.Prelude.{filter_map}
 use Rattle.std.specs.List.{cons_option}
 use Rattle.std.proofs.lemmas.List.{map-append}
 use Rattle.std.proofs.lemmas.List.Elements.{All-head, All-tail}
 use Rattle.line_programs.specs.Paths.{PathRecord}
-use Rattle.source_frames.specs.Frames.{FrameRecord}
 use Rattle.line_tables.specs.LineText.{chains_of, chains_in, files_in, texts_in, innermost_name, innermost_path, path_texts}
 use Rattle.line_tables.specs.Numbering.{numbered_after, same_chain, same_path, same_text}
 use Rattle.line_tables.specs.Steps.{StepRecord}
 use Rattle.line_tables.proofs.SameLemmas.{chain_decides, path_decides, text_decides}
 use Rattle.line_writing.specs.FirstUses.{some_number}
-use Rattle.line_writing.specs.Kept.{KeptRecord, at_number, text_at, file_key_at, file_at, location_key_at, frame_of_key, callers_of, chain_at, IsKept}
+use Rattle.line_writing.specs.Kept.{KeptRecord, at_number, text_at, file_at, location_key_at, callers_of, chain_at, IsKept}
 use Rattle.line_writing.specs.Numbering.{IsNumber}
 use Rattle.line_writing.specs.PartNumbers.{location_uses, file_uses, name_uses, path_uses}
 use Rattle.line_writing.specs.StepViews.{HaveLocations, step_of}
-use Rattle.line_writing.specs.WholeText.{AreOrders}
 use Rattle.line_writing.specs.declared.step.Step.{Step}
 use Rattle.line_writing.proofs.KeptLemmas.{chain_step}
-use Rattle.line_writing.proofs.NumberedLemmas.{Each, each_append, each_after, told_after}
+use Rattle.line_writing.proofs.NumberedLemmas.{Each, each_append, told_after}
 use Rattle.line_writing.proofs.ApartLemmas.{chain_apart, file_apart, chains_are, callers_are, reversed_each}
 
 module _ (k : KeptRecord) (kept : IsKept k) where

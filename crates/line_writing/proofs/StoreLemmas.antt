@@ -1,14 +1,12 @@
 -- What a store has taken, and its least steps.
-use Rattle.std.proofs.Common.{◌≡◌, ℕ, zero, suc, ◌+◌, ◌<◌, ◌≤◌, nat_eq, Bool, true, false, cond, List, [], ◌∷◌, ◌++◌, map, length, get_or, Option, Some, None, refl, sym, ap, ◌∙◌, inl, inr, arith, subst, ◌⊎◌}
-use Rattle.std.specs.Prelude.{All}
+use Rattle.std.proofs.Common.{◌≡◌, ℕ, ◌≤◌, nat_eq, Bool, true, false, cond, List, [], ◌∷◌, ◌++◌, map, length, get_or, Option, Some, None, refl, sym, ap, ◌∙◌, inl, inr, arith, subst}
 use Rattle.std.specs.List.Sorted.{IsNonDecreasingBy, IsPermutation}
 use Rattle.std.proofs.lemmas.Bool.{cases_Bool}
 use Rattle.std.proofs.lemmas.List.{get_or-map, length-map, map-append}
-use Rattle.std.proofs.lemmas.List.Elements.{All-cons, All-head, All-nil, All-push, All-tail, All-weaker}
+use Rattle.std.proofs.lemmas.List.Elements.{All-cons, All-head, All-tail, All-weaker}
 use Rattle.std.proofs.lemmas.List.Sorted.{All-permutation, IsPermutation-map}
 use Rattle.source_frames.specs.Frames.{FrameRecord}
-use Rattle.line_tables.specs.LineTable.{FitsLines, IsLineTextWithin, no_lines}
-use Rattle.line_tables.specs.LineText.{line_text}
+use Rattle.line_tables.specs.LineTable.{IsLineTextWithin, no_lines}
 use Rattle.line_tables.specs.Numbering.{same_chain}
 use Rattle.line_tables.specs.Steps.{StepRecord}
 use Rattle.line_tables.proofs.SameLemmas.{chain_decides}

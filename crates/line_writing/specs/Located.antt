@@ -1,5 +1,5 @@
 -- The location of the frames of an address.
-use Rattle.std.specs.Prelude.{◌≡◌, ℕ, Bool, true, false, List, Option, Some, None}
+use Rattle.std.specs.Prelude.{◌≡◌, ℕ, true, false, List, Option, Some, None}
 use Rattle.source_frames.specs.Frames.{FrameRecord}
 use Rattle.line_writing.specs.Kept.{KeptRecord, IsLocation}
 use Rattle.line_writing.specs.Lines.{have_few_lines}

@@ -1,6 +1,5 @@
 -- The numbers of what a table has, in the order of their first use.
-use Rattle.std.specs.Prelude.{ℕ, List, [], ◌∷◌, ◌++◌, ◌≡◌, ◌<◌, flat_map, length, nat_eq, reverse, slice_index}
-use Rattle.line_tables.specs.Numbering.{numbered_after}
+use Rattle.std.specs.Prelude.{ℕ, List, [], ◌∷◌, ◌<◌, flat_map, length, reverse, slice_index}
 use Rattle.line_writing.specs.FirstUses.{some_number}
 use Rattle.line_writing.specs.Kept.{KeptRecord, callers_of, file_key_at, location_key_at}
 use Rattle.line_writing.specs.Numbering.{IsNumber}

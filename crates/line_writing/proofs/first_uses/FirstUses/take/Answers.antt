@@ -1,4 +1,4 @@
-use Rattle.std.proofs.Common.{arith, sym, subst, ◌∙◌, ◌-◌, List, ℕ, set, get_or}
+use Rattle.std.proofs.Common.{arith, sym, subst, ◌∙◌, ◌-◌, List, ℕ, set}
 use Rattle.std.proofs.lemmas.List.{get_or_read}
 use Rattle.line_writing.specs.FirstUses.{AreGiven}
 use Rattle.line_writing.proofs.FirstUsesLemmas.{taken_same, taken_more, given_more}

@@ -1,6 +1,4 @@
-use Rattle.std.proofs.Common.{arith, sym, ap, ◌∙◌, ◌≡◌, List, ℕ, nat_eq}
-use Rattle.line_tables.specs.Numbering.{numbered_after, numbered_with}
-use Rattle.line_writing.specs.FirstUses.{some_number}
+use Rattle.std.proofs.Common.{arith, sym}
 use Rattle.line_writing.proofs.FirstUsesLemmas.{none_after, some_after, on_same}
 use Rattle.line_writing.proofs.first_uses.FirstUses.take_some.Goals as goal
 

@@ -1,6 +1,6 @@
-use Rattle.std.proofs.Common.{ℕ, List, ◌≡◌, map, sym, subst, ap, arith}
+use Rattle.std.proofs.Common.{ℕ, List, ◌≡◌, sym, subst, arith}
 use Rattle.source_frames.specs.FrameViews.{frame_view}
-use Rattle.line_writing.specs.Kept.{Grows, IsKept, IsLocation, KeptRecord}
+use Rattle.line_writing.specs.Kept.{Grows, IsKept}
 use Rattle.line_writing.specs.KeptViews.{kept_view}
 use Rattle.line_writing.specs.Numbers.{IsNumbered}
 use Rattle.line_writing.specs.declared.keys.LocationKey.{LocationKey}

@@ -1,4 +1,4 @@
-use Rattle.std.proofs.Common.{◌≡◌, [], length, nat_eq, take}
+use Rattle.std.proofs.Common.{◌≡◌, length, nat_eq, take}
 use Rattle.line_tables.specs.Numbering.{numbered_after}
 use Rattle.line_writing.specs.KeptViews.{kept_view}
 use Rattle.line_writing.specs.PartNumbers.{name_uses}

@@ -1,4 +1,4 @@
-use Rattle.std.proofs.Common.{◌∙◌, ap, arith, nat_eq, refl}
+use Rattle.std.proofs.Common.{◌∙◌, ap, nat_eq, refl}
 use Rattle.line_tables.specs.Numbering.{numbered_after}
 use Rattle.line_writing.specs.Kept.{file_key_at}
 use Rattle.line_writing.specs.KeptViews.{kept_view}

@@ -1,5 +1,5 @@
-use Rattle.std.proofs.Common.{ℕ, List, ◌≡◌, map, sym, subst, ap, Bor}
-use Rattle.line_writing.specs.Kept.{IsKept, IsText, KeptRecord}
+use Rattle.std.proofs.Common.{ℕ, List, ◌≡◌, map, sym, subst, Bor}
+use Rattle.line_writing.specs.Kept.{IsKept, KeptRecord}
 use Rattle.line_writing.specs.Numbers.{IsNumbered}
 use Rattle.line_writing.proofs.KeptLemmas.{text_kept}
 use Rattle.line_writing.proofs.KeyLemmas.{text_cmp, text_told, then_ok, either_way}

@@ -1,4 +1,4 @@
-use Rattle.std.proofs.Common.{[], Bor, List, ℕ, arith}
+use Rattle.std.proofs.Common.{[], Bor, List, ℕ}
 use Rattle.line_writing.proofs.LoopLemmas.{told_at}
 use Rattle.line_writing.proofs.kept.Kept.text_of.Goals as goal
 

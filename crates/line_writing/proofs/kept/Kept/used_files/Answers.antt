@@ -1,4 +1,4 @@
-use Rattle.std.proofs.Common.{◌∙◌, [], ap, arith, nat_eq, refl}
+use Rattle.std.proofs.Common.{◌∙◌, [], ap, nat_eq}
 use Rattle.line_tables.specs.Numbering.{numbered_after}
 use Rattle.line_writing.specs.FirstUses.{some_number}
 use Rattle.line_writing.specs.Kept.{location_key_at}

@@ -1,4 +1,4 @@
-use Rattle.std.proofs.Common.{◌∙◌, [], ap, sym, arith, nat_eq, refl, reverse, List, ℕ}
+use Rattle.std.proofs.Common.{◌∙◌, [], ap, nat_eq, reverse, List, ℕ}
 use Rattle.line_tables.specs.Numbering.{numbered_after}
 use Rattle.line_writing.specs.Kept.{callers_of}
 use Rattle.line_writing.specs.KeptViews.{kept_view}
