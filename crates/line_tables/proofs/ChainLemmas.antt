@@ -1,14 +1,16 @@
 -- The chains of steps: a chain's callers have a smaller number than it.
-use Rattle.std.proofs.Common.{◌≡◌, ℕ, zero, suc, ◌+◌, ◌-◌, ◌<◌, ◌≤◌, List, [], ◌∷◌, ◌++◌, length, get_or, refl, sym, ap, ◌∙◌, subst, inl, inr, arith, Some, ◌⊎◌, slice_get}
-use Rattle.std.specs.Prelude.{filter_map, flat_map}
+use Rattle.std.proofs.Common.{◌≡◌, ℕ, zero, suc, ◌<◌, List, [], ◌∷◌, ◌++◌, length, get_or, refl, sym, ap, ◌∙◌, subst, inl, inr, arith, Some, slice_get}
+use Rattle.std.specs.Prelude.{All, ◌^◌, filter_map, flat_map}
 use Rattle.std.proofs.lemmas.Bool.{cases_Bool, false≢true}
 use Rattle.line_programs.specs.Paths.{PathRecord}
-use Rattle.std.proofs.lemmas.Option.{same_Some, none-some}
+use Rattle.std.proofs.lemmas.Option.{same_Some, none-some, slice_get_within, get_or_from_slice_get}
+use Rattle.std.proofs.lemmas.List.Elements.{All-head, All-tail}
 use Rattle.source_frames.specs.Frames.{FrameRecord}
 use Rattle.line_tables.specs.Numbering.{same_chain, same_path, same_text, numbered_with, numbered_after, number_in}
 use Rattle.line_tables.specs.LineText.{chains_of, chains_in, files_in, texts_in, innermost_name, innermost_path, path_texts}
+use Rattle.line_tables.specs.LineTable.{HaveFewLines}
 use Rattle.line_tables.specs.Steps.{StepRecord}
-use Rattle.line_tables.proofs.NumberingLemmas.{Has, has_left, has_right, has_filter_map, has_flat_map, number_within, number-push, number-push_other, number-append, with_cases, with_has, after_has, after_keeps, after-append}
+use Rattle.line_tables.proofs.NumberingLemmas.{Has, has_left, has_right, has_filter_map, has_flat_map, number_within, number-push, number-push_other, number-append, with_cases, with_has, after_each, after_has, after_keeps, after-append, has_flat_map_cases, has_push_cases}
 use Rattle.line_tables.proofs.SameLemmas.{chain_decides, path_decides, text_decides}
 
 abbrev Chain : Type 0
@@ -153,3 +155,30 @@ unfolding texts_in
 text_has chains files k path text is h =
     let there = has_right (filter_map innermost_name chains) (flat_map path_texts files) text (has_flat_map path_texts files k path text is h) in
     after_has same_text text_decides [] (filter_map innermost_name chains ++ flat_map path_texts files) text there.0 there.1
+
+-- ---- the lines of chains
+
+abbrev Fits : FrameRecord → Type 0
+Fits f = (f.line < 2 ^ 32) × (f.column < 2 ^ 32)
+
+fit_chain : (frames : Chain) → All Fits frames → (chain : Chain) → Has (chains_of frames) chain → All Fits chain
+unfolding chains_of
+fit_chain [] fit chain h = absurd (none-some chain h.1)
+fit_chain (f ∷ fs) fit chain h = elim (has_push_cases (chains_of fs) (f ∷ fs) chain h) [
+  | inl k ↦ fit_chain fs (All-tail Fits f fs fit) chain k
+  | inr is ↦ subst (All Fits) is fit
+]
+
+-- the lines and columns of a chain are those of steps
+pub chain_fits : (steps : List StepRecord) → HaveFewLines steps → (k : ℕ) (f : FrameRecord) (fs : Chain) → slice_get (chains_in steps) k ≡ Some (f ∷ fs) → (f.line < 2 ^ 32) × (f.column < 2 ^ 32)
+unfolding chains_in
+chain_fits steps few k f fs is =
+    All-head Fits f fs (after_each same_chain chain_decides (All Fits) [] (all_chains steps) (λ x h. absurd (none-some x h.1)) each (f ∷ fs) (k, is))
+  where
+    each : (chain : Chain) → Has (all_chains steps) chain → All Fits chain
+    each chain h =
+        let from = has_flat_map_cases (λ s. chains_of s.frames) steps chain h in
+        let step : StepRecord = from.0 in
+        let within = slice_get_within steps from.1.0 step from.1.1 in
+        let here : get_or steps from.1.0 step ≡ step = get_or_from_slice_get steps from.1.0 step step from.1.1 in
+        fit_chain step.frames (subst (λ (s : StepRecord). All Fits s.frames) here (few from.1.0 step within)) chain from.2

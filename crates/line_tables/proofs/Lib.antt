@@ -3,3 +3,7 @@ pub mod NumberingLemmas
 pub mod SameLemmas
 pub mod ChainLemmas
 pub mod TextLemmas
+pub mod OpenedLemmas
+pub mod OpeningLemmas
+pub mod SearchLemmas
+mod CountLemmas

@@ -1,9 +1,8 @@
 -- Numbers of things, in the order in which they first come.
-use Rattle.std.proofs.Common.{◌≡◌, ℕ, zero, suc, ◌+◌, ◌-◌, ◌<◌, ◌≤◌, Bool, true, false, List, [], ◌∷◌, ◌++◌, length, refl, sym, ap, ◌∙◌, subst, inl, inr, arith, Option, Some, None, ◌⊎◌, slice_get, cond}
+use Rattle.std.proofs.Common.{◌≡◌, ℕ, zero, suc, ◌+◌, ◌-◌, ◌<◌, ◌≤◌, Bool, true, false, List, [], ◌∷◌, ◌++◌, length, refl, sym, ap, ◌∙◌, subst, inl, inr, arith, Option, Some, None, ◌⊎◌, slice_get}
 use Rattle.std.specs.Prelude.{filter_map, flat_map, unwrap_or}
 use Rattle.std.specs.List.{cons_option, list_any, position_from}
 use Rattle.std.proofs.lemmas.Bool.{cases_Bool, cond-true, cond-false, or_cases, or_parts, false≢true}
-use Rattle.std.proofs.lemmas.List.{append-nil, append_assoc}
 use Rattle.std.proofs.lemmas.Option.{none-some, same_Some, slice_get_within}
 use Rattle.line_tables.specs.Numbering.{numbered_with, numbered_after, number_in}
 
@@ -29,6 +28,28 @@ has_left {A = A} xs ys x h = at_place xs h.0 h.1
 pub has_right : {A : Type 0} (xs ys : List A) (x : A) → Has ys x → Has (xs ++ ys) x
 has_right [] ys x h = h
 has_right (y ∷ xs) ys x h = has_rest y (xs ++ ys) x (has_right xs ys x h)
+
+has_append_cases : {A : Type 0} (xs ys : List A) (x : A) → Has (xs ++ ys) x → Has xs x ⊎ Has ys x
+has_append_cases {A = A} xs ys x h = at_place xs h.0 h.1
+  where
+    at_place : (xs : List A) (k : ℕ) → slice_get (xs ++ ys) k ≡ Some x → Has xs x ⊎ Has ys x
+    at_place [] k e = inr (k, e)
+    at_place (y ∷ xs) zero e = inl (0, e)
+    at_place (y ∷ xs) (suc k) e = elim (at_place xs k e) [ inl h ↦ inl (has_rest y xs x h) | inr h ↦ inr h ]
+
+pub has_push_cases : {A : Type 0} (xs : List A) (y x : A) → Has (xs ++ y ∷ []) x → Has xs x ⊎ (y ≡ x)
+has_push_cases xs y x h = elim (has_append_cases xs (y ∷ []) x h) [ inl k ↦ inl k | inr k ↦ inr (only k.0 k.1) ]
+  where
+    only : (k : ℕ) → slice_get (y ∷ []) k ≡ Some x → y ≡ x
+    only zero e = same_Some y x e
+    only (suc k) e = absurd (none-some x e)
+
+pub has_flat_map_cases : {A B : Type 0} (f : A → List B) (xs : List A) (y : B) → Has (flat_map f xs) y → (x : A) × Has xs x × Has (f x) y
+has_flat_map_cases f [] y h = absurd (none-some y h.1)
+has_flat_map_cases f (x ∷ xs) y h = elim (has_append_cases (f x) (flat_map f xs) y h) [
+  | inl k ↦ (x, (0, refl), k)
+  | inr k ↦ let rest = has_flat_map_cases f xs y k in (rest.0, has_rest x xs rest.0 rest.1, rest.2)
+]
 
 -- what a function gives of one that stands there is among what it gives of all
 pub has_filter_map : {A B : Type 0} (f : A → Option B) (xs : List A) (k : ℕ) (x : A) (y : B) → slice_get xs k ≡ Some x → f x ≡ Some y → Has (filter_map f xs) y
@@ -189,6 +210,12 @@ module _ {A : Type 0} (same : A → A → Bool) (decides : IsExact same) where
     | inr h ↦ subst (λ l. 0 < number_in same l x) (sym h.1) (omega (arith, number-push xs x h.0))
   ]
 
+  with_each : (P : A → Type 0) (xs : List A) (y : A) → ((x : A) → Has xs x → P x) → P y → (z : A) → Has (numbered_with same xs y) z → P z
+  with_each P xs y of also z h = elim (with_cases xs y) [
+    | inl e ↦ of z (subst (λ l. Has l z) e.1 h)
+    | inr e ↦ elim (has_push_cases xs y z (subst (λ l. Has l z) e.1 h)) [ inl k ↦ of z k | inr is ↦ subst P is also ]
+  ]
+
   -- after some more, each that had a number has it still
   pub after_keeps : (xs ys : List A) (y : A) → 0 < number_in same xs y → number_in same (numbered_after same xs ys) y ≡ number_in same xs y
   unfolding numbered_after
@@ -209,3 +236,9 @@ module _ {A : Type 0} (same : A → A → Bool) (decides : IsExact same) where
   unfolding numbered_after
   after-append xs [] zs = refl
   after-append xs (y ∷ ys) zs = after-append (numbered_with same xs y) ys zs
+
+  -- what holds of those that have a number, and of some more, holds of all that have one then
+  pub after_each : (P : A → Type 0) (xs ys : List A) → ((x : A) → Has xs x → P x) → ((y : A) → Has ys y → P y) → (z : A) → Has (numbered_after same xs ys) z → P z
+  unfolding numbered_after
+  after_each P xs [] of also z h = of z h
+  after_each P xs (y ∷ ys) of also z h = after_each P (numbered_with same xs y) ys (with_each P xs y of (also y (0, refl))) (λ w k. also w (has_rest y ys w k)) z h

@@ -1,5 +1,5 @@
 -- The frames of an address by the steps of its image, and that these are one list.
-use Rattle.std.proofs.Common.{◌≡◌, ◌≢◌, ℕ, zero, suc, ◌<◌, ◌≤◌, ◌^◌, List, [], ◌∷◌, length, map, get_or, refl, sym, ap, ◌∙◌, subst, inl, inr, arith, Contains, Option, Some, None, ◌⊎◌, slice_get}
+use Rattle.std.proofs.Common.{◌≡◌, ℕ, zero, suc, ◌<◌, ◌^◌, List, [], ◌∷◌, length, get_or, refl, sym, ap, ◌∙◌, subst, inl, inr, arith, Contains, Option, Some, None, ◌⊎◌}
 use Rattle.std.specs.Option.{option_map_or}
 use Rattle.std.proofs.lemmas.Bool.{cases_eq}
 use Rattle.std.proofs.lemmas.List.{get_or-map, get_or_default, same_lists}
@@ -8,7 +8,7 @@ use Rattle.std.proofs.lemmas.Option.{slice_get-get_or}
 use Rattle.std.proofs.Math.ListN.{length-map}
 use Rattle.source_frames.specs.AddressFrames.{AreFramesOf}
 use Rattle.source_frames.specs.Frames.{FrameRecord}
-use Rattle.line_tables.specs.Steps.{StepRecord, starts_of, AreAscending, AreFramesBefore, Changes, Stays, AreFrameSteps, IsLastNotAbove, AreAbove, IsStepFor, frames_at}
+use Rattle.line_tables.specs.Steps.{StepRecord, starts_of, AreAscending, AreFramesBefore, Changes, Stays, AreFrameSteps, IsLastNotAbove, IsStepFor, frames_at}
 
 -- ---- numbers that ascend
 
@@ -78,17 +78,17 @@ member_at xs k a l e = subst (Contains xs) e (Contains-get_or xs k 0 l)
 
 -- ---- steps
 
-no_step : StepRecord
+pub no_step : StepRecord
 no_step = record { start = 0; frames = [] }
 
 -- where a step starts, as one of the starts
-start_at : (steps : List StepRecord) (k : ℕ) (d : StepRecord) (e : ℕ) → k < length steps → get_or (starts_of steps) k e ≡ (get_or steps k d).start
+pub start_at : (steps : List StepRecord) (k : ℕ) (d : StepRecord) (e : ℕ) → k < length steps → get_or (starts_of steps) k e ≡ (get_or steps k d).start
 start_at steps k d e l = get_or-map (λ s. s.start) steps k d e l
 
-starts_long : (steps : List StepRecord) → length (starts_of steps) ≡ length steps
+pub starts_long : (steps : List StepRecord) → length (starts_of steps) ≡ length steps
 starts_long steps = length-map steps (λ s. s.start)
 
-frames_there : (steps : List StepRecord) (k : ℕ) (d : StepRecord) → k < length steps → frames_at steps (Some k) ≡ (get_or steps k d).frames
+pub frames_there : (steps : List StepRecord) (k : ℕ) (d : StepRecord) → k < length steps → frames_at steps (Some k) ≡ (get_or steps k d).frames
 frames_there steps k d l = ap (λ (o : Option StepRecord). option_map_or (λ s. s.frames) o []) (slice_get-get_or steps k d l)
 
 last_at : (starts : List ℕ) (a k : ℕ) → AreAscending starts → k < length starts → get_or starts k 0 ≡ a → IsLastNotAbove starts a k

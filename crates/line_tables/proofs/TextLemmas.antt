@@ -1,9 +1,9 @@
 -- Where the parts of a table stand among its bytes.
-use Rattle.std.proofs.Common.{◌≡◌, ℕ, zero, suc, ◌+◌, ◌*◌, ◌-◌, ◌<◌, ◌≤◌, ◌^◌, List, [], ◌∷◌, ◌++◌, length, take, drop, get_or, refl, sym, ap, ◌∙◌, subst, inl, inr, arith, length-append, Option, Some, None}
-use Rattle.std.specs.Prelude.{All, flat_map}
+use Rattle.std.proofs.Common.{◌≡◌, ℕ, zero, suc, ◌+◌, ◌*◌, ◌<◌, ◌≤◌, ◌^◌, List, [], ◌∷◌, ◌++◌, length, take, drop, get_or, refl, sym, ap, ◌∙◌, arith, length-append, Some}
+use Rattle.std.specs.Prelude.{flat_map}
 use Rattle.std.specs.Int.{w32, w64, from_be_bytes, to_be_bytes}
 use Rattle.std.specs.List.{concat}
-use Rattle.std.proofs.lemmas.List.{append-nil, append_assoc, take_at, drop_at, drop-drop}
+use Rattle.std.proofs.lemmas.List.{append_assoc, take_at, drop_at, drop-drop}
 use Rattle.std.proofs.lemmas.Nat.{from_be_bytes-to_be_bytes_4, from_be_bytes-to_be_bytes_8}
 use Rattle.std.proofs.lemmas.Option.{slice_get-get_or}
 use Rattle.std.proofs.Math.Nat.{mul-suc}
@@ -12,7 +12,7 @@ use Rattle.source_frames.specs.Frames.{FrameRecord}
 use Rattle.line_tables.specs.LineText.{LineParts, chains_in, file_bytes, head_bytes, line_text, location_bytes, parts_of, step_bytes, table_bytes, text_rows}
 use Rattle.line_tables.specs.Numbering.{number_in, number_or_zero, same_chain, same_path, same_text}
 use Rattle.line_tables.specs.Steps.{StepRecord}
-use Rattle.line_tables.proofs.ChainLemmas.{AreChains, chains_are}
+use Rattle.line_tables.proofs.ChainLemmas.{chains_are}
 use Rattle.line_tables.proofs.NumberingLemmas.{number_of_member}
 use Rattle.line_tables.proofs.SameLemmas.{chain_decides}
 

@@ -2,3 +2,6 @@ pub mod Steps
 pub mod Numbering
 pub mod LineText
 pub mod LineTable
+pub mod Opened
+pub mod FrameViews
+pub mod Inner

@@ -1,0 +1,31 @@
+use Rattle.std.proofs.Common.{Err, Some, refl, ap, sym, ◌∙◌}
+use Rattle.std.proofs.lemmas.Result.{err_from_is_err_and}
+use Rattle.checked_pages.proofs.ReadLemmas.{passed_on}
+use Rattle.line_tables.proofs.OpenedLemmas.{no_text, some_text}
+use Rattle.line_tables.specs.LineText.{parts_of}
+use Rattle.line_tables.proofs.table.LineTable.maybe_text.Goals as goal
+
+pub returns-then-number-eq0-clause-read : goal.returns-then-number-eq0-clause-read
+returns-then-number-eq0-clause-read g c = record {
+  says = λ text known all steps told opened is. ap (λ o. o) (no_text (parts_of steps) c.args.number told c.if-number-eq0.true is);
+  keeps = refl;
+  counts = refl;
+}
+
+pub returns-in_err-text-clause-read : goal.returns-in_err-text-clause-read
+returns-in_err-text-clause-read g c =
+    let p = err_from_is_err_and c.from_residual.result c.from_residual.ensures.1 in
+    passed_on _ _ _ _ _ _ _ _ _ _ _ c.in_err-text.was (p.1 ∙ ap Err p.2)
+    (λ text known absent all steps told stored opened is.
+    let some = some_text (parts_of steps) c.args.number told c.if-number-eq0.false is in
+    absent all steps some.0 stored opened some.2)
+    c.text.ensures.read
+
+pub returns-clause-read : goal.returns-clause-read
+returns-clause-read g c = record {
+  says = λ text known all steps told opened is.
+      let some = some_text (parts_of steps) c.args.number told c.if-number-eq0.false is in
+      ap Some (c.in_ok-text.ensures.read.says text known all steps some.0 opened some.2) ∙ sym some.1;
+  keeps = c.in_ok-text.ensures.read.keeps;
+  counts = c.in_ok-text.ensures.read.counts;
+}

@@ -1,0 +1,64 @@
+-- What single rows say: the words of inner functions. No contract of a public one has them.
+use Rattle.std.specs.Prelude.{◌≡◌, ◌<◌, ℕ, List, [], ◌∷◌, Option, Some, None, length, slice_index_or, take}
+use Rattle.std.specs.List.{concat}
+use Rattle.line_programs.specs.Paths.{PathRecord}
+use Rattle.source_frames.specs.Frames.{FrameRecord}
+use Rattle.line_tables.specs.LineText.{LineParts, parts_of}
+use Rattle.line_tables.specs.Numbering.{number_in, same_chain, same_path, same_text}
+use Rattle.line_tables.specs.Steps.{StepRecord}
+use Rattle.line_tables.specs.declared.row.File.{File}
+use Rattle.line_tables.specs.declared.row.Location.{Location}
+use Rattle.line_tables.specs.declared.row.Step.{Step}
+use Rattle.line_tables.specs.declared.row.Text.{Text}
+
+-- this is the number of one of some texts
+pub record IsTextNumber (parts : LineParts) (number : ℕ) (text : List ℕ) : Type 0 where
+  pub is : number ≡ number_in same_text parts.texts text
+  pub some : 0 < number
+
+-- this is the number of one of some files
+pub record IsFileNumber (parts : LineParts) (number : ℕ) (path : PathRecord) : Type 0 where
+  pub is : number ≡ number_in same_path parts.files path
+  pub some : 0 < number
+
+-- this is the number of a chain
+pub record IsChainNumber (parts : LineParts) (number : ℕ) (chain : List FrameRecord) : Type 0 where
+  pub is : number ≡ number_in same_chain parts.chains chain
+  pub some : 0 < number
+
+-- a number of what may be there
+abbrev pub IsMaybeText : LineParts → ℕ → Option (List ℕ) → Type 0
+IsMaybeText parts number None = number ≡ 0
+IsMaybeText parts number (Some text) = IsTextNumber parts number text
+
+abbrev pub IsMaybeFile : LineParts → ℕ → Option PathRecord → Type 0
+IsMaybeFile parts number None = number ≡ 0
+IsMaybeFile parts number (Some path) = IsFileNumber parts number path
+
+abbrev pub IsMaybeChain : LineParts → ℕ → List FrameRecord → Type 0
+IsMaybeChain parts number [] = number ≡ 0
+IsMaybeChain parts number (frame ∷ callers) = IsChainNumber parts number (frame ∷ callers)
+
+-- a row is that of a chain
+pub record IsLocation (parts : LineParts) (row : Location) (frame : FrameRecord) (callers : List FrameRecord) : Type 0 where
+  pub name : IsMaybeText parts row.name frame.name
+  pub file : IsMaybeFile parts row.file frame.path
+  pub line : row.line ≡ frame.line
+  pub column : row.column ≡ frame.column
+  pub caller : IsMaybeChain parts row.caller callers
+
+-- a row is that of the step of an index
+pub record IsStepRow (steps : List StepRecord) (index : ℕ) (row : Step) : Type 0 where
+  pub start : (d : StepRecord) → row.start ≡ (slice_index_or steps index d).start
+  pub location : (d : StepRecord) → IsMaybeChain (parts_of steps) row.location (slice_index_or steps index d).frames
+
+-- a row is that of a file
+pub record IsFileRow (parts : LineParts) (row : File) (path : PathRecord) : Type 0 where
+  pub base : IsTextNumber parts row.base path.base
+  pub directory : IsTextNumber parts row.directory path.directory
+  pub name : IsTextNumber parts row.name path.name
+
+-- a row is that of the text of an index: its length, and how many bytes the texts before it have
+pub record IsTextRow (parts : LineParts) (index : ℕ) (row : Text) : Type 0 where
+  pub place : row.place ≡ length (concat (take index parts.texts))
+  pub long : row.length ≡ length (slice_index_or parts.texts index [])

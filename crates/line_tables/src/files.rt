@@ -1,0 +1,112 @@
+//! The files of a table, by their numbers.
+
+ghost use Rattle.std.specs.Prelude.{◌≡◌, ◌<◌, ℕ, List, Option, Some};
+ghost use Rattle.std.specs.Option.{option_map};
+ghost use Rattle.checked_pages.specs.Pages.{AreStored};
+ghost use Rattle.checked_pages.specs.Views.{ArePagesOf, claim_view};
+ghost use Rattle.checked_pages.specs.Reading.{ReadsStored};
+ghost use Rattle.line_programs.specs.Paths.{PathRecord};
+ghost use Rattle.line_tables.specs.FrameViews.{owned_path_view};
+ghost use Rattle.line_tables.specs.Inner.{IsFileNumber, IsFileRow, IsMaybeFile};
+ghost use Rattle.line_tables.specs.LineText.{parts_of};
+ghost use Rattle.line_tables.specs.Opened.{IsOpened};
+ghost use Rattle.line_tables.specs.Steps.{StepRecord};
+
+use crate::frame::OwnedPath;
+use crate::row::{FILE_LEN, File, index_of, u32_be_at};
+use crate::table::LineTable;
+use crate::texts::handle;
+use checked_pages::{CheckFault, Pages};
+use memory::Heap;
+use placed_bytes::Placed;
+
+impl LineTable {
+    /// The row of the file of a number.
+    fn file_row<P: Placed>(
+        &self,
+        device: &mut P,
+        pages: &mut Pages,
+        number: u32,
+    ) -> Result<File, CheckFault>
+        ensures claim { pages.new.claim ≡ pages.old.claim }
+        ensures keeps { (text all : List ℕ) → P.whole device.old ≡ Some text → ArePagesOf pages.old text all
+            → ArePagesOf pages.new text all }
+        ensures read { ReadsStored P.whole P.failures device.old device.new result
+            (λ text row. (all : List ℕ) (steps : List StepRecord) (path : PathRecord)
+            → IsOpened self.now pages.old text all steps → IsFileNumber (parts_of steps) number path
+            → IsFileRow (parts_of steps) row path)
+            (λ text. (all : List ℕ) (steps : List StepRecord) (path : PathRecord)
+            → AreStored text (claim_view pages.old.claim) all → IsOpened self.now pages.old text all steps
+            → IsFileNumber (parts_of steps) number path → ⊥) }
+    {
+        let Some(index) = index_of(number, self.files) else {
+            return Err(CheckFault::Changed);
+        };
+        let mut bytes = [0; FILE_LEN];
+        let offset = self.first_file() + FILE_LEN as u64 * index;
+        pages.read(device, offset, &mut bytes)?;
+        Ok(File {
+            base: u32_be_at(&bytes, 0),
+            directory: u32_be_at(&bytes, 4),
+            name: u32_be_at(&bytes, 8),
+        })
+    }
+
+    /// The path of a row.
+    fn path_of<P: Placed>(
+        &self,
+        heap: Heap,
+        device: &mut P,
+        pages: &mut Pages,
+        row: File,
+    ) -> Result<OwnedPath, CheckFault>
+        ensures claim { pages.new.claim ≡ pages.old.claim }
+        ensures keeps { (text all : List ℕ) → P.whole device.old ≡ Some text → ArePagesOf pages.old text all
+            → ArePagesOf pages.new text all }
+        ensures read { ReadsStored P.whole P.failures device.old device.new result
+            (λ text path. (all : List ℕ) (steps : List StepRecord) (told : PathRecord)
+            → IsOpened self.now pages.old text all steps → IsFileRow (parts_of steps) row told
+            → owned_path_view path ≡ told)
+            (λ text. (all : List ℕ) (steps : List StepRecord) (told : PathRecord)
+            → AreStored text (claim_view pages.old.claim) all → IsOpened self.now pages.old text all steps
+            → IsFileRow (parts_of steps) row told → ⊥) }
+    {
+        let first = handle(&heap)?;
+        let second = handle(&heap)?;
+        let base = self.text(first, device, pages, row.base)?;
+        let directory = self.text(second, device, pages, row.directory)?;
+        let name = self.text(heap, device, pages, row.name)?;
+        Ok(OwnedPath {
+            base,
+            directory,
+            name,
+        })
+    }
+
+    /// The path of the file of a number, or none where that is 0.
+    pub(crate) fn maybe_path<P: Placed>(
+        &self,
+        heap: Heap,
+        device: &mut P,
+        pages: &mut Pages,
+        number: u32,
+    ) -> Result<Option<OwnedPath>, CheckFault>
+        ensures claim { pages.new.claim ≡ pages.old.claim }
+        ensures keeps { (text all : List ℕ) → P.whole device.old ≡ Some text → ArePagesOf pages.old text all
+            → ArePagesOf pages.new text all }
+        ensures read { ReadsStored P.whole P.failures device.old device.new result
+            (λ text found. (all : List ℕ) (steps : List StepRecord) (told : Option PathRecord)
+            → IsOpened self.now pages.old text all steps → IsMaybeFile (parts_of steps) number told
+            → option_map owned_path_view found ≡ told)
+            (λ text. (all : List ℕ) (steps : List StepRecord) (told : Option PathRecord)
+            → AreStored text (claim_view pages.old.claim) all → IsOpened self.now pages.old text all steps
+            → IsMaybeFile (parts_of steps) number told → ⊥) }
+    {
+        if number == 0 {
+            return Ok(None);
+        }
+        let row = self.file_row(device, pages, number)?;
+        let path = self.path_of(heap, device, pages, row)?;
+        Ok(Some(path))
+    }
+}

@@ -1,0 +1,80 @@
+//! Frames that were read of a table.
+
+ghost use Rattle.std.specs.Prelude.{◌≡◌};
+ghost use Rattle.std.specs.Option.{option_map};
+ghost use Rattle.line_programs.specs.PathViews.{path_view};
+ghost use Rattle.source_frames.specs.FrameViews.{frame_view};
+ghost use Rattle.line_tables.specs.FrameViews.{owned_frame_view, owned_path_view};
+
+use line_programs::PathParts;
+use memory::Heap;
+use source_frames::Frame;
+
+/// The parts of a path. It holds them.
+#[derive(Drop)]
+pub struct OwnedPath {
+    /// The directory of the compilation.
+    pub base: Vec<u8, Heap>,
+    /// The directory of the file; empty if it is that of the compilation.
+    pub directory: Vec<u8, Heap>,
+    /// The name of the file.
+    pub name: Vec<u8, Heap>,
+}
+
+/// A frame. It holds its texts.
+#[derive(Drop)]
+pub struct OwnedFrame {
+    /// The name of its function.
+    pub name: Option<Vec<u8, Heap>>,
+    /// The path of its file.
+    pub path: Option<OwnedPath>,
+    pub line: u64,
+    pub column: u64,
+}
+
+impl OwnedPath {
+    /// The same with its parts lent.
+    pub fn lent(&self) -> PathParts<'_>
+        ensures { path_view result ≡ owned_path_view self.now }
+    {
+        PathParts {
+            base: &self.base,
+            directory: &self.directory,
+            name: &self.name,
+        }
+    }
+}
+
+impl OwnedFrame {
+    /// The name, lent.
+    fn lent_name(&self) -> Option<&[u8]>
+        ensures { option_map (λ n. n.now) result ≡ option_map (λ n. n.items) self.now.name }
+    {
+        match &self.name {
+            Some(name) => Some(&name[..]),
+            None => None,
+        }
+    }
+
+    /// The path, lent.
+    fn lent_path(&self) -> Option<PathParts<'_>>
+        ensures { option_map path_view result ≡ option_map owned_path_view self.now.path }
+    {
+        match &self.path {
+            Some(path) => Some(path.lent()),
+            None => None,
+        }
+    }
+
+    /// The same with its texts lent.
+    pub fn lent(&self) -> Frame<'_>
+        ensures { frame_view result ≡ owned_frame_view self.now }
+    {
+        Frame {
+            name: self.lent_name(),
+            path: self.lent_path(),
+            line: self.line,
+            column: self.column,
+        }
+    }
+}

@@ -1,0 +1,77 @@
+//! The step of an address, found by halving.
+
+ghost use Rattle.std.specs.Prelude.{◌≡◌, ◌<◌, ℕ, List, Option, Some};
+ghost use Rattle.checked_pages.specs.Pages.{AreStored};
+ghost use Rattle.checked_pages.specs.Views.{ArePagesOf, claim_view};
+ghost use Rattle.checked_pages.specs.Reading.{ReadsStored};
+ghost use Rattle.line_tables.specs.Inner.{IsMaybeChain, IsStepRow};
+ghost use Rattle.line_tables.specs.LineText.{parts_of};
+ghost use Rattle.line_tables.specs.Opened.{IsOpened};
+ghost use Rattle.line_tables.specs.Steps.{AreAscending, IsStepFor, StepRecord, frames_at, starts_of};
+
+use crate::row::{STEP_LEN, Step, u32_be_at, u64_be_at};
+use crate::table::LineTable;
+use checked_pages::{CheckFault, Pages};
+use placed_bytes::Placed;
+
+impl LineTable {
+    /// The step of an index.
+    fn step_at<P: Placed>(
+        &self,
+        device: &mut P,
+        pages: &mut Pages,
+        index: u64,
+    ) -> Result<Step, CheckFault>
+        requires { index < self.now.steps }
+        ensures claim { pages.new.claim ≡ pages.old.claim }
+        ensures keeps { (text all : List ℕ) → P.whole device.old ≡ Some text → ArePagesOf pages.old text all
+            → ArePagesOf pages.new text all }
+        ensures read { ReadsStored P.whole P.failures device.old device.new result
+            (λ text row. (all : List ℕ) (steps : List StepRecord) → IsOpened self.now pages.old text all steps
+            → IsStepRow steps index row)
+            (λ text. (all : List ℕ) (steps : List StepRecord) → AreStored text (claim_view pages.old.claim) all
+            → IsOpened self.now pages.old text all steps → ⊥) }
+    {
+        let mut bytes = [0; STEP_LEN];
+        let offset = self.first_step() + STEP_LEN as u64 * index;
+        pages.read(device, offset, &mut bytes)?;
+        Ok(Step {
+            start: u64_be_at(&bytes, 0),
+            location: u32_be_at(&bytes, 8),
+        })
+    }
+
+    /// The number of the location of an address; 0 where it has no frames. One step is read for each halving.
+    pub(crate) fn location_for<P: Placed>(
+        &self,
+        device: &mut P,
+        pages: &mut Pages,
+        address: u64,
+    ) -> Result<u32, CheckFault>
+        ensures claim { pages.new.claim ≡ pages.old.claim }
+        ensures keeps { (text all : List ℕ) → P.whole device.old ≡ Some text → ArePagesOf pages.old text all
+            → ArePagesOf pages.new text all }
+        ensures read { ReadsStored P.whole P.failures device.old device.new result
+            (λ text number. (all : List ℕ) (steps : List StepRecord) → AreAscending (starts_of steps)
+            → IsOpened self.now pages.old text all steps
+            → (found : Option ℕ) × IsStepFor (starts_of steps) address found
+            × IsMaybeChain (parts_of steps) number (frames_at steps found))
+            (λ text. (all : List ℕ) (steps : List StepRecord) → AreStored text (claim_view pages.old.claim) all
+            → IsOpened self.now pages.old text all steps → ⊥) }
+    {
+        let mut low = 0;
+        let mut high = self.steps;
+        let mut number = 0;
+        'halving: while low < high {
+            let middle = low + (high - low) / 2;
+            let step = self.step_at(device, pages, middle)?;
+            if step.start <= address {
+                number = step.location;
+                low = middle + 1;
+            } else {
+                high = middle;
+            }
+        }
+        Ok(number)
+    }
+}
