@@ -1,0 +1,13 @@
+mod NumbersLemmas
+mod FirstUsesLemmas
+mod KeptLemmas
+mod KeyLemmas
+mod NumberedLemmas
+mod ApartLemmas
+mod PartLemmas
+mod LoopLemmas
+mod RowLemmas
+mod BytesLemmas
+mod StoreLemmas
+mod LeastLemmas
+mod AddedLemmas

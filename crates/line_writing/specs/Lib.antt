@@ -1,0 +1,12 @@
+pub mod Numbering
+pub mod Numbers
+pub mod Kept
+pub mod KeptViews
+pub mod FirstUses
+pub mod StepViews
+pub mod StoreViews
+pub mod Lines
+pub mod Located
+pub mod PartNumbers
+pub mod PartBytes
+pub mod WholeText

@@ -1,0 +1,11 @@
+-- What a store of lines is in the definitions.
+use Rattle.std.specs.Prelude.{Bool, true, false, List, map, Option, Some, None}
+use Rattle.line_tables.specs.Steps.{StepRecord}
+use Rattle.line_writing.specs.Kept.{KeptRecord}
+use Rattle.line_writing.specs.StepViews.{step_of}
+use Rattle.line_writing.specs.declared.step.Step.{Step}
+
+-- the steps that were taken, unless one is too wide
+abbrev pub taken : Bool → KeptRecord → List Step → Option (List StepRecord)
+taken true k steps = None
+taken false k steps = Some (map (step_of k) steps)

@@ -1,0 +1,111 @@
+//! What frames have, each thing once and told by number.
+
+ghost use Rattle.std.specs.Prelude.{map};
+ghost use Rattle.line_writing.specs.Kept.{IsKept};
+
+use crate::keys::{FileKey, LocationKey};
+use crate::numbers::Numbers;
+use line_programs::PathParts;
+use memory::{Heap, NoMemory};
+use source_frames::Frame;
+
+/// The texts, files and locations of frames.
+#[derive(Drop)]
+pub(crate) struct Kept<'a> {
+    pub texts: Numbers<&'a [u8]>,
+    pub files: Numbers<FileKey>,
+    pub locations: Numbers<LocationKey>,
+    ghost right: { IsKept (record { texts = map (λ t. t.now) texts; files = files; locations = locations }) },
+}
+
+impl<'a> Kept<'a> {
+    ghost use Rattle.std.specs.Prelude.{◌≡◌, ◌≤◌, ◌<◌, [], ◌∷◌, IfOk, length, map};
+    ghost use Rattle.std.specs.Option.{option_map};
+    ghost use Rattle.line_programs.specs.PathViews.{path_view};
+    ghost use Rattle.source_frames.specs.FrameViews.{frame_view};
+    ghost use Rattle.line_writing.specs.Kept.{Grows, IsFile, IsKeyOf, IsLocation, IsName, IsText, chain_at};
+    ghost use Rattle.line_writing.specs.KeptViews.{kept_view};
+
+    /// Nothing.
+    pub fn new(heap: Heap) -> Result<Kept<'a>, NoMemory>
+        ensures { IfOk result (λ kept. kept_view kept ≡ record { texts = []; files = []; locations = [] }) }
+    {
+        Ok(Kept {
+            texts: Numbers::new(heap.clone()?)?,
+            files: Numbers::new(heap.clone()?)?,
+            locations: Numbers::new(heap)?,
+        })
+    }
+
+    /// The number of a text.
+    fn text(&mut self, text: &'a [u8]) -> Result<u32, NoMemory>
+        ensures grows { Grows (kept_view self.old) (kept_view self.new) }
+        ensures is { IfOk result (λ number. IsText (kept_view self.new) number text.now) }
+    {
+        self.texts.number(text)
+    }
+
+    /// The number of a name, or 0.
+    fn name(&mut self, name: Option<&'a [u8]>) -> Result<u32, NoMemory>
+        ensures grows { Grows (kept_view self.old) (kept_view self.new) }
+        ensures is { IfOk result (λ number. IsName (kept_view self.new) number (option_map (λ n. n.now) name.entry)) }
+    {
+        match name {
+            Some(name) => self.text(name),
+            None => Ok(0),
+        }
+    }
+
+    /// The key of a file.
+    fn file_key(&mut self, path: &PathParts<'a>) -> Result<FileKey, NoMemory>
+        ensures grows { Grows (kept_view self.old) (kept_view self.new) }
+        ensures is { IfOk result (λ key. IsKeyOf (kept_view self.new) key (path_view path.now)) }
+    {
+        let base = self.text(path.base)?;
+        let directory = self.text(path.directory)?;
+        let name = self.text(path.name)?;
+        Ok(FileKey {
+            base,
+            directory,
+            name,
+        })
+    }
+
+    /// The number of a file, or 0.
+    fn file(&mut self, path: Option<PathParts<'a>>) -> Result<u32, NoMemory>
+        ensures grows { Grows (kept_view self.old) (kept_view self.new) }
+        ensures is { IfOk result (λ number. IsFile (kept_view self.new) number (option_map path_view path.entry)) }
+    {
+        let Some(path) = path else {
+            return Ok(0);
+        };
+        let key = self.file_key(&path)?;
+        self.files.number(key)
+    }
+
+    /// The number of the location of a frame that is inlined into another location, or into none (0).
+    pub fn location(
+        &mut self,
+        frame: &Frame<'a>,
+        line: u32,
+        column: u32,
+        caller: u32,
+    ) -> Result<u32, NoMemory>
+        requires line { line ≡ frame.now.line }
+        requires column { column ≡ frame.now.column }
+        requires caller { caller ≤ length (kept_view self.old).locations }
+        ensures grows { Grows (kept_view self.old) (kept_view self.new) }
+        ensures is { IfOk result (λ number. IsLocation (kept_view self.new) number
+            (frame_view frame.now ∷ chain_at (kept_view self.old) caller)) }
+    {
+        let name = self.name(frame.name)?;
+        let file = self.file(frame.path)?;
+        self.locations.number(LocationKey {
+            name,
+            file,
+            line,
+            column,
+            caller,
+        })
+    }
+}
