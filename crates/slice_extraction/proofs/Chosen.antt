@@ -1,8 +1,9 @@
 -- What the entries that answer choose.
-use Rattle.std.proofs.Common.{◌≡◌, ◌≢◌, ℕ, List, [], ◌∷◌, length, map, None, subst, arith}
+use Rattle.std.proofs.Common.{◌≡◌, ◌≢◌, ℕ, List, [], ◌∷◌, length, map, Option, None, Some, refl, subst, arith}
 use Rattle.std.specs.List.{AllZip}
 use Rattle.std.proofs.lemmas.Slice.Zip.{AllZip-long}
 use Rattle.archive_core.specs.Key.{key_bytes}
+use Rattle.archive_core.specs.declared.keys.Digest.{Digest}
 use Rattle.archive_core.specs.declared.keys.SliceKey.{SliceKey}
 use Rattle.indexed_answers.specs.Among.{AreAnsweringAmong, EntryAt}
 use Rattle.indexed_answers.specs.Named.{IsRowAt, Names, NamesAmong}
@@ -14,6 +15,11 @@ zip_rows [] [] zip = tt
 zip_rows [] (_ ∷ _) zip = absurd zip
 zip_rows (_ ∷ _) [] zip = absurd zip
 zip_rows (x ∷ xs) (one ∷ named) zip = (zip.0.row, zip_rows xs named zip.1)
+
+-- no digest is given
+pub none_given : (digest : Option Digest) → ((given : Digest) → digest ≡ Some given → ⊥) → digest ≡ None
+none_given None other = refl
+none_given (Some given) other = absurd (other given refl)
 
 module _ (key : SliceKey) (all : List (List (List ℕ))) where
   only_one : (xs : List EntryAt) (one : NamedSlice) → AreAnsweringAmong (key_bytes key) all xs → AllZip Names xs (one ∷ []) → (x : EntryAt) × IsChosen key None all x × Names x one

@@ -49,7 +49,7 @@ module _ {D T : Type 0} (out : Outs D T) (report : Writer) where
     module _ (placed : out.published out.new.target ≡ out.held mid) (emptied : out.held out.new.draft ≡ Some []) (unfailed : out.draft_failures out.new.draft ≡ out.draft_failures mid) (well : out.failures out.new.target ≡ out.failures out.old.target) where
       places : Places (out_of out) slice
       places = record {
-        placed = subst (λ (o : Option (List ℕ)). Appends (out.held out.old.draft) o slice) (sym placed) took.0;
+        published = subst (λ (o : Option (List ℕ)). Appends (out.held out.old.draft) o slice) (sym placed) took.0;
         emptied = emptied;
         draft_unfailed = unfailed ∙ took.1;
         unfailed = well;

@@ -1,15 +1,16 @@
 -- What was sent of the slice of an entry, or why it was not.
-use Rattle.std.proofs.Common.{◌≡◌, ℕ, ◌+◌, List, [], take, drop, length, Option, Some, None, Result, Ok, Err, refl, sym, ap, ◌∙◌, subst, inl, inr, arith}
+use Rattle.std.proofs.Common.{◌≡◌, ℕ, ◌+◌, ◌<◌, List, [], take, drop, length, Option, Some, None, Result, Ok, Err, refl, sym, ap, ◌∙◌, subst, inl, inr, arith}
 use Rattle.std.specs.Prelude.{IfSome, MatchResult}
 use Rattle.byte_device.specs.Devices.{stream}
 use Rattle.byte_device.specs.declared.disks.CannotOpen.{CannotOpen}
 use Rattle.byte_device.proofs.Known.{Appends-none}
 use Rattle.placed_bytes.specs.Places.{Stands}
+use Rattle.placed_passes.specs.Copies.{IsCopied}
 use Rattle.placed_passes.specs.Sending.{HaveOther, HaveSome, StopsSending}
 use Rattle.placed_passes.specs.Sending.{Hinders as HindersSending}
 use Rattle.placed_passes.specs.declared.sending.SendFault.{SendFault}
 use Rattle.placed_passes.specs.declared.sending.SendFault.TheVariants.{Other, Device, Sink}
-use Rattle.command_ends.specs.Inputs.{Gives, Reader, reader}
+use Rattle.command_ends.specs.Inputs.{Gives, Reader, Unfailed, reader}
 use Rattle.command_ends.specs.Outputs.{Takes, Writer, writer}
 use Rattle.command_ends.specs.declared.faults.CommandFault.{CommandFault}
 use Rattle.command_ends.specs.declared.faults.CommandFault.TheVariants.{Input, OutOfMemory}
@@ -45,21 +46,21 @@ unopened left failures (Err reason) number x draft fault same took is =
     subst (λ (f : CommandFault). StopsSlice (reader left failures (Err reason) (Err reason)) x draft f) (sym is)
     (unbegun (reader left failures (Err reason) (Err reason)) x draft (Input (Archive number) NotOpened) took (inl (ap Archive same, refl), took.1))
 
-module _ {P W : Type 0} (whole : P → Option (List ℕ)) (failures : P → ℕ) (held : W → Option (List ℕ)) (failures_of_draft : W → ℕ) (device after : P) (before behind : W) (named : NamedSlice) (x : EntryAt) (names : Names x named) (start : ℕ) (start_is : start ≡ named.offset) where
+module _ {P W : Type 0} (whole : P → Option (List ℕ)) (failures : P → ℕ) (held : W → Option (List ℕ)) (failures_of_draft : W → ℕ) (device after : P) (before behind : W) (named : NamedSlice) (x : EntryAt) (names : Names x named) where
   abbrev archive : Reader P
   archive = reader whole failures (Ok device) (Ok after)
 
   abbrev draft : Writer
   draft = writer held failures_of_draft before behind
 
-  place : start + 33 ≡ offset_in x.entry + 33
-  place = ap (λ (n : ℕ). n + 33) (start_is ∙ names.offset_is)
+  place : named.offset + 33 ≡ offset_in x.entry + 33
+  place = ap (λ (n : ℕ). n + 33) names.offset_is
 
-  stand_for : (bytes : List ℕ) → Stands (whole device) (start + 33) bytes → Gives archive (StandFor x bytes)
+  stand_for : (bytes : List ℕ) → Stands (whole device) (named.offset + 33) bytes → Gives archive (StandFor x bytes)
   stand_for bytes stand = subst (λ (k : ℕ). Stands (whole device) k bytes) place stand
 
   -- so many bytes with the SHA-256 are a slice as the entry says
-  holds_slice : HaveSome (whole device) (start + 33) named.size named.row.digest.0 → (slice : List ℕ) × HoldsSlice archive x slice
+  holds_slice : HaveSome (whole device) (named.offset + 33) named.size named.row.digest.0 → (slice : List ℕ) × HoldsSlice archive x slice
   holds_slice have =
       let d = have.1 in (
         d.bytes,
@@ -70,7 +71,7 @@ module _ {P W : Type 0} (whole : P → Option (List ℕ)) (failures : P → ℕ)
       )
 
   -- others are none
-  holds_other : (known : Option (List ℕ)) → HaveOther known (start + 33) named.size named.row.digest.0 → IfSome known (λ text. (slice : List ℕ) → IsSliceOf x slice → StandFor x slice text → ⊥)
+  holds_other : (known : Option (List ℕ)) → HaveOther known (named.offset + 33) named.size named.row.digest.0 → IfSome known (λ text. (slice : List ℕ) → IsSliceOf x slice → StandFor x slice text → ⊥)
   holds_other None other = tt
   holds_other (Some text) other = λ slice of stands. other (
     omega (arith, of.some, of.long, names.size_is),
@@ -82,14 +83,26 @@ module _ {P W : Type 0} (whole : P → Option (List ℕ)) (failures : P → ℕ)
     },
   )
 
-  hindered : (sent : ℕ) (fault : SendFault) → HindersSending (stream whole failures device after) (stream held failures_of_draft before behind) (start + 33) named.size named.row.digest.0 sent fault
+  hindered : (sent : ℕ) (fault : SendFault) → HindersSending (stream whole failures device after) (stream held failures_of_draft before behind) (named.offset + 33) named.size named.row.digest.0 sent fault
       → Hinders archive x draft sent (told_fault named.input named.number named.offset fault)
   hindered sent Other h = (inr (ap Index names.input_is, ap (λ (n : ℕ). Stale (Some n)) names.number_is, h.1, holds_other (whole device) h.0), h.2)
   hindered sent Device h = (inl (ap Archive names.input_is, (refl, names.offset_is, h.0)), h.1)
   hindered sent (Sink written) h = (h.0, omega (arith, h.1, names.size_is), h.2, h.3)
 
+  -- the slice was sent
+  pub sent : (0 < named.size) × IsCopied (stream whole failures device after) (stream held failures_of_draft before behind) (named.offset + 33) named.size named.row.digest.0 → (slice : List ℕ) × HoldsSlice archive x slice × Takes draft slice × Unfailed archive
+  sent (some, copied) = (
+    copied.bytes,
+    record {
+      of = record { some = omega (arith, some, copied.long); long = copied.long ∙ names.size_is; digest_is = sym copied.digest_is ∙ names.row.digest_is };
+      stands = stand_for copied.bytes copied.gains.stands;
+    },
+    (copied.gains.gained, copied.unfailed.1),
+    copied.unfailed.0,
+  )
+
   -- the slice was not sent
-  pub unsent : (fault : SendFault) → StopsSending (stream whole failures device after) (stream held failures_of_draft before behind) (start + 33) named.size named.row.digest.0 fault
+  pub unsent : (fault : SendFault) → StopsSending (stream whole failures device after) (stream held failures_of_draft before behind) (named.offset + 33) named.size named.row.digest.0 fault
       → StopsSlice archive x draft (told_fault named.input named.number named.offset fault)
   unsent fault stops = record {
     bytes = stops.bytes;

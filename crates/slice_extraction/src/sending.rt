@@ -1,6 +1,8 @@
 //! A slice that an entry names, sent from its archive to OUT.
 
-ghost use Rattle.std.specs.Prelude.{◌≡◌, ◌<◌, IfOk, length, string_bytes};
+ghost use Rattle.std.specs.Prelude.{◌≡◌, ◌+◌, ◌<◌, IfOk, length, string_bytes};
+ghost use Rattle.byte_device.specs.Devices.{stream};
+ghost use Rattle.placed_passes.specs.Sending.{SendsAt};
 ghost use Rattle.command_ends.specs.Inputs.{reader};
 ghost use Rattle.command_ends.specs.Outputs.{outs, writer};
 ghost use Rattle.indexed_answers.specs.Among.{EntryAt};
@@ -80,6 +82,23 @@ fn told(named: &NamedSlice, fault: SendFault) -> CommandFault
     }
 }
 
+/// Sends the slice of the record that stands at this offset, as [`send_at`] does.
+fn send_slice_at<P: Placed, W: Sink>(
+    device: &mut P,
+    offset: u64,
+    size: u64,
+    digest: &[u8; 32],
+    buffer: &mut [u8],
+    w: &mut W,
+) -> Result<(), SendFault>
+    requires { 0 < length buffer.old }
+    ensures { SendsAt (stream P.whole P.failures device.old device.new) (stream W.held W.failures w.old w.new)
+        (offset + 33) size digest.now result }
+{
+    let start = u128::from(offset);
+    send_at(device, start + HEAD_LEN, size, digest, buffer, w)
+}
+
 /// Sends the slice that an entry names from its archive to a draft.
 fn send_named<P: Placed, W: Sink>(
     heap: Heap,
@@ -92,10 +111,9 @@ fn send_named<P: Placed, W: Sink>(
 {
     let mut piece = room_for_piece(heap)?;
     let device = opened(archive, InputName::Archive(named.input))?;
-    let at = u128::from(named.offset) + HEAD_LEN;
-    match send_at(
+    match send_slice_at(
         device,
-        at,
+        named.offset,
         named.size,
         &named.row.digest.0,
         &mut piece,

@@ -62,6 +62,6 @@ returns g c = λ x names.
       sent.0,
       sent.1,
       sent.3,
-      placed_so out report c.send_named.new.draft sent.0 sent.2 put.placed put.emptied put.draft put.unfailed c.deref.result.now (written_line c.args.key.now sent.0) c.publish_report.result
+      placed_so out report c.send_named.new.draft sent.0 sent.2 put.published put.emptied put.draft put.unfailed c.deref.result.now (written_line c.args.key.now sent.0) c.publish_report.result
           (c.deref.ensures ∙ c.in_ok-text.ensures ∙ same_line c.args.key.now c.args.named.now x sent.0 names sent.1.of) c.publish_report.ensures,
     )

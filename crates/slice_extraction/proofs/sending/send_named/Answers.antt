@@ -4,7 +4,7 @@ use Rattle.byte_device.proofs.Known.{Appends-none}
 use Rattle.command_ends.specs.Inputs.{reader}
 use Rattle.command_ends.specs.Outputs.{writer}
 use Rattle.command_ends.specs.declared.faults.CommandFault.TheVariants.{OutOfMemory}
-use Rattle.slice_extraction.proofs.Sent.{lent_from, unbegun, unopened, unsent}
+use Rattle.slice_extraction.proofs.Sent.{lent_from, sent, unbegun, unopened, unsent}
 use Rattle.slice_extraction.proofs.sending.send_named.Goals as goal
 
 pub returns-in_err-piece : goal.returns-in_err-piece
@@ -20,7 +20,12 @@ returns-in_err-device g c =
     let p = err_from_is_err_and c.from_residual-in_err-device.result c.from_residual-in_err-device.ensures.1 in
     rw (p.1, p.2) (λ x names. unopened g.P.Placed.whole g.P.Placed.failures c.args.archive.now c.args.named.now.input x draft c.in_err-device.field-0.0 names.input_is (Appends-none _, refl) c.in_err-device.ensures.source)
 
+pub returns-in-Ok : goal.returns-in-Ok
+returns-in-Ok g c =
+    rw (lent_from c.args.archive.now _ c.in_ok-device.ensures.source)
+    (λ x names. sent g.P.Placed.whole g.P.Placed.failures g.W.Sink.held g.W.Sink.failures c.in_ok-device.device.now c.send_slice_at.new.device c.args.draft.now c.send_slice_at.new.w c.args.named.now x names c.in-Ok.ensures.sends)
+
 pub returns : goal.returns
 returns g c =
     rw (lent_from c.args.archive.now _ c.in_ok-device.ensures.source, c.told.ensures)
-    (λ x names. unsent g.P.Placed.whole g.P.Placed.failures g.W.Sink.held g.W.Sink.failures c.in_ok-device.device.now c.send_at.new.device c.args.draft.now c.send_at.new.w c.args.named.now x names c.from-at.result c.from-at.ensures c.in-Err.fault c.in-Err.ensures.sends)
+    (λ x names. unsent g.P.Placed.whole g.P.Placed.failures g.W.Sink.held g.W.Sink.failures c.in_ok-device.device.now c.send_slice_at.new.device c.args.draft.now c.send_slice_at.new.w c.args.named.now x names c.in-Err.fault c.in-Err.ensures.sends)
