@@ -1,11 +1,10 @@
 -- What `extract` writes by an entry is the wanted slice of the contents that the indexes were made of.
 use Rattle.std.proofs.Common.{◌≡◌, ℕ, zero, suc, ◌+◌, ◌<◌, ◌≤◌, List, [], ◌∷◌, ◌++◌, length, take, drop, get_or, Option, Some, None, slice_get, refl, sym, ap, ◌∙◌, subst, inl, inr, arith, length-append, append_assoc, drop-drop}
-use Rattle.std.specs.List.{AllByRecursion, AllZip, concat}
+use Rattle.std.specs.List.{AllZip, concat}
 use Rattle.std.specs.FinSet as set
 use Rattle.std.proofs.Math.Seq.{drop-append_seam, take-append_seam}
 use Rattle.std.proofs.lemmas.List.{drop-append-le}
 use Rattle.std.proofs.lemmas.Option.{same_Some}
-use Rattle.sha2.specs.Sha256.{sha256}
 use Rattle.join_core.specs.Listing.{listing}
 use Rattle.archive_core.specs.Content.{Operations}
 use Rattle.archive_core.specs.Find.{AreAnswering}
@@ -28,12 +27,12 @@ use Rattle.index_laws.proofs.Among.{IsOfSlice, admission_if, find, lives_if, sli
 use Rattle.index_laws.proofs.Joined.{joined_alone}
 use Rattle.index_laws.proofs.Right.{IsAnsweringSlice, slices_right}
 use Rattle.indexed_answers.specs.Among.{EntryAt}
-use Rattle.indexed_queries.specs.Together.{AllThree, AreLater, AreReadWith, IsLater, IsOneOf}
+use Rattle.indexed_queries.specs.Together.{AreLater, IsOneOf}
 use Rattle.slice_extraction.specs.Entries.{HoldsSlice, IsChosen, StandFor}
 use Rattle.slice_extraction.specs.Indexed.{MakesEntry, extract_at}
 use Rattle.slice_extraction.specs.Wanted.{IsWanted, slice_line, written_line}
 use Rattle.slice_extraction.proofs.Extracted.{wanted_alike}
-use Rattle.query_laws.specs.Contents.{AreIndexed, AreIndexesGiven, AreOwnIndexes, IsIndexGiven, IsIndexed, IsOwnIndex}
+use Rattle.query_laws.specs.Contents.{AreIndexed, AreOwnIndexes, IsIndexGiven, IsOwnIndex}
 use Rattle.query_laws.proofs.Accepted.{still_given}
 use Rattle.query_laws.proofs.ByIndex.{held_alike}
 use Rattle.query_laws.proofs.ByTables.{AreTextsOf, indexes_are, texts_of}
