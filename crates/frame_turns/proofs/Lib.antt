@@ -1,0 +1,2 @@
+mod FreeLemmas
+mod StayLemmas
