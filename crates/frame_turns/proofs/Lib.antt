@@ -1,2 +1,4 @@
+mod AscendingLemmas
 mod FreeLemmas
 mod StayLemmas
+mod UnitStepLemmas

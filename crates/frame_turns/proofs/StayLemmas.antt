@@ -22,6 +22,7 @@ use Rattle.source_frames.specs.Frames.{FrameRecord}
 use Rattle.source_frames.specs.Scopes.{ScopeRecord, IsWithin, IsFirst, IsChainWithin, contains_at, scopes_of}
 use Rattle.source_frames.specs.UnitAddresses.{IsUnitOf, own_ranges, place_by_ranges, place_by_tuple, read_unit}
 use Rattle.source_frames.specs.UnitLines.{lines_of}
+use Rattle.source_frames.proofs.UnitAddressLemmas.{one_place}
 use Rattle.frame_turns.specs.Turns.{IsTurnBy, boundaries, ends_of, ends_of_range, ends_of_tuple, unit_turns}
 use Rattle.frame_turns.proofs.FreeLemmas.{Avoids, IsBetween, IsFree, find_none, free_element, free_left, free_right, none_in_ranges, of_mapped, same_find, same_in_ranges, side}
 
@@ -169,25 +170,22 @@ module _ (s : DebugSectionsRecord) (a b : ℕ) (fits : b < 2 ^ 64) (none : (turn
 
 -- ---- before the first boundary
 
-no_tuple : (a : ℕ) (ts : List Arange) (found : Option Arange) → Avoids (λ t. t ≤ a) (flat_map ends_of_tuple ts) → IsFirstTuple ts a found → found ≡ None
-no_tuple a ts None free is = refl
-no_tuple a ts (Some t) free is =
-    absurd ((free_element (λ n. n ≤ a) ends_of_tuple ts is.0 t free is.1).none t.address (0, omega arith, refl) is.2.0)
+no_tuple : (a : ℕ) (ts : List Arange) → Avoids (λ t. t ≤ a) (flat_map ends_of_tuple ts) → IsFirstTuple ts a None
+no_tuple a ts free = λ i t e has. (free_element (λ n. n ≤ a) ends_of_tuple ts i t free e).none t.address (0, omega arith, refl) has.0
 
-pub no_unit_before : (s : DebugSectionsRecord) (a : ℕ) (place : Option ℕ) → Avoids (λ t. t ≤ a) (boundaries s) → IsUnitOf s a place → place ≡ None
+pub unit_none_before : (s : DebugSectionsRecord) (a : ℕ) → Avoids (λ t. t ≤ a) (boundaries s) → IsUnitOf s a None
 unfolding boundaries
-no_unit_before s a place free is =
+unit_none_before s a free =
     let Such : ℕ → Type 0 = λ t. t ≤ a in
     let tuples = flat_map ends_of_tuple (aranges_of s.debug_aranges) in
     let units = flat_map (λ u. ends_of (own s u)) (placed unit_at s.debug_info) in
-    let tuple = no_tuple a (aranges_of s.debug_aranges) is.0 (free_left Such tuples units free) is.1 in
     let found = same_find (λ u. in_ranges a (own s u)) (λ u. false) Such (λ u. ends_of (own s u)) (placed unit_at s.debug_info)
         (λ u h. none_in_ranges a (own s u) h) (free_right Such tuples units free)
         ∙ find_none (placed unit_at s.debug_info) in
-    is.2 ∙ ap (λ t. option_or (place_by_tuple s t) (place_by_ranges s a)) tuple ∙ ap (option_map (λ (u : ℕ × List ℕ). u.0)) found
+    (None, no_tuple a (aranges_of s.debug_aranges) (free_left Such tuples units free), sym (ap (option_map (λ (u : ℕ × List ℕ). u.0)) found))
 
 pub no_frames_before : (s : DebugSectionsRecord) (a : ℕ) (frames : List FrameRecord) → ((turn : ℕ) → turn ≤ a → IsTurnBy s turn → ⊥) → AreFramesBy s a frames → frames ≡ []
 no_frames_before s a frames none are =
     let free : Avoids (λ t. t ≤ a) (boundaries s) = record { none = λ turn h l. none turn l (inl h) } in
-    let place = no_unit_before s a are.place free are.is_unit in
+    let place = one_place s a are.place None are.is_unit (unit_none_before s a free) in
     subst (λ (p : Option ℕ). AreFramesIn s (option_and_then (read_unit s) p) a frames) place are.are_frames

@@ -1,1 +1,3 @@
 pub mod Turns
+pub mod UnitSteps
+pub mod Given

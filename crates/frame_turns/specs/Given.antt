@@ -1,0 +1,37 @@
+-- The frames at the turns of an image, as they are given to a taker.
+use Rattle.std.specs.Prelude.{ℕ, List, ◌≡◌, ◌<◌, length, map, slice_index_or, Option}
+use Rattle.std.specs.List.{All, Contains}
+use Rattle.source_frames.specs.AddressFrames.{AreFramesBy}
+use Rattle.source_frames.specs.DebugSections.{DebugSectionsRecord, debug_sections}
+use Rattle.source_frames.specs.Frames.{FrameRecord}
+use Rattle.source_frames.specs.UnitAddresses.{IsUnitOf}
+use Rattle.frame_turns.specs.Turns.{AreAscending, IsTurnBy}
+
+-- an address and its frames
+pub record TurnRecord : Type 0 where
+  pub address : ℕ
+  pub frames : List FrameRecord
+
+-- the addresses of some
+abbrev pub addresses : List TurnRecord → List ℕ
+addresses turns = map (λ turn. turn.address) turns
+
+-- no two numbers of a list are equal
+abbrev pub AreDistinct : List ℕ → Type 0
+AreDistinct all = (i j d : ℕ) → i < j → j < length all → slice_index_or all i d ≡ slice_index_or all j d → ⊥
+
+-- a turn with its frames
+abbrev pub IsTurnWithFrames : DebugSectionsRecord → TurnRecord → Type 0
+IsTurnWithFrames sections turn = IsTurnBy sections turn.address × AreFramesBy sections turn.address turn.frames
+
+-- each turn of an image, once, with its frames
+pub record AreTurnsOf (image : List ℕ) (turns : List TurnRecord) : Type 0 where
+  pub each : All (IsTurnWithFrames (debug_sections image)) turns
+  pub all : (a : ℕ) → IsTurnBy (debug_sections image) a → Contains (addresses turns) a
+  pub once : AreDistinct (addresses turns)
+
+-- each turn whose unit is at this offset, or that has none, ascending, with its frames
+pub record AreTurnsIn (sections : DebugSectionsRecord) (place : Option ℕ) (turns : List TurnRecord) : Type 0 where
+  pub each : All (λ turn. IsUnitOf sections turn.address place × IsTurnWithFrames sections turn) turns
+  pub all : (a : ℕ) → IsUnitOf sections a place → IsTurnBy sections a → Contains (addresses turns) a
+  pub rising : AreAscending (addresses turns)
