@@ -1,4 +1,5 @@
 mod AscendingLemmas
+mod ByUnitLemmas
 mod FreeLemmas
 mod StayLemmas
 mod UnitStepLemmas

@@ -145,7 +145,7 @@ frames_in_unit_stay s unit a b frames less free are =
 -- no boundary lies from one address on up to another one, and so the unit is the same up to each address between
 module _ (s : DebugSectionsRecord) (a b : ℕ) (fits : b < 2 ^ 64) (none : (turn : ℕ) → a < turn → turn ≤ b → IsTurnBy s turn → ⊥) where
   boundaries_free : (t : ℕ) → t ≤ b → IsFree a t (boundaries s)
-  boundaries_free t upto = record { none = λ turn h l. none turn l.0 (omega (arith, l.1, upto)) (inl h) }
+  boundaries_free t upto = record { none = λ turn h l. none turn l.0 (omega (arith, l.1, upto)) (omega (arith, l.1, upto), inl h) }
 
   unit_between : (t : ℕ) (place : Option ℕ) → a < t → t ≤ b → IsUnitOf s a place → IsUnitOf s t place
   unit_between t place less l is = unit_stays s a t place less (omega arith) (boundaries_free t l) is
@@ -153,7 +153,7 @@ module _ (s : DebugSectionsRecord) (a b : ℕ) (fits : b < 2 ^ 64) (none : (turn
   unit_free : (unit : UnitRecord) (place : ℕ) → IsUnitOf s a (Some place) → Some unit ≡ read_unit s place → IsFree a b (unit_turns s unit)
   unit_free unit place is read = record {
     none = λ turn h l.
-        none turn l.0 l.1 (inr (unit, record { place = place; is_unit = unit_between turn (Some place) l.0 l.1 is; read = read }, h));
+        none turn l.0 l.1 (omega (arith, l.1), inr (unit, record { place = place; is_unit = unit_between turn (Some place) l.0 l.1 is; read = read }, h));
   }
 
   stay_in : (place : Option ℕ) (unit : Option UnitRecord) (frames : List FrameRecord) → a < b → IsUnitOf s a place → unit ≡ option_and_then (read_unit s) place → AreFramesIn s unit a frames → AreFramesIn s unit b frames
@@ -184,8 +184,8 @@ unit_none_before s a free =
         ∙ find_none (placed unit_at s.debug_info) in
     (None, no_tuple a (aranges_of s.debug_aranges) (free_left Such tuples units free), sym (ap (option_map (λ (u : ℕ × List ℕ). u.0)) found))
 
-pub no_frames_before : (s : DebugSectionsRecord) (a : ℕ) (frames : List FrameRecord) → ((turn : ℕ) → turn ≤ a → IsTurnBy s turn → ⊥) → AreFramesBy s a frames → frames ≡ []
-no_frames_before s a frames none are =
-    let free : Avoids (λ t. t ≤ a) (boundaries s) = record { none = λ turn h l. none turn l (inl h) } in
+pub no_frames_before : (s : DebugSectionsRecord) (a : ℕ) (frames : List FrameRecord) → a < 2 ^ 64 → ((turn : ℕ) → turn ≤ a → IsTurnBy s turn → ⊥) → AreFramesBy s a frames → frames ≡ []
+no_frames_before s a frames fits none are =
+    let free : Avoids (λ t. t ≤ a) (boundaries s) = record { none = λ turn h l. none turn l (omega (arith, l), inl h) } in
     let place = one_place s a are.place None are.is_unit (unit_none_before s a free) in
     subst (λ (p : Option ℕ). AreFramesIn s (option_and_then (read_unit s) p) a frames) place are.are_frames

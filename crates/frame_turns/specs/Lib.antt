@@ -1,3 +1,4 @@
 pub mod Turns
 pub mod UnitSteps
 pub mod Given
+pub mod ByUnit

@@ -55,7 +55,8 @@ IsUnitTurn sections address =
 
 -- an address at which the frames may change: the unit may, or the frames in the unit
 abbrev pub IsTurnBy : DebugSectionsRecord → ℕ → Type 0
-IsTurnBy sections address = Contains (boundaries sections) address ⊎ IsUnitTurn sections address
+IsTurnBy sections address =
+    (address < 2 ^ 64) × (Contains (boundaries sections) address ⊎ IsUnitTurn sections address)
 
 -- an address at which the frames of an image may change
 abbrev pub IsTurn : List ℕ → ℕ → Type 0

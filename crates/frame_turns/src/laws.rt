@@ -14,6 +14,6 @@ pub fn same_between_turns()
 
 /// Before the first turn an address has no frames.
 pub fn no_frames_before_turns()
-    ensures { (image : List ℕ) (a : ℕ) (frames : List FrameRecord) →
-        ((turn : ℕ) → turn ≤ a → IsTurn image turn → ⊥) → AreFramesOf image a frames → frames ≡ [] }
+    ensures { (image : List ℕ) (a : ℕ) (frames : List FrameRecord) → a < 2 ^ 64
+        → ((turn : ℕ) → turn ≤ a → IsTurn image turn → ⊥) → AreFramesOf image a frames → frames ≡ [] }
 {}
