@@ -5,10 +5,12 @@ use Rattle.std.specs.List.Sorted.{IsPartitionedBy, IsPartitionPoint}
 use Rattle.std.proofs.lemmas.Bool.{cases_Bool, eqb-true, eqb-false, leb-true, leb-false, ltb-true, ltb-false}
 use Rattle.std.proofs.lemmas.Bool.Decides.{nat_tests}
 use Rattle.std.proofs.lemmas.List.{get_or_default}
+use Rattle.std.proofs.lemmas.Option.{none-some}
 use Rattle.source_frames.specs.DebugSections.{DebugSectionsRecord}
 use Rattle.source_frames.specs.UnitAddresses.{IsUnitOf}
 use Rattle.frame_turns.specs.Turns.{AreAscending, boundaries}
-use Rattle.frame_turns.specs.UnitSteps.{AreUnitSteps}
+use Rattle.source_frames.proofs.UnitAddressLemmas.{one_place}
+use Rattle.frame_turns.specs.UnitSteps.{AreUnitSteps, IsStep}
 use Rattle.frame_turns.proofs.FreeLemmas.{Avoids, IsBetween, IsFree}
 use Rattle.frame_turns.proofs.StayLemmas.{unit_none_before, unit_stays}
 
@@ -89,3 +91,42 @@ module _ (s : DebugSectionsRecord) (given starts : List ℕ) (places : List (Opt
   unit_found found n some within fits is =
       let inside : n < length places = omega (arith, steps.units.len, ap length same, some, within) in
       subst (λ (o : Option ℕ). IsUnitOf s a o) (get_or_default places n None found inside ∙ sym is) (unit_with n some within fits)
+
+-- among the first so many numbers, one is the last not above an address, or all are above it
+last_below : (starts : List ℕ) (a n : ℕ) → n ≤ length starts → ((k : ℕ) → n ≤ k → k < length starts → a < get_or starts k 0) → ((m : ℕ) × IsLast starts a m) ⊎ ((k : ℕ) → k < length starts → a < get_or starts k 0)
+last_below starts a zero within above = inr (λ k inside. above k (omega arith) inside)
+last_below starts a (suc n) within above = elim (cases_Bool (nat_le (get_or starts n 0) a)) [
+  | inl here ↦ inl (n, record {
+    within = omega arith;
+    here = leb-true (get_or starts n 0) a here;
+    after = λ k less inside. above k (omega arith) inside;
+  })
+  | inr past ↦ last_below starts a n (omega arith) (λ k from inside. elim (cases_Bool (nat_lt n k)) [
+    | inl less ↦ above k (omega (arith, ltb-true n k less)) inside
+    | inr not ↦
+        let same : k ≡ n = omega (arith, ltb-false n k not, from) in
+        subst (λ (m : ℕ). a < get_or starts m 0) (sym same) (omega (arith, leb-false (get_or starts n 0) a past))
+  ])
+]
+
+-- each address has its unit, or none
+module _ (s : DebugSectionsRecord) (starts : List ℕ) (places : List (Option ℕ)) (a : ℕ) (steps : AreUnitSteps s starts places) where
+  nowhere : ((k : ℕ) → k < length starts → a < get_or starts k 0) → IsUnitOf s a None
+  nowhere above = unit_none_before s a (record {
+    none = λ t h below.
+        let at = (steps.all t).1 h in
+        omega (arith, above at.0 at.1, get_or_default starts at.0 0 t at.1, at.2, below);
+  })
+
+  pub some_unit : a < 2 ^ 64 → (place : Option ℕ) × IsUnitOf s a place
+  some_unit fits = elim (last_below starts a (length starts) (omega arith) (λ k from inside. absurd (omega arith))) [
+    | inl last ↦ (get_or places last.0 None, unit_at_last s starts places a steps last.0 fits last.1)
+    | inr above ↦ (None, nowhere above)
+  ]
+
+-- an address that has a unit has a boundary of it
+pub step_of : (s : DebugSectionsRecord) (starts : List ℕ) (places : List (Option ℕ)) (a place : ℕ) → AreUnitSteps s starts places → a < 2 ^ 64 → IsUnitOf s a (Some place) → (b : ℕ) × IsStep starts places b (Some place)
+step_of s starts places a place steps fits is = elim (last_below starts a (length starts) (omega arith) (λ k from inside. absurd (omega arith))) [
+  | inl last ↦ (get_or starts last.0 0, (last.0, last.1.within, refl, one_place s a (get_or places last.0 None) (Some place) (unit_at_last s starts places a steps last.0 fits last.1) is))
+  | inr above ↦ absurd (none-some place (one_place s a None (Some place) (nowhere s starts places a steps above) is))
+]

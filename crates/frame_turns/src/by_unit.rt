@@ -2,6 +2,7 @@
 
 ghost use Rattle.std.specs.Prelude.{◌≡◌, ◌≢◌, ◌+◌, ◌++◌, ◌∷◌, ◌↔◌, [], ℕ, IfNone, IfOk, IfSome, OnOk, None, Some, length};
 ghost use Rattle.std.specs.List.{Contains};
+ghost use Rattle.std.specs.Ordering.{nat_cmp};
 ghost use Rattle.std.specs.BTreeMap as tree_map;
 ghost use Rattle.frame_turns.specs.ByUnit.{addresses_under, placed_under, placed_without};
 ghost use Rattle.frame_turns.specs.UnitSteps.{IsStep};
@@ -60,13 +61,13 @@ fn add_step(
 
 /// Takes out the first unit with its addresses.
 pub(crate) fn take_unit(by_unit: &mut ByUnit) -> Option<(u64, AddressList)>
-    ensures taken { IfSome result (λ x. addresses_under by_unit.old x.0 ≡ x.1.addresses.items) }
-    ensures gone { IfSome result (λ x. addresses_under by_unit.new x.0 ≡ []) }
+    ensures taken { IfSome result (λ x. tree_map.get nat_cmp by_unit.old x.0 ≡ Some x.1) }
+    ensures gone { IfSome result (λ x. tree_map.get nat_cmp by_unit.new x.0 ≡ None) }
     ensures others { IfSome result (λ x. (other : ℕ) → other ≢ x.0 →
-        addresses_under by_unit.new other ≡ addresses_under by_unit.old other) }
+        tree_map.get nat_cmp by_unit.new other ≡ tree_map.get nat_cmp by_unit.old other) }
     ensures fewer { IfSome result (λ x.
         tree_map.btree_map_len by_unit.new + 1 ≡ tree_map.btree_map_len by_unit.old) }
-    ensures none { IfNone result ((place : ℕ) → addresses_under by_unit.old place ≡ []) }
+    ensures none { IfNone result ((place : ℕ) → tree_map.get nat_cmp by_unit.old place ≡ None) }
 {
     by_unit.pop_first()
 }

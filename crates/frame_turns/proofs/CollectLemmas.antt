@@ -1,0 +1,38 @@
+-- Numbers that are collected one after another.
+use Rattle.std.proofs.Common.{◌≡◌, ℕ, ◌+◌, ◌-◌, List, [], ◌∷◌, ◌++◌, length, Option, Some, None, refl, sym, ap, ◌∙◌, append_assoc}
+use Rattle.std.specs.Prelude.{flat_map}
+use Rattle.std.proofs.lemmas.List.{append-nil}
+use Rattle.code_ranges.specs.EntryRanges.{UnitRangesRecord}
+use Rattle.debug_entries.specs.Entries.{PlacedRecord}
+use Rattle.dwarf_numbers.specs.Sequences.{placed_from}
+use Rattle.dwarf_numbers.specs.Units.{unit_at}
+use Rattle.dwarf_numbers.proofs.SequenceLemmas.{placed_missing, placed_some}
+use Rattle.dwarf_numbers.proofs.UnitLemmas.{unit_shortens}
+use Rattle.source_frames.specs.Scopes.{ScopeRecord, left_after_scope, scope_ranges, scopes_from}
+
+-- what is pushed comes off what is left
+pub pushed : (xs ys rest next all : List ℕ) → next ≡ xs ++ ys → xs ++ (ys ++ rest) ≡ all → next ++ rest ≡ all
+pushed xs ys rest next all e h = ap (λ (zs : List ℕ). zs ++ rest) e ∙ append_assoc xs ys rest ∙ h
+
+pub pushed_all : (xs rest all : List ℕ) → rest ≡ [] → xs ++ rest ≡ all → xs ≡ all
+pushed_all xs rest all none h = sym (append-nil xs) ∙ ap (λ (zs : List ℕ). xs ++ zs) (sym none) ∙ h
+
+pub two : (xs ys zs : List ℕ) (a b : ℕ) → ys ≡ xs ++ a ∷ [] → zs ≡ ys ++ b ∷ [] → zs ≡ xs ++ (a ∷ (b ∷ []))
+two xs ys zs a b e f = f ∙ ap (λ (l : List ℕ). l ++ b ∷ []) e ∙ append_assoc xs (a ∷ []) (b ∷ [])
+
+-- the scopes of entries, one after another
+pub scopes_step : (ranges : UnitRangesRecord) (left : ℕ) (p : PlacedRecord) (ps : List PlacedRecord)
+    → scopes_from ranges left (p ∷ ps) ≡ record { depth = p.depth; entry = p.entry; ranges = scope_ranges ranges left p.entry } ∷ scopes_from ranges (left_after_scope ranges left p.entry) ps
+unfolding scopes_from
+scopes_step ranges left p ps = refl
+
+pub scopes_end : (ranges : UnitRangesRecord) (left : ℕ) → scopes_from ranges left [] ≡ []
+unfolding scopes_from
+scopes_end ranges left = refl
+
+-- the units of a section, one after another
+pub units_step : (size : ℕ) (bytes unit rest : List ℕ) → ◌≡◌ {A = Option (List ℕ × List ℕ)} (Some (unit, rest)) (unit_at bytes) → placed_from unit_at size bytes ≡ (size - length bytes, unit) ∷ placed_from unit_at size rest
+units_step size bytes unit rest read = placed_some unit_at unit_shortens size bytes (unit, rest) (sym read)
+
+pub units_end : (size : ℕ) (bytes : List ℕ) → ◌≡◌ {A = Option (List ℕ × List ℕ)} None (unit_at bytes) → placed_from unit_at size bytes ≡ []
+units_end size bytes read = placed_missing unit_at size bytes (sym read)
