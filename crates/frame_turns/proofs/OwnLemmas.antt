@@ -125,10 +125,10 @@ pub none_own : (P U : Type 0) (all : List ℕ) (a : ℕ) → P ↔ (P ⊎ (Conta
 none_own P U all a = (λ p. inl p, λ h. elim h [ | inl p ↦ p | inr q ↦ absurd (omega (arith, q.0.1)) ])
 
 pub true_test : (own place : ℕ) → IsTrue (own == place) → own ≡ place
-true_test own place t = elim (cases_Bool (own == place)) [
-  | inl holds ↦ eqb-true own place holds
-  | inr fails ↦ let none : IsTrue false = subst IsTrue fails t in absurd none
-]
+true_test own place t = eqb-true own place t
 
 pub test_true : (own place : ℕ) → own ≡ place → IsTrue (own == place)
-test_true own place e = subst IsTrue (sym (eq-eqb own place e)) tt
+test_true own place e = eq-eqb own place e
+
+pub not_true : IsTrue false → ⊥
+not_true h = cc h

@@ -1,7 +1,7 @@
 use Rattle.std.proofs.Common.{◌≡◌, true, false}
 use Rattle.std.specs.Prelude.{IsTrue}
 use Rattle.std.proofs.lemmas.Bool.{eqb-true, eq-eqb}
-use Rattle.frame_turns.proofs.OwnLemmas.{is_own, none_is, own_is, test_true, true_test}
+use Rattle.frame_turns.proofs.OwnLemmas.{is_own, none_is, not_true, own_is, test_true, true_test}
 use Rattle.frame_turns.proofs.own_turns.is_in.Goals as goal
 
 pub returns-in-Some : goal.returns-in-Some
@@ -12,6 +12,6 @@ returns-in-Some c = λ sections steps. (
 
 pub returns-in-None : goal.returns-in-None
 returns-in-None c = λ sections steps. (
-  λ t. absurd t,
+  λ t. absurd (not_true t),
   λ is. absurd (none_is sections c.args.address c.args.place (c.in-None.ensures sections steps) is),
 )
