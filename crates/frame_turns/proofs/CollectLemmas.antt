@@ -8,7 +8,10 @@ use Rattle.dwarf_numbers.specs.Sequences.{placed_from}
 use Rattle.dwarf_numbers.specs.Units.{unit_at}
 use Rattle.dwarf_numbers.proofs.SequenceLemmas.{placed_missing, placed_some}
 use Rattle.dwarf_numbers.proofs.UnitLemmas.{unit_shortens}
+use Rattle.source_frames.specs.DebugSections.{DebugSectionsRecord}
 use Rattle.source_frames.specs.Scopes.{ScopeRecord, left_after_scope, scope_ranges, scopes_from}
+use Rattle.source_frames.specs.UnitAddresses.{own_ranges}
+use Rattle.frame_turns.specs.Turns.{ends_of}
 
 -- what is pushed comes off what is left
 pub pushed : (xs ys rest next all : List ℕ) → next ≡ xs ++ ys → xs ++ (ys ++ rest) ≡ all → next ++ rest ≡ all
@@ -36,3 +39,36 @@ units_step size bytes unit rest read = placed_some unit_at unit_shortens size by
 
 pub units_end : (size : ℕ) (bytes : List ℕ) → ◌≡◌ {A = Option (List ℕ × List ℕ)} None (unit_at bytes) → placed_from unit_at size bytes ≡ []
 units_end size bytes read = placed_missing unit_at size bytes (sym read)
+
+abbrev pub scope_ends : ScopeRecord → List ℕ
+scope_ends scope = ends_of scope.ranges
+
+pub functions_more : (ranges : UnitRangesRecord) (left next_left : ℕ) (p : PlacedRecord) (entries rest : List PlacedRecord) (turns next all : List ℕ)
+    → entries ≡ p ∷ rest → next_left ≡ left_after_scope ranges left p.entry → next ≡ turns ++ ends_of (scope_ranges ranges left p.entry)
+    → turns ++ flat_map scope_ends (scopes_from ranges left entries) ≡ all → next ++ flat_map scope_ends (scopes_from ranges next_left rest) ≡ all
+functions_more ranges left next_left p entries rest turns next all steps after e before =
+    let here : flat_map scope_ends (scopes_from ranges left entries) ≡ ends_of (scope_ranges ranges left p.entry) ++ flat_map scope_ends (scopes_from ranges (left_after_scope ranges left p.entry) rest) =
+    ap (flat_map scope_ends) (ap (scopes_from ranges left) steps ∙ scopes_step ranges left p rest) in
+    ap (λ (n : ℕ). next ++ flat_map scope_ends (scopes_from ranges n rest)) after
+    ∙ pushed turns (ends_of (scope_ranges ranges left p.entry)) (flat_map scope_ends (scopes_from ranges (left_after_scope ranges left p.entry) rest)) next all e
+    (ap (λ (zs : List ℕ). turns ++ zs) (sym here) ∙ before)
+
+pub functions_all : (ranges : UnitRangesRecord) (left : ℕ) (entries : List PlacedRecord) (turns all : List ℕ) → entries ≡ []
+    → turns ++ flat_map scope_ends (scopes_from ranges left entries) ≡ all → turns ≡ all
+functions_all ranges left entries turns all none before =
+    pushed_all turns (flat_map scope_ends (scopes_from ranges left entries)) all (ap (flat_map scope_ends) (ap (scopes_from ranges left) none ∙ scopes_end ranges left)) before
+
+abbrev pub own_ends : DebugSectionsRecord → ℕ × List ℕ → List ℕ
+own_ends s u = ends_of (own_ranges s u.0 u.1)
+
+pub units_more : (s : DebugSectionsRecord) (size : ℕ) (bytes unit rest starts next all : List ℕ) → ◌≡◌ {A = Option (List ℕ × List ℕ)} (Some (unit, rest)) (unit_at bytes)
+    → next ≡ starts ++ ends_of (own_ranges s (size - length bytes) unit)
+    → starts ++ flat_map (own_ends s) (placed_from unit_at size bytes) ≡ all → next ++ flat_map (own_ends s) (placed_from unit_at size rest) ≡ all
+units_more s size bytes unit rest starts next all read e before =
+    pushed starts (ends_of (own_ranges s (size - length bytes) unit)) (flat_map (own_ends s) (placed_from unit_at size rest)) next all e
+    (ap (λ (zs : List ℕ). starts ++ zs) (sym (ap (flat_map (own_ends s)) (units_step size bytes unit rest read))) ∙ before)
+
+pub units_all : (s : DebugSectionsRecord) (size : ℕ) (bytes starts all : List ℕ) → ◌≡◌ {A = Option (List ℕ × List ℕ)} None (unit_at bytes)
+    → starts ++ flat_map (own_ends s) (placed_from unit_at size bytes) ≡ all → starts ≡ all
+units_all s size bytes starts all read before =
+    pushed_all starts (flat_map (own_ends s) (placed_from unit_at size bytes)) all (ap (flat_map (own_ends s)) (units_end size bytes read)) before

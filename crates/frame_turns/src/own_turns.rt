@@ -66,13 +66,13 @@ fn push_own(
 }
 
 /// The turns whose unit is the one at an offset, ascending, each once. Its boundaries are given.
-pub(crate) fn own_turns(
+pub(crate) fn own_turns<'a>(
     heap: Heap,
-    info: &DebugInfo<'_>,
+    info: &DebugInfo<'a>,
     steps: &UnitSteps,
     place: u64,
-    unit: &DebugUnit<'_>,
-    lines: &UnitLines<'_>,
+    unit: &DebugUnit<'a>,
+    lines: &UnitLines<'a>,
     mut boundaries: Vec<u64, Heap>,
 ) -> Result<Vec<u64, Heap>, NoMemory>
     requires within { unit.now.header.entries_offset ≤ length unit.now.bytes.now }

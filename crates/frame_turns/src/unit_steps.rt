@@ -8,7 +8,7 @@ ghost use Rattle.source_frames.specs.DebugSections.{DebugSectionsRecord};
 ghost use Rattle.source_frames.specs.SectionsViews.{sections_view};
 ghost use Rattle.source_frames.specs.UnitAddresses.{IsUnitOf};
 
-use crate::boundaries::boundaries;
+use crate::unit_boundaries::boundaries;
 use memory::{Heap, NoMemory};
 use source_frames::DebugInfo;
 

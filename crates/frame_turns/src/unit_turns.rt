@@ -61,10 +61,10 @@ fn push_entry(
 }
 
 /// Adds where the ranges of the functions of a unit begin and end.
-fn push_functions(
+fn push_functions<'a>(
     turns: &mut Vec<u64, Heap>,
-    info: &DebugInfo<'_>,
-    unit: &DebugUnit<'_>,
+    info: &DebugInfo<'a>,
+    unit: &DebugUnit<'a>,
 ) -> Result<(), NoMemory>
     requires { unit.now.header.entries_offset ≤ length unit.now.bytes.now }
     ensures { OnOk result (turns.new.items ≡ turns.old.items
@@ -104,11 +104,11 @@ fn push_program(turns: &mut Vec<u64, Heap>, lines: &UnitLines<'_>) -> Result<(),
 
 /// The turns of a unit, ascending, each once, also those whose own unit is another one. It takes the time of the unit,
 /// of its program and of sorting them, and the memory of them.
-pub fn turns_of_unit(
+pub fn turns_of_unit<'a>(
     heap: Heap,
-    info: &DebugInfo<'_>,
-    unit: &DebugUnit<'_>,
-    lines: &UnitLines<'_>,
+    info: &DebugInfo<'a>,
+    unit: &DebugUnit<'a>,
+    lines: &UnitLines<'a>,
 ) -> Result<Vec<u64, Heap>, NoMemory>
     requires within { unit.now.header.entries_offset ≤ length unit.now.bytes.now }
     requires range { IfSome lines.now.program (λ p. 0 < p.header.line_range) }

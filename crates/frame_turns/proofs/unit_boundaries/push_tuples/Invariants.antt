@@ -1,7 +1,7 @@
 use Rattle.std.proofs.Common.{◌≡◌, ◌++◌}
 use Rattle.std.specs.Prelude.{flat_map}
 use Rattle.frame_turns.specs.Turns.{ends_of_tuple}
-use Rattle.frame_turns.proofs.boundaries.push_tuples.Given as goal
+use Rattle.frame_turns.proofs.unit_boundaries.push_tuples.Given as goal
 
 abbrev pub invariant-loop-tuple : goal.invariant-loop-tuple
 invariant-loop-tuple l = record {

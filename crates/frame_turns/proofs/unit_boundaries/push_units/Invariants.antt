@@ -5,7 +5,7 @@ use Rattle.dwarf_numbers.specs.Units.{unit_at}
 use Rattle.frame_turns.specs.Turns.{ends_of}
 use Rattle.source_frames.specs.SectionsViews.{sections_view}
 use Rattle.source_frames.specs.UnitAddresses.{own_ranges}
-use Rattle.frame_turns.proofs.boundaries.push_units.Given as goal
+use Rattle.frame_turns.proofs.unit_boundaries.push_units.Given as goal
 
 abbrev pub invariant-units : goal.invariant-units
 invariant-units l = record {
