@@ -23,12 +23,14 @@ under_added : (own : Option ℕ) (place x a : ℕ) → Contains (placed_under ow
 under_added None place x a = (λ h. absurd (not_in_none a h), λ h. absurd (none-some place h.1))
 under_added (Some own) place x a = elim (cases_Bool (own == place)) [
   | inl t ↦
-      let same : own ≡ place = eqb-true own place t in
-      (λ h. (in_one x a (subst (λ (b : Bool). Contains (cond b (x ∷ []) []) a) t h), ap (λ (p : ℕ). Some p) same),
-      λ h. subst (λ (b : Bool). Contains (cond b (x ∷ []) []) a) (sym t) (of_one x a h.0))
-  | inr f ↦
-      (λ h. absurd (not_in_none a (subst (λ (b : Bool). Contains (cond b (x ∷ []) []) a) f h)),
-      λ h. let same : own ≡ place = same_Some own place h.1 in absurd (cc (eq-eqb own place same, f)))
+      let same : own ≡ place = eqb-true own place t in (
+        λ h. (in_one x a (subst (λ (b : Bool). Contains (cond b (x ∷ []) []) a) t h), ap (λ (p : ℕ). Some p) same),
+        λ h. subst (λ (b : Bool). Contains (cond b (x ∷ []) []) a) (sym t) (of_one x a h.0),
+      )
+  | inr f ↦ (
+    λ h. absurd (not_in_none a (subst (λ (b : Bool). Contains (cond b (x ∷ []) []) a) f h)),
+    λ h. let same : own ≡ place = same_Some own place h.1 in absurd (cc (eq-eqb own place same, f)),
+  )
 ]
 
 without_added : (own : Option ℕ) (x a : ℕ) → Contains (placed_without own x) a ↔ ((x ≡ a) × (own ≡ None))

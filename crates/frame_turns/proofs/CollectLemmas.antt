@@ -1,17 +1,23 @@
 -- Numbers that are collected one after another.
-use Rattle.std.proofs.Common.{◌≡◌, ℕ, ◌+◌, ◌-◌, List, [], ◌∷◌, ◌++◌, length, Option, Some, None, refl, sym, ap, ◌∙◌, append_assoc}
+use Rattle.std.proofs.Common.{◌≡◌, ℕ, ◌+◌, ◌-◌, List, [], ◌∷◌, ◌++◌, length, map, Option, Some, None, refl, sym, ap, ◌∙◌, append_assoc}
 use Rattle.std.specs.Prelude.{flat_map}
 use Rattle.std.proofs.lemmas.List.{append-nil}
+use Rattle.code_ranges.specs.Aranges.{aranges_of}
+use Rattle.code_ranges.specs.declared.arange.Arange.{Arange}
 use Rattle.code_ranges.specs.EntryRanges.{UnitRangesRecord}
 use Rattle.debug_entries.specs.Entries.{PlacedRecord}
-use Rattle.dwarf_numbers.specs.Sequences.{placed_from}
+use Rattle.dwarf_numbers.specs.Sequences.{placed, placed_from}
 use Rattle.dwarf_numbers.specs.Units.{unit_at}
 use Rattle.dwarf_numbers.proofs.SequenceLemmas.{placed_missing, placed_some}
 use Rattle.dwarf_numbers.proofs.UnitLemmas.{unit_shortens}
+use Rattle.line_programs.specs.declared.registers.Row.{Row}
+use Rattle.source_frames.specs.AddressFrames.{rows_of}
+use Rattle.source_frames.specs.DebugUnits.{UnitRecord}
+use Rattle.source_frames.specs.UnitLines.{LinesRecord, lines_of}
 use Rattle.source_frames.specs.DebugSections.{DebugSectionsRecord}
-use Rattle.source_frames.specs.Scopes.{ScopeRecord, left_after_scope, scope_ranges, scopes_from}
+use Rattle.source_frames.specs.Scopes.{ScopeRecord, left_after_scope, scope_ranges, scopes_from, scopes_of}
 use Rattle.source_frames.specs.UnitAddresses.{own_ranges}
-use Rattle.frame_turns.specs.Turns.{ends_of}
+use Rattle.frame_turns.specs.Turns.{boundaries, ends_of, ends_of_tuple, unit_turns}
 
 -- what is pushed comes off what is left
 pub pushed : (xs ys rest next all : List ℕ) → next ≡ xs ++ ys → xs ++ (ys ++ rest) ≡ all → next ++ rest ≡ all
@@ -72,3 +78,19 @@ pub units_all : (s : DebugSectionsRecord) (size : ℕ) (bytes starts all : List 
     → starts ++ flat_map (own_ends s) (placed_from unit_at size bytes) ≡ all → starts ≡ all
 units_all s size bytes starts all read before =
     pushed_all starts (flat_map (own_ends s) (placed_from unit_at size bytes)) all (ap (flat_map (own_ends s)) (units_end size bytes read)) before
+
+pub boundaries_are : (s : DebugSectionsRecord) (first second third : List ℕ) (tuples : List Arange) → first ≡ [] → tuples ≡ aranges_of s.debug_aranges → second ≡ first ++ flat_map ends_of_tuple tuples
+    → third ≡ second ++ flat_map (own_ends s) (placed unit_at s.debug_info) → third ≡ boundaries s
+unfolding boundaries
+boundaries_are s first second third tuples none all more last =
+    last
+    ∙ ap (λ (xs : List ℕ). xs ++ flat_map (own_ends s) (placed unit_at s.debug_info))
+    (more ∙ ap (λ (xs : List ℕ). xs ++ flat_map ends_of_tuple tuples) none ∙ ap (flat_map ends_of_tuple) all)
+
+pub turns_are : (s : DebugSectionsRecord) (unit : UnitRecord) (lines : LinesRecord) (first second third : List ℕ) → first ≡ [] → lines ≡ lines_of s unit → second ≡ first ++ flat_map scope_ends (scopes_of s unit)
+    → third ≡ second ++ map (λ (row : Row). row.registers.address) (rows_of lines) → third ≡ unit_turns s unit
+unfolding unit_turns
+turns_are s unit lines first second third none same more last =
+    last
+    ∙ ap (λ (xs : List ℕ). xs ++ map (λ (row : Row). row.registers.address) (rows_of lines)) (more ∙ ap (λ (xs : List ℕ). xs ++ flat_map scope_ends (scopes_of s unit)) none)
+    ∙ ap (λ (l : LinesRecord). flat_map scope_ends (scopes_of s unit) ++ map (λ (row : Row). row.registers.address) (rows_of l)) same

@@ -1,10 +1,10 @@
 -- Turns that were given.
-use Rattle.std.proofs.Common.{◌≡◌, ◌≢◌, ℕ, zero, suc, ◌+◌, ◌-◌, ◌<◌, ◌≤◌, ◌^◌, nat_lt, List, [], ◌∷◌, ◌++◌, length, get_or, map, Option, Some, None, refl, sym, ap, subst, ◌∙◌, inl, inr, ◌⊎◌, arith, length-append}
+use Rattle.std.proofs.Common.{◌≡◌, ◌≢◌, ℕ, zero, suc, ◌+◌, ◌-◌, ◌<◌, ◌≤◌, ◌^◌, nat_lt, List, [], ◌∷◌, ◌++◌, length, get_or, map, take, Option, Some, None, refl, sym, ap, subst, ◌∙◌, inl, inr, ◌⊎◌, arith, append_assoc, length-append}
 use Rattle.std.specs.Prelude.{◌↔◌}
 use Rattle.std.specs.List.{All, Contains}
 use Rattle.std.specs.Option.{option_and_then}
 use Rattle.std.proofs.lemmas.Bool.{cases_Bool, ltb-true, ltb-false}
-use Rattle.std.proofs.lemmas.List.{get_or_default, get_or_append_left, get_or-append_right, map-append}
+use Rattle.std.proofs.lemmas.List.{append-nil, get_or_default, get_or_append_left, get_or-append_right, map-append, take_all, take_more}
 use Rattle.std.proofs.lemmas.List.Elements.{All-append, All-contains, All-contains_itself, All-map, All-nil, All-weaker, Contains-append_left, Contains-append_right}
 use Rattle.std.proofs.lemmas.Option.{none-some, same_Some}
 use Rattle.source_frames.specs.AddressFrames.{AreFramesBy, AreFramesIn}
@@ -13,7 +13,7 @@ use Rattle.source_frames.specs.DebugUnits.{UnitRecord}
 use Rattle.source_frames.specs.Frames.{FrameRecord}
 use Rattle.source_frames.specs.UnitAddresses.{IsUnitOf, read_unit}
 use Rattle.source_frames.proofs.UnitAddressLemmas.{one_place}
-use Rattle.frame_turns.specs.Given.{TurnRecord, AreDistinct, AreTurnsBy, AreTurnsIn, AreTurnsWithUnits, HasUnit, IsTurnWithFrames, addresses}
+use Rattle.frame_turns.specs.Given.{Takes, TurnRecord, AreDistinct, AreTurnsBy, AreTurnsIn, AreTurnsWithUnits, HasUnit, IsTurnWithFrames, addresses}
 use Rattle.frame_turns.specs.Turns.{AreAscending, IsTurnBy, IsUnitTurn}
 use Rattle.frame_turns.specs.UnitSteps.{AreUnitSteps, IsStep}
 use Rattle.frame_turns.proofs.OwnLemmas.{boundary_step, none_is, own_is, step_boundary, step_unit}
@@ -43,6 +43,26 @@ distinct_append xs ys one other apart i j d less within same = elim (cases_Bool 
             other (i - length xs) (j - length xs) d (omega (arith, less, in', jn)) jr (sym (get_or-append_right xs ys (length xs) i d refl in') ∙ same ∙ jv)
       ]
 ]
+
+-- ---- what is taken, one list after another
+
+pub takes_none : (P : List TurnRecord → Type 0) → Takes P P []
+takes_none P before h = subst P (sym (append-nil before)) h
+
+pub takes_more : (P Q R : List TurnRecord → Type 0) (xs ys : List TurnRecord) → Takes P Q xs → Takes Q R ys → Takes P R (xs ++ ys)
+takes_more P Q R xs ys first then before h = subst R (append_assoc before xs ys) (then (before ++ xs) (first before h))
+
+-- an element more of a list that is mapped
+pub takes_next : (P Q R : List TurnRecord → Type 0) (f : ℕ → TurnRecord) (xs : List ℕ) (i : ℕ) → i < length xs → Takes P Q (map f (take i xs)) → Takes Q R (f (get_or xs i 0) ∷ []) → Takes P R (map f (take (i + 1) xs))
+takes_next P Q R f xs i within first then =
+    let grown : map f (take i xs) ++ f (get_or xs i 0) ∷ [] ≡ map f (take (i + 1) xs) = sym (ap (map f) (take_more xs i 0 within) ∙ map-append f (take i xs) (get_or xs i 0 ∷ [])) in
+    subst (λ (ts : List TurnRecord). Takes P R ts) grown (takes_more P Q R (map f (take i xs)) (f (get_or xs i 0) ∷ []) first then)
+
+pub takes_all : (P Q : List TurnRecord → Type 0) (f : ℕ → TurnRecord) (xs : List ℕ) (n : ℕ) → length xs ≤ n → Takes P Q (map f (take n xs)) → Takes P Q (map f xs)
+takes_all P Q f xs n all h = subst (λ (ys : List ℕ). Takes P Q (map f ys)) (take_all n xs all) h
+
+pub takes_zero : (P : List TurnRecord → Type 0) (f : ℕ → TurnRecord) (xs : List ℕ) → Takes P P (map f (take 0 xs))
+takes_zero P f xs = takes_none P
 
 -- ---- addresses with their frames
 
@@ -130,6 +150,6 @@ all_turns s without with one other units = record { each = each; all = all; once
     once = subst (λ (xs : List ℕ). AreDistinct xs) (sym split)
         (distinct_append (addresses without) (addresses with) (distinct_by (addresses without) one.rising) other.once
         (λ a h k.
-            let lonely = All-contains (λ (x : ℕ). IsUnitOf s x None) (addresses without) a lone h in
-            let unit = All-contains (HasUnit s) (addresses with) a housed k in
-            none_is s a unit.0 lonely unit.1))
+        let lonely = All-contains (λ (x : ℕ). IsUnitOf s x None) (addresses without) a lone h in
+        let unit = All-contains (HasUnit s) (addresses with) a housed k in
+        none_is s a unit.0 lonely unit.1))

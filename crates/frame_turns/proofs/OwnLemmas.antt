@@ -74,7 +74,6 @@ module _ (s : DebugSectionsRecord) (starts : List ℕ) (places : List (Option �
 
 module _ (s : DebugSectionsRecord) (starts : List ℕ) (places : List (Option ℕ)) (steps : AreUnitSteps s starts places) (own : List ℕ) (a place : ℕ)
     (given : Contains own a ↔ IsStep starts places a (Some place)) where
-
   -- of one that is read
   module _ (unit : UnitRecord) (read : Some unit ≡ read_unit s place) (all next : List ℕ) (turns : Contains all a ↔ Contains (unit_turns s unit) a)
       (pushed : Contains next a ↔ (Contains own a ⊎ (Contains all a × IsUnitOf s a (Some place)))) where
@@ -115,14 +114,14 @@ pushed_one U ts next x a e holds = (there, back)
     ])
 
 pub pushed_none : (U : Type 0) (ts : List ℕ) (x a : ℕ) → (x ≡ a → U → ⊥) → Contains ts a ↔ (Contains ts a ⊎ ((x ≡ a) × U))
-pushed_none U ts x a fails = (λ h. inl h, λ h. elim h [ | inl old ↦ old | inr q ↦ absurd (fails q.0 q.1) ])
+pushed_none U ts x a fails = (λ h. inl h, λ h. elim h [ inl old ↦ old | inr q ↦ absurd (fails q.0 q.1) ])
 
 -- all were looked at
 pub all_own : (P U : Type 0) (all ts : List ℕ) (n a : ℕ) → take n all ≡ all → Contains ts a ↔ (P ⊎ (Contains (take n all) a × U)) → Contains ts a ↔ (P ⊎ (Contains all a × U))
 all_own P U all ts n a e h = subst (λ (xs : List ℕ). Contains ts a ↔ (P ⊎ (Contains xs a × U))) e h
 
 pub none_own : (P U : Type 0) (all : List ℕ) (a : ℕ) → P ↔ (P ⊎ (Contains (take 0 all) a × U))
-none_own P U all a = (λ p. inl p, λ h. elim h [ | inl p ↦ p | inr q ↦ absurd (omega (arith, q.0.1)) ])
+none_own P U all a = (λ p. inl p, λ h. elim h [ inl p ↦ p | inr q ↦ absurd (omega (arith, q.0.1)) ])
 
 pub true_test : (own place : ℕ) → IsTrue (own == place) → own ≡ place
 true_test own place t = eqb-true own place t

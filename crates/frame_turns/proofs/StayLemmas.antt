@@ -53,9 +53,12 @@ tuple_back a b t less free has = elim (side a b t.address (λ x y. free.none t.a
 pub first_tuple_stays : (a b : ℕ) (ts : List Arange) (found : Option Arange) → a < b → b < 2 ^ 64 → IsFree a b (flat_map ends_of_tuple ts) → IsFirstTuple ts a found → IsFirstTuple ts b found
 first_tuple_stays a b ts None less fits free is = λ i t e has.
     is i t e (tuple_back a b t less (free_element (IsBetween a b) ends_of_tuple ts i t free e) has)
-first_tuple_stays a b ts (Some t) less fits free is =
-    (is.0, is.1, tuple_there a b t less fits (free_element (IsBetween a b) ends_of_tuple ts is.0 t free is.1) is.2,
-    λ j u l e has. is.3 j u l e (tuple_back a b u less (free_element (IsBetween a b) ends_of_tuple ts j u free e) has))
+first_tuple_stays a b ts (Some t) less fits free is = (
+  is.0,
+  is.1,
+  tuple_there a b t less fits (free_element (IsBetween a b) ends_of_tuple ts is.0 t free is.1) is.2,
+  λ j u l e has. is.3 j u l e (tuple_back a b u less (free_element (IsBetween a b) ends_of_tuple ts j u free e) has),
+)
 
 abbrev own : DebugSectionsRecord → ℕ × List ℕ → List CodeRange
 own s u = own_ranges s u.0 u.1
@@ -70,9 +73,11 @@ pub unit_stays : (s : DebugSectionsRecord) (a b : ℕ) (place : Option ℕ) → 
 unfolding boundaries
 unit_stays s a b place less fits free is =
     let tuples = flat_map ends_of_tuple (aranges_of s.debug_aranges) in
-    let units = flat_map (λ u. ends_of (own s u)) (placed unit_at s.debug_info) in
-    (is.0, first_tuple_stays a b (aranges_of s.debug_aranges) is.0 less fits (free_left (IsBetween a b) tuples units free) is.1,
-    is.2 ∙ ap (option_or (place_by_tuple s is.0)) (place_by_ranges_stays s a b less (free_right (IsBetween a b) tuples units free)))
+    let units = flat_map (λ u. ends_of (own s u)) (placed unit_at s.debug_info) in (
+      is.0,
+      first_tuple_stays a b (aranges_of s.debug_aranges) is.0 less fits (free_left (IsBetween a b) tuples units free) is.1,
+      is.2 ∙ ap (option_or (place_by_tuple s is.0)) (place_by_ranges_stays s a b less (free_right (IsBetween a b) tuples units free)),
+    )
 
 -- ---- the function entries
 
@@ -180,8 +185,8 @@ unit_none_before s a free =
     let tuples = flat_map ends_of_tuple (aranges_of s.debug_aranges) in
     let units = flat_map (λ u. ends_of (own s u)) (placed unit_at s.debug_info) in
     let found = same_find (λ u. in_ranges a (own s u)) (λ u. false) Such (λ u. ends_of (own s u)) (placed unit_at s.debug_info)
-        (λ u h. none_in_ranges a (own s u) h) (free_right Such tuples units free)
-        ∙ find_none (placed unit_at s.debug_info) in
+    (λ u h. none_in_ranges a (own s u) h) (free_right Such tuples units free)
+    ∙ find_none (placed unit_at s.debug_info) in
     (None, no_tuple a (aranges_of s.debug_aranges) (free_left Such tuples units free), sym (ap (option_map (λ (u : ℕ × List ℕ). u.0)) found))
 
 pub no_frames_before : (s : DebugSectionsRecord) (a : ℕ) (frames : List FrameRecord) → a < 2 ^ 64 → ((turn : ℕ) → turn ≤ a → IsTurnBy s turn → ⊥) → AreFramesBy s a frames → frames ≡ []

@@ -48,7 +48,7 @@ module _ (s : DebugSectionsRecord) (starts : List ℕ) (places : List (Option �
   -- no boundary lies from the last start on up to the address
   free_after : (n : ℕ) → IsLast starts a n → IsFree (get_or starts n 0) a (boundaries s)
   free_after n last = record {
-    none = λ t h between. 
+    none = λ t h between.
         let at = (steps.all t).1 h in
         let is : get_or starts at.0 0 ≡ t = get_or_default starts at.0 0 t at.1 ∙ at.2 in
         elim (cases_Bool (nat_lt n at.0)) [
@@ -96,11 +96,14 @@ module _ (s : DebugSectionsRecord) (given starts : List ℕ) (places : List (Opt
 last_below : (starts : List ℕ) (a n : ℕ) → n ≤ length starts → ((k : ℕ) → n ≤ k → k < length starts → a < get_or starts k 0) → ((m : ℕ) × IsLast starts a m) ⊎ ((k : ℕ) → k < length starts → a < get_or starts k 0)
 last_below starts a zero within above = inr (λ k inside. above k (omega arith) inside)
 last_below starts a (suc n) within above = elim (cases_Bool (nat_le (get_or starts n 0) a)) [
-  | inl here ↦ inl (n, record {
-    within = omega arith;
-    here = leb-true (get_or starts n 0) a here;
-    after = λ k less inside. above k (omega arith) inside;
-  })
+  | inl here ↦ inl (
+    n,
+    record {
+      within = omega arith;
+      here = leb-true (get_or starts n 0) a here;
+      after = λ k less inside. above k (omega arith) inside;
+    },
+  )
   | inr past ↦ last_below starts a n (omega arith) (λ k from inside. elim (cases_Bool (nat_lt n k)) [
     | inl less ↦ above k (omega (arith, ltb-true n k less)) inside
     | inr not ↦

@@ -1,5 +1,5 @@
 -- The frames at the turns of an image, as they are given to a taker.
-use Rattle.std.specs.Prelude.{ℕ, List, [], ◌≡◌, ◌<◌, length, map, slice_index_or, Option, Some}
+use Rattle.std.specs.Prelude.{ℕ, List, [], ◌++◌, ◌≡◌, ◌<◌, length, map, slice_index_or, Option, Some}
 use Rattle.std.specs.List.{All, Contains}
 use Rattle.source_frames.specs.AddressFrames.{AreFramesBy}
 use Rattle.source_frames.specs.DebugSections.{DebugSectionsRecord, debug_sections}
@@ -13,6 +13,10 @@ use Rattle.frame_turns.specs.Turns.{AreAscending, IsTurnBy}
 pub record TurnRecord : Type 0 where
   pub address : ℕ
   pub frames : List FrameRecord
+
+-- what has taken some turns has then taken these too
+abbrev pub Takes : (List TurnRecord → Type 0) → (List TurnRecord → Type 0) → List TurnRecord → Type 0
+Takes has_before has_now given = (before : List TurnRecord) → has_before before → has_now (before ++ given)
 
 -- an address with the frames that were found for it
 abbrev pub with_frames : AddressFrames → ℕ → TurnRecord

@@ -73,10 +73,7 @@ pub(crate) fn take_unit(by_unit: &mut ByUnit) -> Option<(u64, AddressList)>
 }
 
 /// The boundaries that have no unit, and the others under the offsets of their units.
-pub(crate) fn by_unit(
-    heap: Heap,
-    steps: &UnitSteps,
-) -> Result<(Vec<u64, Heap>, ByUnit), NoMemory>
+pub(crate) fn by_unit(heap: Heap, steps: &UnitSteps) -> Result<(Vec<u64, Heap>, ByUnit), NoMemory>
     requires { length steps.now.places.items ≡ length steps.now.starts.items }
     ensures without { IfOk result (λ x. (a : ℕ) → Contains x.0.items a
         ↔ IsStep steps.now.starts.items steps.now.places.items a None) }
@@ -86,7 +83,13 @@ pub(crate) fn by_unit(
     let mut without = Vec::new(heap.clone()?);
     let mut by_unit = BTreeMap::new(heap.clone()?);
     for (i, start) in steps.starts.iter().enumerate() {
-        add_step(heap.clone()?, &mut without, &mut by_unit, steps.places[i], *start)?;
+        add_step(
+            heap.clone()?,
+            &mut without,
+            &mut by_unit,
+            steps.places[i],
+            *start,
+        )?;
     }
     Ok((without, by_unit))
 }

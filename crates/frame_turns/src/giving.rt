@@ -1,7 +1,7 @@
 //! Turns that are given to a taker.
 
-ghost use Rattle.std.specs.Prelude.{◌≡◌, ◌++◌, ◌∷◌, [], OnOk, map};
-ghost use Rattle.frame_turns.specs.Given.{with_frames, without_frames};
+ghost use Rattle.std.specs.Prelude.{◌∷◌, [], OnOk, map};
+ghost use Rattle.frame_turns.specs.Given.{Takes, with_frames, without_frames};
 ghost use Rattle.source_frames.specs.FoundFrames.{frames_under};
 
 use crate::taker::FrameTaker;
@@ -14,8 +14,8 @@ fn give_one<'a, T: FrameTaker<'a>>(
     frames: &AddressFrames<'a>,
     address: u64,
 ) -> Result<(), NoMemory>
-    ensures { OnOk result (T.taken taker.new
-        ≡ T.taken taker.old ++ with_frames frames.now address ∷ []) }
+    ensures { OnOk result (Takes (T.has_taken taker.old) (T.has_taken taker.new)
+        (with_frames frames.now address ∷ [])) }
 {
     match frames.get(address) {
         Some(found) => taker.take(address, found),
@@ -29,8 +29,8 @@ pub(crate) fn give_frames<'a, T: FrameTaker<'a>>(
     frames: &AddressFrames<'a>,
     addresses: &[u64],
 ) -> Result<(), NoMemory>
-    ensures { OnOk result (T.taken taker.new
-        ≡ T.taken taker.old ++ map (λ a. with_frames frames.now a) addresses.now) }
+    ensures { OnOk result (Takes (T.has_taken taker.old) (T.has_taken taker.new)
+        (map (λ a. with_frames frames.now a) addresses.now)) }
 {
     for address in addresses {
         give_one(taker, frames, *address)?;
@@ -43,8 +43,8 @@ pub(crate) fn give_without<'a, T: FrameTaker<'a>>(
     taker: &mut T,
     addresses: &[u64],
 ) -> Result<(), NoMemory>
-    ensures { OnOk result (T.taken taker.new
-        ≡ T.taken taker.old ++ map (λ a. without_frames a) addresses.now) }
+    ensures { OnOk result (Takes (T.has_taken taker.old) (T.has_taken taker.new)
+        (map (λ a. without_frames a) addresses.now)) }
 {
     for address in addresses {
         taker.take(*address, &[])?;

@@ -14,19 +14,18 @@
 #![tactic(auto)]
 
 mod ascending;
-
 mod by_unit;
 mod giving;
 pub mod laws;
 mod own_turns;
 mod taker;
-mod unit_by_unit;
 mod unit_boundaries;
+mod unit_by_unit;
 mod unit_steps;
 mod unit_turns;
 
 pub use taker::FrameTaker;
-pub use unit_by_unit::give_turns;
 pub use unit_boundaries::boundaries;
+pub use unit_by_unit::give_turns;
 pub use unit_steps::UnitSteps;
 pub use unit_turns::turns_of_unit;

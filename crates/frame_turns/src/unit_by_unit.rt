@@ -1,10 +1,10 @@
 //! The frames at the turns of an image, unit by unit.
 
-ghost use Rattle.std.specs.Prelude.{◌≡◌, ◌++◌, ◌↔◌, ℕ, List, OnOk, Some};
+ghost use Rattle.std.specs.Prelude.{◌≡◌, ◌↔◌, ℕ, List, OnOk, Some};
 ghost use Rattle.std.specs.List.{Contains};
 ghost use Rattle.std.specs.BTreeMap as tree_map;
 ghost use Rattle.frame_turns.specs.ByUnit.{addresses_under};
-ghost use Rattle.frame_turns.specs.Given.{AreTurnsIn, AreTurnsOf, AreTurnsWithUnits, TurnRecord};
+ghost use Rattle.frame_turns.specs.Given.{AreTurnsIn, AreTurnsOf, AreTurnsWithUnits, Takes, TurnRecord};
 ghost use Rattle.frame_turns.specs.UnitSteps.{AreUnitSteps, IsStep};
 ghost use Rattle.source_frames.specs.SectionsViews.{sections_view};
 
@@ -34,7 +34,7 @@ fn give_unit<'a, T: FrameTaker<'a>>(
     requires boundaries { (a : ℕ) → Contains boundaries.items a
         ↔ IsStep steps.now.starts.items steps.now.places.items a (Some place) }
     ensures { OnOk result ((given : List TurnRecord)
-        × (T.taken taker.new ≡ T.taken taker.old ++ given)
+        × Takes (T.has_taken taker.old) (T.has_taken taker.new) given
         × AreTurnsIn (sections_view info.now.sections) (Some place) given) }
 {
     let Some(unit) = info.unit_at(place) else {
@@ -63,7 +63,7 @@ fn give_units<'a, T: FrameTaker<'a>>(
     requires boundaries { (place a : ℕ) → Contains (addresses_under by_unit place) a
         ↔ IsStep steps.now.starts.items steps.now.places.items a (Some place) }
     ensures { OnOk result ((given : List TurnRecord)
-        × (T.taken taker.new ≡ T.taken taker.old ++ given)
+        × Takes (T.has_taken taker.old) (T.has_taken taker.new) given
         × AreTurnsWithUnits (sections_view info.now.sections) given) }
 {
     'units: while let Some((place, list)) = take_unit(&mut by_unit) {
@@ -90,7 +90,7 @@ pub fn give_turns<'a, T: FrameTaker<'a>>(
     taker: &mut T,
 ) -> Result<(), NoMemory>
     ensures { OnOk result ((given : List TurnRecord)
-        × (T.taken taker.new ≡ T.taken taker.old ++ given) × AreTurnsOf image.now given) }
+        × Takes (T.has_taken taker.old) (T.has_taken taker.new) given × AreTurnsOf image.now given) }
 {
     let info = DebugInfo::read(heap.clone()?, image)?;
     let line_units = Units::read(heap.clone()?, info.sections.debug_line)?;

@@ -17,7 +17,7 @@ returns-clause-each c = λ a.
     let turns : Contains c.deref.result.now a ↔ Contains (unit_turns s (unit_view c.args.unit.now)) a =
     subst (λ (xs : List ℕ). Contains xs a ↔ Contains (unit_turns s (unit_view c.args.unit.now)) a) (sym c.deref.ensures.value) (c.in_ok-all.ensures.same a) in
     let there = own_there s starts places c.requires.steps c.args.boundaries.items a place (c.requires.boundaries a) (unit_view c.args.unit.now) c.requires.read c.deref.result.now c.push_own.new.turns.items turns
-        (c.in_ok-push_own.ensures s c.requires.steps a) in
+    (c.in_ok-push_own.ensures s c.requires.steps a) in
     let back = own_back s starts places c.requires.steps c.args.boundaries.items a place (c.requires.boundaries a) (unit_view c.args.unit.now) c.requires.read c.deref.result.now c.push_own.new.turns.items turns
-        (c.in_ok-push_own.ensures s c.requires.steps a) in
+    (c.in_ok-push_own.ensures s c.requires.steps a) in
     (λ h. there (c.ascending.ensures.fits a h) ((c.ascending.ensures.same a).0 h), λ h. (c.ascending.ensures.same a).1 (back h))
