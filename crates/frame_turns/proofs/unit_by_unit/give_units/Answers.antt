@@ -1,4 +1,4 @@
-use Rattle.std.proofs.Common.{◌++◌, [], List, ℕ, Some, subst}
+use Rattle.std.proofs.Common.{◌++◌, [], List, ℕ, Some, refl, subst}
 use Rattle.std.specs.Prelude.{◌↔◌}
 use Rattle.std.specs.List.{Contains}
 use Rattle.source_frames.specs.SectionsViews.{sections_view}
@@ -10,13 +10,15 @@ use Rattle.frame_turns.proofs.unit_by_unit.give_units.Goals as goal
 pub units-init : goal.units-init
 units-init g c = ([], takes_none (g.T.FrameTaker.has_taken c.args.taker.now), far_start (sections_view c.args.info.now.sections) c.args.by_unit)
 
-pub give_unit-requires-clause-boundaries : goal.give_unit-requires-clause-boundaries
-give_unit-requires-clause-boundaries g c = λ a.
+pub give_unit-requires : goal.give_unit-requires
+give_unit-requires g c =
     let starts = c.args.steps.now.starts.items in
     let places = c.args.steps.now.places.items in
     let place = c.in-Some.place in
     let is = left_is (sections_view c.args.info.now.sections) c.args.by_unit c.units.by_unit c.units.invariant.0 place c.in-Some.list c.units.invariant.2 c.in-Some.ensures.taken in
-    subst (λ (xs : List ℕ). Contains xs a ↔ IsStep starts places a (Some place)) is (c.requires.boundaries place a)
+    let boundaries : (a : ℕ) → Contains c.in-Some.list.addresses.items a ↔ IsStep starts places a (Some place) = λ a.
+        subst (λ (xs : List ℕ). Contains xs a ↔ IsStep starts places a (Some place)) is (c.requires.boundaries place a) in
+    λ k. ((refl, tt), (c.requires.lines, (c.requires.steps, boundaries)))
 
 pub units-preserved : goal.units-preserved
 units-preserved g c =
