@@ -17,7 +17,7 @@ give_unit-requires g c =
     let place = c.in-Some.place in
     let is = left_is (sections_view c.args.info.now.sections) c.args.by_unit c.units.by_unit c.units.invariant.0 place c.in-Some.list c.units.invariant.2 c.in-Some.ensures.taken in
     let boundaries : (a : ℕ) → Contains c.in-Some.list.addresses.items a ↔ IsStep starts places a (Some place) = λ a.
-        subst (λ (xs : List ℕ). Contains xs a ↔ IsStep starts places a (Some place)) is (c.requires.boundaries place a) in
+    subst (λ (xs : List ℕ). Contains xs a ↔ IsStep starts places a (Some place)) is (c.requires.boundaries place a) in
     λ k. ((refl, tt), (c.requires.lines, (c.requires.steps, boundaries)))
 
 pub units-preserved : goal.units-preserved
