@@ -1,6 +1,7 @@
 //! The boundaries under the units that begin there.
 
-ghost use Rattle.std.specs.Prelude.{◌≡◌, ◌≢◌, ◌+◌, ◌++◌, ◌∷◌, ◌↔◌, [], ℕ, IfNone, IfOk, IfSome, OnOk, None, Some, length};
+ghost use Rattle.std.specs.Prelude.{◌≡◌, ◌≢◌, ◌+◌, ◌++◌, ◌∷◌, ◌↔◌, [], ℕ, IfNone, IfOk, IfSome, OnOk, None, Some};
+ghost use Rattle.std.specs.Prelude.{length};
 ghost use Rattle.std.specs.List.{Contains};
 ghost use Rattle.std.specs.Ordering.{nat_cmp};
 ghost use Rattle.std.specs.BTreeMap as tree_map;

@@ -6,8 +6,8 @@
 //! where the ranges of functions begin and end, and at the addresses of rows. So the turns are the boundaries, and of
 //! each unit those of these addresses whose unit it is.
 //!
-//! The modules in reading order: `ascending`, numbers in order; `unit_turns`, the turns of a unit; `unit_boundaries`, those of
-//! units; `unit_steps`, [`UnitSteps`], the unit of each address; `by_unit`, the boundaries under their units;
+//! The modules in reading order: `ascending`, numbers in order; `unit_turns`, the turns of a unit; `unit_boundaries`,
+//! those of units; `unit_steps`, [`UnitSteps`], the unit of each address; `by_unit`, the boundaries under their units;
 //! `own_turns`, the turns of a unit whose unit it is; `taker`, [`FrameTaker`], what takes turns with their frames, and
 //! `giving`, how it gets them; `unit_by_unit`, [`give_turns`], all turns of an image; `laws`, that the frames stay the
 //! same between two turns.
