@@ -1,5 +1,5 @@
 -- Numbers that are sorted, each once.
-use Rattle.std.proofs.Common.{◌≡◌, ℕ, ◌<◌, nat_cmp, List, length, get_or, sym, subst}
+use Rattle.std.proofs.Common.{◌≡◌, ℕ, nat_cmp, List, sym, subst}
 use Rattle.std.specs.Prelude.{eqb, ◌↔◌}
 use Rattle.std.specs.List.{Contains, dedup}
 use Rattle.std.specs.List.Sorted.{IsPermutation, IsSorted}

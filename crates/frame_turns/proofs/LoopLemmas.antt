@@ -1,5 +1,5 @@
 -- How far the units were gone over.
-use Rattle.std.proofs.Common.{◌≡◌, ◌≢◌, ℕ, ◌+◌, ◌<◌, ◌≤◌, ◌^◌, ◌==◌, List, [], ◌∷◌, ◌++◌, length, map, Option, Some, None, refl, sym, ap, subst, ◌∙◌, inl, inr, ◌⊎◌, arith}
+use Rattle.std.proofs.Common.{◌≡◌, ◌≢◌, ℕ, ◌==◌, List, [], ◌++◌, Option, Some, None, refl, sym, ap, subst, ◌∙◌, inl, inr, ◌⊎◌, arith}
 use Rattle.std.specs.Prelude.{◌↔◌}
 use Rattle.std.specs.List.{All, Contains}
 use Rattle.std.specs.Ordering.{nat_cmp}
@@ -12,7 +12,7 @@ use Rattle.source_frames.specs.DebugSections.{DebugSectionsRecord}
 use Rattle.source_frames.specs.UnitAddresses.{IsUnitOf}
 use Rattle.frame_turns.specs.ByUnit.{addresses_or_none, addresses_under}
 use Rattle.frame_turns.specs.Given.{TurnRecord, AreDistinct, AreTurnsIn, AreTurnsWithUnits, HasUnit, IsTurnWithFrames, addresses}
-use Rattle.frame_turns.specs.Turns.{AreAscending, IsTurnBy}
+use Rattle.frame_turns.specs.Turns.{IsTurnBy}
 use Rattle.frame_turns.specs.UnitSteps.{AreUnitSteps, IsStep}
 use Rattle.frame_turns.specs.declared.by_unit.AddressList.{AddressList}
 use Rattle.frame_turns.proofs.ByUnitLemmas.{not_in_none}

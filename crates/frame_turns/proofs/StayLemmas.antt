@@ -1,7 +1,7 @@
 -- The frames stay the same where no turn lies.
-use Rattle.std.proofs.Common.{◌≡◌, ℕ, zero, suc, ◌+◌, ◌<◌, ◌≤◌, ◌^◌, Bool, true, false, cond, nat_lt, List, [], ◌∷◌, ◌++◌, length, map, reverse, slice_get, Option, Some, None, refl, sym, ap, subst, ◌∙◌, inl, inr, ◌⊎◌, arith}
-use Rattle.std.specs.Prelude.{flat_map, MatchOption}
-use Rattle.std.specs.List.{Contains, find}
+use Rattle.std.proofs.Common.{◌≡◌, ℕ, zero, suc, ◌+◌, ◌<◌, ◌≤◌, ◌^◌, Bool, false, cond, nat_lt, List, [], ◌∷◌, map, slice_get, Option, Some, None, refl, sym, ap, subst, ◌∙◌, inl, inr, ◌⊎◌, arith}
+use Rattle.std.specs.Prelude.{flat_map}
+use Rattle.std.specs.List.{Contains}
 use Rattle.std.specs.Option.{option_map, option_map_or, option_and_then, option_or}
 use Rattle.std.proofs.lemmas.Bool.{cases_Bool, ltb-false}
 use Rattle.std.proofs.lemmas.Option.{none-some}
@@ -17,13 +17,12 @@ use Rattle.line_programs.specs.declared.registers.Row.{Row}
 use Rattle.source_frames.specs.AddressFrames.{rows_of, AreFramesInUnit, AreFramesIn, AreFramesBy}
 use Rattle.source_frames.specs.DebugSections.{DebugSectionsRecord}
 use Rattle.source_frames.specs.DebugUnits.{UnitRecord}
-use Rattle.source_frames.specs.FoundFrames.{IsInUnit}
 use Rattle.source_frames.specs.Frames.{FrameRecord}
-use Rattle.source_frames.specs.Scopes.{ScopeRecord, IsWithin, IsFirst, IsChainWithin, contains_at, scopes_of}
+use Rattle.source_frames.specs.Scopes.{ScopeRecord, IsFirst, IsChainWithin, contains_at, scopes_of}
 use Rattle.source_frames.specs.UnitAddresses.{IsUnitOf, own_ranges, place_by_ranges, place_by_tuple, read_unit}
 use Rattle.source_frames.specs.UnitLines.{lines_of}
 use Rattle.source_frames.proofs.UnitAddressLemmas.{one_place}
-use Rattle.frame_turns.specs.Turns.{IsTurnBy, boundaries, ends_of, ends_of_range, ends_of_tuple, unit_turns}
+use Rattle.frame_turns.specs.Turns.{IsTurnBy, boundaries, ends_of, ends_of_tuple, unit_turns}
 use Rattle.frame_turns.proofs.FreeLemmas.{Avoids, IsBetween, IsFree, find_none, free_element, free_left, free_right, none_in_ranges, of_mapped, same_find, same_in_ranges, side}
 
 -- ---- the unit

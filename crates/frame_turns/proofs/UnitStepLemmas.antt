@@ -1,8 +1,7 @@
 -- The unit of an address is that of the last boundary not above it.
-use Rattle.std.proofs.Common.{◌≡◌, ℕ, zero, suc, ◌+◌, ◌<◌, ◌≤◌, ◌^◌, Bool, true, false, nat_lt, nat_le, nat_eq, ◌==◌, List, length, get_or, Option, Some, None, refl, sym, ap, subst, ◌∙◌, inl, inr, ◌⊎◌, arith}
-use Rattle.std.specs.List.{Contains}
+use Rattle.std.proofs.Common.{◌≡◌, ℕ, zero, suc, ◌+◌, ◌<◌, ◌≤◌, ◌^◌, true, false, nat_lt, nat_le, List, length, get_or, Option, Some, None, refl, sym, ap, subst, ◌∙◌, inl, inr, ◌⊎◌, arith}
 use Rattle.std.specs.List.Sorted.{IsPartitionedBy, IsPartitionPoint}
-use Rattle.std.proofs.lemmas.Bool.{cases_Bool, eqb-true, eqb-false, leb-true, leb-false, ltb-true, ltb-false}
+use Rattle.std.proofs.lemmas.Bool.{cases_Bool, leb-true, leb-false, ltb-true, ltb-false}
 use Rattle.std.proofs.lemmas.Bool.Decides.{nat_tests}
 use Rattle.std.proofs.lemmas.List.{get_or_default}
 use Rattle.std.proofs.lemmas.Option.{none-some}
@@ -11,7 +10,7 @@ use Rattle.source_frames.specs.UnitAddresses.{IsUnitOf}
 use Rattle.frame_turns.specs.Turns.{AreAscending, boundaries}
 use Rattle.source_frames.proofs.UnitAddressLemmas.{one_place}
 use Rattle.frame_turns.specs.UnitSteps.{AreUnitSteps, IsStep}
-use Rattle.frame_turns.proofs.FreeLemmas.{Avoids, IsBetween, IsFree}
+use Rattle.frame_turns.proofs.FreeLemmas.{IsFree}
 use Rattle.frame_turns.proofs.StayLemmas.{unit_none_before, unit_stays}
 
 -- this is the last number of a list not above an address

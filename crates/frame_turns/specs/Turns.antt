@@ -7,12 +7,11 @@ use Rattle.dwarf_numbers.specs.Units.{unit_at}
 use Rattle.code_ranges.specs.Aranges.{aranges_of}
 use Rattle.code_ranges.specs.declared.arange.Arange.{Arange}
 use Rattle.code_ranges.specs.declared.range.CodeRange.{CodeRange}
-use Rattle.line_programs.specs.declared.registers.Row.{Row}
 use Rattle.source_frames.specs.AddressFrames.{rows_of}
 use Rattle.source_frames.specs.DebugSections.{DebugSectionsRecord, debug_sections}
 use Rattle.source_frames.specs.DebugUnits.{UnitRecord}
 use Rattle.source_frames.specs.FoundFrames.{IsInUnit}
-use Rattle.source_frames.specs.Scopes.{ScopeRecord, scopes_of}
+use Rattle.source_frames.specs.Scopes.{scopes_of}
 use Rattle.source_frames.specs.UnitAddresses.{own_ranges}
 use Rattle.source_frames.specs.UnitLines.{lines_of}
 

@@ -81,9 +81,9 @@ fn give_units<'a, T: FrameTaker<'a>>(
 }
 
 /// Gives each turn of an image, once, with its frames: first those that have no unit, and so no frames, then those of
-/// one unit after another. `__debug_aranges`, the declarations and the first entries of units are read for all together.
-/// Each unit that has a turn is read twice, and its program is run twice, also where several units have one program. It
-/// takes the memory of the boundaries of units, and of the turns and frames of one unit.
+/// one unit after another. `__debug_aranges`, the declarations and the first entries of units are read for all
+/// together. Each unit that has a turn is read twice, and its program is run twice, also where several units have one
+/// program. It takes the memory of the boundaries of units, and of the turns and frames of one unit.
 pub fn give_turns<'a, T: FrameTaker<'a>>(
     heap: Heap,
     image: &Image<'a>,

@@ -1,4 +1,4 @@
-use Rattle.std.proofs.Common.{◌≡◌, ◌+◌, ◌<◌, ◌∙◌, ◌++◌, ℕ, List, Some, None, ap, arith, length, get_or}
+use Rattle.std.proofs.Common.{◌≡◌, ◌<◌, ◌∙◌, ◌++◌, ℕ, List, Some, None, ap, arith, length, get_or}
 use Rattle.frame_turns.specs.ByUnit.{addresses_under, placed_under, placed_without}
 use Rattle.frame_turns.proofs.ByUnitLemmas.{all_steps, under_more, without_more}
 use Rattle.frame_turns.proofs.by_unit.by_unit.Goals as goal

@@ -1,4 +1,4 @@
-use Rattle.std.proofs.Common.{◌<◌, ◌≤◌, arith, length}
+use Rattle.std.proofs.Common.{arith}
 use Rattle.frame_turns.specs.Given.{without_frames}
 use Rattle.frame_turns.proofs.GivenLemmas.{takes_all, takes_next, takes_zero}
 use Rattle.frame_turns.proofs.giving.give_without.Goals as goal

@@ -1,6 +1,3 @@
-use Rattle.std.proofs.Common.{◌≡◌, true, false}
-use Rattle.std.specs.Prelude.{IsTrue}
-use Rattle.std.proofs.lemmas.Bool.{eqb-true, eq-eqb}
 use Rattle.frame_turns.proofs.OwnLemmas.{is_own, none_is, not_true, own_is, test_true, true_test}
 use Rattle.frame_turns.proofs.own_turns.is_in.Goals as goal
 

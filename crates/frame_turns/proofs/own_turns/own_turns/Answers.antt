@@ -1,8 +1,7 @@
-use Rattle.std.proofs.Common.{◌≡◌, ◌∙◌, ℕ, List, Some, ap, subst, sym, ◌⊎◌}
+use Rattle.std.proofs.Common.{ℕ, List, subst, sym}
 use Rattle.std.specs.Prelude.{◌↔◌}
 use Rattle.std.specs.List.{Contains}
 use Rattle.source_frames.specs.SectionsViews.{sections_view}
-use Rattle.source_frames.specs.UnitAddresses.{IsUnitOf}
 use Rattle.source_frames.specs.UnitViews.{unit_view}
 use Rattle.frame_turns.specs.Turns.{unit_turns}
 use Rattle.frame_turns.proofs.OwnLemmas.{own_back, own_there}

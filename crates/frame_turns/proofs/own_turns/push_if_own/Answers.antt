@@ -1,6 +1,4 @@
-use Rattle.std.proofs.Common.{◌≡◌, ℕ, Some, refl, subst, sym}
-use Rattle.std.specs.Prelude.{IsTrue}
-use Rattle.std.proofs.lemmas.Grind.{common_steps}
+use Rattle.std.proofs.Common.{ℕ, Some, refl, subst, sym}
 use Rattle.source_frames.specs.UnitAddresses.{IsUnitOf}
 use Rattle.frame_turns.proofs.OwnLemmas.{not_true, pushed_none, pushed_one}
 use Rattle.frame_turns.proofs.own_turns.push_if_own.Goals as goal

@@ -1,4 +1,4 @@
-use Rattle.std.proofs.Common.{◌≡◌, ◌∙◌, ◌-◌, ◌++◌, List, ap, arith, length}
+use Rattle.std.proofs.Common.{◌∙◌, ◌++◌, List, ap, arith, length}
 use Rattle.code_ranges.specs.declared.range.CodeRange.{CodeRange}
 use Rattle.frame_turns.specs.Turns.{ends_of}
 use Rattle.source_frames.specs.SectionsViews.{sections_view}

@@ -1,5 +1,3 @@
-use Rattle.std.proofs.Common.{◌≡◌, ◌++◌}
-use Rattle.std.specs.Prelude.{flat_map}
 use Rattle.code_ranges.specs.UnitViews.{unit_view as ranges_view}
 use Rattle.debug_entries.specs.EntryViews.{placed_view}
 use Rattle.frame_turns.proofs.CollectLemmas.{functions_all, functions_more}

@@ -1,5 +1,4 @@
-use Rattle.std.proofs.Common.{◌≡◌, ◌+◌, ◌-◌, ◌<◌, ◌≤◌, ap, arith, length, sym, ◌∙◌}
-use Rattle.std.proofs.lemmas.Grind.{common_steps}
+use Rattle.std.proofs.Common.{◌-◌, ap, arith, length}
 use Rattle.frame_turns.proofs.UnitStepLemmas.{unit_found, unit_without}
 use Rattle.frame_turns.proofs.unit_steps.UnitSteps.unit_of.Goals as goal
 
