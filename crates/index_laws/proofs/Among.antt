@@ -281,7 +281,7 @@ module _ (os : List Operations) (texts : List (List ℕ)) (indexes : List (List 
           true≢false (sym (retired_by of.of.text slice x.entry f.0 of.is f.1 f.2) ∙ free)) in
           and_from (admits_under front x.entry) (not (list_any (covers x.entry) every)) (and_from (is_admission x.entry) (is_under front x.entry) tag under) (not_from_false (list_any (covers x.entry) every) none)
 
-      admission_if : (x : EntryAt) → lives_under front every x.entry ≡ true → is_admission x.entry ≡ true
+      pub admission_if : (x : EntryAt) → lives_under front every x.entry ≡ true → is_admission x.entry ≡ true
       admission_if x h = (and_parts (is_admission x.entry) (is_under front x.entry) (and_parts (admits_under front x.entry) (not (list_any (covers x.entry) every)) h).0).0
 
       -- a live slice has an entry

@@ -126,9 +126,9 @@ module _ (os : List Operations) (texts : List (List ℕ)) (indexes : List (List 
   -- ---- two entries of slices under one key
 
   -- the entry is that of a slice that answers
-  record IsAnsweringSlice (key : SliceKey) (x : EntryAt) (slice : List ℕ) : Type 0 where
-    of : IsOfSlice os texts indexes x slice
-    answers : IsAnswering (all_joined os) key slice
+  pub record IsAnsweringSlice (key : SliceKey) (x : EntryAt) (slice : List ℕ) : Type 0 where
+    pub of : IsOfSlice os texts indexes x slice
+    pub answers : IsAnswering (all_joined os) key slice
 
   before : (key : SliceKey) (x y : EntryAt) (a b : List ℕ) → IsAnsweringSlice key x a → IsAnsweringSlice key y b → StandsBefore x y → order (admission_record a) (admission_record b) ≡ Less
   before key x y a b is_x is_y (inl shorter) =
@@ -283,14 +283,16 @@ module _ (os : List Operations) (texts : List (List ℕ)) (indexes : List (List 
           exactly = λ slice. (λ c. (zip_right (IsAnsweringSlice key) answering ss slice zip c).1.answers, to_slices slice);
         }
 
+      -- the slices of the entries that answer are those that do
+      pub slices_right : (answering : List EntryAt) → DigestsTell os → AreAnsweringAmong (key_bytes key) indexes answering → (ss : List (List ℕ)) × AllZip (IsAnsweringSlice key) answering ss × AreAnswering (all_joined os) key ss
+      slices_right answering tell are =
+          let ss = slices_at answering (recursion_from_All (IsAmong indexes) answering are.among) (recursion_from_All (λ x. answers_among (key_bytes key) every x.entry ≡ true) answering are.each) in
+          (ss.0, ss.1, are_slices tell answering are ss.0 ss.1)
+
       pub right : (asked : Where) (answer : AnswerRecord) → DigestsTell os → IsAnswerAmong texts indexes (key_bytes key) asked answer → IsAnswer (all_joined os) key asked answer
       right asked answer tell is =
-          let ss = slices_at is.answering (recursion_from_All (IsAmong indexes) is.answering is.are.among) (recursion_from_All (λ x. answers_among (key_bytes key) every x.entry ≡ true) is.answering is.are.each) in
-          record {
-            slices = ss.0;
-            answering = are_slices tell is.answering is.are ss.0 ss.1;
-            answer_is = told_right key asked is.answering ss.0 answer ss.1 is.answer_is;
-          }
+          let ss = slices_right is.answering tell is.are in
+          record { slices = ss.0; answering = ss.2; answer_is = told_right key asked is.answering ss.0 answer ss.1 is.answer_is }
 
 -- ---- one index
 

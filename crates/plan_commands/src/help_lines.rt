@@ -71,15 +71,15 @@ fn free<T: Display>(alloc: Global, told: &T) -> Result<String, NoMemory>
 }
 
 /// The line that helps with a failure.
-pub fn help_line(alloc: Global, text: &Help<'_>) -> Result<String, NoMemory>
+pub fn help_line(alloc: Global, help: &Help<'_>) -> Result<String, NoMemory>
     ensures { IfOk result (λ text. (shown free : List ℕ)
-        × (list_any is_control text.now.path.now ≡ false → shown ≡ text.now.path.now)
+        × (list_any is_control help.now.path.now ≡ false → shown ≡ help.now.path.now)
         × (has_line_feed shown ≡ false) × (has_line_feed free ≡ false)
-        × (string_bytes text ≡ line (codes "  " ++ subject_text text.now.subject ++ codes " is " ++ shown ++ free))) }
+        × (string_bytes text ≡ line (codes "  " ++ subject_text help.now.subject ++ codes " is " ++ shown ++ free))) }
 {
-    let subject = text.subject();
-    let path = shown(alloc, text.path())?;
-    let known = free(alloc, text)?;
+    let subject = help.subject();
+    let path = shown(alloc, help.path())?;
+    let known = free(alloc, help)?;
     let mut text = String::new(alloc);
     writeln!(text, "  {subject} is {path}{known}")?;
     Ok(text)

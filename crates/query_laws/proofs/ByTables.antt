@@ -34,12 +34,12 @@ use Rattle.query_laws.proofs.Three.{first_third, third_also}
 -- ---- the texts of indexes
 
 -- the bytes of the indexes, each the index of one of these contents
-record AreTextsOf {I : Type 0} (inputs : List (Reader I)) (os : List Operations) : Type 0 where
-  texts : List (List ℕ)
-  given : AreGiven inputs texts
-  files : AllZip IsIndexFile os texts
+pub record AreTextsOf {I : Type 0} (inputs : List (Reader I)) (os : List Operations) : Type 0 where
+  pub texts : List (List ℕ)
+  pub given : AreGiven inputs texts
+  pub files : AllZip IsIndexFile os texts
 
-texts_of : {I : Type 0} (inputs : List (Reader I)) (os : List Operations) → AreIndexesGiven inputs os → AreTextsOf inputs os
+pub texts_of : {I : Type 0} (inputs : List (Reader I)) (os : List Operations) → AreIndexesGiven inputs os → AreTextsOf inputs os
 texts_of [] [] are = record { texts = []; given = tt; files = tt }
 texts_of [] (_ ∷ _) are = absurd are
 texts_of (_ ∷ _) [] are = absurd are
@@ -51,7 +51,7 @@ module _ {I P : Type 0} (inputs : List (Reader I)) (archives : List (Reader P)) 
   texts_read : (texts : List (List ℕ)) → AreGiven inputs texts → AllZip IsIndexText texts all
   texts_read texts given = third_also IsReadWith IsGiven IsIndexText inputs archives all texts (λ x y z w is known. held_text x w z known is.index_is) read given
 
-  indexes_are : (os : List Operations) (texts : List (List ℕ)) → AreGiven inputs texts → AllZip IsIndexFile os texts → AreIndexes os texts all
+  pub indexes_are : (os : List Operations) (texts : List (List ℕ)) → AreGiven inputs texts → AllZip IsIndexFile os texts → AreIndexes os texts all
   indexes_are os texts given files = record { files = files; read = texts_read texts given }
 
   -- ---- answers

@@ -6,4 +6,5 @@ pub mod Three
 pub mod Refused
 pub mod ByIndex
 pub mod ByTables
+pub mod Extracted
 pub mod FrameKeys

@@ -9,6 +9,7 @@ ghost use Rattle.archive_core.specs.Lists.{IsList};
 ghost use Rattle.archive_core.specs.Part.{AreAlikeUnder, is_under, part};
 ghost use Rattle.archive_core.specs.Summary.{summary};
 ghost use Rattle.archive_core.specs.declared.find.FindRow.{FindRow};
+ghost use Rattle.archive_core.specs.declared.keys.Digest.{Digest};
 ghost use Rattle.archive_core.specs.declared.keys.SliceKey.{SliceKey};
 ghost use Rattle.archive_records.specs.Text.{summary_text, written};
 ghost use Rattle.archive_index.specs.Index.{index};
@@ -18,7 +19,7 @@ ghost use Rattle.archive_queries.specs.Symbolicate.{TellsAddresses};
 ghost use Rattle.crash_frames.specs.Frames.{frames_of};
 ghost use Rattle.crash_frames.specs.declared.frame.Frame.{Frame};
 ghost use Rattle.command_ends.specs.Inputs.{IsDeviceFault, IsGiven, Reader};
-ghost use Rattle.command_ends.specs.Outputs.{summary_report_of};
+ghost use Rattle.command_ends.specs.Outputs.{Writer, summary_report_of};
 ghost use Rattle.command_ends.specs.declared.faults.InputName.{InputName};
 ghost use Rattle.command_ends.specs.declared.faults.Status.{Status};
 ghost use Rattle.command_ends.specs.declared.faults.Why.{Why};
@@ -33,7 +34,10 @@ ghost use Rattle.indexed_queries.specs.Summary.{MakesSummaryAt};
 ghost use Rattle.indexed_symbols.specs.Asking.{AreRefusedAsking, AreUntold};
 ghost use Rattle.indexed_symbols.specs.Frames.{AreToldAt, TellsFramesBySlices, TellsFramesByTables, keys_of};
 ghost use Rattle.indexed_symbols.specs.Symbolicate.{TellsBySlices, TellsByTables, symbolicate_at};
+ghost use Rattle.slice_extraction.specs.Indexed.{MakesEntry, extract_at};
+ghost use Rattle.slice_extraction.specs.Wanted.{IsWanted, slice_line};
 ghost use Rattle.query_laws.specs.Contents.{AreIndexed, AreIndexesGiven, AreOwnIndexes, HaveKeys, IsIndexGiven};
+ghost use Rattle.query_laws.specs.Contents.{IsOwnIndex};
 
 use placed_bytes::Placed;
 
@@ -139,6 +143,24 @@ pub fn framed_by_indexes<I: Placed, P: Placed>()
         → AreToldAt lines inputs archives said status text → TellsFrames lines (all_joined os) said status text }
     ensures keys { (bytes : List ℕ) (said : List Frame) (frame : Frame) → frames_of bytes ≡ Ok said
         → Contains said frame → IsKey frame.key }
+{}
+
+/// What `extract` writes by the indexes of these very archives is the wanted slice of the join of the contents, if no
+/// two different slices of several contents have one SHA-256. By the index of one archive it is that of its content,
+/// and nothing is supposed of SHA-256.
+pub fn extracted_by_indexes<I: Placed, P: Placed>()
+    ensures entry { (inputs : List (Reader I)) (archives : List (Reader P)) (os : List Operations) (key : SliceKey)
+        (digest : Option Digest) (slice told : List ℕ) → AreOwnIndexes inputs archives os → DigestsTell os
+        → IsKey key → MakesEntry inputs archives key digest slice told
+        → IsWanted (all_joined os) key digest slice × (told ≡ slice_line slice) }
+    ensures alone { (input : Reader I) (archive : Reader P) (o : Operations) (key : SliceKey) (digest : Option Digest)
+        (slice told : List ℕ) → IsOwnIndex input archive o → IsKey key
+        → MakesEntry (input ∷ []) (archive ∷ []) key digest slice told
+        → IsWanted o key digest slice × (told ≡ slice_line slice) }
+    ensures either { (inputs : List (Reader I)) (archives : List (Reader P)) (os : List Operations) (key : SliceKey)
+        (digest : Option Digest) (draft : Writer) (slice told : List ℕ) → AreOwnIndexes inputs archives os
+        → DigestsTell os → IsKey key → (extract_at inputs archives key digest draft).writes.Makes slice told
+        → IsWanted (all_joined os) key digest slice × (told ≡ slice_line slice) }
 {}
 
 /// By the indexes of contents a table is refused for a device alone, whatever bytes the archives have. By the indexes

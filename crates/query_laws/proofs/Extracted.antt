@@ -1,0 +1,166 @@
+-- What `extract` writes by an entry is the wanted slice of the contents that the indexes were made of.
+use Rattle.std.proofs.Common.{◌≡◌, ℕ, zero, suc, ◌+◌, ◌<◌, ◌≤◌, List, [], ◌∷◌, ◌++◌, length, take, drop, get_or, Option, Some, None, slice_get, refl, sym, ap, ◌∙◌, subst, inl, inr, arith, length-append, append_assoc, drop-drop}
+use Rattle.std.specs.List.{AllZip, concat}
+use Rattle.std.specs.FinSet as set
+use Rattle.std.proofs.Math.Seq.{drop-append_seam, take-append_seam}
+use Rattle.std.proofs.lemmas.List.{drop-append-le}
+use Rattle.std.proofs.lemmas.Option.{same_Some}
+use Rattle.join_core.specs.Listing.{listing}
+use Rattle.archive_core.specs.Content.{Operations}
+use Rattle.archive_core.specs.Find.{AreAnswering}
+use Rattle.archive_core.specs.Key.{IsKey, key_bytes}
+use Rattle.archive_core.specs.Record.{admission_record}
+use Rattle.archive_core.specs.Valid.{IsValid, key_of}
+use Rattle.archive_core.specs.declared.keys.Digest.{Digest}
+use Rattle.archive_core.specs.declared.keys.SliceKey.{SliceKey}
+use Rattle.archive_core.proofs.Compare.{length_key_bytes}
+use Rattle.archive_core.proofs.Entries.{slice_of}
+use Rattle.archive_core.proofs.Members.{in_front}
+use Rattle.archive_core.proofs.Records.{length-admission_record}
+use Rattle.archive_records.specs.Kind.{magic}
+use Rattle.archive_records.specs.Text.{end_record, written}
+use Rattle.archive_index.specs.Entry.{offset_in}
+use Rattle.command_ends.specs.Inputs.{IsGiven, Reader}
+use Rattle.command_ends.specs.Outputs.{Writer}
+use Rattle.index_laws.specs.Indexes.{AreIndexes, DigestsTell, all_joined}
+use Rattle.index_laws.proofs.Among.{IsOfSlice, admission_if, find, lives_if, slice_of_entry}
+use Rattle.index_laws.proofs.Joined.{joined_alone}
+use Rattle.index_laws.proofs.Right.{IsAnsweringSlice, slices_right}
+use Rattle.indexed_answers.specs.Among.{EntryAt}
+use Rattle.indexed_queries.specs.Together.{AreLater, IsOneOf}
+use Rattle.slice_extraction.specs.Entries.{HoldsSlice, IsChosen, StandFor}
+use Rattle.slice_extraction.specs.Indexed.{MakesEntry, extract_at}
+use Rattle.slice_extraction.specs.Wanted.{IsWanted, slice_line, written_line}
+use Rattle.slice_extraction.proofs.Extracted.{wanted_alike}
+use Rattle.query_laws.specs.Contents.{AreIndexed, AreOwnIndexes, IsIndexGiven, IsOwnIndex}
+use Rattle.query_laws.proofs.Accepted.{still_given}
+use Rattle.query_laws.proofs.ByIndex.{held_alike}
+use Rattle.query_laws.proofs.ByTables.{AreTextsOf, indexes_are, texts_of}
+use Rattle.query_laws.proofs.OfIndex.{of_given}
+use Rattle.query_laws.proofs.Three.{first_third}
+
+-- ---- a slice in the text of its content
+
+-- a record, and what stands behind it
+behind_concat : (rs : List (List ℕ)) (i : ℕ) (rest : List ℕ) → i < length rs → drop (length (concat (take i rs))) (concat rs ++ rest) ≡ get_or rs i [] ++ (concat (drop (suc i) rs) ++ rest)
+behind_concat [] i rest lt = absurd (omega (arith, lt))
+behind_concat (r ∷ rs) zero rest lt = append_assoc r (concat rs) rest
+behind_concat (r ∷ rs) (suc i) rest lt =
+    let k : ℕ = length (concat (take i rs)) in
+    ap (λ (n : ℕ). drop n ((r ++ concat rs) ++ rest)) (length-append r (concat (take i rs)))
+    ∙ sym (drop-drop k (length r) ((r ++ concat rs) ++ rest))
+    ∙ ap (λ (t : List ℕ). drop k (drop (length r) t)) (append_assoc r (concat rs) rest)
+    ∙ ap (drop k) (drop-append_seam r (concat rs ++ rest))
+    ∙ behind_concat rs i rest (omega (arith, lt))
+
+-- the slice of an admission, behind the head of its record
+slice_there : (o : Operations) (slice : List ℕ) (i : ℕ) → IsValid slice → i < length (listing o) → get_or (listing o) i [] ≡ admission_record slice
+    → (rest : List ℕ) × (drop (8 + length (concat (take i (listing o))) + 33) (written o) ≡ slice ++ rest)
+unfolding written
+slice_there o slice i valid within is =
+    let rs : List (List ℕ) = listing o in
+    let last : List ℕ = end_record (set.len o) in
+    let k : ℕ = length (concat (take i rs)) in
+    let behind : List ℕ = concat (drop (suc i) rs) ++ last in
+    let text : List ℕ = magic ++ (concat rs ++ last) in (
+      behind,
+      sym (drop-drop 33 (8 + k) text)
+          ∙ ap (drop 33) (sym (drop-drop k 8 text) ∙ ap (drop k) (drop-append_seam magic (concat rs ++ last)) ∙ behind_concat rs i last within ∙ ap (λ (r : List ℕ). r ++ behind) is)
+          ∙ drop-append-le 33 (admission_record slice) behind (omega (arith, length-admission_record slice valid))
+          ∙ ap (λ (s : List ℕ). s ++ behind) (slice_of slice valid),
+    )
+
+-- as many bytes from there on are the slice
+same_bytes : (text slice sent rest : List ℕ) (k : ℕ) → drop k text ≡ slice ++ rest → length sent ≡ length slice → take (length sent) (drop k text) ≡ sent → sent ≡ slice
+same_bytes text slice sent rest k behind long stands =
+    sym stands ∙ ap (take (length sent)) behind ∙ ap (λ (n : ℕ). take n (slice ++ rest)) long ∙ take-append_seam slice rest
+
+-- ---- the archive of an entry
+
+-- one of the archives, later, has the text of the content at its place
+own_at : {I P : Type 0} (inputs : List (Reader I)) (archives : List (Reader P)) (os : List Operations) (later : List (Reader P)) (n : ℕ) (archive : Reader P) (o : Operations) → AreOwnIndexes inputs archives os → AreLater archives later
+    → slice_get later n ≡ Some archive → slice_get os n ≡ Some o → IsGiven archive (written o)
+own_at inputs archives [] later n archive o own are in_later in_os = absurd cc
+own_at inputs archives (w ∷ os) [] n archive o own are in_later in_os = absurd cc
+own_at inputs [] (w ∷ os) (l ∷ later) n archive o own are in_later in_os = absurd are
+own_at [] (a ∷ archives) (w ∷ os) (l ∷ later) n archive o own are in_later in_os = absurd own
+own_at (i ∷ inputs) (a ∷ archives) (w ∷ os) (l ∷ later) zero archive o own are in_later in_os =
+    let given : IsGiven l (written w) = still_given a l (written w) are.0 own.0.1 in
+    subst (λ (v : Reader _). IsGiven v (written o)) (same_Some l archive in_later) (subst (λ (u : Operations). IsGiven l (written u)) (same_Some w o in_os) given)
+own_at (i ∷ inputs) (a ∷ archives) (w ∷ os) (l ∷ later) (suc n) archive o own are in_later in_os = own_at inputs archives os later n archive o own.1 are.1 in_later in_os
+
+-- the indexes of these very archives are the indexes of their contents
+indexed_own : {I P : Type 0} (inputs : List (Reader I)) (archives : List (Reader P)) (os : List Operations) → AreOwnIndexes inputs archives os → AreIndexed inputs archives os
+indexed_own [] [] [] own = tt
+indexed_own [] [] (_ ∷ _) own = absurd own
+indexed_own [] (_ ∷ _) [] own = absurd own
+indexed_own [] (_ ∷ _) (_ ∷ _) own = absurd own
+indexed_own (_ ∷ _) [] [] own = absurd own
+indexed_own (_ ∷ _) [] (_ ∷ _) own = absurd own
+indexed_own (_ ∷ _) (_ ∷ _) [] own = absurd own
+indexed_own (input ∷ inputs) (archive ∷ archives) (o ∷ os) own = ((own.0.0, inl own.0.1), indexed_own inputs archives os own.1)
+
+-- ---- the slice of an entry
+
+only_slice : (os : List Operations) (texts : List (List ℕ)) (all : List (List (List ℕ))) (key : SliceKey) (x : EntryAt) (ss : List (List ℕ)) → AllZip (IsAnsweringSlice os texts all key) (x ∷ []) ss → AreAnswering (all_joined os) key ss
+    → (slice : List ℕ) × IsOfSlice os texts all x slice × AreAnswering (all_joined os) key (slice ∷ [])
+only_slice os texts all key x [] zip are = absurd zip
+only_slice os texts all key x (s ∷ []) zip are = (s, zip.0.of, are)
+only_slice os texts all key x (s ∷ (r ∷ ss)) zip are = absurd zip.1
+
+-- the entry that is chosen is that of the wanted slice
+wanted_of : (os : List Operations) (texts : List (List ℕ)) (all : List (List (List ℕ))) (key : SliceKey) (digest : Option Digest) (x : EntryAt) → AreIndexes os texts all → IsKey key → DigestsTell os → IsChosen key digest all x
+    → (slice : List ℕ) × IsOfSlice os texts all x slice × IsWanted (all_joined os) key digest slice
+wanted_of os texts all key None x files is_key tell chosen =
+    let right = slices_right os texts all files key is_key (x ∷ []) tell chosen in
+    only_slice os texts all key x right.0 right.1 right.2
+wanted_of os texts all key (Some digest) x files is_key tell chosen =
+    let r = find os texts all files x chosen.among in
+    let s = slice_of_entry os texts all x r.0 r.1 (admission_if os texts all files key is_key x chosen.lives) in
+    (s.0, s.1, (lives_if os texts all files key is_key x s.0 s.1 chosen.lives, sym s.1.is.is.digest_is ∙ chosen.digest_is))
+
+-- a slice that is wanted under a key has it
+under_key : (o : Operations) (key : SliceKey) (digest : Option Digest) (slice : List ℕ) → IsWanted o key digest slice → key_of slice ≡ key
+under_key o key None slice is = ((is.exactly slice).0 (in_front slice [])).live.under
+under_key o key (Some digest) slice is = is.0.under
+
+module _ {I P : Type 0} (inputs : List (Reader I)) (archives : List (Reader P)) (os : List Operations) (own : AreOwnIndexes inputs archives os) where
+  texts : AreTextsOf inputs os
+  texts = texts_of inputs os (first_third IsOwnIndex IsIndexGiven inputs archives os (λ x y z is. is.0) own)
+
+  -- what its archive has at its place is the slice of the entry
+  sent_is : (all : List (List (List ℕ))) (later : List (Reader P)) (x : EntryAt) (archive : Reader P) (slice sent : List ℕ) → AreLater archives later → IsOneOf later x.input archive → IsOfSlice os texts.texts all x slice → HoldsSlice archive x sent
+      → sent ≡ slice
+  sent_is all later x archive slice sent are one of holds =
+      let given : IsGiven archive (written of.of.o) = own_at inputs archives os later x.input archive of.of.o own are one.is of.of.file.content_at in
+      let there = slice_there of.of.o slice of.of.place of.is.valid of.of.is.within of.of.record_is in
+      same_bytes (written of.of.o) slice sent there.0 (offset_in x.entry + 33) (ap (λ (n : ℕ). drop (n + 33) (written of.of.o)) of.of.is.place ∙ there.1) (omega (arith, holds.of.long, of.is.length_is))
+      (of_given archive (written of.of.o) (StandFor x sent) given holds.stands)
+
+  pub extracted_by_entry : (key : SliceKey) (digest : Option Digest) (slice told : List ℕ) → DigestsTell os → IsKey key → MakesEntry inputs archives key digest slice told → IsWanted (all_joined os) key digest slice × (told ≡ slice_line slice)
+  extracted_by_entry key digest slice told tell is_key makes =
+      let from = makes.from in
+      let files = indexes_are inputs archives from.all from.read os texts.texts texts.given texts.files in
+      let wanted = wanted_of os texts.texts from.all key digest makes.x files is_key tell from.chosen in
+      let same = sent_is from.all from.later makes.x makes.archive wanted.0 slice from.are_later from.archive_is wanted.1 makes.holds in
+      let is = subst (IsWanted (all_joined os) key digest) (sym same) wanted.2 in
+      (is, makes.told_is ∙ ap (λ (k : SliceKey). written_line k slice) (sym (under_key (all_joined os) key digest slice is)))
+
+  -- also where entries are tied
+  pub extracted_either : (key : SliceKey) (digest : Option Digest) (draft : Writer) (slice told : List ℕ) → DigestsTell os → IsKey key → (extract_at inputs archives key digest draft).writes.Makes slice told
+      → IsWanted (all_joined os) key digest slice × (told ≡ slice_line slice)
+  extracted_either key digest draft slice told tell is_key (inl makes) = extracted_by_entry key digest slice told tell is_key makes
+  extracted_either key digest draft slice told tell is_key (inr (none, (held, told_is))) =
+      let indexed = indexed_own inputs archives os own in
+      let short : length (key_bytes key) ≤ 24 = omega (arith, length_key_bytes key is_key.uuid) in
+      let alike = held_alike (key_bytes key ∷ []) inputs archives os held.0 (short, tt) indexed held.1 (key_bytes key) (0, omega arith, refl) in
+      (subst (λ (d : Option Digest). IsWanted (all_joined os) key d slice) (sym none) (wanted_alike held.0 (all_joined os) key alike None slice held.3), told_is)
+
+-- ---- one index
+
+pub extracted_alone : {I P : Type 0} (input : Reader I) (archive : Reader P) (o : Operations) (key : SliceKey) (digest : Option Digest) (slice told : List ℕ) → IsOwnIndex input archive o → IsKey key
+    → MakesEntry (input ∷ []) (archive ∷ []) key digest slice told → IsWanted o key digest slice × (told ≡ slice_line slice)
+extracted_alone input archive o key digest slice told own is_key makes =
+    let tell : DigestsTell (o ∷ []) = λ several. absurd (omega (arith, several)) in
+    let is = extracted_by_entry (input ∷ []) (archive ∷ []) (o ∷ []) (own, tt) key digest slice told tell is_key makes in
+    (subst (λ (made : Operations). IsWanted made key digest slice) (joined_alone o own.0.2.content.itself) is.0, is.1)
