@@ -43,8 +43,9 @@ def unit_turns(unit: DebugUnit) -> Set[int]:
 def frame_steps(debug: Debug) -> List[Step]:
     """The steps of an image: at each address at which the frames are others than those of the address before."""
     turns = boundaries(debug)
-    for unit in filter(None, map(debug.unit, debug.units)):
-        turns |= unit_turns(unit)
+    for offset in debug.units:
+        own = debug.unit(offset)
+        turns |= unit_turns(own) if own else set()
     steps: List[Step] = []
     last: Chain = ()
     for address in sorted(it for it in turns if it < MOST_ADDRESSES):
