@@ -193,3 +193,8 @@ no_frames_before s a frames fits none are =
     let free : Avoids (λ t. t ≤ a) (boundaries s) = record { none = λ turn h l. none turn l (omega (arith, l), inl h) } in
     let place = one_place s a are.place None are.is_unit (unit_none_before s a free) in
     subst (λ (p : Option ℕ). AreFramesIn s (option_and_then (read_unit s) p) a frames) place are.are_frames
+
+pub empty_before : (s : DebugSectionsRecord) (a : ℕ) → a < 2 ^ 64 → ((turn : ℕ) → turn ≤ a → IsTurnBy s turn → ⊥) → AreFramesBy s a []
+empty_before s a fits none =
+    let free : Avoids (λ t. t ≤ a) (boundaries s) = record { none = λ turn h l. none turn l (omega (arith, l), inl h) } in
+    record { place = None; is_unit = unit_none_before s a free; are_frames = refl }

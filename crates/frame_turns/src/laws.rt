@@ -17,3 +17,9 @@ pub fn no_frames_before_turns()
     ensures { (image : List ℕ) (a : ℕ) (frames : List FrameRecord) → a < 2 ^ 64
         → ((turn : ℕ) → turn ≤ a → IsTurn image turn → ⊥) → AreFramesOf image a frames → frames ≡ [] }
 {}
+
+/// Before the first turn the empty list is that of the frames of an address.
+pub fn empty_before_turns()
+    ensures { (image : List ℕ) (a : ℕ) → a < 2 ^ 64
+        → ((turn : ℕ) → turn ≤ a → IsTurn image turn → ⊥) → AreFramesOf image a [] }
+{}
