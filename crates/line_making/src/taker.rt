@@ -20,6 +20,7 @@ impl<'a> FrameTaker<'a> for StoreTaker<'a> {
     ghost has_taken = { λ taker turns. taker.store ≡ after_steps (Some []) (steps_of_turns turns) };
 
     fn take(&mut self, address: u64, frames: &[Frame<'a>]) -> Result<(), NoMemory> {
-        self.store.add(address, frames)
+        self.store.add(address, frames)?;
+        Ok(())
     }
 }
