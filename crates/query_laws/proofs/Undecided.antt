@@ -1,16 +1,13 @@
 -- Where no entry is wanted, no slice is of the contents that the indexes were made of.
-use Rattle.std.proofs.Common.{◌≡◌, ◌≢◌, ℕ, ◌≤◌, Bool, List, [], ◌∷◌, length, Option, Some, None, refl, sym, ap, ◌∙◌, subst, inl, inr, arith}
+use Rattle.std.proofs.Common.{◌≡◌, ℕ, ◌≤◌, Bool, List, [], ◌∷◌, length, Option, Some, None, refl, sym, ap, ◌∙◌, subst, inl, inr, arith}
 use Rattle.std.specs.Prelude.{if◌then◌else◌, map}
 use Rattle.std.specs.List.{AllZip, Contains}
 use Rattle.std.proofs.lemmas.Slice.Zip.{AllZip-long}
 use Rattle.sha2.specs.Sha256.{sha256}
-use Rattle.macho_image.specs.Contents.{is_dsym_image}
 use Rattle.archive_core.specs.Content.{IsLive, Operations}
-use Rattle.archive_core.specs.Find.{AreAnswering}
 use Rattle.archive_core.specs.Key.{IsKey, key_bytes}
 use Rattle.archive_core.specs.Valid.{key_of}
 use Rattle.archive_core.specs.declared.find.FindRow.{FindRow}
-use Rattle.archive_core.specs.declared.find.FindState.{FindState}
 use Rattle.archive_core.specs.declared.find.FindState.TheVariants.{Dsym, Image}
 use Rattle.archive_core.specs.declared.keys.Digest.{Digest}
 use Rattle.archive_core.specs.declared.keys.SliceKey.{SliceKey}
@@ -28,11 +25,10 @@ use Rattle.index_laws.proofs.Right.{IsAnsweringSlice, slices_right}
 use Rattle.indexed_answers.specs.Among.{EntryAt}
 use Rattle.indexed_answers.specs.Named.{IsRowAt, LivesAmong}
 use Rattle.slice_extraction.specs.Entries.{AreUnchosen}
-use Rattle.slice_extraction.specs.Extract.{MakesNone}
 use Rattle.slice_extraction.specs.Indexed.{LacksEntry, extract_at}
 use Rattle.slice_extraction.specs.Wanted.{AreUndecided, slice_row, slices_text}
 use Rattle.slice_extraction.proofs.Extracted.{undecided_alike}
-use Rattle.query_laws.specs.Contents.{AreIndexed, AreIndexesGiven, AreOwnIndexes, IsIndexGiven, IsOwnIndex}
+use Rattle.query_laws.specs.Contents.{AreIndexesGiven, AreOwnIndexes, IsIndexGiven, IsOwnIndex}
 use Rattle.query_laws.specs.Undecided.{IsRowOfSlice, TellsUndecided}
 use Rattle.query_laws.proofs.ByIndex.{held_alike}
 use Rattle.query_laws.proofs.ByTables.{AreTextsOf, indexes_are, texts_of}
