@@ -90,7 +90,7 @@ own_at (i ∷ inputs) (a ∷ archives) (w ∷ os) (l ∷ later) zero archive o o
 own_at (i ∷ inputs) (a ∷ archives) (w ∷ os) (l ∷ later) (suc n) archive o own are in_later in_os = own_at inputs archives os later n archive o own.1 are.1 in_later in_os
 
 -- the indexes of these very archives are the indexes of their contents
-indexed_own : {I P : Type 0} (inputs : List (Reader I)) (archives : List (Reader P)) (os : List Operations) → AreOwnIndexes inputs archives os → AreIndexed inputs archives os
+pub indexed_own : {I P : Type 0} (inputs : List (Reader I)) (archives : List (Reader P)) (os : List Operations) → AreOwnIndexes inputs archives os → AreIndexed inputs archives os
 indexed_own [] [] [] own = tt
 indexed_own [] [] (_ ∷ _) own = absurd own
 indexed_own [] (_ ∷ _) [] own = absurd own

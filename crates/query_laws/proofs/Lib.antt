@@ -8,3 +8,4 @@ pub mod ByIndex
 pub mod ByTables
 pub mod Extracted
 pub mod FrameKeys
+pub mod Undecided

@@ -2,6 +2,7 @@
 //! law.
 
 ghost use Rattle.std.specs.Prelude.{◌≡◌, ◌≤◌, ◌<◌, ◌^◌, ◌∷◌, [], ℕ, List, Bool, Option, Contains, Ok, false, length};
+ghost use Rattle.std.specs.Prelude.{Some};
 ghost use Rattle.std.specs.List.{AllByRecursion};
 ghost use Rattle.archive_core.specs.Content.{IsContent, Operations};
 ghost use Rattle.archive_core.specs.Key.{IsKey, key_bytes};
@@ -34,10 +35,11 @@ ghost use Rattle.indexed_queries.specs.Summary.{MakesSummaryAt};
 ghost use Rattle.indexed_symbols.specs.Asking.{AreRefusedAsking, AreUntold};
 ghost use Rattle.indexed_symbols.specs.Frames.{AreToldAt, TellsFramesBySlices, TellsFramesByTables, keys_of};
 ghost use Rattle.indexed_symbols.specs.Symbolicate.{TellsBySlices, TellsByTables, symbolicate_at};
-ghost use Rattle.slice_extraction.specs.Indexed.{MakesEntry, extract_at};
-ghost use Rattle.slice_extraction.specs.Wanted.{IsWanted, slice_line};
+ghost use Rattle.slice_extraction.specs.Indexed.{LacksEntry, MakesEntry, extract_at};
+ghost use Rattle.slice_extraction.specs.Wanted.{AreUndecided, IsWanted, slice_line, slices_text};
 ghost use Rattle.query_laws.specs.Contents.{AreIndexed, AreIndexesGiven, AreOwnIndexes, HaveKeys, IsIndexGiven};
 ghost use Rattle.query_laws.specs.Contents.{IsOwnIndex};
+ghost use Rattle.query_laws.specs.Undecided.{TellsUndecided};
 
 use placed_bytes::Placed;
 
@@ -161,6 +163,30 @@ pub fn extracted_by_indexes<I: Placed, P: Placed>()
         (digest : Option Digest) (draft : Writer) (slice told : List ℕ) → AreOwnIndexes inputs archives os
         → DigestsTell os → IsKey key → (extract_at inputs archives key digest draft).writes.Makes slice told
         → IsWanted (all_joined os) key digest slice × (told ≡ slice_line slice) }
+{}
+
+/// If no entry is wanted by the indexes of contents, whatever bytes the archives have, no slice of the join of the
+/// contents is. With a digest no slice that is held has it, nothing is told, and nothing is supposed of SHA-256. Without
+/// one the rows that are told are those of the slices that answer, in their order, if no two different slices of
+/// several contents have one SHA-256. Their lines are pinned where the keys of the rows have their widths.
+pub fn undecided_by_indexes<I: Placed, P: Placed>()
+    ensures digest { (inputs : List (Reader I)) (archives : List (Reader P)) (os : List Operations) (key : SliceKey)
+        (digest : Digest) (told : List ℕ) → AreIndexesGiven inputs os → IsKey key
+        → LacksEntry inputs archives key (Some digest) told
+        → AreUndecided (all_joined os) key (Some digest) [] × (told ≡ slices_text []) }
+    ensures entry { (inputs : List (Reader I)) (archives : List (Reader P)) (os : List Operations) (key : SliceKey)
+        (digest : Option Digest) (told : List ℕ) → AreIndexesGiven inputs os → DigestsTell os → IsKey key
+        → LacksEntry inputs archives key digest told → TellsUndecided (all_joined os) key digest told }
+    ensures alone { (input : Reader I) (archive : Reader P) (o : Operations) (key : SliceKey) (digest : Option Digest)
+        (told : List ℕ) → IsIndexGiven input o → IsKey key → LacksEntry (input ∷ []) (archive ∷ []) key digest told
+        → TellsUndecided o key digest told }
+    ensures either { (inputs : List (Reader I)) (archives : List (Reader P)) (os : List Operations) (key : SliceKey)
+        (digest : Option Digest) (draft : Writer) (told : List ℕ) → AreOwnIndexes inputs archives os → DigestsTell os
+        → IsKey key → (extract_at inputs archives key digest draft).Lacks told
+        → TellsUndecided (all_joined os) key digest told }
+    ensures lines { (o : Operations) (key : SliceKey) (digest : Option Digest) (told : List ℕ)
+        (tells : TellsUndecided o key digest told) → IsKey key
+        → ((row : FindRow) → Contains tells.rows row → IsKey row.key) → told ≡ slices_text tells.slices }
 {}
 
 /// By the indexes of contents a table is refused for a device alone, whatever bytes the archives have. By the indexes
