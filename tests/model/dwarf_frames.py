@@ -6,7 +6,7 @@ from functools import lru_cache
 from typing import Dict, List, NamedTuple, Optional, Tuple
 
 from .dwarf_entries import Attributes, Entry, Unit, unit_at
-from .dwarf_lines import names_of, path_of, row_of
+from .dwarf_lines import PathParts, names_of, parts_of, row_of
 from .dwarf_numbers import MASK, Texts, number_of, units_of
 from .dwarf_ranges import Range, RangeSections, aranges_of
 from .images import image_of
@@ -17,12 +17,16 @@ ENTRIES_A_BYTE = 4
 
 
 class Frame(NamedTuple):
-    """A frame: the name of its function, its path, line and column."""
+    """A frame: the name of its function, the parts of its path, line and column."""
 
     name: Optional[bytes]
-    path: Optional[bytes]
+    parts: Optional[PathParts]
     line: int
     column: int
+
+    @property
+    def path(self) -> Optional[bytes]:
+        return None if self.parts is None else self.parts.path()
 
 
 class Scope(NamedTuple):
@@ -106,11 +110,11 @@ class DebugUnit:
         end = None if offset is None else units_of(section).get(offset)
         return None if offset is None or end is None else section[offset:end]
 
-    def path(self, file: Optional[int]) -> Optional[bytes]:
+    def parts(self, file: Optional[int]) -> Optional[PathParts]:
         names = None if self.lines is None else names_of(self.lines)
         if names is None or file is None:
             return None
-        return path_of(names, self.texts, self.texts.of(self.attributes.get("comp_dir")) or b"", file)
+        return parts_of(names, self.texts, self.texts.of(self.attributes.get("comp_dir")) or b"", file)
 
     def frames(self, address: int) -> List[Frame]:
         """The frames of an address, the innermost first."""
@@ -118,10 +122,10 @@ class DebugUnit:
         file, line, column = (None, 0, 0) if row is None else (row.file, row.line, row.column)
         chain = self.chain(address)
         if not chain and row is not None:
-            return [Frame(None, self.path(file), line, column)]
+            return [Frame(None, self.parts(file), line, column)]
         found = []
         for entry in reversed(chain):
-            found.append(Frame(self.debug.name_of(self, entry.attributes), self.path(file), line, column))
+            found.append(Frame(self.debug.name_of(self, entry.attributes), self.parts(file), line, column))
             call = entry.attributes
             file = number_of(call.get("call_file"), "constant")
             line, column = (number_of(call.get(it), "constant") or 0 for it in ("call_line", "call_column"))

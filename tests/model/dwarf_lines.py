@@ -230,8 +230,19 @@ def onto(folder: bytes, name: bytes) -> bytes:
     return folder + (b"" if folder.endswith(b"/") else b"/") + name
 
 
-def path_of(names: Names, texts: Texts, comp_dir: bytes, index: int) -> Optional[bytes]:
-    """The path of the file of an index, if there is one and it has a name."""
+class PathParts(NamedTuple):
+    """The directory of the compilation, the directory, which may be relative to it, and the name of a file."""
+
+    base: bytes
+    directory: bytes
+    name: bytes
+
+    def path(self) -> bytes:
+        return onto(onto(self.base, self.directory), self.name)
+
+
+def parts_of(names: Names, texts: Texts, comp_dir: bytes, index: int) -> Optional[PathParts]:
+    """The parts of the path of the file of an index, if there is one and it has a name."""
     file = names.files.get(index)
     text = texts.of(file.name) if file else None
     if file is None or text is None:
@@ -242,4 +253,4 @@ def path_of(names: Names, texts: Texts, comp_dir: bytes, index: int) -> Optional
         return b"" if found is None else texts.of(found.name) or b""
 
     base = directory(0) if names.version == 5 else comp_dir
-    return onto(onto(base, directory(file.directory) if file.directory else b""), text)
+    return PathParts(base, directory(file.directory) if file.directory else b"", text)

@@ -113,7 +113,7 @@ impl<'a> DebugInfo<'a> {
     }
 
     /// Finds the frames of addresses of a unit, which is read once, and its program is run once.
-    fn find_in(
+    pub(crate) fn find_in(
         &self,
         heap: Heap,
         lines: &UnitLines<'a>,

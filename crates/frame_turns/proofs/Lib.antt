@@ -1,0 +1,9 @@
+mod AscendingLemmas
+mod ByUnitLemmas
+mod CollectLemmas
+mod FreeLemmas
+mod GivenLemmas
+mod LoopLemmas
+mod OwnLemmas
+mod StayLemmas
+mod UnitStepLemmas

@@ -1,0 +1,12 @@
+use Rattle.std.proofs.Common.{ℕ, List, subst}
+use Rattle.std.specs.Prelude.{◌↔◌}
+use Rattle.std.specs.List.{Contains}
+use Rattle.source_frames.specs.SectionsViews.{sections_view}
+use Rattle.frame_turns.proofs.CollectLemmas.{boundaries_are}
+use Rattle.frame_turns.proofs.unit_boundaries.boundaries.Goals as goal
+
+pub returns-clause-same : goal.returns-clause-same
+returns-clause-same c = λ a.
+    let all = boundaries_are (sections_view c.args.info.now.sections) c.new-starts.result.items c.push_tuples.new.starts.items c.push_units.new.starts.items c.of.result
+    c.new-starts.ensures.items c.of.ensures c.in_ok-push_tuples.ensures c.in_ok-push_units.ensures in
+    subst (λ (xs : List ℕ). Contains c.ascending.result.items a ↔ Contains xs a) all (c.ascending.ensures.same a)

@@ -1,0 +1,4 @@
+pub mod Turns
+pub mod UnitSteps
+pub mod Given
+pub mod ByUnit

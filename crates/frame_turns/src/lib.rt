@@ -1,0 +1,31 @@
+//! The addresses at which the frames of an image may change, its turns, and the frames there: all that a table of the
+//! frames of each address is made of.
+//!
+//! The frames of an address are those of its unit. The unit changes at boundaries alone: where the tuples of
+//! `__debug_aranges` begin and end, and the ranges of the units that no set of it names. In a unit, the frames change
+//! where the ranges of functions begin and end, and at the addresses of rows. So the turns are the boundaries, and of
+//! each unit those of these addresses whose unit it is.
+//!
+//! The modules in reading order: `ascending`, numbers in order; `unit_turns`, the turns of a unit; `unit_boundaries`,
+//! those of units; `unit_steps`, [`UnitSteps`], the unit of each address; `by_unit`, the boundaries under their units;
+//! `own_turns`, the turns of a unit whose unit it is; `taker`, [`FrameTaker`], what takes turns with their frames, and
+//! `giving`, how it gets them; `unit_by_unit`, [`give_turns`], all turns of an image; `laws`, that the frames stay the
+//! same between two turns.
+#![tactic(auto)]
+
+mod ascending;
+mod by_unit;
+mod giving;
+pub mod laws;
+mod own_turns;
+mod taker;
+mod unit_boundaries;
+mod unit_by_unit;
+mod unit_steps;
+mod unit_turns;
+
+pub use taker::FrameTaker;
+pub use unit_boundaries::boundaries;
+pub use unit_by_unit::give_turns;
+pub use unit_steps::UnitSteps;
+pub use unit_turns::turns_of_unit;

@@ -1,0 +1,2 @@
+mod TakerLemmas
+mod TurnLemmas
