@@ -7,9 +7,9 @@ use Rattle.command_line.specs.Lines.{texts_of}
 use Rattle.command_line.specs.TableView.{argument_in}
 use Rattle.command_line.specs.ValuesView.{values_view}
 use Rattle.command_line.proofs.Passed.{none_left}
-use Rattle.plan_commands.proofs.Numbers.{Left, found, no_number, passed, same_path}
-use Rattle.plan_commands.proofs.line_inputs.input_of.Goals as goal
-use Rattle.plan_commands.proofs.line_inputs.input_of.Goals.{then-is_input_of+in_default, else-is_input_of}
+use Rattle.error_lines.proofs.Numbers.{Left, found, no_number, passed, same_path}
+use Rattle.error_lines.proofs.line_inputs.input_of.Goals as goal
+use Rattle.error_lines.proofs.line_inputs.input_of.Goals.{then-is_input_of+in_default, else-is_input_of}
 
 pub returns-in-Some-get-clause-number : goal.returns-in-Some-get-clause-number
 returns-in-Some-get-clause-number c = λ few.

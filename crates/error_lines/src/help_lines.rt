@@ -4,8 +4,8 @@
 ghost use Rattle.std.specs.Prelude.{◌≡◌, ◌++◌, codes, false, IfOk, List, string_bytes, ℕ};
 ghost use Rattle.std.specs.List.{list_any};
 ghost use Rattle.report_text.specs.Report.{line};
-ghost use Rattle.plan_commands.specs.Hints.{subject_text};
-ghost use Rattle.plan_commands.specs.StandardError.{has_line_feed, is_control};
+ghost use Rattle.error_lines.specs.Hints.{subject_text};
+ghost use Rattle.error_lines.specs.StandardError.{has_line_feed, is_control};
 
 use crate::hints::Help;
 use memory::NoMemory;

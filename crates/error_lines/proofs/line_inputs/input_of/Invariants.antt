@@ -5,8 +5,8 @@ use Rattle.command_line.specs.LineView.{line_view}
 use Rattle.command_line.specs.TableView.{argument_in}
 use Rattle.command_line.specs.ValuesView.{values_view}
 use Rattle.command_line.specs.Lines.{inputs_of, inputs_of_kind, texts_by}
-use Rattle.plan_commands.specs.Numbers.{numbers_by, numbers_of_kind}
-use Rattle.plan_commands.proofs.line_inputs.input_of.Given as goal
+use Rattle.error_lines.specs.Numbers.{numbers_by, numbers_of_kind}
+use Rattle.error_lines.proofs.line_inputs.input_of.Given as goal
 
 -- so many of the kind are left to pass, and so many inputs are passed
 abbrev pub invariant-arguments : goal.invariant-arguments

@@ -13,7 +13,7 @@ use Rattle.command_ends.specs.FaultTexts.{command_fault_text}
 use Rattle.command_ends.specs.Outputs.{FailsBehind, Takes, Writer}
 use Rattle.archive_updates.specs.Notes.{note_text}
 use Rattle.archive_updates.specs.declared.notes.Note.{Note}
-use Rattle.plan_commands.specs.Hints.{file_of, subject_of}
+use Rattle.error_lines.specs.Hints.{file_of, subject_of}
 
 -- the line of a failure
 unfoldable pub failure_text : Failure → List ℕ

@@ -8,7 +8,7 @@ use Rattle.command_line.specs.Arguments.{Argument, Values, reads, reads_kind}
 use Rattle.command_line.specs.Lines.{texts_by, texts_of}
 use Rattle.command_line.specs.declared.commands.Kind.{Kind}
 use Rattle.command_line.specs.declared.commands.Role.{Role}
-use Rattle.plan_commands.specs.Numbers.{numbers_by, numbers_from}
+use Rattle.error_lines.specs.Numbers.{numbers_by, numbers_from}
 
 -- one of a kind is an input
 kind_reads : (kind : Kind) (role : Role) → reads_kind kind role ≡ true → reads role ≡ true

@@ -4,9 +4,9 @@ ghost use Rattle.std.specs.Prelude.{◌≡◌, [], IfOk, IfSome, None, Some, str
 ghost use Rattle.command_ends.specs.Outputs.{Takes, writer};
 ghost use Rattle.command_line.specs.Lines.{Line};
 ghost use Rattle.report_text.specs.Report.{line};
-ghost use Rattle.plan_commands.specs.Hints.{file_of, subject_of, subject_text};
-ghost use Rattle.plan_commands.specs.StandardError.{IsPushed, IsSaid, SaysHelp, SaysNotes, SaysReport};
-ghost use Rattle.plan_commands.specs.StandardError.{SaysWanting, note_lines};
+ghost use Rattle.error_lines.specs.Hints.{file_of, subject_of, subject_text};
+ghost use Rattle.error_lines.specs.StandardError.{IsPushed, IsSaid, SaysHelp, SaysNotes, SaysReport};
+ghost use Rattle.error_lines.specs.StandardError.{SaysWanting, note_lines};
 
 use crate::help_lines::{help_line, report_line};
 use crate::hints::Help;
@@ -25,7 +25,7 @@ pub struct FailureLine(pub Failure);
 #[tactic(auto, unfolding(crate::specs::StandardError::failure_text))]
 impl Display for FailureLine {
     ghost use Rattle.std.specs.Prelude.{Some};
-    ghost use Rattle.plan_commands.specs.StandardError.{failure_text};
+    ghost use Rattle.error_lines.specs.StandardError.{failure_text};
 
     ghost output = { λ line. Some (failure_text line.0) };
 

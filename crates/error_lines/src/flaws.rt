@@ -1,7 +1,7 @@
 //! The faulty line of FRAMES or of SCRIPT, as a person is told of it. No contract speaks of its words.
 
 ghost use Rattle.std.specs.Prelude.{◌≡◌};
-ghost use Rattle.plan_commands.specs.Hints.{faulty_line};
+ghost use Rattle.error_lines.specs.Hints.{faulty_line};
 
 use archive_words::LineFlaw;
 use command_ends::Why;
@@ -93,7 +93,7 @@ struct InvalidNumber {
 #[tactic(auto, unfolding(crate::specs::Hints::number_flaw_text))]
 impl fmt::Display for InvalidNumber {
     ghost use Rattle.std.specs.Prelude.{Some};
-    ghost use Rattle.plan_commands.specs.Hints.{number_flaw_text};
+    ghost use Rattle.error_lines.specs.Hints.{number_flaw_text};
 
     ghost output = { λ number. Some (number_flaw_text number.flaw number.most) };
 

@@ -8,9 +8,9 @@ ghost use Rattle.command_ends.specs.declared.faults.InputName.{InputName};
 ghost use Rattle.command_ends.specs.declared.faults.Why.TheVariants.{Damaged, Stale};
 ghost use Rattle.command_line.specs.LineView.{line_view};
 ghost use Rattle.command_line.specs.Lines.{out_of};
-ghost use Rattle.plan_commands.specs.declared.hints.Hint.TheVariants.{Torn};
-ghost use Rattle.plan_commands.specs.Hints.{IsOfInput, IsOfNoFile, IsOfOut, faulty_line_of, file_of};
-ghost use Rattle.plan_commands.specs.Hints.{stale_hint, subject_of, subject_text};
+ghost use Rattle.error_lines.specs.declared.hints.Hint.TheVariants.{Torn};
+ghost use Rattle.error_lines.specs.Hints.{IsOfInput, IsOfNoFile, IsOfOut, faulty_line_of, file_of};
+ghost use Rattle.error_lines.specs.Hints.{stale_hint, subject_of, subject_text};
 
 use crate::file_kinds::FileKind;
 use crate::flaws::FaultyLine;
@@ -109,7 +109,7 @@ pub(crate) enum Subject {
 #[tactic(auto, unfolding(crate::specs::Hints::subject_text))]
 impl Display for Subject {
     ghost use Rattle.std.specs.Prelude.{Some};
-    ghost use Rattle.plan_commands.specs.Hints.{subject_text};
+    ghost use Rattle.error_lines.specs.Hints.{subject_text};
 
     ghost output = { λ subject. Some (subject_text subject) };
 

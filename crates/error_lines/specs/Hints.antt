@@ -16,12 +16,12 @@ use Rattle.command_ends.specs.declared.faults.Why.TheVariants.{Index as IndexFau
 use Rattle.command_ends.specs.FaultTexts.{name_text}
 use Rattle.command_line.specs.Lines.{Line, inputs_of_kind, out_of}
 use Rattle.command_line.specs.declared.commands.Kind.TheVariants as kinds
-use Rattle.plan_commands.specs.declared.flaws.FaultyLine.{FaultyLine}
-use Rattle.plan_commands.specs.declared.flaws.Flaw.TheVariants as flaw
-use Rattle.plan_commands.specs.declared.hints.Hint.{Hint}
-use Rattle.plan_commands.specs.declared.hints.Hint.TheVariants as hint
-use Rattle.plan_commands.specs.declared.hints.Subject.{Subject}
-use Rattle.plan_commands.specs.declared.hints.Subject.TheVariants as subject
+use Rattle.error_lines.specs.declared.flaws.FaultyLine.{FaultyLine}
+use Rattle.error_lines.specs.declared.flaws.Flaw.TheVariants as flaw
+use Rattle.error_lines.specs.declared.hints.Hint.{Hint}
+use Rattle.error_lines.specs.declared.hints.Hint.TheVariants as hint
+use Rattle.error_lines.specs.declared.hints.Subject.{Subject}
+use Rattle.error_lines.specs.declared.hints.Subject.TheVariants as subject
 use Rattle.rehearsal.specs.declared.numbers.NumberFlaw.{NumberFlaw}
 use Rattle.rehearsal.specs.declared.numbers.NumberFlaw.TheVariants.{NotDecimal, LeadingZeros, TooLarge}
 

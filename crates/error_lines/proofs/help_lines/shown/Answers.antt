@@ -1,8 +1,8 @@
 use Rattle.std.proofs.Common.{◌∙◌, ap, sym}
 use Rattle.std.specs.List.{list_any}
-use Rattle.plan_commands.specs.StandardError.{has_line_feed, is_control}
-use Rattle.plan_commands.proofs.Helping.{feedless}
-use Rattle.plan_commands.proofs.help_lines.shown.Goals as goal
+use Rattle.error_lines.specs.StandardError.{has_line_feed, is_control}
+use Rattle.error_lines.proofs.Helping.{feedless}
+use Rattle.error_lines.proofs.help_lines.shown.Goals as goal
 
 pub returns-then-not-has_control-clause-one : goal.returns-then-not-has_control-clause-one
 returns-then-not-has_control-clause-one c =

@@ -6,7 +6,7 @@ use Rattle.std.specs.List.{list_any}
 use Rattle.command_ends.specs.declared.failures.Failure.{Failure}
 use Rattle.command_ends.specs.Outputs.{Writer}
 use Rattle.command_line.specs.Lines.{Line}
-use Rattle.plan_commands.specs.StandardError.{IsSaid, SaysFailure, failure_text, has_line_feed, is_control}
+use Rattle.error_lines.specs.StandardError.{IsSaid, SaysFailure, failure_text, has_line_feed, is_control}
 
 -- what has no control character has no line feed
 feed : (byte : ℕ) → is_control byte ≡ false → (byte == 10) ≡ false

@@ -1,6 +1,6 @@
 use Rattle.command_ends.specs.Outputs.{writer}
-use Rattle.plan_commands.proofs.Saying.{said_of, wanting_said}
-use Rattle.plan_commands.proofs.standard_error.say.Goals as goal
+use Rattle.error_lines.proofs.Saying.{said_of, wanting_said}
+use Rattle.error_lines.proofs.standard_error.say.Goals as goal
 
 pub returns-in-Ok : goal.returns-in-Ok
 returns-in-Ok g c =

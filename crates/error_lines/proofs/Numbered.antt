@@ -13,9 +13,9 @@ use Rattle.command_line.specs.declared.commands.Kind.{Kind}
 use Rattle.command_line.specs.declared.commands.Kind.TheVariants as kinds
 use Rattle.command_line.specs.declared.commands.Role.{Role}
 use Rattle.command_line.specs.declared.commands.Role.TheVariants as roles
-use Rattle.plan_commands.specs.Hints.{path_at}
-use Rattle.plan_commands.specs.Numbers.{number_at, numbers_by, numbers_from, numbers_of_kind}
-use Rattle.plan_commands.proofs.Numbers.{from_found, beyond, from_past}
+use Rattle.error_lines.specs.Hints.{path_at}
+use Rattle.error_lines.specs.Numbers.{number_at, numbers_by, numbers_from, numbers_of_kind}
+use Rattle.error_lines.proofs.Numbers.{from_found, beyond, from_past}
 
 front_same : (ts more mine : List Text) (k : ℕ) → k < length ts → slice_get (ts ++ more) k ≡ slice_get (ts ++ mine) k
 front_same [] more mine k under = absurd (omega arith)
