@@ -2,3 +2,4 @@ pub mod Gains
 pub mod Known
 pub mod Taken
 mod PlacedReading
+pub mod PlacedReading

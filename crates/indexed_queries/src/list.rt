@@ -6,9 +6,8 @@ ghost use Rattle.indexed_queries.specs.List.{list_at};
 
 use crate::inputs::read_index_of;
 use crate::rows::rows_under;
-use archive_queries::status_of;
 use byte_device::{CannotOpen, Placed, Sink};
-use command_ends::{CommandFault, Status, publish_report};
+use command_ends::{CommandFault, Status, found_status, publish_report};
 use memory::Heap;
 use report_text::list_lines;
 
@@ -31,5 +30,5 @@ pub fn run_list_at<I: Placed, P: Placed, W: Sink>(
     let entries = read_index_of(&heap, index, archive)?;
     let rows = rows_under(&heap, &[], &entries)?;
     let text = list_lines(heap, &rows)?;
-    publish_report(status_of(&rows), &text, report)
+    publish_report(found_status(&rows), &text, report)
 }

@@ -14,7 +14,7 @@ ghost use Rattle.archive_core.specs.declared.keys.Digest.{Digest};
 ghost use Rattle.archive_core.specs.declared.keys.SliceKey.{SliceKey};
 ghost use Rattle.archive_records.specs.Text.{summary_text, written};
 ghost use Rattle.archive_index.specs.Index.{index};
-ghost use Rattle.archive_queries.specs.Find.{TellsFound, found_status};
+ghost use Rattle.command_ends.specs.Found.{TellsFound, found_status};
 ghost use Rattle.archive_queries.specs.Frames.{TellsFrames};
 ghost use Rattle.archive_queries.specs.Symbolicate.{TellsAddresses};
 ghost use Rattle.crash_frames.specs.Frames.{frames_of};
