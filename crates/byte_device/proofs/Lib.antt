@@ -2,4 +2,3 @@ pub mod Gains
 pub mod Known
 pub mod Taken
 mod PlacedReading
-pub mod PlacedReading
