@@ -11,10 +11,9 @@ use crate::rows::rows_under;
 use crate::together::read_together;
 use archive_core::Archive;
 use archive_queries::status_of;
-use byte_device::{CannotOpen, Sink};
+use byte_device::{CannotOpen, Placed, Sink};
 use command_ends::{CommandFault, Status, publish_report};
 use memory::Heap;
-use placed_bytes::Placed;
 use report_text::find_lines;
 use uuid::Uuid;
 

@@ -7,10 +7,9 @@ ghost use Rattle.indexed_queries.specs.List.{list_at};
 use crate::inputs::read_index_of;
 use crate::rows::rows_under;
 use archive_queries::status_of;
-use byte_device::{CannotOpen, Sink};
+use byte_device::{CannotOpen, Placed, Sink};
 use command_ends::{CommandFault, Status, publish_report};
 use memory::Heap;
-use placed_bytes::Placed;
 use report_text::list_lines;
 
 /// Writes a row for each retirement and each live slice that INDEX names to the report, as `run_list` of

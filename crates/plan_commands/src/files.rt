@@ -21,11 +21,10 @@ use archive_files::{
     SystemInput,
 };
 use archive_updates::Note;
-use byte_device::{CannotCreate, Sink, Source};
+use byte_device::{CannotCreate, Placed, Sink, Source};
 use command_ends::{CommandFault, Failure, Status, Target};
 use command_line::Line;
 use memory::{Heap, NoMemory};
-use placed_bytes::Placed;
 use sorted_archive::{IndexedArchive, PlainArchive};
 use std::io::BufReader;
 use std::rt::Files;

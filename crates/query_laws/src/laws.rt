@@ -41,7 +41,7 @@ ghost use Rattle.query_laws.specs.Contents.{AreIndexed, AreIndexesGiven, AreOwnI
 ghost use Rattle.query_laws.specs.Contents.{IsOwnIndex};
 ghost use Rattle.query_laws.specs.Undecided.{TellsUndecided};
 
-use placed_bytes::Placed;
+use byte_device::Placed;
 
 /// The rows of the index of a content, under a front, are the list of what the content has there. Nothing is supposed
 /// of SHA-256, and no archive is read. A content that has an index file has such keys as this asks.

@@ -2,10 +2,9 @@
 
 ghost use Rattle.std.specs.Prelude.{◌≡◌, ◌+◌, ◌^◌, ◌<◌, ◌≤◌, length, take, Err, IfOk, MatchOption, OnOk};
 ghost use Rattle.byte_device.specs.Devices.{FailedIn};
-ghost use Rattle.placed_bytes.specs.Places.{EndsBefore, Stands};
+ghost use Rattle.byte_device.specs.Places.{EndsBefore, Stands};
 
-use crate::Placed;
-use byte_device::{Failed, ReadFault};
+use crate::{Failed, Placed, ReadFault};
 use memory::{Heap, NoMemory};
 
 // How many bytes room is made for at once.

@@ -3,7 +3,7 @@ use Rattle.std.proofs.Common.{◌≡◌, ℕ, ◌+◌, ◌≤◌, subst, List, �
 use Rattle.std.proofs.lemmas.List.{length-take-le, drop-drop}
 use Rattle.std.proofs.Math.Seq.{take-add}
 use Rattle.byte_device.proofs.Taken.{take-behind}
-use Rattle.placed_bytes.specs.Places.{Stands, TakenAt}
+use Rattle.byte_device.specs.Places.{Stands, TakenAt}
 
 -- the first bytes stand at a place, and behind them n more do
 pub stands_more : (whole : Option (List ℕ)) (at n : ℕ) (front piece : List ℕ) → n ≤ length piece → Stands whole at front → TakenAt whole (at + length front) n piece → Stands whole at (front ++ take n piece)

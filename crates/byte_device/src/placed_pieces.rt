@@ -2,10 +2,9 @@
 
 ghost use Rattle.std.specs.Prelude.{◌≡◌, ◌<◌, ◌≤◌, ◌+◌, ◌-◌, ◌⊎◌, ◌↔◌, Some, IfOk, IsErr, length, min, MatchResult};
 ghost use Rattle.byte_device.specs.Devices.{CountsFailure, most_failures};
-ghost use Rattle.placed_bytes.specs.Places.{HasSize, TakenAt};
+ghost use Rattle.byte_device.specs.Places.{HasSize, TakenAt};
 
-use crate::Placed;
-use byte_device::Failed;
+use crate::{Failed, Placed};
 
 /// The bytes of a slice, a few at a time. It fails at each call once it gave as many bytes as its limit.
 #[derive(Drop)]
@@ -18,15 +17,15 @@ pub struct PlacedPieces<'a> {
 }
 
 impl<'a> PlacedPieces<'a> {
-    ghost use Rattle.placed_bytes.specs.Limits.{pieces_size, pieces_limit};
+    ghost use Rattle.byte_device.specs.Limits.{placed_piece_size, placed_pieces_limit};
 
     /// A device that has these bytes, and gives at most `size` at a time, and `limit` in all before it fails.
     pub fn new(bytes: &'a [u8], size: usize, limit: usize) -> Self
         requires { 0 < size }
         ensures whole { ⟦<PlacedPieces<'a> as Placed>⟧.whole result ≡ Some bytes.now }
         ensures failures { ⟦<PlacedPieces<'a> as Placed>⟧.failures result ≡ 0 }
-        ensures size { pieces_size result ≡ size }
-        ensures limit { pieces_limit result ≡ limit }
+        ensures size { placed_piece_size result ≡ size }
+        ensures limit { placed_pieces_limit result ≡ limit }
     {
         PlacedPieces {
             bytes,
@@ -38,7 +37,7 @@ impl<'a> PlacedPieces<'a> {
 }
 
 impl<'a> Placed for PlacedPieces<'a> {
-    ghost use Rattle.placed_bytes.specs.Limits.{pieces_size, pieces_limit};
+    ghost use Rattle.byte_device.specs.Limits.{placed_piece_size, placed_pieces_limit};
 
     ghost whole = { λ s. Some s.bytes.now };
 
@@ -51,14 +50,14 @@ impl<'a> Placed for PlacedPieces<'a> {
         ensures count { CountsFailure self.old.failures self.new.failures result }
 
         // It fails exactly where its limit is reached, or its count of failures is at its greatest.
-        ensures fails { IsErr result ↔ ((pieces_limit self.old ≡ 0) ⊎ (self.old.failures ≡ most_failures)) }
+        ensures fails { IsErr result ↔ ((placed_pieces_limit self.old ≡ 0) ⊎ (self.old.failures ≡ most_failures)) }
         ensures piece { IfOk result (λ n. n ≡
             min (min (length self.old.bytes.now - at) (length buf.new))
-            (min (pieces_size self.old) (pieces_limit self.old))) }
+            (min (placed_piece_size self.old) (placed_pieces_limit self.old))) }
         ensures limit { MatchResult result
-            (λ n. pieces_limit self.new + n ≡ pieces_limit self.old)
-            (λ _. pieces_limit self.new ≡ pieces_limit self.old) }
-        ensures size { pieces_size self.new ≡ pieces_size self.old }
+            (λ n. placed_pieces_limit self.new + n ≡ placed_pieces_limit self.old)
+            (λ _. placed_pieces_limit self.new ≡ placed_pieces_limit self.old) }
+        ensures size { placed_piece_size self.new ≡ placed_piece_size self.old }
     {
         if self.failures == u64::MAX {
             return Err(Failed);
@@ -82,9 +81,9 @@ impl<'a> Placed for PlacedPieces<'a> {
         ensures count { CountsFailure self.old.failures self.new.failures result }
 
         // It fails exactly where `take_at` does.
-        ensures fails { IsErr result ↔ ((pieces_limit self.old ≡ 0) ⊎ (self.old.failures ≡ most_failures)) }
-        ensures limit { pieces_limit self.new ≡ pieces_limit self.old }
-        ensures piece { pieces_size self.new ≡ pieces_size self.old }
+        ensures fails { IsErr result ↔ ((placed_pieces_limit self.old ≡ 0) ⊎ (self.old.failures ≡ most_failures)) }
+        ensures limit { placed_pieces_limit self.new ≡ placed_pieces_limit self.old }
+        ensures piece { placed_piece_size self.new ≡ placed_piece_size self.old }
     {
         if self.failures == u64::MAX {
             return Err(Failed);

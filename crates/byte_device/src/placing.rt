@@ -2,8 +2,7 @@
 
 ghost use Rattle.std.specs.Prelude.{◌≡◌, ◌≤◌, IfOk, length};
 
-use crate::Placed;
-use byte_device::Failed;
+use crate::{Failed, Placed};
 use std::io::{self, Read, Seek, SeekFrom};
 
 /// The bytes of a reader that seeks, as a file. Each error of the reader, `Interrupted` too, is a failure.

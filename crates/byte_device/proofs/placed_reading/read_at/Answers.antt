@@ -1,7 +1,7 @@
 use Rattle.std.proofs.Common.{ℕ, ◌∙◌, ◌+◌, ◌-◌, ◌≤◌, ap, take, drop, length, arith, length-drop, length-take}
 use Rattle.byte_device.proofs.Taken.{length-behind}
-use Rattle.placed_bytes.proofs.Pieces.{stands_past}
-use Rattle.placed_bytes.proofs.reading.read_at.Goals as goal
+use Rattle.byte_device.proofs.PlacedReading.{stands_past}
+use Rattle.byte_device.proofs.placed_reading.read_at.Goals as goal
 
 pub filling-preserved : goal.filling-preserved
 filling-preserved g c =

@@ -2,8 +2,7 @@
 
 ghost use Rattle.std.specs.Prelude.{◌≡◌, Some};
 
-use crate::Placed;
-use byte_device::Failed;
+use crate::{Failed, Placed};
 
 /// The bytes of a slice. It never fails.
 #[derive(Drop)]

@@ -1,6 +1,6 @@
 use Rattle.std.proofs.Common.{◌≡◌, ◌≤◌, ◌-◌, length, take}
-use Rattle.placed_bytes.specs.Places.{Stands}
-use Rattle.placed_bytes.proofs.reading.read_at.Given as goal
+use Rattle.byte_device.specs.Places.{Stands}
+use Rattle.byte_device.proofs.placed_reading.read_at.Given as goal
 
 abbrev pub invariant-filling : goal.invariant-filling
 invariant-filling g l = record {
