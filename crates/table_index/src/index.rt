@@ -2,7 +2,7 @@
 
 ghost use Rattle.std.specs.Prelude.{◌≡◌, ◌≤◌, All, IfOk, length, map};
 ghost use Rattle.table_index.specs.Entry.{AreTableEntries, HasItsFields, entry_bytes};
-ghost use Rattle.table_index.specs.Runs.{IsRun, is_tagged};
+ghost use Rattle.archive_index.specs.Runs.{IsRun, is_tagged};
 ghost use Rattle.table_index.specs.Text.{placed_of};
 
 use crate::TableEntry;
