@@ -28,6 +28,7 @@ use Rattle.command_ends.specs.Archives.{merged}
 use Rattle.command_ends.specs.Inputs.{IsGiven, Reader}
 use Rattle.command_ends.specs.declared.faults.Status.{Status}
 use Rattle.index_laws.specs.Indexes.{IsIndexFile, all_joined}
+use Rattle.index_laws.proofs.Right.{zip_right}
 use Rattle.indexed_queries.specs.Prefixes.{AreNamedUnder, HoldsNamed}
 use Rattle.indexed_queries.specs.Several.{HoldTogether}
 use Rattle.indexed_queries.specs.Together.{IsLater, IsReadWith, merged_each}
@@ -74,16 +75,9 @@ module _ (o : Operations) (content : IsContent o) where
 
 -- ---- what was named is what the content has
 
-zip_back : {X Y : Type 0} (R : X → Y → Type 0) (xs : List X) (ys : List Y) (y : Y) → AllZip R xs ys → Contains ys y → (x : X) × R x y
-zip_back R [] [] y zip in_ys = absurd (omega (arith, in_ys.1))
-zip_back R [] (_ ∷ _) y zip in_ys = absurd zip
-zip_back R (_ ∷ _) [] y zip in_ys = absurd zip
-zip_back R (x ∷ xs) (z ∷ ys) y zip (zero, lt, is) = (x, subst (R x) is zip.0)
-zip_back R (x ∷ xs) (z ∷ ys) y zip (suc k, lt, is) = zip_back R xs ys y zip.1 (k, omega arith, is)
-
 found_tells : (o : Operations) (prefix bytes : List ℕ) (entries : Entries) (p : Operations) → DigestsTellOver o bytes → (n : AreNamed prefix entries bytes p) → TellsFound o n.records
 found_tells o prefix bytes entries p tells n = λ a b in_o found same.
-    let named = zip_back (IsNamedBy bytes) _ n.records (admission_record b) n.named found in
+    let named = zip_right (IsNamedBy bytes) _ n.records (admission_record b) n.named found in
     tells a b named.1.offset in_o (named.1.stands refl) same
 
 module _ (o : Operations) (content : IsContent o) where

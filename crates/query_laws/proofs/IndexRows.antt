@@ -15,6 +15,7 @@ use Rattle.std.proofs.Math.Seq.{take-append_seam}
 use Rattle.std.proofs.lemmas.Slice.Eq.{bytes_eq-Decides}
 use Rattle.std.proofs.lemmas.List.Elements.{All-cons}
 use Rattle.std.proofs.lemmas.List.Sorted.{list_any-IsPermutation}
+use Rattle.index_laws.proofs.Records.{same_key}
 use Rattle.sha2.specs.Sha256.{sha256}
 use Rattle.sha2.proofs.Facts256.{length-sha256}
 use Rattle.macho_image.specs.Contents.{is_dsym_image}
@@ -40,7 +41,7 @@ use Rattle.archive_core.proofs.Compare.{length_key_bytes}
 use Rattle.archive_core.proofs.Entries.{admission_entry, retirement_entry, slice_of}
 use Rattle.archive_core.proofs.Made.{bytes_same, and_right}
 use Rattle.archive_core.proofs.Picked.{contains_part, finds_alike, part_alike, part_content}
-use Rattle.archive_core.proofs.Records.{length-key_of, one_operation}
+use Rattle.archive_core.proofs.Records.{length-key_of}
 use Rattle.archive_core.proofs.Told.{found_under}
 use Rattle.archive_records.specs.Text.{written}
 use Rattle.archive_records.proofs.Contents.{order, along}
@@ -69,12 +70,6 @@ admitted_state s b t k = grind arith
 retired_state : (s : FindState) → tag_byte s ≡ 1 → s ≡ Retired
 retired_state s t = grind arith
 
--- keys with one form are one
-one_key : (k l : SliceKey) → IsKey k → IsKey l → key_bytes k ≡ key_bytes l → k ≡ l
-one_key k l is_k is_l same =
-    let zeros : List ℕ = sha256 [] in
-    ap key_in (one_operation (Retire k (record { 0 = zeros })) (Retire l (record { 0 = zeros })) (is_k, length-sha256 []) (is_l, length-sha256 []) (ap (λ (t : List ℕ). 1 ∷ (t ++ zeros)) same))
-
 row_told : (row : FindRow) (a : Operation) → row.key ≡ key_in a → row.digest.0 ≡ (row_of a).digest.0 → row.state ≡ (row_of a).state → row ≡ row_of a
 row_told row a key digest state = λ i. record { key = key i; digest = record { 0 = digest i }; state = state i }
 
@@ -86,7 +81,7 @@ row_of_entry offset r row (inl a) keyed told =
     let tail : List ℕ = kind_byte r ∷ (to_be_bytes w64 offset ++ to_be_bytes w64 (length r)) in
     let whole : placed_entry offset r ≡ (2 ∷ (key_bytes (key_of s) ++ sha256 s)) ++ tail = ap (λ (t : List ℕ). t ++ tail) e in
     let key_long = length-key_of s a.valid in
-    let key : row.key ≡ key_of s = one_key row.key (key_of s) told.is_key (keyed s a.is a.valid) (told.key_is ∙ ap (λ (t : List ℕ). take 24 (drop 1 t)) whole ∙ key_there 2 (key_bytes (key_of s)) (sha256 s) tail key_long (length-sha256 s)) in
+    let key : row.key ≡ key_of s = same_key row.key (key_of s) told.is_key (keyed s a.is a.valid) (told.key_is ∙ ap (λ (t : List ℕ). take 24 (drop 1 t)) whole ∙ key_there 2 (key_bytes (key_of s)) (sha256 s) tail key_long (length-sha256 s)) in
     let digest : row.digest.0 ≡ sha256 s = told.digest_is ∙ ap (λ (t : List ℕ). take 32 (drop 25 t)) whole ∙ digest_there 2 (key_bytes (key_of s)) (sha256 s) tail key_long (length-sha256 s) in
     let tag : tag_byte row.state ≡ 2 = told.tag_is ∙ ap (λ (t : List ℕ). get_or t 0 0) whole in
     let kind : dsym_byte row.state ≡ cond (is_dsym_image s) 1 0 = told.kind_is ∙ kind_of offset r (inl a) ∙ ap kind_byte a.is ∙ ap (λ (t : List ℕ). cond (is_dsym_image t) 1 0) (slice_of s a.valid) in
@@ -102,7 +97,7 @@ row_of_entry offset r row (inr b) keyed told =
     let tail : List ℕ = kind_byte r ∷ (to_be_bytes w64 offset ++ to_be_bytes w64 (length r)) in
     let whole : placed_entry offset r ≡ (1 ∷ (key_bytes b.key ++ b.digest)) ++ tail = ap (λ (t : List ℕ). t ++ tail) e in
     let key_long = length_key_bytes b.key b.is_key.uuid in
-    let key : row.key ≡ b.key = one_key row.key b.key told.is_key b.is_key (told.key_is ∙ ap (λ (t : List ℕ). take 24 (drop 1 t)) whole ∙ key_there 1 (key_bytes b.key) b.digest tail key_long b.long) in
+    let key : row.key ≡ b.key = same_key row.key b.key told.is_key b.is_key (told.key_is ∙ ap (λ (t : List ℕ). take 24 (drop 1 t)) whole ∙ key_there 1 (key_bytes b.key) b.digest tail key_long b.long) in
     let digest : row.digest.0 ≡ b.digest = told.digest_is ∙ ap (λ (t : List ℕ). take 32 (drop 25 t)) whole ∙ digest_there 1 (key_bytes b.key) b.digest tail key_long b.long in
     let tag : tag_byte row.state ≡ 1 = told.tag_is ∙ ap (λ (t : List ℕ). get_or t 0 0) whole in
     record {

@@ -22,10 +22,6 @@ use Rattle.indexed_answers.specs.declared.named.NamedSlice.{NamedSlice}
 use Rattle.slice_extraction.specs.Entries.{Hinders, HoldsSlice, IsSliceOf, StandFor, StopsSlice}
 use Rattle.slice_extraction.specs.InnerEntries.{told_fault}
 
--- what an input was whose source was lent
-pub lent_from : {S : Type 0} (old : Result S CannotOpen) (lent : S) → MatchResult old (λ source. lent ≡ source) (λ _. ⊥) → old ≡ Ok lent
-lent_from = grind arith
-
 -- the draft was not begun
 pub unbegun : {P : Type 0} (archive : Reader P) (x : EntryAt) (draft : Writer) (fault : CommandFault) → Takes draft [] → Hinders archive x draft 0 fault → StopsSlice archive x draft fault
 unbegun archive x draft fault took hinders = record {
