@@ -1,7 +1,6 @@
 -- What entries say without their claims: the first 74 bytes of each.
-use Rattle.std.proofs.Common.{◌≡◌, ℕ, ◌+◌, ◌<◌, ◌≤◌, cond, eqb, List, [], ◌∷◌, length, map, take, drop, refl, sym, ap, ◌∙◌, subst, inl, inr, arith, eq-eqb}
+use Rattle.std.proofs.Common.{◌≡◌, ℕ, ◌+◌, ◌<◌, ◌≤◌, cond, eqb, List, [], ◌∷◌, length, map, take, drop, refl, sym, ap, ◌∙◌, inl, inr, arith, eq-eqb}
 use Rattle.std.specs.Prelude.{Contains}
-use Rattle.std.specs.FinSet as set
 use Rattle.std.specs.Int.{w64, from_be_bytes}
 use Rattle.std.specs.List.{AllByRecursion, sum_by}
 use Rattle.std.specs.List.Sorted.{IsStrictlySortedBy}
@@ -14,7 +13,6 @@ use Rattle.std.proofs.lemmas.List.{length-take-le, take_at, take-append-drop}
 use Rattle.std.proofs.lemmas.List.Sorted.{Contains-permutation, IsPermutation-sym, sum_by-IsPermutation}
 use Rattle.std.proofs.lemmas.List.Sums.{sum_by-cons}
 use Rattle.checked_pages.specs.Views.{claim_view}
-use Rattle.join_core.specs.Listing.{listing}
 use Rattle.join_core.proofs.Listing.{listing_ascending}
 use Rattle.archive_core.proofs.Compare.{slice_cmp-append}
 use Rattle.archive_records.proofs.Ascending.{here, later}

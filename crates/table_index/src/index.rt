@@ -1,6 +1,6 @@
 //! The entries of an index that was read.
 
-ghost use Rattle.std.specs.Prelude.{◌≡◌, ◌+◌, ◌*◌, ◌≤◌, ◌<◌, ◌^◌, All, IfOk, length, map};
+ghost use Rattle.std.specs.Prelude.{◌≡◌, ◌+◌, ◌≤◌, All, IfOk, length, map};
 ghost use Rattle.std.specs.List.{sum_by};
 ghost use Rattle.archive_index.specs.Entry.{length_in};
 ghost use Rattle.archive_index.specs.Index.{AreIndexEntries, lengths_of};
@@ -41,17 +41,16 @@ fn placed_in(heap: Heap, entries: &[TableEntry]) -> Result<Vec<PlacedEntry, Heap
     entries.iter().map(|entry| entry.placed).collect(heap)
 }
 
-/// The lengths of the records that entries name, together.
-fn sum_lengths(entries: &[TableEntry]) -> u128
+/// How many bytes the magic, the records that entries name and the end record have together.
+fn framed_size(entries: &[TableEntry]) -> u128
     requires { All HasItsFields entries.now }
-    ensures is { result ≡ sum_by length_in (map entry_bytes entries.now) }
-    ensures fits { result ≤ length entries.now * 2 ^ 64 }
+    ensures { result ≡ 17 + sum_by length_in (map entry_bytes entries.now) }
 {
-    let mut total: u128 = 0;
+    let mut size = FRAME_LEN;
     'adding: for entry in entries {
-        total += u128::from(entry.placed.length);
+        size += u128::from(entry.placed.length);
     }
-    total
+    size
 }
 
 impl TableIndex {
@@ -92,7 +91,7 @@ impl TableIndex {
         ensures size { result ≡ 17 + lengths_of (placed_of self.now) }
         ensures entries { AreIndexEntries (placed_of self.now) }
     {
-        FRAME_LEN + sum_lengths(&self.entries)
+        framed_size(&self.entries)
     }
 
     /// What the entries say of their records, without the claims. It is refused for want of memory alone.

@@ -1,4 +1,4 @@
-use Rattle.std.proofs.Common.{◌≡◌, ◌+◌, ◌∙◌, ℕ, List, ap, sym, subst, map, take}
+use Rattle.std.proofs.Common.{◌+◌, ◌∙◌, ℕ, List, ap, sym, subst, map, take}
 use Rattle.std.specs.Prelude.{All}
 use Rattle.std.specs.List.{AllByRecursion, sum_by}
 use Rattle.std.proofs.lemmas.List.Elements.{recursion_from_All}
@@ -11,14 +11,16 @@ use Rattle.table_index.specs.declared.entry.TableEntry.{TableEntry}
 use Rattle.table_index.proofs.Fronts.{each_placed, fronts, lengths_together}
 use Rattle.table_index.proofs.index.TableIndex.archive_size.Goals as goal
 
-pub sum_lengths-requires : goal.sum_lengths-requires
-sum_lengths-requires c = subst (All HasItsFields) (sym c.deref.ensures.value) c.self.invariant.fields
+pub framed_size-requires : goal.framed_size-requires
+framed_size-requires c = subst (All HasItsFields) (sym c.deref.ensures.value) c.self.invariant.fields
 
 pub returns-clause-size : goal.returns-clause-size
 returns-clause-size c =
     let items : List TableEntry = c.self.inside.entries.items in
-    let sum = c.sum_lengths.ensures.is ∙ ap (λ (es : List TableEntry). sum_by length_in (map entry_bytes es)) c.deref.ensures.value ∙ sym (lengths_together items c.self.invariant) ∙ ap (λ (xs : List (List ℕ)). lengths_of (placed_of xs)) c.self.view_is in
-    ap (λ (n : ℕ). 17 + n) sum
+    c.framed_size.ensures
+    ∙ ap (λ (es : List TableEntry). 17 + sum_by length_in (map entry_bytes es)) c.deref.ensures.value
+    ∙ ap (λ (n : ℕ). 17 + n) (sym (lengths_together items c.self.invariant))
+    ∙ ap (λ (xs : List (List ℕ)). 17 + lengths_of (placed_of xs)) c.self.view_is
 
 pub returns-clause-entries : goal.returns-clause-entries
 returns-clause-entries c =

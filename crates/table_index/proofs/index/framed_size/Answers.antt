@@ -1,4 +1,4 @@
-use Rattle.std.proofs.Common.{◌≡◌, ◌<◌, ◌^◌, ◌∙◌, [], sym, ap, length, map, arith, get_or}
+use Rattle.std.proofs.Common.{◌≡◌, ◌+◌, ◌<◌, ◌^◌, ◌∙◌, ℕ, List, [], sym, ap, length, map, arith, get_or}
 use Rattle.std.proofs.Math.ListN.{length-map}
 use Rattle.std.proofs.lemmas.List.{take_all}
 use Rattle.std.proofs.lemmas.List.Sums.{sum_by_more}
@@ -6,7 +6,7 @@ use Rattle.std.specs.List.{sum_by}
 use Rattle.archive_index.specs.Entry.{length_in}
 use Rattle.table_index.specs.Entry.{entry_bytes}
 use Rattle.table_index.proofs.PlaceLemmas.{bytes_at, fields_at}
-use Rattle.table_index.proofs.index.sum_lengths.Goals as goal
+use Rattle.table_index.proofs.index.framed_size.Goals as goal
 
 pub adding-preserved : goal.adding-preserved
 adding-preserved c =
@@ -19,11 +19,11 @@ adding-preserved c =
     let more = sum_by_more length_in (map entry_bytes entries) i [] within in
     let one : length_in (get_or (map entry_bytes entries) i []) ≡ e.placed.length = ap length_in (sym (bytes_at entries i e lt c.entry-item.is)) ∙ (fields_at entries i e c.requires lt c.entry-item.is).length_is in
     record {
-      is = omega (arith, more, one, c.adding.invariant.is, c.from-total.ensures);
-      fits = omega (arith, fits, c.adding.invariant.fits, c.from-total.ensures);
+      is = omega (arith, more, one, c.adding.invariant.is, c.from-size.ensures);
+      fits = omega (arith, fits, c.adding.invariant.fits, c.from-size.ensures);
     }
 
-pub returns-clause-is : goal.returns-clause-is
-returns-clause-is c =
+pub returns : goal.returns
+returns c =
     let xs = map entry_bytes c.args.entries.now in
-    c.adding.invariant.is ∙ ap (sum_by length_in) (take_all c.adding.entry-index xs (omega (arith, length-map c.args.entries.now entry_bytes, c.adding-test.false)))
+    c.adding.invariant.is ∙ ap (λ (ys : List (List ℕ)). 17 + sum_by length_in ys) (take_all c.adding.entry-index xs (omega (arith, length-map c.args.entries.now entry_bytes, c.adding-test.false)))
