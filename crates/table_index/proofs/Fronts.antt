@@ -63,8 +63,8 @@ is_at n e is = ap (λ b. cond b 1 0) (eq-eqb (offset_in e) n is)
 
 not_at : (n : ℕ) (e : List ℕ) → (offset_in e ≡ n → ⊥) → at_offset n e ≡ 0
 not_at n e other = elim (cases_Bool (eqb (offset_in e) n)) [
-  | inl yes ↦ absurd (other (eqb-true (offset_in e) n yes))
-  | inr no ↦ ap (λ b. cond b 1 0) no
+  | inl t ↦ absurd (other (eqb-true (offset_in e) n t))
+  | inr f ↦ ap (λ b. cond b 1 0) f
 ]
 
 none_before : (n offset at end : ℕ) (xs : List (List ℕ)) → FollowOn offset at end xs → n < offset → sum_by (at_offset n) xs ≡ 0
@@ -79,12 +79,12 @@ one_at_most n offset at end (x ∷ xs) follow some =
     let next : ℕ = offset + length_in x in
     let more : sum_by (at_offset n) (x ∷ xs) ≡ at_offset n x + sum_by (at_offset n) xs = sum_by-cons (at_offset n) x xs in
     elim (cases_Bool (eqb (offset_in x) n)) [
-      | inl yes ↦
-          let is : offset_in x ≡ n = eqb-true (offset_in x) n yes in
+      | inl t ↦
+          let is : offset_in x ≡ n = eqb-true (offset_in x) n t in
           let past : n < next = omega (arith, is, follow.0, some x (here x xs)) in
           omega (arith, more, is_at n x is, none_before n next (at + stored_size (claim_in x)) end xs follow.2 past)
-      | inr no ↦
-          let other : at_offset n x ≡ 0 = ap (λ b. cond b 1 0) no in
+      | inr f ↦
+          let other : at_offset n x ≡ 0 = ap (λ b. cond b 1 0) f in
           omega (arith, more, other, one_at_most n next (at + stored_size (claim_in x)) end xs follow.2 (λ z c. some z (later x z xs c)))
     ]
 

@@ -1,4 +1,4 @@
-use Rattle.std.proofs.Common.{ℕ, List, [], sym, subst, inl, inr, refl, map}
+use Rattle.std.proofs.Common.{◌≡◌, ℕ, List, [], sym, subst, inl, inr, refl, map}
 use Rattle.archive_records.proofs.Blamed.{failed}
 use Rattle.table_index.specs.Entry.{entry_bytes}
 use Rattle.table_index.specs.Fault.{FailsAfter}
