@@ -38,7 +38,7 @@ pub fn read_indexes<I: Placed, P: Placed>(
 {
     let mut read = Vec::new(heap.clone()?);
     'indexes: for number in 0..indexes.len() {
-        let (tables, _) = read_with_tables(
+        let tables = read_with_tables(
             heap,
             number as u64,
             &mut indexes[number],

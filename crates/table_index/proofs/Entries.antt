@@ -25,7 +25,7 @@ laid_two part first second n long p q =
 -- ---- the entry that bytes are
 
 -- numbers in the first 74 bytes
-front_number : (at : ℕ) (bytes : List ℕ) → at + 8 < 75 → take 8 (drop at (take 74 bytes)) ≡ take 8 (drop at bytes)
+pub front_number : (at : ℕ) (bytes : List ℕ) → at + 8 < 75 → take 8 (drop at (take 74 bytes)) ≡ take 8 (drop at bytes)
 front_number at bytes within =
     let rest : ℕ = 74 - at in
     let whole : 74 ≡ at + rest = omega (arith, within) in

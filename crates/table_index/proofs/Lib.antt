@@ -5,5 +5,6 @@ pub mod ReadLemmas
 pub mod EndLemmas
 pub mod Faults
 pub mod PlaceLemmas
+pub mod Fronts
 pub mod Decided
 pub mod RunLemmas

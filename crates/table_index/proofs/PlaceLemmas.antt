@@ -1,5 +1,5 @@
 -- Entries whose records follow one another, in the order of their offsets.
-use Rattle.std.proofs.Common.{◌≡◌, ℕ, ◌+◌, ◌<◌, ◌≤◌, Bool, true, cond, ◌&&◌, ◌↔◌, eqb, suc, List, [], ◌∷◌, length, map, drop, get_or, refl, sym, ap, ◌∙◌, subst, inl, inr, arith, nat_le}
+use Rattle.std.proofs.Common.{◌≡◌, ℕ, ◌+◌, ◌<◌, ◌≤◌, Bool, true, cond, ◌&&◌, ◌↔◌, eqb, suc, List, [], ◌∷◌, length, map, drop, get_or, refl, sym, ap, ◌∙◌, subst, inl, inr, arith, nat_le, Bor}
 use Rattle.std.specs.Prelude.{All, Contains}
 use Rattle.std.specs.List.{sum_by}
 use Rattle.std.specs.List.Sorted.{IsNonDecreasingBy, IsPermutation}
@@ -153,4 +153,30 @@ offsets_rise (x ∷ xs) fields up = λ i j d le lt.
     let before : i < length all = omega (arith, le, within) in
     let a : offset_in (get_or (map entry_bytes all) i d) ≡ (get_or all i x).placed.offset = ap offset_in (get_or-map entry_bytes all i x d before) ∙ (All-contains HasItsFields all (get_or all i x) fields (Contains-get_or all i x before)).offset_is in
     let b : offset_in (get_or (map entry_bytes all) j d) ≡ (get_or all j x).placed.offset = ap offset_in (get_or-map entry_bytes all j x d within) ∙ (All-contains HasItsFields all (get_or all j x) fields (Contains-get_or all j x within)).offset_is in
+    omega (arith, a, b, up i j x le within)
+
+-- ---- entries that are lent
+
+abbrev pub of_lent : Bor TableEntry → TableEntry
+of_lent e = e.now
+
+abbrev pub all_lent : List (Bor TableEntry) → List TableEntry
+all_lent xs = map of_lent xs
+
+-- the one at a place
+pub lent_at : (xs : List (Bor TableEntry)) (i : ℕ) (e : Bor TableEntry) → i < length xs → e ≡ get_or xs i e → of_lent e ≡ get_or (all_lent xs) i (of_lent e)
+lent_at xs i e lt is = ap of_lent is ∙ sym (get_or-map of_lent xs i e (of_lent e) lt)
+
+pub lent_within : (xs : List (Bor TableEntry)) (i : ℕ) → i < length xs → i < length (all_lent xs)
+lent_within xs i lt = omega (arith, lt, length-map xs of_lent)
+
+-- offsets do not fall, where they are lent and as they are
+pub lent_rise : (xs : List (Bor TableEntry)) → IsNonDecreasingBy (λ e. e.now.placed.offset) xs → IsNonDecreasingBy (λ e. e.placed.offset) (all_lent xs)
+lent_rise [] up = λ i j d le lt. absurd (omega (arith, lt))
+lent_rise (x ∷ xs) up = λ i j d le lt.
+    let all : List (Bor TableEntry) = x ∷ xs in
+    let within : j < length all = omega (arith, lt, length-map all of_lent) in
+    let before : i < length all = omega (arith, le, within) in
+    let a : (get_or (all_lent all) i d).placed.offset ≡ (get_or all i x).now.placed.offset = ap (λ (e : TableEntry). e.placed.offset) (get_or-map of_lent all i x d before) in
+    let b : (get_or (all_lent all) j d).placed.offset ≡ (get_or all j x).now.placed.offset = ap (λ (e : TableEntry). e.placed.offset) (get_or-map of_lent all j x d within) in
     omega (arith, a, b, up i j x le within)
