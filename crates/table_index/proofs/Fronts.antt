@@ -22,10 +22,10 @@ use Rattle.archive_index.specs.Entry.{IsPlacedEntry, length_in, offset_in, place
 use Rattle.archive_index.specs.Index.{lengths_of}
 use Rattle.table_index.specs.Entry.{AreTableEntries, HasItsFields, claim_bytes, claim_in, entry_bytes, stored_size}
 use Rattle.table_index.specs.declared.entry.TableEntry.{TableEntry}
-use Rattle.table_index.specs.Text.{AreLaid, FollowOn, PassTests, placed_of}
+use Rattle.table_index.specs.Text.{AreLaid, FollowOn, PassChecks, placed_of}
 use Rattle.table_index.proofs.Entries.{front_number}
 use Rattle.table_index.proofs.PlaceLemmas.{each_some}
-use Rattle.table_index.proofs.Tests.{pass_ascending}
+use Rattle.table_index.proofs.Checks.{pass_ascending}
 
 abbrev order : List ℕ → List ℕ → Ordering
 order = slice_cmp nat_cmp
@@ -91,7 +91,7 @@ one_at_most n offset at end (x ∷ xs) follow some =
 abbrev AreApart : List (List ℕ) → Type 0
 AreApart xs = (n : ℕ) → sum_by (at_offset n) xs ≤ 1
 
-laid_apart : (end : ℕ) (entries : List (List ℕ)) → PassTests end [] entries → AreLaid end entries → AreApart entries
+laid_apart : (end : ℕ) (entries : List (List ℕ)) → PassChecks end [] entries → AreLaid end entries → AreApart entries
 laid_apart end entries pass laid n =
     let some : (z : List ℕ) → Contains laid.order z → 0 < length_in z = λ z c. each_some end [] entries z pass (Contains-permutation laid.order entries z (IsPermutation-sym entries laid.order laid.permuted) c) in
     omega (arith, one_at_most n 8 8 end laid.order laid.follow some, sum_by-IsPermutation (at_offset n) entries laid.order laid.permuted)
@@ -109,21 +109,21 @@ fronts_compared x y long too lt other =
     let same : length (take 74 x) ≡ length (take 74 y) = length-take-le 74 x (omega (arith, long)) ∙ sym (length-take-le 74 y (omega (arith, too))) in
     front_less x y _ refl (sym (slice_cmp-append (take 74 x) (take 74 y) (drop 74 x) (drop 74 y) same) ∙ (λ i. order (take-append-drop 74 x i) (take-append-drop 74 y i)) ∙ lt) other
 
-above_front : (end : ℕ) (x low : List ℕ) (xs : List (List ℕ)) → length x ≡ 122 → PassTests end low xs → AllByRecursion (λ y. order x y ≡ Less) xs → sum_by (at_offset (offset_in x)) xs ≡ 0 → AllByRecursion (λ y. order (take 74 x) y ≡ Less) (map (take 74) xs)
+above_front : (end : ℕ) (x low : List ℕ) (xs : List (List ℕ)) → length x ≡ 122 → PassChecks end low xs → AllByRecursion (λ y. order x y ≡ Less) xs → sum_by (at_offset (offset_in x)) xs ≡ 0 → AllByRecursion (λ y. order (take 74 x) y ≡ Less) (map (take 74) xs)
 above_front end x low [] long pass above none = tt
 above_front end x low (y ∷ ys) long pass above none =
     let more = sum_by-cons (at_offset (offset_in x)) y ys in
     (fronts_compared x y long pass.0 above.0 (λ e. omega (arith, more, none, is_at (offset_in x) y (sym e))), above_front end x y ys long pass.2 above.1 (omega (arith, more, none)))
 
-fronts_ascending : (end : ℕ) (low : List ℕ) (xs : List (List ℕ)) → PassTests end low xs → IsStrictlySortedBy order xs → AreApart xs → IsStrictlySortedBy order (map (take 74) xs)
+fronts_ascending : (end : ℕ) (low : List ℕ) (xs : List (List ℕ)) → PassChecks end low xs → IsStrictlySortedBy order xs → AreApart xs → IsStrictlySortedBy order (map (take 74) xs)
 unfolding IsStrictlySortedBy
 fronts_ascending end low [] pass up apart = tt
 fronts_ascending end low (x ∷ xs) pass up apart =
     let none : sum_by (at_offset (offset_in x)) xs ≡ 0 = omega (arith, apart (offset_in x), sum_by-cons (at_offset (offset_in x)) x xs, is_at (offset_in x) x refl) in
     (above_front end x x xs pass.0 pass.2 up.0 none, fronts_ascending end x xs pass.2 up.1 (λ n. omega (arith, apart n, sum_by-cons (at_offset n) x xs)))
 
--- entries that pass their tests, and whose records follow one another
-pub laid_ascending : (end : ℕ) (entries : List (List ℕ)) → PassTests end [] entries → AreLaid end entries → IsStrictlySortedBy order (map (take 74) entries)
+-- entries that pass their checks, and whose records follow one another
+pub laid_ascending : (end : ℕ) (entries : List (List ℕ)) → PassChecks end [] entries → AreLaid end entries → IsStrictlySortedBy order (map (take 74) entries)
 laid_ascending end entries pass laid =
     fronts_ascending end [] entries pass (pass_ascending end [] entries pass).1 (laid_apart end entries pass laid)
 

@@ -1,6 +1,6 @@
 pub mod Texts
 pub mod Entries
-pub mod Tests
+pub mod Checks
 pub mod ReadLemmas
 pub mod EndLemmas
 pub mod Faults

@@ -20,8 +20,8 @@ use Rattle.archive_index.specs.Entry.{length_in, offset_in}
 use Rattle.checked_pages.specs.Views.{claim_view}
 use Rattle.table_index.specs.Entry.{HasItsFields, claim_in, entry_bytes, stored_size}
 use Rattle.table_index.specs.declared.entry.TableEntry.{TableEntry}
-use Rattle.table_index.specs.Text.{AreLaid, FollowOn, PassTests}
-use Rattle.table_index.proofs.Tests.{passed}
+use Rattle.table_index.specs.Text.{AreLaid, FollowOn, PassChecks}
+use Rattle.table_index.proofs.Checks.{passed}
 
 -- ---- lists of which each sum is the same
 
@@ -78,12 +78,12 @@ one_order offset at end (x ∷ xs) (y ∷ ys) follow some up alike =
           absurd (omega (arith, least, follow.0, some x (here x xs), follows (offset + length_in x) (at + stored_size (claim_in x)) end xs y follow.2 there))
     ]
 
--- ---- entries that pass their tests
+-- ---- entries that pass their checks
 
 pub some_length : (a : Bool) (n : ℕ) → cond a (nat_le 33 n && nat_le n (33 + largest_slice)) (eqb n 57) ≡ true → 0 < n
 some_length a n h = grind (arith, nat_tests)
 
-pub each_some : (end : ℕ) (low : List ℕ) (xs : List (List ℕ)) (z : List ℕ) → PassTests end low xs → Contains xs z → 0 < length_in z
+pub each_some : (end : ℕ) (low : List ℕ) (xs : List (List ℕ)) (z : List ℕ) → PassChecks end low xs → Contains xs z → 0 < length_in z
 each_some end low [] z pass c = absurd (omega (arith, c.1))
 each_some end low (x ∷ xs) z pass c = elim (cons_cases x z xs c) [
   | inl e ↦ subst (λ (t : List ℕ). 0 < length_in t) e (some_length (is_admission x) (length_in x) (passed end low x pass.1).length_is)
@@ -91,7 +91,7 @@ each_some end low (x ∷ xs) z pass c = elim (cons_cases x z xs c) [
 ]
 
 -- in the order of their offsets they follow one another, if they do in any
-pub follow_sorted : (end : ℕ) (entries sorted : List (List ℕ)) → PassTests end [] entries → IsPermutation entries sorted → IsNonDecreasingBy offset_in sorted → AreLaid end entries → FollowOn 8 8 end sorted
+pub follow_sorted : (end : ℕ) (entries sorted : List (List ℕ)) → PassChecks end [] entries → IsPermutation entries sorted → IsNonDecreasingBy offset_in sorted → AreLaid end entries → FollowOn 8 8 end sorted
 follow_sorted end entries sorted pass moved up laid =
     let alike : AreAlike laid.order sorted = λ f. sum_by-IsPermutation f entries laid.order laid.permuted ∙ sym (sum_by-IsPermutation f entries sorted moved) in
     let some : (z : List ℕ) → Contains laid.order z → 0 < length_in z = λ z c. each_some end [] entries z pass (Contains-permutation laid.order entries z (IsPermutation-sym entries laid.order laid.permuted) c) in

@@ -4,11 +4,11 @@ ghost use Rattle.std.specs.Prelude.{◌≡◌, ◌↔◌, ◌<◌, ◌^◌, All,
 ghost use Rattle.archive_core.specs.Content.{is_admission};
 ghost use Rattle.archive_index.specs.Entry.{offset_in};
 ghost use Rattle.table_index.specs.Entry.{HasItsFields, claim_in, entry_bytes};
-ghost use Rattle.table_index.specs.Text.{AreLaid, FollowOn, PassTests};
+ghost use Rattle.table_index.specs.Text.{AreLaid, FollowOn, PassChecks};
 
 use crate::TableEntry;
+use crate::checking::stored_size;
 use crate::ends::MAGIC_LEN;
-use crate::testing::stored_size;
 use archive_core::FindState;
 use memory::{Heap, NoMemory};
 
@@ -69,7 +69,7 @@ fn lent(heap: Heap, entries: &[TableEntry]) -> Result<Vec<&TableEntry, Heap>, No
 /// Whether in some order they do. Entries are sorted by their offsets where they are lent: none is copied.
 pub(crate) fn are_laid(heap: Heap, entries: &[TableEntry], end: u64) -> Result<bool, NoMemory>
     requires fields { All HasItsFields entries.now }
-    requires tested { PassTests end [] (map entry_bytes entries.now) }
+    requires checked { PassChecks end [] (map entry_bytes entries.now) }
     ensures { IfOk result (λ laid. IsTrue laid ↔ AreLaid end (map entry_bytes entries.now)) }
 {
     fit_memory(entries);

@@ -33,5 +33,5 @@ returns c =
     let by_bytes = IsPermutation-map entry_bytes entries (all_lent sorted) moved in
     let same : map entry_bytes (all_lent c.deref.result.now) ≡ map entry_bytes (all_lent sorted) = ap (λ (xs : List (Bor TableEntry)). map entry_bytes (all_lent xs)) c.deref.ensures.value in (
       λ h. record { order = map entry_bytes (all_lent sorted); permuted = by_bytes; follow = subst (FollowOn 8 8 c.args.end) same (c.follow_on.ensures.0 h) },
-      λ laid. c.follow_on.ensures.1 (subst (FollowOn 8 8 c.args.end) (sym same) (follow_sorted c.args.end (map entry_bytes entries) (map entry_bytes (all_lent sorted)) c.requires.tested by_bytes (offsets_rise (all_lent sorted) fields (lent_rise sorted up)) laid)),
+      λ laid. c.follow_on.ensures.1 (subst (FollowOn 8 8 c.args.end) (sym same) (follow_sorted c.args.end (map entry_bytes entries) (map entry_bytes (all_lent sorted)) c.requires.checked by_bytes (offsets_rise (all_lent sorted) fields (lent_rise sorted up)) laid)),
     )
