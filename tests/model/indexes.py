@@ -6,7 +6,8 @@ from typing import Dict, Iterable, List, NamedTuple, Optional, Sequence
 
 from .contents import ADMISSION, END, RETIREMENT, Content, Fault, Reader, Source, Write, entry_of
 from .images import U32_MAX, Image, image_of, sha, slice_of
-from .tables import NO_CLAIM, Claim, claim_at, stored, table_of
+from .pages import NO_CLAIM, Claim, claim_at, stored
+from .tables import table_of
 
 IDX = b"MSYMIDX1"
 PLACED_LEN, ENTRY_LEN, END_LEN = 74, 122, 41
