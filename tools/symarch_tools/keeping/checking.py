@@ -119,6 +119,7 @@ def told_apart(archive: Archive, program: Program, screen: Screen) -> Tuple[List
     same, others = [], []
     for file in archive.files:
         file.recall(screen)
+        file.say_old_index(screen)
         if not file.index and file.is_known and file.exists() and not file.is_of_version_1():
             # By the sums that an earlier symarch-keep kept.
             file.index = index_by(file.content, file.path)
