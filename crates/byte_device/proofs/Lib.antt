@@ -1,4 +1,4 @@
 pub mod Gains
 pub mod Known
 pub mod Taken
-mod PlacedReading
+pub mod PlacedReading
