@@ -185,7 +185,7 @@ class Printed(LinesCase):
             self.assertEqual(self.call(*line.split()).out.decode(), wanted)
 
     def test_frames(self) -> None:
-        """Frames of all companions in turn, over their archives."""
+        """Frames of all companions in turn, over their archives, and by their indexes."""
         asked: List[Tuple[str, List[str]]] = []
         archives = []
         for one in kept_lines.kept():
@@ -194,8 +194,14 @@ class Printed(LinesCase):
             asked += [(f"{key} - {address:#x}\n", lines) for address, lines in zip(*asked_of(one.said))]
         asked.sort(key=lambda it: it[0][::-1])
         self.file("crash.frames", "".join(line for line, _ in asked))
+        wanted = [lines for _, lines in asked]
         came = self.call("frames", "--lines", "crash.frames", *archives)
-        same("frames", kept_lines.frames_in(came.lines), [lines for _, lines in asked])
+        same("frames", kept_lines.frames_in(came.lines), wanted)
+        for one in kept_lines.kept():
+            self.file(f"{one.name}.idx", index([one.content]))
+        indexes = [word for one in kept_lines.kept() for word in ("--index", f"{one.name}.idx")]
+        by_indexes = self.call("frames", "--lines", "crash.frames", *archives, *indexes)
+        self.assertEqual((by_indexes.status, by_indexes.lines), (came.status, came.lines))
 
 
 class Built(FolderCase):

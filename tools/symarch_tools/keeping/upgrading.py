@@ -24,8 +24,8 @@ PLACED = struct.Struct(f">{len(ADMISSION) + ENTRY}sBQQ")
 # has; and how many bytes a section and a row have.
 HEAD_BEFORE_LINES = struct.Struct(">5Q")
 SECTION, TABLE_ROW = 32, 21
-# No file is longer.
-MOST_PLACES = 1 << 60
+# No file is longer; and of how many tables it is asked whether they have lines.
+MOST_PLACES, MOST_ASKED = 1 << 60, 4
 
 
 def kept_beside(file: "ArchiveFile", ending: bytes, screen: Optional[Screen] = None) -> Optional[Kept]:
@@ -45,16 +45,21 @@ def kept_beside(file: "ArchiveFile", ending: bytes, screen: Optional[Screen] = N
 
 
 def is_before_lines(rows: Iterable[Row], read: Callable[[int, int], bytes]) -> bool:
-    """Whether an index, of which these are the rows of slices and these bytes are read, has tables without lines. They
-    are of one kind, so one of them says it: by the size that its head says, which no table of today has."""
-    row = next((row for row in rows if row.size), None)
-    if row is None or row.table > MOST_PLACES:
+    """Whether an index, of which these are the rows of slices and these bytes are read, has tables without lines. All
+    are of one kind, so some of them say it; several are asked, since one may be damaged."""
+    some = itertools.islice((row for row in rows if row.size), MOST_ASKED)
+    return any(is_table_before_lines(row, read) for row in some)
+
+
+def is_table_before_lines(row: Row, read: Callable[[int, int], bytes]) -> bool:
+    """Whether the table of a row has no lines: by the size that its head says, which no table of today has."""
+    if row.table > MOST_PLACES:
         return False
     head = read(row.table + pages_in(row.size) * DIGEST, HEAD_BEFORE_LINES.size)
     if len(head) < HEAD_BEFORE_LINES.size:
         return False
-    _, _, sections, its_rows, strings = HEAD_BEFORE_LINES.unpack(head)
-    return row.size == HEAD_BEFORE_LINES.size + SECTION * sections + TABLE_ROW * its_rows + strings
+    _, _, sections, rows, strings = HEAD_BEFORE_LINES.unpack(head)
+    return row.size == HEAD_BEFORE_LINES.size + SECTION * sections + TABLE_ROW * rows + strings
 
 
 def with_its_tables(index: Index) -> Index:
