@@ -195,14 +195,12 @@ class TooManyLines(LinesCase):
         frame = "3   x   0x000000020000038a 0x200000000 + 906"
         text = source_text("crash").replace("\n\nThread 1", f"\n{frame}\n\nThread 1")
         path = self.file("both.crash", f"{text}       0x200000000 - 0x20000ffff x x86_64 <{self.cxx}> /x\n")
-        for lacking, wanted in (
-            ([], {"a.c:", "one.cc:"}),
-            ([self.c], {"one.cc:"}),
-            ([self.cxx], {"a.c:"}),
-            ([self.c, self.cxx], set()),
-        ):
+        of_file = {self.c: "a.c:", self.cxx: "one.cc:"}
+        some: List[List[str]] = [[], [self.c], [self.cxx], [self.c, self.cxx]]
+        for lacking in some:
             printed = self.printed(path, environment=self.lacking(*lacking))
-            self.assertEqual(set(re.findall(r"\((a\.c:|one\.cc:)", printed)), wanted)
+            found = set(re.findall(r"\((a\.c:|one\.cc:)", printed))
+            self.assertEqual(found, {of_file[it] for it in of_file if it not in lacking})
         self.assertEqual(printed, self.printed("--no-lines", path))
 
 
