@@ -14,10 +14,10 @@ ghost use Rattle.indexed_answers.specs.Told.{HasNoLinesBy};
 
 use crate::own::address_of;
 use archive_core::Where;
+use byte_device::Placed;
 use checked_pages::{CheckFault, Claim, Pages};
 use line_tables::{LineTable, OwnedFrame};
 use memory::Heap;
-use placed_bytes::Placed;
 use symbol_tables::open_lines;
 
 /// The frames of a place, by a line table that is opened, of a slice whose `__TEXT` has this `vmaddr`.
