@@ -89,11 +89,11 @@ fn rows_at(
 }
 
 /// The frames of the place of this number in the slice of each entry.
-fn frames_of_each(
+fn frames_of_each<'c>(
     heap: &Heap,
-    columns: &[EntryAnswers],
+    columns: &'c [EntryAnswers],
     number: usize,
-) -> Result<Vec<Vec<Frame<'_>, Heap>, Heap>, NoMemory>
+) -> Result<Vec<Vec<Frame<'c>, Heap>, Heap>, NoMemory>
     ensures { IfOk result (λ lists. map (λ list. map (λ frame. frame_view frame) list.items) lists.items
         ≡ map (frames_at number) columns.now) }
 {
