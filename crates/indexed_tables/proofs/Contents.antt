@@ -10,9 +10,9 @@ use Rattle.checked_pages.specs.Pages.{AreStored, page_digests, pages_in, stored}
 use Rattle.checked_pages.proofs.PageLemmas.{length-digests, may_be}
 use Rattle.symbol_tables.specs.Asked.{IsSaid}
 use Rattle.symbol_tables.specs.Steps.{AreBytes}
-use Rattle.symbol_tables.specs.Table.{IsTableText, table_bytes}
+use Rattle.symbol_tables.specs.Table.{IsTableText}
 use Rattle.symbol_tables.specs.declared.nearest.NearestSymbol.{NearestSymbol}
-use Rattle.symbol_tables.proofs.OneSteps.{steps_once}
+use Rattle.slice_tables.proofs.SliceTables.{one_slice_table}
 use Rattle.std.specs.FinSet as set
 use Rattle.archive_core.specs.Content.{IsContent, Operations, is_admission}
 use Rattle.archive_records.proofs.Contents.{members_listed}
@@ -31,21 +31,9 @@ use Rattle.table_index.proofs.Entries.{claim_read}
 
 -- ---- a content has one index
 
--- an image has one table
-one_text : (image bytes others : List ℕ) → IsTableText image bytes → IsTableText image others → bytes ≡ others
-one_text image bytes others a b =
-    let rows = steps_once image a.0.rows b.0.rows a.1.rows b.1.rows in
-    let same : a.0 ≡ b.0 = λ i. record {
-      base = (a.1.base ∙ sym b.1.base) i;
-      names = (a.1.names ∙ sym b.1.names) i;
-      rows = rows i;
-      strings = (a.1.strings ∙ sym b.1.strings) i;
-    } in
-    a.3 ∙ ap table_bytes same ∙ sym b.3
-
 pub same_table : (r t u : List ℕ) → IsTableOf r t → IsTableOf r u → t ≡ u
 same_table r t u a b = elim (cases_Bool (is_admission r)) [
-  | inl h ↦ one_text (drop 33 r) t u (a.admitted h) (b.admitted h)
+  | inl h ↦ one_slice_table (drop 33 r) t u (a.admitted h) (b.admitted h)
   | inr h ↦ a.retired h ∙ sym (b.retired h)
 ]
 
