@@ -7,12 +7,11 @@ ghost use Rattle.archive_files.specs.InputStates.{AreWaiting};
 use crate::desk::Desk;
 use archive_core::Archive;
 use archive_files::{AtTurn, Disk};
-use byte_device::CannotOpen;
+use byte_device::{CannotOpen, PlacedPieces};
 use case_parts::{End, Left, Shelf, StrictSink, StrictSource};
 use command_ends::Output;
 use command_line::Line;
 use memory::{Heap, NoMemory};
-use placed_bytes::PlacedPieces;
 use plan_commands::{Plan, execute_on};
 
 impl<'a> Disk for Desk<'a> {

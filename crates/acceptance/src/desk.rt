@@ -4,10 +4,9 @@ ghost use Rattle.std.specs.Prelude.{◌≡◌, [], None, option_map};
 ghost use Rattle.std.specs.BTreeMap.{get_by_text};
 ghost use Rattle.byte_device.specs.Disks.{IsOpened, file_of};
 
-use byte_device::{CannotOpen, Source};
+use byte_device::{CannotOpen, Placed, PlacedPieces, Source};
 use case_parts::{CaseFault, Limits, Store, StrictSource};
 use memory::{Heap, NoMemory};
-use placed_bytes::{Placed, PlacedPieces};
 use std::alloc::Global;
 use std::io::ErrorKind;
 

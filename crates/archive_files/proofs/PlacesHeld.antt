@@ -1,7 +1,7 @@
 -- An input that is read from any place.
 use Rattle.std.proofs.Common.{◌≡◌, ◌∙◌, ℕ, List, Option, Some, None, Result, Ok, Err, subst}
 use Rattle.std.specs.Prelude.{IfOk, IfSome}
-use Rattle.placed_bytes.specs.Places.{HasSize, TakenAt}
+use Rattle.byte_device.specs.Places.{HasSize, TakenAt}
 use Rattle.byte_device.specs.declared.Failed.{Failed}
 
 -- a device that keeps its bytes holds those of its file, and gives from these

@@ -1,6 +1,6 @@
 -- What is told of an input that is opened at its turn.
 use Rattle.byte_device.specs.declared.Source.{Ghosts as Sources}
-use Rattle.placed_bytes.specs.declared.Placed.{Ghosts as Places}
+use Rattle.byte_device.specs.declared.Placed.{Ghosts as Places}
 use Rattle.archive_files.specs.InputStates.{Told, bytes_at, left_in, stage_of}
 use Rattle.archive_files.specs.declared.disks.Disk.{Ghosts as Disks}
 use Rattle.archive_files.specs.declared.input_state.AtTurn.{AtTurn}

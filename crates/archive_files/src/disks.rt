@@ -3,9 +3,8 @@
 ghost use Rattle.std.specs.Prelude.{◌≡◌, ◌∷◌, [], List, Option, IfOk, MatchResult};
 ghost use Rattle.byte_device.specs.Disks.{FileAt, IsOpened, Path, opened_with};
 
-use byte_device::{CannotOpen, Source};
+use byte_device::{CannotOpen, Placed, Source};
 use memory::NoMemory;
-use placed_bytes::Placed;
 
 /// Files that are read by their paths.
 pub trait Disk {

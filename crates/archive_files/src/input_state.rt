@@ -5,15 +5,14 @@ ghost use Rattle.std.proofs.Props.{props};
 ghost use Rattle.std.specs.Prelude.{◌≡◌, ◌≢◌, ◌≤◌, List, ◌∷◌, [], Some, None, IfOk, OnOk, length};
 ghost use Rattle.std.specs.Io.KnownBytes.{ReadConsumes};
 ghost use Rattle.byte_device.specs.Disks.{FileAt, Path, opened_with};
-ghost use Rattle.placed_bytes.specs.Places.{HasSize, TakenAt};
+ghost use Rattle.byte_device.specs.Places.{HasSize, TakenAt};
 ghost use Rattle.archive_files.specs.InputStates.{GivesPlaces, GivesState, HoldsFile, IsStateOf, Open, SaysWanting};
 ghost use Rattle.archive_files.specs.InputStates.{Waiting, bytes_at, left_in, opened_in, stage_of, unopened_in};
 ghost use Rattle.archive_files.specs.InputStates.{wanting_in};
 
 use crate::disks::Disk;
-use byte_device::{CannotOpen, Failed, Source};
+use byte_device::{CannotOpen, Failed, Placed, Source};
 use memory::NoMemory;
-use placed_bytes::Placed;
 
 /// How far an input is.
 #[derive(Drop)]

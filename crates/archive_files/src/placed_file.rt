@@ -4,8 +4,7 @@ ghost use Rattle.std.specs.Prelude.{◌≡◌, ◌∷◌, []};
 
 use crate::call_log::CallLog;
 use crate::opened_file::{LEADING_LEN, LeadingBytes, keep};
-use byte_device::Failed;
-use placed_bytes::{Placed, Placing};
+use byte_device::{Failed, Placed, Placing};
 use std::io::{self, Read, Seek};
 
 /// The file that was opened at a path. It stays open.

@@ -6,7 +6,8 @@ ghost use Rattle.command_ends.specs.declared.faults.InputName.{InputName};
 ghost use Rattle.command_ends.specs.declared.faults.Status.{Status};
 ghost use Rattle.command_ends.specs.declared.faults.Why.{Why};
 ghost use Rattle.command_ends.specs.Inputs.{HoldsContent, IsDeviceFault, IsGiven, Reader};
-ghost use Rattle.archive_queries.specs.Find.{MakesFound, TellsFound, find};
+ghost use Rattle.archive_queries.specs.Find.{MakesFound, find};
+ghost use Rattle.command_ends.specs.Found.{TellsFound};
 ghost use Rattle.archive_updates.specs.Merge.{merge};
 ghost use Rattle.archive_laws.specs.Joins.{IsGivenJoin};
 

@@ -6,7 +6,7 @@ use Rattle.archive_core.specs.declared.find.FindRow.{FindRow}
 use Rattle.report_text.specs.Finds.{list_lines}
 use Rattle.command_ends.specs.declared.faults.Status.{Status}
 use Rattle.command_ends.specs.Ends.{Query}
-use Rattle.archive_queries.specs.Find.{found_status}
+use Rattle.command_ends.specs.Found.{found_status}
 use Rattle.command_ends.specs.Inputs.{Reader, Unfailed, IsRefusedArchive, HoldsArchive}
 
 -- ARCHIVE is the text of a content; this is the status of all its rows, and these are their lines.

@@ -7,7 +7,7 @@ use Rattle.command_ends.specs.declared.faults.Status.{Status}
 use Rattle.command_ends.specs.Archives.{AreRefused, AreUnfailed, HoldTogether}
 use Rattle.command_ends.specs.Ends.{Query}
 use Rattle.command_ends.specs.Inputs.{Reader}
-use Rattle.archive_queries.specs.Find.{found_status}
+use Rattle.command_ends.specs.Found.{found_status}
 
 -- what a content tells of a name: the status of its rows, and their lines
 pub record TellsNamed (content : Operations) (name : List ℕ) (status : Status) (text : List ℕ) : Type 0 where

@@ -1,7 +1,7 @@
 //! `find ARCHIVE UUID`, over one archive or several.
 ghost use Rattle.std.specs.Prelude.{◌≡◌, length};
 ghost use Rattle.command_ends.specs.Ends.{EndsReport};
-ghost use Rattle.archive_queries.specs.Find.{find, found_status};
+ghost use Rattle.archive_queries.specs.Find.{find};
 ghost use Rattle.command_ends.specs.Inputs.{reader, readers};
 ghost use Rattle.command_ends.specs.Outputs.{writer};
 
@@ -9,21 +9,10 @@ use crate::together::read_parts;
 use archive_core::Archive;
 use archive_reading::Under;
 use byte_device::{CannotOpen, Sink, Source};
-use command_ends::{CommandFault, Status, publish_report};
+use command_ends::{CommandFault, Status, found_status, publish_report};
 use memory::Heap;
 use report_text::find_lines;
 use uuid::Uuid;
-
-/// How a search ends that gave these rows.
-pub fn status_of<T>(rows: &[T]) -> Status
-    ensures { result ≡ found_status rows.now }
-{
-    if rows.is_empty() {
-        Status::Partial
-    } else {
-        Status::Done
-    }
-}
 
 /// The bytes of a UUID.
 fn bytes_of(uuid: Uuid) -> [u8; 16]
@@ -56,5 +45,5 @@ pub fn run_find<A: Archive + Drop, R: Source, P: Sink>(
     let kept: A = read_parts(heap.clone()?, &Under(&front), archive, others)?;
     let rows = kept.find(uuid)?;
     let text = find_lines(heap, &rows)?;
-    publish_report(status_of(&rows), &text, report)
+    publish_report(found_status(&rows), &text, report)
 }

@@ -20,7 +20,7 @@ mod sources;
 mod symbolicate;
 mod together;
 
-pub use find::{run_find, status_of};
+pub use find::run_find;
 pub use frames::{answer_frames, run_frames};
 pub use list::run_list;
 pub use name::{NameAnswer, answer_name};

@@ -4,9 +4,8 @@ ghost use Rattle.command_ends.specs.Inputs.{reader};
 ghost use Rattle.archive_queries.specs.List.{list};
 ghost use Rattle.command_ends.specs.Outputs.{writer};
 
-use crate::find::status_of;
 use byte_device::{CannotOpen, Sink, Source};
-use command_ends::{CommandFault, Status, publish_report, read_rows};
+use command_ends::{CommandFault, Status, found_status, publish_report, read_rows};
 use memory::Heap;
 use report_text::list_lines;
 
@@ -28,5 +27,5 @@ pub fn run_list<R: Source, P: Sink>(
 {
     let rows = read_rows(heap.clone()?, archive)?;
     let text = list_lines(heap, &rows)?;
-    publish_report(status_of(&rows), &text, report)
+    publish_report(found_status(&rows), &text, report)
 }

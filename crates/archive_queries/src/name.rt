@@ -8,10 +8,9 @@ ghost use Rattle.command_ends.specs.Inputs.{HoldsContent, IsRefusedArchive, Read
 ghost use Rattle.archive_queries.specs.InnerNames.{HaveAdded};
 ghost use Rattle.archive_queries.specs.Name.{Answers, underscored};
 
-use crate::find::status_of;
 use archive_reading::{NamesFound, NamesTold, SoughtNames, gather_names, live_names, read_names};
 use byte_device::{CannotOpen, Source};
-use command_ends::{CommandFault, InputName, Status, opened, refusal};
+use command_ends::{CommandFault, InputName, Status, found_status, opened, refusal};
 use memory::{Heap, NoMemory};
 use report_text::name_lines;
 
@@ -179,7 +178,7 @@ pub fn answer_name<R: Source>(
     let told = read_rows(heap.clone()?, names, archive, others)?;
     let text = name_lines(heap, &told.rows)?;
     Ok(NameAnswer {
-        status: status_of(&told.rows),
+        status: found_status(&told.rows),
         text,
         is_underscored: is_underscored(&told),
     })

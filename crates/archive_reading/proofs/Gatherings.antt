@@ -14,16 +14,14 @@ use Rattle.archive_core.proofs.Entries.{retirement_entry}
 use Rattle.archive_core.proofs.Members.{in_filter, in_map, to_filter, to_map}
 use Rattle.archive_records.specs.Entry.{entry_bytes}
 use Rattle.archive_records.proofs.Apart.{from_set, in_set}
-use Rattle.archive_records.proofs.Forms.{parts-of, tag-retirement}
+use Rattle.archive_records.proofs.Forms.{tag-retirement}
 use Rattle.archive_reading.specs.InnerNames.{names_among, names_of, retirements_among}
 use Rattle.archive_reading.specs.Names.{AddsNames}
 use Rattle.archive_reading.specs.declared.names.NamesFound.{NamesFound}
+use Rattle.archive_reading.proofs.Questioned.{admission_is}
 use Rattle.archive_reading.proofs.Sought.{names_more, names_retired, names_start, names_told}
 
 -- ---- one record more
-
-admission_is : (r : List ℕ) → Admits r → is_admission r ≡ true
-admission_is r a = ap (λ (tag : ℕ). tag == 2) (parts-of r a).tag
 
 retirement_is : (r : List ℕ) → Retires r → is_admission r ≡ false
 retirement_is r t = ap (λ (tag : ℕ). tag == 2) (tag-retirement r t)

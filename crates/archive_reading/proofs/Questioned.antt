@@ -279,19 +279,19 @@ is_first_of : (front : List ℕ) (ks : List SliceKey) (key : SliceKey) → first
 is_first_of front [] key e = cc
 is_first_of front (k ∷ ks) key e = cc
 
-admits : (x : List ℕ) → Admits x → is_admission x ≡ true
-admits x a = ap is_admission a.is
+pub admission_is : (x : List ℕ) → Admits x → is_admission x ≡ true
+admission_is x a = ap is_admission a.is
 
 module _ (left : List SliceKey) (Answered : Operations → Type 0) (held : Operations) (records : List (List ℕ)) (x : List ℕ) (is : Admits x) (asked : AreAsked (Begins (Some (front_of x))) left Answered held records)
     (passed : ForSome (first_key left) (λ key. is_passed key (Some (front_of x)) ≡ false)) where
   behind : (rest : List (List ℕ)) → ⊤ → MakeThemselves Archive_text ((records ++ x ∷ []) ++ rest) → Answered (set_of ((records ++ x ∷ []) ++ rest))
-  behind = behind_one (Begins (Some (front_of x))) Answered records x asked.answered (λ rest. (x, rest, refl, admits x is, refl))
+  behind = behind_one (Begins (Some (front_of x))) Answered records x asked.answered (λ rest. (x, rest, refl, admission_is x is, refl))
 
   -- an admission that is not under the next key
   pub admission_other : is_first (front_of x) left ≡ false → AreAsked (λ _. ⊤) left Answered held (records ++ x ∷ [])
   admission_other other = record {
     in_order = asked.in_order;
-    holds = λ key first. held_still (key_bytes key) records x held (asked.holds key first) (rw (admits x is) (sym (is_first_of (front_of x) left key first) ∙ other)) (λ _. passed key first);
+    holds = λ key first. held_still (key_bytes key) records x held (asked.holds key first) (rw (admission_is x is) (sym (is_first_of (front_of x) left key first) ∙ other)) (λ _. passed key first);
     answered = behind;
   }
 
@@ -301,7 +301,7 @@ module _ (left : List SliceKey) (Answered : Operations → Type 0) (held : Opera
     in_order = asked.in_order;
     holds = λ key first.
         let h = asked.holds key first in
-        let under = both_true _ _ (admits x is) (sym (is_first_of (front_of x) left key first) ∙ next) in
+        let under = both_true _ _ (admission_is x is) (sym (is_first_of (front_of x) left key first) ∙ next) in
         held_more (key_bytes key) records x held now h (picked_more (admits_under (key_bytes key)) records x held h.held_is under apart now more) (λ _. passed key first);
     answered = behind;
   }

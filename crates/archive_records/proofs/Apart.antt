@@ -37,10 +37,6 @@ both_true a b p q = grind arith
 pub is_false : (a : Bool) → (a ≡ true → ⊥) → a ≡ false
 is_false a h = grind arith
 
--- two tests that follow from each other are one
-pub one_test : (a b : Bool) → (a ≡ true → b ≡ true) → (b ≡ true → a ≡ true) → a ≡ b
-one_test a b f g = grind arith
-
 or_more : (a b c : Bool) → (b ≡ true → c ≡ true) → (a || b) ≡ true → (a || c) ≡ true
 or_more a b c f h = grind arith
 

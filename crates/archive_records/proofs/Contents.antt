@@ -154,15 +154,15 @@ contained xs q h = list_any-from_Contains (eq_by_cmp_equiv nat_list_cmp_total) q
 pub containing : (xs : List (List ℕ)) (q : List ℕ) → list_any (eq_by_cmp order q) xs ≡ true → Contains xs q
 containing xs q h = Contains-from_any same_bytes q xs h
 
--- two tests that pass at the same time are one
-iff_same : (a b : Bool) → (a ≡ true → b ≡ true) → (b ≡ true → a ≡ true) → a ≡ b
-iff_same a b f g = grind arith
+-- two tests that follow from each other are one
+pub one_test : (a b : Bool) → (a ≡ true → b ≡ true) → (b ≡ true → a ≡ true) → a ≡ b
+one_test a b f g = grind arith
 
 -- an ascending list with the members of a set is its listing
 pub listing_is : (o : Operations) (records : List (List ℕ)) → IsStrictlySortedBy order records → ((r : List ℕ) → Contains records r ↔ (set.contains o r ≡ true)) → listing o ≡ records
 listing_is o records ascending members =
     let same : o ≡ set.from_list records = same_set nat_list_cmp_total bytes_same o (set.from_list records) (λ q.
-    iff_same (set.contains o q) (list_any (eq_by_cmp order q) records) (λ h. contained records q ((members q).1 h)) (λ h. (members q).0 (containing records q h)) ∙ sym (contains-from_list nat_list_cmp_total records q)) in
+    one_test (set.contains o q) (list_any (eq_by_cmp order q) records) (λ h. contained records q ((members q).1 h)) (λ h. (members q).0 (containing records q h)) ∙ sym (contains-from_list nat_list_cmp_total records q)) in
     one_listing nat_list_cmp_total bytes_same o records (record { ascending = ascending; same = same })
 
 pub members_listed : (o : Operations) (q : List ℕ) → Contains (listing o) q ↔ (set.contains o q ≡ true)

@@ -1,7 +1,7 @@
 -- Bytes that are laid over those of the last record.
 use Rattle.std.proofs.Common.{◌≡◌, ◌≢◌, ℕ, ◌+◌, ◌<◌, ◌≤◌, List, [], ◌∷◌, ◌++◌, length, take, drop, Option, refl, sym, ap, ◌∙◌, arith, length-append, length-take, append_assoc}
 use Rattle.std.specs.Io.KnownBytes.{Consumes}
-use Rattle.std.proofs.lemmas.List.{append-nil, take_at, drop_at, drop-drop, take-append-le, take-take}
+use Rattle.std.proofs.lemmas.List.{append-nil, take_at, drop_at, drop-drop, take-take}
 use Rattle.std.proofs.Math.Seq.{take-add, take-nil}
 use Rattle.std.proofs.Math.ListN.{drop_of_length-le}
 use Rattle.std.specs.declared.cmp.Ordering.{Ordering}
@@ -112,16 +112,6 @@ Fills-then {a = a} {b = b} {c = c} {x = x} p q = record {
   taken = Consumes-then a b c p.more q.more p.taken q.taken;
   over = λ last o. q.over last (p.over last o);
 }
-
--- what a pull put behind what came, in a buffer of len bytes
-pub bytes_behind : (items pulled after rest : List ℕ) (at len k : ℕ) → at ≤ length items → at + k ≤ len → k ≤ length pulled → take (at + k) (take len (take at items ++ (pulled ++ after) ++ rest)) ≡ take at items ++ take k pulled
-bytes_behind items pulled after rest at len k le in_len bound =
-    take-take (at + k) len (take at items ++ (pulled ++ after) ++ rest) in_len
-    ∙ ap (take (at + k)) (append_assoc (take at items) (pulled ++ after) rest ∙ ap (λ (t : List ℕ). take at items ++ t) (append_assoc pulled after rest))
-    ∙ take-add at k (take at items ++ (pulled ++ (after ++ rest)))
-    ∙ ap (λ (t : List ℕ). t ++ take k (drop at (take at items ++ (pulled ++ (after ++ rest))))) (take_at (take at items) (pulled ++ (after ++ rest)) at (omega (arith, length-take at items)))
-    ∙ ap (λ (t : List ℕ). take at items ++ take k t) (drop_at (take at items) (pulled ++ (after ++ rest)) at (omega (arith, length-take at items)))
-    ∙ ap (λ (t : List ℕ). take at items ++ t) (take-append-le k pulled (after ++ rest) bound)
 
 pub bytes_before : (items behind rest : List ℕ) (at len : ℕ) → at ≤ length items → at ≤ len → take at (take len (take at items ++ behind ++ rest)) ≡ take at items
 bytes_before items behind rest at len le in_len =

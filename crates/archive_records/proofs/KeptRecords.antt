@@ -13,7 +13,8 @@ use Rattle.archive_records.specs.Kind.{may_follow}
 use Rattle.archive_records.specs.Text.{InOrder, last_of, kept}
 use Rattle.archive_records.specs.Reader.{set_of}
 use Rattle.archive_records.proofs.Forms.{long-retirement, long-admission}
-use Rattle.archive_records.proofs.Apart.{in_set, from_set, and_same, one_test, covering_below}
+use Rattle.archive_records.proofs.Contents.{one_test}
+use Rattle.archive_records.proofs.Apart.{in_set, from_set, and_same, covering_below}
 use Rattle.archive_records.proofs.Ascending.{below-trans, all_above, up_to_last, InOrder-behind, InOrder-front, here, later}
 
 -- ---- filters

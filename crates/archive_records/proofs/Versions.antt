@@ -25,7 +25,7 @@ use Rattle.archive_records.proofs.Exact.{same_records, no_fault}
 
 -- ---- what is kept of records
 
-listing_of : (xs : List (List ℕ)) → InOrder Archive [] xs → listing (set_of xs) ≡ xs
+pub listing_of : (xs : List (List ℕ)) → InOrder Archive [] xs → listing (set_of xs) ≡ xs
 listing_of xs a = listing_ascending nat_list_cmp_total bytes_same xs (sorted-InOrder [] xs a).1
 
 -- those that are kept are the members of what they make

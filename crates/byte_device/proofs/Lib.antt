@@ -1,3 +1,4 @@
 pub mod Gains
 pub mod Known
 pub mod Taken
+pub mod PlacedReading

@@ -1,14 +1,25 @@
-//! Devices that give and take bytes and count their failures, and the calls that take all the
-//! bytes of one or give it a whole text; and files by their paths, each of which gives bytes.
+//! Devices that give and take bytes and count their failures: in order, or from any place; and files by their
+//! paths, each of which gives bytes.
+//!
+//! - [`Source`] and [`Sink`], in order: `buffers` in memory, `streams` of files, `limited` for tests; `reading`:
+//!   [`read_to_end`], all the bytes; `writing`: [`put`], a whole text;
+//! - [`Placed`], from any place: `placed_memory`, `placing` of files, `placed_pieces` for tests;
+//!   `placed_reading`: [`read_at`], so many bytes from a place;
+//! - `disks`: why a file cannot be opened or created.
 #![tactic(auto)]
 
-ghost use Rattle.std.specs.Prelude.{ℕ, List, Option, IfOk, ◌<◌, ◌≤◌, length};
+ghost use Rattle.std.specs.Prelude.{◌≡◌, ℕ, List, Option, IfOk, ◌<◌, ◌≤◌, length};
 ghost use Rattle.std.specs.Io.KnownBytes.{ReadConsumes, WriteAppends};
 ghost use Rattle.byte_device.specs.Devices.{CountsFailure};
+ghost use Rattle.byte_device.specs.Places.{TakenAt, HasSize};
 
 mod buffers;
 mod disks;
 mod limited;
+mod placed_memory;
+mod placed_pieces;
+mod placed_reading;
+mod placing;
 mod reading;
 mod streams;
 mod writing;
@@ -16,6 +27,10 @@ mod writing;
 pub use buffers::{Bytes, Grown};
 pub use disks::{CannotCreate, CannotOpen};
 pub use limited::{Pieces, Short};
+pub use placed_memory::PlacedBytes;
+pub use placed_pieces::PlacedPieces;
+pub use placed_reading::read_at;
+pub use placing::Placing;
 pub use reading::{ReadFault, is_at_end, read_to_end};
 pub use streams::{Reading, Writing};
 pub use writing::{WriteFault, push_all, put};
@@ -54,5 +69,28 @@ pub trait Sink {
         ensures bound { IfOk result (λ n. n ≤ length bytes.now) }
         ensures some { 0 < length bytes.now → IfOk result (λ n. 0 < n) }
         ensures bytes { WriteAppends (held self.old) (held self.new) result bytes.now }
+        ensures count { CountsFailure (failures self.old) (failures self.new) result };
+}
+
+/// What gives bytes from any place.
+pub trait Placed {
+    // All its bytes, where they are known.
+    ghost whole: { Self → Option (List ℕ) };
+
+    // How often a call failed.
+    ghost failures: { Self → ℕ };
+
+    /// Takes bytes from the place on into the front of `buf` and says how many: at least one where `buf` is not empty,
+    /// and 0 only at or past the end.
+    fn take_at(&mut self, at: u64, buf: &mut [u8]) -> Result<usize, Failed>
+        ensures bound { IfOk result (λ n. n ≤ length buf.new) }
+        ensures bytes { IfOk result (λ n. TakenAt (whole self.old) at n buf.new) }
+        ensures keeps { whole self.new ≡ whole self.old }
+        ensures count { CountsFailure (failures self.old) (failures self.new) result };
+
+    /// How many bytes there are.
+    fn size(&mut self) -> Result<u64, Failed>
+        ensures size { IfOk result (λ size. HasSize (whole self.old) size) }
+        ensures keeps { whole self.new ≡ whole self.old }
         ensures count { CountsFailure (failures self.old) (failures self.new) result };
 }

@@ -5,9 +5,8 @@ ghost use Rattle.sha2.specs.Sha256.{sha256};
 ghost use Rattle.checked_pages.specs.Reading.{ReadsStored};
 
 use crate::CheckFault;
-use byte_device::ReadFault;
+use byte_device::{Placed, ReadFault, read_at};
 use memory::Heap;
-use placed_bytes::{Placed, read_at};
 use sha2::{Digest, Sha256};
 
 /// Reads so many bytes from an offset on, and compares their SHA-256 with a digest.

@@ -7,8 +7,8 @@ ghost use Rattle.checked_pages.specs.Reading.{ReadsStored};
 
 use crate::checking::read_checked;
 use crate::{CheckFault, Claim, Pages};
+use byte_device::Placed;
 use memory::Heap;
-use placed_bytes::Placed;
 
 /// How many bytes a page has.
 pub const PAGE_LEN: u64 = 16 * 1024;

@@ -8,8 +8,8 @@ ghost use Rattle.checked_pages.specs.Reading.{ReadsStored};
 use crate::checking::read_checked;
 use crate::opening::{DIGEST_LEN, PAGE_LEN};
 use crate::{CheckFault, Pages};
+use byte_device::Placed;
 use memory::{Heap, NoMemory};
-use placed_bytes::Placed;
 
 impl Pages {
     /// How many bytes there are.

@@ -5,3 +5,4 @@ pub mod InnerSources
 pub mod Outputs
 pub mod Ends
 pub mod Statuses
+pub mod Found

@@ -5,7 +5,7 @@
 //!
 //! - `faults`: how a command ends, and why one is refused;
 //! - `failures`: the line that the program says where it fails;
-//! - `statuses`: the exit status of what was carried out;
+//! - `statuses`: how a search ends, and the exit status of what was carried out;
 //! - `sources`: the inputs;
 //! - `outputs`: OUT, which takes bytes and is then put in place;
 //! - `publishing`: the end of each command.
@@ -33,4 +33,4 @@ pub use sources::{
     read_input_part, read_operations, read_rows, read_summary_input, refusal, refused_behind,
     test_input,
 };
-pub use statuses::status_of;
+pub use statuses::{found_status, status_of};

@@ -1,6 +1,7 @@
-//! The exit status of what was carried out.
+//! How a search ends, and the exit status of what was carried out.
 
 ghost use Rattle.std.specs.Prelude.{◌≡◌};
+ghost use Rattle.command_ends.specs.Found.{found_status};
 ghost use Rattle.command_ends.specs.Statuses.{status_of};
 
 use crate::{CommandFault, Failure, Status};
@@ -14,5 +15,16 @@ pub fn status_of(ended: &Result<Status, Failure>) -> u8
         Ok(Status::Partial) => 1,
         Err(Failure::Command(CommandFault::OutOfMemory)) => 4,
         Err(_) => 2,
+    }
+}
+
+/// How a search ends that gave these rows.
+pub fn found_status<T>(rows: &[T]) -> Status
+    ensures { result ≡ found_status rows.now }
+{
+    if rows.is_empty() {
+        Status::Partial
+    } else {
+        Status::Done
     }
 }

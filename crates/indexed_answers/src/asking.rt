@@ -10,9 +10,8 @@ use crate::answering::Answering;
 use crate::answers::Answers;
 use crate::told::told_by_each;
 use archive_core::Where;
-use byte_device::CannotOpen;
+use byte_device::{CannotOpen, Placed};
 use memory::Heap;
-use placed_bytes::Placed;
 
 /// What the tables of entries that answer tell of several places. The devices are those of the indexes, in their order.
 /// One may be missing if none of these entries stands in its index. One table is open at a time.

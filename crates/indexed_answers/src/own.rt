@@ -12,9 +12,9 @@ ghost use Rattle.macho_image.specs.Sections.{text_base_of};
 ghost use Rattle.indexed_answers.specs.Views.{told_view};
 
 use archive_core::Where;
+use byte_device::Placed;
 use checked_pages::CheckFault;
 use memory::Heap;
-use placed_bytes::Placed;
 use symbol_tables::{OwnedFound, Table};
 
 /// The address that a loaded one stands for: `address - load + base`, in whole numbers.

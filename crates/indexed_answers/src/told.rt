@@ -19,10 +19,9 @@ use crate::numbered::Numbered;
 use crate::own::own_of;
 use archive_core::Where;
 use archive_records::digest_in;
-use byte_device::CannotOpen;
+use byte_device::{CannotOpen, Placed};
 use checked_pages::{CheckFault, Claim};
 use memory::Heap;
-use placed_bytes::Placed;
 use symbol_tables::{OwnedFound, Table};
 
 /// What a table that is opened tells of several places.

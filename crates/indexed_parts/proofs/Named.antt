@@ -12,7 +12,7 @@ use Rattle.std.proofs.lemmas.Bool.{eqb-true}
 use Rattle.archive_records.specs.Layout.{largest_slice, slice_length}
 use Rattle.archive_core.proofs.Entries.{retirement_entry}
 use Rattle.archive_core.proofs.Records.{length-retirement_record}
-use Rattle.placed_bytes.specs.Places.{EndsBefore, Stands}
+use Rattle.byte_device.specs.Places.{EndsBefore, Stands}
 use Rattle.archive_index.specs.declared.entry.PlacedEntry.{PlacedEntry}
 use Rattle.archive_index.specs.Entry.{IsPlacedEntry, length_in, offset_in, placed_bytes, placed_entry, tag_byte, dsym_byte}
 use Rattle.archive_index.specs.Places.{IsNamedBy}

@@ -3,7 +3,7 @@
 ghost use Rattle.std.specs.Prelude.{◌≤◌, length, map};
 ghost use Rattle.archive_core.specs.Part.{is_under};
 ghost use Rattle.archive_core.specs.Record.{record_bytes};
-ghost use Rattle.placed_bytes.specs.Places.{HasSize};
+ghost use Rattle.byte_device.specs.Places.{HasSize};
 ghost use Rattle.archive_index.specs.Entry.{IsPlacedEntry, placed_bytes};
 ghost use Rattle.archive_index.specs.Index.{AreIndexed};
 ghost use Rattle.archive_index.specs.Places.{IsReadAmong, IsReadUnder};
@@ -15,8 +15,8 @@ use crate::records::{ADMISSION, RETIREMENT, operation_at};
 use crate::runs::run_under;
 use archive_core::Operation;
 use archive_index::{Index, PlaceFault, PlacedEntry};
+use byte_device::Placed;
 use memory::Heap;
-use placed_bytes::Placed;
 
 /// Puts the operation that the entry with this number names behind those that were gathered.
 fn gather_entry<P: Placed>(

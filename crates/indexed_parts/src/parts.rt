@@ -6,7 +6,7 @@ ghost use Rattle.archive_core.specs.Content.{content_of, with_records};
 ghost use Rattle.archive_core.specs.Part.{is_under};
 ghost use Rattle.archive_core.specs.Record.{record_bytes};
 ghost use Rattle.byte_device.specs.Devices.{CountsFailure};
-ghost use Rattle.placed_bytes.specs.Places.{HasSize};
+ghost use Rattle.byte_device.specs.Places.{HasSize};
 ghost use Rattle.archive_index.specs.Entry.{placed_bytes};
 ghost use Rattle.archive_index.specs.Index.{lengths_of};
 ghost use Rattle.archive_index.specs.Places.{HasIndexedLength};
@@ -14,9 +14,8 @@ ghost use Rattle.indexed_parts.specs.Places.{IsLengthFault, ReadsPlaces};
 
 use archive_core::{Archive, Operation};
 use archive_index::{Index, PlaceFault, PlacedEntry};
-use byte_device::Failed;
+use byte_device::{Failed, Placed};
 use memory::{Heap, NoMemory};
-use placed_bytes::Placed;
 
 /// How many bytes the magic and the end record of an archive have together.
 const FRAME_LEN: u64 = 17;

@@ -7,7 +7,7 @@ ghost use Rattle.archive_core.specs.Key.{IsKey, key_bytes};
 ghost use Rattle.archive_core.specs.Record.{Admits, lent_bytes, record_bytes, retirement_record};
 ghost use Rattle.archive_core.specs.declared.find.FindState.TheVariants.{Retired};
 ghost use Rattle.byte_device.specs.Devices.{FailedIn};
-ghost use Rattle.placed_bytes.specs.Places.{EndsBefore, HasSize, Stands};
+ghost use Rattle.byte_device.specs.Places.{EndsBefore, HasSize, Stands};
 ghost use Rattle.archive_index.specs.Entry.{IsPlacedEntry, placed_bytes, placed_entry};
 ghost use Rattle.archive_index.specs.Places.{IsNamedBy};
 ghost use Rattle.indexed_parts.specs.InnerPlaces.{IsReadOf, IsUnnamed};
@@ -16,10 +16,9 @@ ghost use Rattle.indexed_parts.specs.Places.{ReadsPlaces};
 use archive_core::{Digest, FindState, Operation, Record, Slice, SliceKey};
 use archive_index::{PlaceFault, PlacedEntry};
 use archive_records::{ADMISSION_HEAD_LEN, key_front};
-use byte_device::ReadFault;
+use byte_device::{Placed, ReadFault, read_at};
 use byteorder::{BigEndian, ByteOrder};
 use memory::{Heap, NoMemory};
-use placed_bytes::{Placed, read_at};
 
 /// The tag of a retirement. Those stand before the admissions.
 pub(crate) const RETIREMENT: u8 = 1;

@@ -7,7 +7,7 @@ use Rattle.command_ends.specs.declared.faults.Status.{Status}
 use Rattle.command_ends.specs.Ends.{Query}
 use Rattle.indexed_queries.specs.Indexes.{IsIndexOf, IsRefusedByIndex}
 use Rattle.command_ends.specs.Inputs.{Reader, Unfailed}
-use Rattle.archive_queries.specs.Find.{TellsFound, found_status}
+use Rattle.command_ends.specs.Found.{TellsFound, found_status}
 use Rattle.indexed_queries.specs.Rows.{AreIndexRows}
 use Rattle.indexed_queries.specs.Several.{asks_together}
 

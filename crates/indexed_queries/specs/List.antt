@@ -7,7 +7,7 @@ use Rattle.command_ends.specs.declared.faults.Status.{Status}
 use Rattle.command_ends.specs.Ends.{Query}
 use Rattle.indexed_queries.specs.Indexes.{IsIndexOf, IsRefusedByIndex}
 use Rattle.command_ends.specs.Inputs.{Reader, Unfailed}
-use Rattle.archive_queries.specs.Find.{found_status}
+use Rattle.command_ends.specs.Found.{found_status}
 use Rattle.indexed_queries.specs.Rows.{AreIndexRows}
 
 -- what an index tells: the status of the rows of all its entries, and their lines

@@ -10,11 +10,9 @@ use crate::inputs::read_index_of;
 use crate::rows::rows_under;
 use crate::together::read_together;
 use archive_core::Archive;
-use archive_queries::status_of;
-use byte_device::{CannotOpen, Sink};
-use command_ends::{CommandFault, Status, publish_report};
+use byte_device::{CannotOpen, Placed, Sink};
+use command_ends::{CommandFault, Status, found_status, publish_report};
 use memory::Heap;
-use placed_bytes::Placed;
 use report_text::find_lines;
 use uuid::Uuid;
 
@@ -40,7 +38,7 @@ pub fn run_find_at<I: Placed, P: Placed, W: Sink>(
     let entries = read_index_of(&heap, index, archive)?;
     let rows = rows_under(&heap, &front, &entries)?;
     let text = find_lines(heap, &rows)?;
-    publish_report(status_of(&rows), &text, report)
+    publish_report(found_status(&rows), &text, report)
 }
 
 /// Writes a row for each retirement and each live slice of the UUID in the join of the archives to the report. The
@@ -66,5 +64,5 @@ pub fn run_find_together<A: Archive + Drop, I: Placed, P: Placed, W: Sink>(
     let kept: A = read_together(&heap, &[Front::Uuid(*uuid)], indexes, archives)?;
     let rows = kept.find(uuid)?;
     let text = find_lines(heap, &rows)?;
-    publish_report(status_of(&rows), &text, report)
+    publish_report(found_status(&rows), &text, report)
 }

@@ -15,12 +15,11 @@ ghost use Rattle.indexed_queries.specs.Together.{IsKept, IsReadWith};
 
 use archive_index::Index;
 use archive_records::{RecordFault, RecordFaultKind};
-use byte_device::{CannotOpen, Failed};
+use byte_device::{CannotOpen, Failed, Placed};
 use command_ends::{CommandFault, InputName, Why, opened};
 use index_faults::{IndexFault, IndexFaultKind};
 use indexed_parts::has_length;
 use memory::Heap;
-use placed_bytes::Placed;
 use table_index::{TableIndex, read_index};
 
 /// The refusal of an index, whose text has this fault or whose device failed.

@@ -6,11 +6,9 @@ ghost use Rattle.indexed_queries.specs.List.{list_at};
 
 use crate::inputs::read_index_of;
 use crate::rows::rows_under;
-use archive_queries::status_of;
-use byte_device::{CannotOpen, Sink};
-use command_ends::{CommandFault, Status, publish_report};
+use byte_device::{CannotOpen, Placed, Sink};
+use command_ends::{CommandFault, Status, found_status, publish_report};
 use memory::Heap;
-use placed_bytes::Placed;
 use report_text::list_lines;
 
 /// Writes a row for each retirement and each live slice that INDEX names to the report, as `run_list` of
@@ -32,5 +30,5 @@ pub fn run_list_at<I: Placed, P: Placed, W: Sink>(
     let entries = read_index_of(&heap, index, archive)?;
     let rows = rows_under(&heap, &[], &entries)?;
     let text = list_lines(heap, &rows)?;
-    publish_report(status_of(&rows), &text, report)
+    publish_report(found_status(&rows), &text, report)
 }

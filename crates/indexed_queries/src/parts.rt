@@ -4,7 +4,7 @@ ghost use Rattle.std.specs.Prelude.{◌≡◌, IfSome, OnOk, map};
 ghost use Rattle.std.specs.FinSet as set;
 ghost use Rattle.archive_core.specs.Content.{content_of, joined};
 ghost use Rattle.archive_core.specs.Record.{record_bytes};
-ghost use Rattle.placed_bytes.specs.Places.{HasSize};
+ghost use Rattle.byte_device.specs.Places.{HasSize};
 ghost use Rattle.archive_index.specs.Places.{HasIndexedLength, IsReadUnder};
 ghost use Rattle.table_index.specs.Text.{placed_of};
 ghost use Rattle.command_ends.specs.Inputs.{Reads, reader};
@@ -18,11 +18,10 @@ use crate::fronts::{Front, key_of, uuid_bytes};
 use crate::inputs::unread;
 use archive_core::{Archive, Operation, take_all};
 use archive_index::{Index, PlaceFault};
-use byte_device::CannotOpen;
+use byte_device::{CannotOpen, Placed};
 use command_ends::{CommandFault, InputName, Why, opened};
 use indexed_parts::{archive_of, gather_at, indexed_size};
 use memory::{Heap, NoMemory};
-use placed_bytes::Placed;
 use table_index::TableIndex;
 
 /// Gathers the records under a front, at the places that an index names, after those that were gathered.

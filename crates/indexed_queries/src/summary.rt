@@ -6,10 +6,9 @@ ghost use Rattle.indexed_queries.specs.Summary.{summary_at};
 
 use crate::inputs::read_index_of;
 use crate::summaries::summary_of;
-use byte_device::{CannotOpen, Sink};
+use byte_device::{CannotOpen, Placed, Sink};
 use command_ends::{CommandFault, Output, Status, Target, publish_summary};
 use memory::Heap;
-use placed_bytes::Placed;
 
 /// Writes the summary that INDEX tells to OUT, and to the report how many entries and bytes it has, as `summary` does
 /// of an archive. Of INDEX the entries are read, and of ARCHIVE the length alone.

@@ -12,10 +12,9 @@ use crate::fronts::Front;
 use crate::inputs::read_with_tables;
 use crate::parts::join_archive;
 use archive_core::Archive;
-use byte_device::CannotOpen;
+use byte_device::{CannotOpen, Placed};
 use command_ends::CommandFault;
 use memory::Heap;
-use placed_bytes::Placed;
 use table_index::TableIndex;
 
 /// Reads the indexes of archives, and tests that these have the lengths that they tell, in the order of the words: each

@@ -15,12 +15,11 @@ use crate::places::asked_places;
 use crate::told::{answer_frames_by_tables, tell_keys};
 use archive_core::{Archive, SliceKey, compare_keys};
 use archive_queries::answer_frames;
-use byte_device::{CannotOpen, Sink, Source};
+use byte_device::{CannotOpen, Placed, Sink, Source};
 use command_ends::{CommandFault, Status, publish_bytes, read_crash};
 use crash_frames::Frame;
 use indexed_queries::{Front, read_fronts, read_indexes};
 use memory::{Heap, NoMemory};
-use placed_bytes::Placed;
 use table_index::TableIndex;
 
 /// The key of each frame.

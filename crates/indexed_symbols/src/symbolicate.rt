@@ -14,12 +14,11 @@ ghost use Rattle.indexed_symbols.specs.Symbolicate.{symbolicate_at};
 use crate::tables::tell_key;
 use archive_core::{Archive, SliceKey};
 use archive_queries::{answer_each, places_of, status_behind};
-use byte_device::{CannotOpen, Sink};
+use byte_device::{CannotOpen, Placed, Sink};
 use command_ends::{CommandFault, Status, publish_report};
 use indexed_answers::Answers;
 use indexed_queries::{Front, read_fronts, read_indexes};
 use memory::{Heap, NoMemory};
-use placed_bytes::Placed;
 use report_text::push_answer;
 use table_index::TableIndex;
 

@@ -8,13 +8,12 @@ ghost use Rattle.indexed_symbols.specs.InnerAsking.{AreAllOpened, AsksTables, co
 ghost use Rattle.indexed_symbols.specs.InnerTold.{AreToldOf};
 
 use archive_core::{SliceKey, Where};
-use byte_device::CannotOpen;
+use byte_device::{CannotOpen, Placed};
 use command_ends::{CommandFault, InputName, Why};
 use index_faults::{IndexFault, IndexFaultKind};
 use indexed_answers::laws::each_told;
 use indexed_answers::{AnswerFault, Answers, answer_among, answering_among};
 use memory::Heap;
-use placed_bytes::Placed;
 use table_index::TableIndex;
 
 /// A fault of asking tables, as a command tells it.

@@ -18,12 +18,11 @@ use crate::places::{AskedPlace, compare_places};
 use crate::tables::tell_key;
 use archive_core::{Answer, SliceKey, Where, compare_keys};
 use archive_queries::status_behind;
-use byte_device::CannotOpen;
+use byte_device::{CannotOpen, Placed};
 use command_ends::{CommandFault, Status};
 use crash_frames::Frame;
 use indexed_answers::Answers;
 use memory::{Heap, NoMemory};
-use placed_bytes::Placed;
 use report_text::push_answer;
 use table_index::TableIndex;
 

@@ -4,9 +4,9 @@ ghost use Rattle.std.specs.Prelude.{◌<◌, [], length, slice_index_or};
 ghost use Rattle.indexed_tables.specs.Asked.{TellsNearest};
 
 use crate::EntryFault;
+use byte_device::Placed;
 use checked_pages::CheckFault;
 use memory::Heap;
-use placed_bytes::Placed;
 use symbol_tables::{NearestSymbol, nearest_by_claim};
 use table_index::TableIndex;
 

@@ -18,9 +18,9 @@ use crate::laws::frames_by_step;
 use crate::row::{LOCATION_LEN, Location, index_of, u32_be_at};
 use crate::table::LineTable;
 use crate::texts::handle;
+use byte_device::Placed;
 use checked_pages::{CheckFault, Claim, Pages};
 use memory::Heap;
-use placed_bytes::Placed;
 
 /// How many frames an address has at most.
 const MOST_FRAMES: usize = 256;

@@ -16,9 +16,9 @@ use crate::frame::OwnedPath;
 use crate::row::{FILE_LEN, File, index_of, u32_be_at};
 use crate::table::LineTable;
 use crate::texts::handle;
+use byte_device::Placed;
 use checked_pages::{CheckFault, Pages};
 use memory::Heap;
-use placed_bytes::Placed;
 
 impl LineTable {
     /// The row of the file of a number.

@@ -12,8 +12,8 @@ ghost use Rattle.line_tables.specs.Steps.{AreFrameSteps, StepRecord};
 
 use crate::row::{FILE_LEN, LOCATION_LEN, STEP_LEN, TEXT_LEN, u64_be_at};
 use crate::table::{HEAD_LEN, LineTable};
+use byte_device::Placed;
 use checked_pages::{CheckFault, Pages};
-use placed_bytes::Placed;
 
 /// What a head says: whether there are lines, and how many there are of each part.
 #[derive(Clone, Copy)]

@@ -11,8 +11,8 @@ ghost use Rattle.line_tables.specs.Steps.{AreAscending, IsStepFor, StepRecord, f
 
 use crate::row::{STEP_LEN, Step, u32_be_at, u64_be_at};
 use crate::table::LineTable;
+use byte_device::Placed;
 use checked_pages::{CheckFault, Pages};
-use placed_bytes::Placed;
 
 impl LineTable {
     /// The step of an index.

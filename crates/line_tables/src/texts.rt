@@ -12,9 +12,9 @@ ghost use Rattle.line_tables.specs.Steps.{StepRecord};
 
 use crate::row::{TEXT_LEN, Text, index_of, u32_be_at};
 use crate::table::LineTable;
+use byte_device::Placed;
 use checked_pages::{CheckFault, Pages};
 use memory::Heap;
-use placed_bytes::Placed;
 
 /// A handle to the memory.
 pub(crate) fn handle(heap: &Heap) -> Result<Heap, CheckFault>

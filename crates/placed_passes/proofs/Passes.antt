@@ -2,14 +2,14 @@
 use Rattle.std.proofs.Common.{◌≡◌, ℕ, Bool, false, Result, Ok, Err, ◌+◌, ◌<◌, ◌≤◌, List, [], ◌++◌, length, take, drop, Option, Some, None, refl, sym, ap, ◌∙◌, subst, arith, append_assoc, length-append, length-drop, length-take}
 use Rattle.std.specs.Bool.{MatchBool}
 use Rattle.std.specs.Io.KnownBytes.{Appends}
-use Rattle.std.proofs.Math.Seq.{take-add}
-use Rattle.std.proofs.lemmas.List.{length-take-le, drop-drop, take-append-drop, take-take, take_at}
+use Rattle.std.proofs.lemmas.List.{length-take-le, take-append-drop, take-take, take_at}
 use Rattle.sha2.specs.Hashers.{Holds256}
 use Rattle.sha2.specs.declared.Sha256.{Sha256}
 use Rattle.byte_device.specs.Devices.{Stream}
 use Rattle.byte_device.specs.declared.Failed.{Failed}
 use Rattle.byte_device.proofs.Known.{Appends-none, Appends-then}
-use Rattle.placed_bytes.specs.Places.{Stands, TakenAt}
+use Rattle.byte_device.proofs.PlacedReading.{stands_more}
+use Rattle.byte_device.specs.Places.{Stands, TakenAt}
 use Rattle.placed_passes.specs.Copies.{HasFewer, HashesAt, IsUnfailed}
 use Rattle.placed_passes.specs.Sending.{HaveOther}
 
@@ -35,16 +35,6 @@ gone_none whole held at hasher holds = record {
   gained = Appends-none held;
   holds = holds;
 }
-
--- behind the first bytes n more stand
-stands_more : (whole : Option (List ℕ)) (at n : ℕ) (front piece : List ℕ) → n ≤ length piece → Stands whole at front → TakenAt whole (at + length front) n piece → Stands whole at (front ++ take n piece)
-stands_more None at n front piece bound first next = tt
-stands_more (Some all) at n front piece bound first next =
-    let long : length (front ++ take n piece) ≡ length front + n = length-append front (take n piece) ∙ ap (λ (k : ℕ). length front + k) (length-take-le n piece bound) in
-    ap (λ (k : ℕ). take k (drop at all)) long
-    ∙ take-add (length front) n (drop at all)
-    ∙ ap (λ (t : List ℕ). t ++ take n (drop (length front) (drop at all))) first
-    ∙ ap (λ (t : List ℕ). front ++ t) (ap (take n) (drop-drop (length front) at all) ∙ sym next.bytes)
 
 -- the first of bytes that stand at a place do
 stands_front : (whole : Option (List ℕ)) (at : ℕ) (front back : List ℕ) → Stands whole at (front ++ back) → Stands whole at front

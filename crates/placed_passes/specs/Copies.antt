@@ -4,7 +4,7 @@ use Rattle.std.specs.Io.KnownBytes.{Appends}
 use Rattle.sha2.specs.Sha256.{sha256}
 use Rattle.byte_device.specs.Devices.{FailedIn, Stream}
 use Rattle.byte_device.specs.declared.Failed.{Failed}
-use Rattle.placed_bytes.specs.Places.{Stands}
+use Rattle.byte_device.specs.Places.{Stands}
 use Rattle.placed_passes.specs.declared.copying.CopyFault.{CopyFault}
 use Rattle.placed_passes.specs.declared.copying.CopyFault.TheVariants.{Ended, Device, Sink}
 

@@ -2,11 +2,10 @@
 
 ghost use Rattle.std.specs.Prelude.{◌≡◌, ◌+◌, ◌<◌, ◌≤◌, ◌^◌, IfOk, length};
 ghost use Rattle.byte_device.specs.Devices.{CountsFailure, stream};
-ghost use Rattle.placed_bytes.specs.Places.{TakenAt};
+ghost use Rattle.byte_device.specs.Places.{TakenAt};
 ghost use Rattle.placed_passes.specs.Copies.{CopiesAt};
 
-use byte_device::{Failed, Sink, push_all};
-use placed_bytes::Placed;
+use byte_device::{Failed, Placed, Sink, push_all};
 use sha2::{Digest, Sha256};
 
 /// Why a copy is not whole.

@@ -5,8 +5,7 @@ ghost use Rattle.byte_device.specs.Devices.{stream};
 ghost use Rattle.placed_passes.specs.Copies.{HashesAt};
 
 use crate::copying::{CopyFault, copy_at};
-use byte_device::{Failed, Sink};
-use placed_bytes::Placed;
+use byte_device::{Failed, Placed, Sink};
 
 /// A sink that keeps nothing. It never fails.
 #[derive(Drop)]

@@ -7,8 +7,7 @@ ghost use Rattle.placed_passes.specs.Sending.{SendsAt, TestsAt};
 
 use crate::copying::{CopyFault, copy_at};
 use crate::hashing::hash_at;
-use byte_device::{Failed, Sink};
-use placed_bytes::Placed;
+use byte_device::{Failed, Placed, Sink};
 
 /// Why bytes were not sent.
 #[derive(Clone, Copy, Debug, PartialEq, Eq)]

@@ -1,4 +1,3 @@
-pub mod Helping
 pub mod Turned
 pub mod OutPublished
 pub mod Pathless
@@ -6,8 +5,6 @@ pub mod Outcomes
 pub mod Saying
 pub mod Noting
 pub mod Reasons
-pub mod Numbers
-pub mod Numbered
 pub mod Counted
 pub mod Extracted
 mod Dispatched

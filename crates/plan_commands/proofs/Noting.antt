@@ -12,7 +12,7 @@ use Rattle.command_ends.specs.Outputs.{Writer}
 use Rattle.command_ends.specs.Statuses.{status_of}
 use Rattle.plan_commands.specs.Ends.{Ran}
 use Rattle.plan_commands.specs.Files.{Calls, IsCarriedOut, IsDone, command_fault_of}
-use Rattle.plan_commands.specs.StandardError.{SaysFailure, SaysNotes}
+use Rattle.error_lines.specs.StandardError.{SaysFailure, SaysNotes}
 
 pub on_any : {X E P : Type 0} (r : Result X E) → P → OnOk r P
 on_any (Ok x) p = p

@@ -26,7 +26,7 @@ use Rattle.plan_commands.specs.Disks.{Carried, Tells, fault_at, unopened_of}
 use Rattle.plan_commands.specs.Plans.{Deed, EndsDeed, EndsQuery, answers, changes, deed_of, empties, extracts, none}
 use Rattle.plan_commands.specs.Plans.{streams}
 use Rattle.slice_extraction.specs.Extract.{Extraction, Extracts, LacksSlice}
-use Rattle.plan_commands.specs.Numbers.{number_at}
+use Rattle.error_lines.specs.Numbers.{number_at}
 use Rattle.plan_commands.specs.Files.{IsNotPut, IsOutcome}
 use Rattle.plan_commands.specs.declared.plans.Plan.{Plan}
 

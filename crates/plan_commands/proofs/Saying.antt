@@ -1,5 +1,5 @@
 -- What is said, from what its parts did.
-use Rattle.std.proofs.Common.{◌≡◌, ◌∙◌, ◌⊎◌, ℕ, Bool, true, false, List, [], ◌∷◌, ◌++◌, Option, Some, None, IfSome, refl, string_bytes, subst, inl, inr}
+use Rattle.std.proofs.Common.{◌≡◌, ◌⊎◌, ℕ, true, List, [], ◌∷◌, ◌++◌, Option, None, refl, string_bytes, inl, inr}
 use Rattle.clap.specs.Words.{IsAmong, Text}
 use Rattle.clap.specs.declared.error.kind.ErrorKind.TheVariants.{DisplayHelp, DisplayVersion}
 use Rattle.archive_files.specs.FileCalls.{FileCall}
@@ -9,22 +9,8 @@ use Rattle.command_line.specs.LineFaults.{IsHelpUnlessMemory, IsRefusalUnlessMem
 use Rattle.command_line.specs.Lines.{error_kinds, is_in_order, named_command}
 use Rattle.command_line.specs.declared.line_faults.LineFault.{LineFault}
 use Rattle.command_line.specs.declared.line_faults.LineFault.TheVariants.{Help, Refused, OutOfMemory}
-use Rattle.report_text.specs.Report.{line}
-use Rattle.command_ends.specs.Outputs.{FailsBehind, Takes, Writer}
+use Rattle.command_ends.specs.Outputs.{Writer}
 use Rattle.plan_commands.specs.Ends.{EndsLine, IsHelped, IsRefused, WantsMemory}
-use Rattle.plan_commands.specs.StandardError.{IsPushed, IsSaid, wanting_text}
-
--- a line whose text is known was said
-pub said_of : (text : Option (List ℕ)) (w : Writer) (bytes given : List ℕ) (whole : Bool) → IfSome text (λ t. bytes ≡ line t)
-    → given ≡ bytes → IsPushed w given whole → IfSome text (λ t. IsSaid w t whole)
-said_of None w bytes given whole is same pushed = tt
-said_of (Some t) w bytes given true is same pushed = subst (λ b. Takes w b) (same ∙ is) pushed
-said_of (Some t) w bytes given false is same failed = inl (subst (λ b. (n : ℕ) × FailsBehind w b n) (same ∙ is) failed)
-
-pub wanting_said : (text : Option (List ℕ)) (w : Writer) (whole : Bool) → IsPushed w (line wanting_text) whole
-    → IfSome text (λ t. IsSaid w t false)
-wanting_said None w whole pushed = tt
-wanting_said (Some t) w whole pushed = inr (whole, pushed)
 
 -- ---- words that give no plan
 

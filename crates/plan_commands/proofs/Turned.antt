@@ -3,7 +3,7 @@ use Rattle.std.proofs.Common.{◌≡◌, List, [], ◌∷◌, length, refl, ap, 
 use Rattle.std.specs.List.{AllZip}
 use Rattle.byte_device.specs.declared.Source.{Ghosts as Sources}
 use Rattle.byte_device.specs.declared.disks.CannotOpen.{CannotOpen}
-use Rattle.placed_bytes.specs.declared.Placed.{Ghosts as Places}
+use Rattle.byte_device.specs.declared.Placed.{Ghosts as Places}
 use Rattle.archive_files.specs.declared.disks.Disk.{Ghosts as Disks}
 use Rattle.archive_files.specs.AtTurns.{told_by}
 use Rattle.archive_files.specs.InputStates.{AreAtTurn}

@@ -13,7 +13,7 @@ use Rattle.command_ends.specs.declared.faults.Why.{Why}
 use Rattle.command_ends.specs.declared.faults.Why.TheVariants.{CannotOpen as NotOpened}
 use Rattle.command_ends.specs.Inputs.{readers}
 use Rattle.command_ends.specs.Outputs.{Outs, Writer}
-use Rattle.plan_commands.specs.Numbers.{number_at}
+use Rattle.error_lines.specs.Numbers.{number_at}
 use Rattle.archive_updates.specs.declared.notes.Note.{Note}
 use Rattle.plan_commands.specs.Plans.{Executes, IsPlanOf, Notes}
 use Rattle.plan_commands.specs.declared.plans.Plan.{Plan}

@@ -13,7 +13,7 @@ use Rattle.command_ends.specs.Outputs.{Takes, Writer}
 use Rattle.command_ends.specs.Statuses.{status_of}
 use Rattle.archive_updates.specs.declared.notes.Note.{Note}
 use Rattle.plan_commands.specs.Files.{Calls, IsDone}
-use Rattle.plan_commands.specs.StandardError.{IsPushed, SaysEnd, SaysRefused, SaysWanting, reason_in}
+use Rattle.error_lines.specs.StandardError.{IsPushed, SaysEnd, SaysRefused, SaysWanting, reason_in}
 
 -- No call of the system was noted, and no input was made.
 pub record IsIdle {S D T : Type 0} (calls : Calls S D T) : Type 0 where

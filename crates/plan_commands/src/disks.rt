@@ -8,8 +8,8 @@ ghost use Rattle.command_line.specs.Lines.{inputs_of};
 ghost use Rattle.plan_commands.specs.Disks.{Carried};
 ghost use Rattle.plan_commands.specs.Plans.{IsPlanOf};
 
-use crate::line_inputs::blamed;
 use crate::plans::{Plan, execute};
+use crate::unopened::blamed;
 use archive_core::Archive;
 use archive_files::{AtTurn, Disk};
 use archive_updates::Note;

@@ -14,18 +14,17 @@ ghost use Rattle.plan_commands.specs.Files.{IsDone, calls_of, command_fault_of, 
 ghost use Rattle.plan_commands.specs.Plans.{IsPlanOf};
 
 use crate::execute_on;
-use crate::hints::Seen;
 use crate::plans::Plan;
 use archive_files::{
     Disk, OpenedFile, OutFault, OutFile, OutPath, PlacedFile, Replaces, SystemDisk, SystemFiles,
     SystemInput,
 };
 use archive_updates::Note;
-use byte_device::{CannotCreate, Sink, Source};
+use byte_device::{CannotCreate, Placed, Sink, Source};
 use command_ends::{CommandFault, Failure, Status, Target};
 use command_line::Line;
+use error_lines::Seen;
 use memory::{Heap, NoMemory};
-use placed_bytes::Placed;
 use sorted_archive::{IndexedArchive, PlainArchive};
 use std::io::BufReader;
 use std::rt::Files;

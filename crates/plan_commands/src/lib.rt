@@ -4,14 +4,9 @@
 //! - `query_dispatch`: queries of archives that are read whole or by their indexes;
 //! - `queries`, `updates`: queries, and commands that write OUT, over the inputs of a line;
 //! - `plans`: what a line asks for, by name, and its command over its inputs, OUT and the report;
-//! - `line_inputs`: which input a name means, and what is told of one that was not opened;
+//! - `unopened`: what is told of an input that was not opened;
 //! - `disks`: a line over inputs that are opened at their turn;
-//! - `file_kinds`: what a file that is refused looks like;
-//! - `flaws`: the faulty line of an input, in words;
-//! - `hints`: what helps a person with a failure;
-//! - `help_lines`: the line in which that is said;
 //! - `files`: a line over files of the system;
-//! - `standard_error`: what is said on standard error;
 //! - `runs`: the words of a command line, carried out over files of the system;
 //! - `laws`: what is said of an output without a path.
 //!
@@ -24,21 +19,15 @@
 #![tactic(auto)]
 
 mod disks;
-mod file_kinds;
 mod files;
-mod flaws;
-mod help_lines;
-mod hints;
 mod laws;
-mod line_inputs;
 mod plans;
 mod queries;
 mod query_dispatch;
 mod runs;
-mod standard_error;
+mod unopened;
 mod updates;
 
 pub use disks::execute_on;
 pub use plans::Plan;
 pub use runs::run;
-pub use standard_error::say_report;

@@ -16,14 +16,13 @@ use crate::{queries, updates};
 use archive_core::{ArchKey, Archive, Digest, SliceKey};
 use archive_files::Replaces;
 use archive_updates::{Note, run_migrate, run_new};
-use byte_device::{Sink, Source};
+use byte_device::{Placed, Sink, Source};
 use command_ends::{CommandFault, Output, Status, Target};
 use command_line::Amount::{Flag, One, Perhaps, Several};
 use command_line::Values::{Archs, Digests, Numbers, Texts, Uuids};
 use command_line::{Line, Values};
 use index_updates::run_index;
 use memory::Heap;
-use placed_bytes::Placed;
 use rehearse::run_rehearse;
 use uuid::Uuid;
 

@@ -8,10 +8,9 @@ ghost use Rattle.plan_commands.specs.QueryDispatch.{find_of, frames_of, symbolic
 
 use crate::query_dispatch::{self, Input};
 use archive_core::{Archive, SliceKey};
-use byte_device::{Sink, Source};
+use byte_device::{Placed, Sink, Source};
 use command_ends::{CommandFault, Status};
 use memory::Heap;
-use placed_bytes::Placed;
 use uuid::Uuid;
 
 /// `find` over an archive, so many others, and their indexes, if they have some.

@@ -13,12 +13,11 @@ ghost use Rattle.slice_extraction.specs.Extract.{Extracts};
 use archive_core::{Archive, Digest, SliceKey};
 use archive_queries::{answer_name, run_find, run_frames, run_list, run_symbolicate};
 use archive_updates::Note;
-use byte_device::{CannotOpen, Sink, Source};
+use byte_device::{CannotOpen, Placed, Sink, Source};
 use command_ends::{CommandFault, InputName, Output, Status, Target, Why, publish_report};
 use indexed_queries::{run_find_at, run_find_together, run_list_at};
 use indexed_symbols::{run_frames_at, run_symbolicate_at};
 use memory::{Heap, NoMemory};
-use placed_bytes::Placed;
 use slice_extraction::{run_extract, run_extract_at};
 use uuid::Uuid;
 

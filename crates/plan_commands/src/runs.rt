@@ -9,19 +9,19 @@ ghost use Rattle.command_line.specs.LineView.{line_view};
 ghost use Rattle.plan_commands.specs.Files.{calls_of};
 ghost use Rattle.command_ends.specs.Statuses.{status_of};
 ghost use Rattle.plan_commands.specs.Ends.{EndsLine, EndsWords, IsIdle, IsUnreadable, WantsMemory};
-ghost use Rattle.plan_commands.specs.StandardError.{SaysFailure, SaysNotes, behind_error, reason_in, without_line_feed};
+ghost use Rattle.error_lines.specs.StandardError.{SaysFailure, SaysNotes, behind_error, reason_in, without_line_feed};
 
 use crate::files::execute;
-use crate::hints::{Seen, help_with};
 use crate::plans::Plan;
-use crate::standard_error::{FailureLine, RefusedLine, say, say_help, say_notes, say_wanting};
 use archive_files::{Disk, OpenedFile, OutFile, OutPath, PlacedFile, SystemDisk, SystemFiles};
 use archive_updates::Note;
-use byte_device::{Sink, Source, push_all};
+use byte_device::{Placed, Sink, Source, push_all};
 use command_ends::{Failure, Status, Target, status_of};
 use command_line::{Line, LineFault, read_line};
+use error_lines::{
+    FailureLine, RefusedLine, Seen, help_with, say, say_help, say_notes, say_wanting,
+};
 use memory::Heap;
-use placed_bytes::Placed;
 use std::alloc::Global;
 use std::io::{self, BufReader, ErrorKind};
 use std::rt::Files;

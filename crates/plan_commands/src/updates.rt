@@ -11,11 +11,10 @@ ghost use Rattle.plan_commands.specs.declared.plans.Plan.TheVariants.{Admit, App
 use crate::query_dispatch::{self, Input, first_and_rest};
 use archive_core::{Archive, Digest, SliceKey};
 use archive_updates::{Note, run_admit, run_apply, run_delta, run_merge, run_retire, run_summary};
-use byte_device::{Sink, Source};
+use byte_device::{Placed, Sink, Source};
 use command_ends::{CommandFault, Output, Status, Target};
 use indexed_queries::run_summary_at;
 use memory::Heap;
-use placed_bytes::Placed;
 
 /// `admit`, of an archive and of files.
 pub fn admit<S: Source + Placed, T: Target, P: Sink>(

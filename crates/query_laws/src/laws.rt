@@ -14,7 +14,7 @@ ghost use Rattle.archive_core.specs.declared.keys.Digest.{Digest};
 ghost use Rattle.archive_core.specs.declared.keys.SliceKey.{SliceKey};
 ghost use Rattle.archive_records.specs.Text.{summary_text, written};
 ghost use Rattle.archive_index.specs.Index.{index};
-ghost use Rattle.archive_queries.specs.Find.{TellsFound, found_status};
+ghost use Rattle.command_ends.specs.Found.{TellsFound, found_status};
 ghost use Rattle.archive_queries.specs.Frames.{TellsFrames};
 ghost use Rattle.archive_queries.specs.Symbolicate.{TellsAddresses};
 ghost use Rattle.crash_frames.specs.Frames.{frames_of};
@@ -41,7 +41,7 @@ ghost use Rattle.query_laws.specs.Contents.{AreIndexed, AreIndexesGiven, AreOwnI
 ghost use Rattle.query_laws.specs.Contents.{IsOwnIndex};
 ghost use Rattle.query_laws.specs.Undecided.{TellsUndecided};
 
-use placed_bytes::Placed;
+use byte_device::Placed;
 
 /// The rows of the index of a content, under a front, are the list of what the content has there. Nothing is supposed
 /// of SHA-256, and no archive is read. A content that has an index file has such keys as this asks.

@@ -2,11 +2,9 @@
 use Rattle.std.proofs.Common.{◌≡◌, ℕ, Bool, not, ◌&&◌, List, [], ◌∷◌, ◌++◌, map, arith, Option, Some, None, refl, sym, ap, ◌∙◌, subst, inl, inr, IfSome}
 use Rattle.std.proofs.lemmas.List.{append-nil}
 use Rattle.std.specs.List.{filter, list_any}
-use Rattle.std.specs.Cmp.Lexicographic.{nat_list_cmp_total}
 use Rattle.std.specs.FinSet as set
 use Rattle.std.specs.Io.KnownBytes.{Consumes, IsAtEnd}
 use Rattle.join_core.specs.Listing.{listing}
-use Rattle.join_core.proofs.Listing.{listing_ascending}
 use Rattle.byte_device.specs.Devices.{Stream}
 use Rattle.archive_core.specs.Content.{Operations, IsContent, IsMade, content_of, is_admission, is_covered}
 use Rattle.archive_core.proofs.Made.{contains_made, covers_same}
@@ -17,11 +15,10 @@ use Rattle.archive_records.specs.declared.writing.Sizes.{Sizes}
 use Rattle.archive_records.specs.Kind.{kind_of}
 use Rattle.archive_records.specs.Reader.{set_of}
 use Rattle.archive_records.specs.Text.{text_of, InOrder, AreApart, IsArchiveOf, kept, taken_of}
-use Rattle.archive_records.proofs.Contents.{InOrder-set, are_records, content_is, sorted-InOrder, written-records, written_text}
+use Rattle.archive_records.proofs.Contents.{InOrder-set, are_records, content_is, written-records, written_text}
 use Rattle.archive_records.proofs.Exact.{same_records}
 use Rattle.archive_records.proofs.Formats.{format_magic, in_order_of, old_in_order}
-use Rattle.archive_records.proofs.Puts.{bytes_same}
-use Rattle.archive_records.proofs.Versions.{kept_records, no_operations, old_written-records, old_written_text}
+use Rattle.archive_records.proofs.Versions.{kept_records, listing_of, no_operations, old_written-records, old_written_text}
 use Rattle.record_merge.specs.Merging.{IsUnfailed}
 use Rattle.record_merge.specs.Telling.{HasOperations, IsMergedTelling}
 use Rattle.record_merge.specs.declared.arrivals.Arrival.{Arrival}
@@ -32,9 +29,6 @@ use Rattle.record_merge.proofs.Merges.{merged}
 use Rattle.record_merge.proofs.Tells.{same_answers}
 
 -- ---- a record is the same to what is made of records
-
-listing_of : (xs : List (List ℕ)) → InOrder Archive [] xs → listing (set_of xs) ≡ xs
-listing_of xs a = listing_ascending nat_list_cmp_total bytes_same xs (sorted-InOrder [] xs a).1
 
 same_arrival : (a b : Bool) → arrival_by b (a && not b) ≡ arrival_by b a
 same_arrival a b = grind arith

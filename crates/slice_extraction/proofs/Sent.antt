@@ -4,7 +4,7 @@ use Rattle.std.specs.Prelude.{IfSome, MatchResult}
 use Rattle.byte_device.specs.Devices.{stream}
 use Rattle.byte_device.specs.declared.disks.CannotOpen.{CannotOpen}
 use Rattle.byte_device.proofs.Known.{Appends-none}
-use Rattle.placed_bytes.specs.Places.{Stands}
+use Rattle.byte_device.specs.Places.{Stands}
 use Rattle.placed_passes.specs.Copies.{IsCopied}
 use Rattle.placed_passes.specs.Sending.{HaveOther, HaveSome, StopsSending}
 use Rattle.placed_passes.specs.Sending.{Hinders as HindersSending}

@@ -14,12 +14,11 @@ use crate::extract::bytes_of;
 use crate::publishing::{publish_rows, publish_wanted};
 use crate::sending::publish_named;
 use archive_core::{Archive, Digest, SliceKey};
-use byte_device::{CannotOpen, Sink};
+use byte_device::{CannotOpen, Placed, Sink};
 use command_ends::{CommandFault, Output, Status, Target};
 use indexed_answers::NamedSlice;
 use indexed_queries::{Front, read_fronts, read_indexes};
 use memory::Heap;
-use placed_bytes::Placed;
 use table_index::TableIndex;
 
 /// Writes the bytes of the wanted slice to OUT, as [`run_extract`](crate::run_extract) does. The indexes are read, and

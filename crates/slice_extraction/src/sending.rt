@@ -13,13 +13,12 @@ ghost use Rattle.slice_extraction.specs.Wanted.{line_of};
 use archive_core::{Digest, SliceKey};
 use archive_records::{RecordFault, RecordFaultKind};
 use archive_words::Spelled;
-use byte_device::{CannotOpen, Sink};
+use byte_device::{CannotOpen, Placed, Sink};
 use command_ends::{
     CommandFault, InputName, Output, Status, Target, Why, opened, publish_report, put_in_place,
 };
 use indexed_answers::NamedSlice;
 use memory::{Heap, NoMemory};
-use placed_bytes::Placed;
 use placed_passes::{SendFault, send_at};
 use report_text::Text;
 

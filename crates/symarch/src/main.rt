@@ -6,7 +6,8 @@
 
 use archive_files::SystemFiles;
 use byte_device::Writing;
-use plan_commands::{run, say_report};
+use error_lines::say_report;
+use plan_commands::run;
 use std::fs::File;
 use std::process::{self, ExitCode};
 use std::{env, io};

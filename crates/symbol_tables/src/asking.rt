@@ -13,9 +13,9 @@ use crate::nearest::NearestSymbol;
 use crate::opening::{HEAD_LEN, SECTION_LEN};
 use crate::row::ROW_LEN;
 use crate::{Table, name_from, row_for};
+use byte_device::Placed;
 use checked_pages::{CheckFault, Claim};
 use memory::Heap;
-use placed_bytes::Placed;
 
 impl Table {
     /// The offset of the first row in the table.

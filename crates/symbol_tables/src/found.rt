@@ -17,10 +17,10 @@ use crate::Table;
 use crate::names::before_nul;
 use crate::nearest::NearestSymbol;
 use crate::opening::{HEAD_LEN, SECTION_LEN};
+use byte_device::Placed;
 use checked_pages::CheckFault;
 use macho_symbols::Found;
 use memory::Heap;
-use placed_bytes::Placed;
 
 /// A symbol that was found. It holds its names.
 #[derive(Drop)]

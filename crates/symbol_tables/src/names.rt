@@ -7,10 +7,10 @@ ghost use Rattle.checked_pages.specs.Views.{ArePagesOf, claim_view};
 ghost use Rattle.checked_pages.specs.Reading.{ReadsStored};
 ghost use Rattle.symbol_tables.specs.Stored.{Stands};
 
+use byte_device::Placed;
 use checked_pages::{CheckFault, Pages};
 use memchr::memchr;
 use memory::Heap;
-use placed_bytes::Placed;
 
 /// How many bytes are read at once.
 const PIECE: usize = 64;

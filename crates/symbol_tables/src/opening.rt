@@ -12,9 +12,9 @@ ghost use Rattle.symbol_tables.specs.Opened.{IsHeadOf, IsOpened};
 use crate::head::Head;
 use crate::row::{ROW_LEN, u64_be_at};
 use crate::table::Table;
+use byte_device::Placed;
 use checked_pages::{CheckFault, Claim, Pages};
 use memory::Heap;
-use placed_bytes::Placed;
 
 /// How many bytes the head has.
 pub(crate) const HEAD_LEN: usize = 48;

@@ -9,8 +9,8 @@ ghost use Rattle.symbol_tables.specs.Stored.{Stands};
 ghost use Rattle.symbol_tables.specs.declared.row.Row.{Row};
 
 use crate::row::{ROW_LEN, Row, row_of};
+use byte_device::Placed;
 use checked_pages::{CheckFault, Pages};
-use placed_bytes::Placed;
 
 /// The row with this number, among those that stand from an offset on.
 fn row_at<P: Placed>(

@@ -11,10 +11,9 @@ ghost use Rattle.table_index.specs.Reading.{IsRefused, ReadsText};
 ghost use Rattle.index_faults.specs.declared.fault.IndexFaultKind.TheVariants.{Device};
 
 use crate::entry::{ENTRY_LEN, number_at};
-use byte_device::{Failed, ReadFault};
+use byte_device::{Failed, Placed, ReadFault, read_at};
 use index_faults::{IndexFault, IndexFaultKind};
 use memory::Heap;
-use placed_bytes::{Placed, read_at};
 
 /// How many bytes the magic has.
 pub const MAGIC_LEN: u64 = 8;

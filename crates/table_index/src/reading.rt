@@ -13,9 +13,9 @@ use crate::entry::ENTRY_LEN;
 use crate::places::are_laid;
 use crate::testing::entries_in;
 use crate::{TableEntry, TableIndex};
+use byte_device::Placed;
 use index_faults::{IndexFault, IndexFaultKind};
 use memory::{Heap, NoMemory};
-use placed_bytes::Placed;
 use sha2::{Digest, Sha256};
 
 /// Whether bytes have this SHA-256.

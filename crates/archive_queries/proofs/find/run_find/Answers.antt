@@ -4,7 +4,7 @@ use Rattle.byte_device.proofs.Known.{Appends-none}
 use Rattle.archive_core.specs.Part.{is_under}
 use Rattle.archive_core.proofs.Picked.{finds_alike}
 use Rattle.report_text.specs.Finds.{find_lines}
-use Rattle.archive_queries.specs.Find.{found_status}
+use Rattle.command_ends.specs.Found.{found_status}
 use Rattle.command_ends.proofs.Endings.{reported}
 use Rattle.command_ends.proofs.Readers.{none_failed}
 use Rattle.archive_queries.proofs.Parts.{together_refused, together_tells}
@@ -29,7 +29,7 @@ returns g c =
       rows = rows;
       finds = finds_alike (g.A.Join.content c.in_ok-kept.kept) o uuid rows
           (alike uuid (omega (arith, c.bytes_of-front.ensures.long)) (λ r h. ap (λ front. is_under front r) c.bytes_of-front.ensures.bytes ∙ h)) c.in_ok-rows.ensures;
-      status_is = c.status_of.ensures ∙ ap found_status c.deref-2.ensures.value;
+      status_is = c.found_status.ensures ∙ ap found_status c.deref-2.ensures.value;
       text_is = c.deref-3.ensures ∙ c.in_ok-text.ensures ∙ ap find_lines c.deref.ensures.value;
     }) c.in_ok-kept.ensures.is)
     c.publish_report.ensures

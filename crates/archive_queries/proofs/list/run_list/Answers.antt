@@ -1,6 +1,6 @@
 use Rattle.std.proofs.Common.{ap, ◌∙◌}
 use Rattle.report_text.specs.Finds.{list_lines}
-use Rattle.archive_queries.specs.Find.{found_status}
+use Rattle.command_ends.specs.Found.{found_status}
 use Rattle.command_ends.proofs.Endings.{reported}
 use Rattle.archive_queries.proofs.list.run_list.Goals as goal
 
@@ -14,7 +14,7 @@ returns g c =
       is_content = held.is_content;
       archive_is = held.text;
       lists = held.is_true;
-      status_is = c.status_of.ensures ∙ ap found_status c.deref-2.ensures.value;
+      status_is = c.found_status.ensures ∙ ap found_status c.deref-2.ensures.value;
       text_is = c.deref-3.ensures ∙ c.in_ok-text.ensures ∙ ap list_lines c.deref.ensures.value;
     })
     c.publish_report.ensures

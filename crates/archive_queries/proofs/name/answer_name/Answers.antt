@@ -1,7 +1,7 @@
 use Rattle.std.proofs.Common.{ap, map, refl, ◌∙◌}
 use Rattle.archive_core.specs.Names.{owned_name_view}
 use Rattle.report_text.specs.Names.{name_lines}
-use Rattle.archive_queries.specs.Find.{found_status}
+use Rattle.command_ends.specs.Found.{found_status}
 use Rattle.archive_queries.proofs.Found.{found_map}
 use Rattle.archive_queries.proofs.NamesTogether.{underscored_by}
 use Rattle.archive_queries.proofs.Parts.{together_tells, wanting_first}
@@ -22,7 +22,7 @@ returns g c = record {
     record {
       rows = map owned_name_view c.in_ok-told.told.rows.items;
       names = both.0;
-      status_is = c.status_of.ensures ∙ found_map owned_name_view _
+      status_is = c.found_status.ensures ∙ found_map owned_name_view _
           ∙ ap (λ rows. found_status (map owned_name_view rows)) c.deref-3.ensures.value;
       text_is = c.in_ok-text.ensures ∙ ap (λ rows. name_lines (map owned_name_view rows)) c.deref-2.ensures.value;
     },

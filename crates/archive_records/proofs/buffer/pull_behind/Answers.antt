@@ -1,8 +1,9 @@
 use Rattle.std.proofs.Common.{◌≡◌, ◌≤◌, ◌+◌, ◌∙◌, ◌++◌, List, [], ℕ, length, take, drop, ap, sym, refl, arith, length-take, length-drop, append-nil}
 use Rattle.byte_device.proofs.Known.{Consumes-keeps, Consumes-none}
+use Rattle.byte_device.proofs.Taken.{take-behind}
 use Rattle.archive_records.specs.Reader.{bytes_so_far}
 use Rattle.archive_records.proofs.Blamed.{failed}
-use Rattle.archive_records.proofs.Fills.{Fills-behind, bytes_before, bytes_behind}
+use Rattle.archive_records.proofs.Fills.{Fills-behind, bytes_before}
 use Rattle.archive_records.proofs.buffer.pull_behind.Goals as goal
 
 pub returns-in_err-n : goal.returns-in_err-n
@@ -37,7 +38,7 @@ returns g c =
     let whole : length m ≡ n = omega (arith, length-take n c.pull.new.buf, c.in_ok-n.ensures.bound) in
     record {
       fills = Fills-behind _ _ c.args.buffer.now _ m c.requires.within (ap (λ (k : ℕ). at + k) (sym whole))
-          (bytes_behind under c.pull.new.buf _ _ at len n in_front in_len c.in_ok-n.ensures.bound ∙ ap (λ (t : List ℕ). t ++ m) front) refl c.requires.differs c.in_ok-n.ensures.bytes.0;
+          (take-behind under c.pull.new.buf _ _ at len n in_front in_len c.in_ok-n.ensures.bound ∙ ap (λ (t : List ℕ). t ++ m) front) refl c.requires.differs c.in_ok-n.ensures.bytes.0;
       piece = record { at_is = refl; bound = bound; end = λ none some. c.in_ok-n.ensures.bytes.1 none (omega (arith, room, c.pull.auto.buf)) };
       count = c.in_ok-n.ensures.count;
     }

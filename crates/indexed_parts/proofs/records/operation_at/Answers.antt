@@ -1,6 +1,6 @@
 use Rattle.std.proofs.Common.{◌∙◌, Err, sym, ap, subst, refl, arith, length}
 use Rattle.std.proofs.lemmas.Option.{IfSome_then}
-use Rattle.placed_bytes.specs.Places.{Stands}
+use Rattle.byte_device.specs.Places.{Stands}
 use Rattle.archive_index.specs.Entry.{placed_bytes}
 use Rattle.archive_index.specs.Places.{IsNamedBy}
 use Rattle.indexed_parts.proofs.Gathered.{known}

@@ -1,6 +1,6 @@
 use Rattle.std.proofs.Common.{refl, List, ℕ, ap, ◌∙◌, subst}
 use Rattle.report_text.specs.Finds.{find_lines}
-use Rattle.archive_queries.specs.Find.{found_status}
+use Rattle.command_ends.specs.Found.{found_status}
 use Rattle.std.proofs.lemmas.Result.{err_from_is_err_and}
 use Rattle.byte_device.proofs.Known.{Appends-none}
 use Rattle.command_ends.proofs.Endings.{reported}
@@ -27,7 +27,7 @@ returns g c =
       tells = record {
         rows = rows;
         are_rows = subst (λ (front : List ℕ). AreIndexRows front c.in_ok-entries.entries rows) c.uuid_bytes-front.ensures.bytes c.in_ok-rows.ensures;
-        status_is = c.status_of.ensures ∙ ap found_status c.deref-2.ensures.value;
+        status_is = c.found_status.ensures ∙ ap found_status c.deref-2.ensures.value;
         text_is = c.deref-3.ensures ∙ c.in_ok-text.ensures ∙ ap find_lines c.deref.ensures.value;
       };
     })

@@ -2,7 +2,7 @@ use Rattle.std.proofs.Common.{ap, ◌∙◌, refl}
 use Rattle.std.proofs.lemmas.Result.{err_from_is_err_and}
 use Rattle.byte_device.proofs.Known.{Appends-none}
 use Rattle.report_text.specs.Finds.{find_lines}
-use Rattle.archive_queries.specs.Find.{found_status}
+use Rattle.command_ends.specs.Found.{found_status}
 use Rattle.command_ends.proofs.Endings.{reported}
 use Rattle.indexed_queries.proofs.Refused.{query_refused}
 use Rattle.indexed_queries.proofs.find.run_find_together.Goals as goal
@@ -31,7 +31,7 @@ returns g c =
       tells = record {
         rows = c.in_ok-rows.rows.items;
         finds = c.in_ok-rows.ensures;
-        status_is = c.status_of.ensures ∙ ap found_status c.deref-2.ensures.value;
+        status_is = c.found_status.ensures ∙ ap found_status c.deref-2.ensures.value;
         text_is = c.deref-3.ensures ∙ c.in_ok-text.ensures ∙ ap find_lines c.deref.ensures.value;
       };
     })

@@ -1,6 +1,6 @@
 use Rattle.std.proofs.Common.{refl, ap, ◌∙◌}
 use Rattle.report_text.specs.Finds.{list_lines}
-use Rattle.archive_queries.specs.Find.{found_status}
+use Rattle.command_ends.specs.Found.{found_status}
 use Rattle.std.proofs.lemmas.Result.{err_from_is_err_and}
 use Rattle.byte_device.proofs.Known.{Appends-none}
 use Rattle.command_ends.proofs.Endings.{reported}
@@ -25,7 +25,7 @@ returns g c =
       tells = record {
         rows = c.in_ok-rows.rows.items;
         are_rows = c.in_ok-rows.ensures;
-        status_is = c.status_of.ensures ∙ ap found_status c.deref-2.ensures.value;
+        status_is = c.found_status.ensures ∙ ap found_status c.deref-2.ensures.value;
         text_is = c.deref-3.ensures ∙ c.in_ok-text.ensures ∙ ap list_lines c.deref.ensures.value;
       };
     })

@@ -1,6 +1,6 @@
 use Rattle.command_line.specs.LineView.{line_view}
 use Rattle.command_ends.specs.Outputs.{writer}
-use Rattle.plan_commands.proofs.Helping.{without_help}
+use Rattle.error_lines.proofs.Helping.{without_help}
 use Rattle.plan_commands.proofs.runs.say_failure.Goals as goal
 
 pub returns-in_default : goal.returns-in_default

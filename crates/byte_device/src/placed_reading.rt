@@ -1,0 +1,58 @@
+//! So many bytes that are read from a place.
+
+ghost use Rattle.std.specs.Prelude.{◌≡◌, ◌+◌, ◌^◌, ◌<◌, ◌≤◌, length, take, Err, IfOk, MatchOption, OnOk};
+ghost use Rattle.byte_device.specs.Devices.{FailedIn};
+ghost use Rattle.byte_device.specs.Places.{EndsBefore, Stands};
+
+use crate::{Failed, Placed, ReadFault};
+use memory::{Heap, NoMemory};
+
+// How many bytes room is made for at once.
+const PIECE: usize = 64 * 1024;
+
+/// Reads `count` bytes from the place on; none where fewer stand there.
+///
+/// The memory grows with the bytes that came, never with the number that is asked for.
+pub fn read_at<P: Placed>(
+    heap: Heap,
+    device: &mut P,
+    at: u64,
+    count: u64,
+) -> Result<Option<Vec<u8, Heap>>, ReadFault>
+    requires { at + count < 2 ^ 64 }
+    ensures read { IfOk result (λ read. MatchOption read (EndsBefore (P.whole device.old) (at + count))
+        (λ bytes. (length bytes.items ≡ count) × Stands (P.whole device.old) at bytes.items)) }
+    ensures keeps { P.whole device.new ≡ P.whole device.old }
+    ensures unfailed { OnOk result (P.failures device.new ≡ P.failures device.old) }
+    ensures device { result ≡ Err ReadFault.Device → FailedIn (P.failures device.old) (P.failures device.new) }
+    ensures memory { result ≡ Err ReadFault.OutOfMemory → P.failures device.new ≡ P.failures device.old }
+{
+    let mut bytes = Vec::new(heap);
+    let mut filled = 0;
+    'filling: while (filled as u64) < count {
+        if let Err(NoMemory) = make_room(&mut bytes, filled, count as usize) {
+            return Err(ReadFault::OutOfMemory);
+        }
+        match device.take_at(at + filled as u64, &mut bytes[filled..]) {
+            Ok(0) => return Ok(None),
+            Ok(n) => filled += n,
+            Err(Failed) => return Err(ReadFault::Device),
+        }
+    }
+    Ok(Some(bytes))
+}
+
+// Makes room behind the first `filled` bytes where there is none, for no more than `most` bytes in all.
+fn make_room(bytes: &mut Vec<u8, Heap>, filled: usize, most: usize) -> Result<(), NoMemory>
+    requires filled { filled ≤ length bytes.old.items }
+    requires within { length bytes.old.items ≤ most }
+    requires less { filled < most }
+    ensures room { OnOk result (filled < length bytes.new.items) }
+    ensures most { OnOk result (length bytes.new.items ≤ most) }
+    ensures front { OnOk result (take filled bytes.new.items ≡ take filled bytes.old.items) }
+{
+    if filled == bytes.len() {
+        bytes.resize(filled + PIECE.min(most - filled), 0)?;
+    }
+    Ok(())
+}

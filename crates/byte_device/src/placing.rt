@@ -1,0 +1,79 @@
+//! Bytes of the readers of `std` that seek.
+
+ghost use Rattle.std.specs.Prelude.{◌≡◌, ◌≤◌, IfOk, length};
+
+use crate::{Failed, Placed};
+use std::io::{self, Read, Seek, SeekFrom};
+
+/// The bytes of a reader that seeks, as a file. Each error of the reader, `Interrupted` too, is a failure.
+///
+/// Nothing is known of the bytes: no contract of `std` says what a read gives after a seek.
+#[derive(Drop)]
+pub struct Placing<R> {
+    reader: R,
+    failures: u64,
+    reason: Option<io::Error>,
+}
+
+impl<R: Read + Seek + Drop> Placing<R> {
+    /// A device over the reader.
+    pub fn new(reader: R) -> Self
+        ensures { ⟦<Placing<R> as Placed>⟧.failures result ≡ 0 }
+    {
+        Placing {
+            reader,
+            failures: 0,
+            reason: None,
+        }
+    }
+
+    /// The reader's last error, if it had one.
+    pub fn reason(&self) -> Option<io::Error> {
+        self.reason
+    }
+
+    // Takes bytes from the place on.
+    fn read_from(&mut self, at: u64, buf: &mut [u8]) -> io::Result<usize>
+        ensures bound { IfOk result (λ n. n ≤ length buf.new) }
+        ensures failures { self.new.failures ≡ self.old.failures }
+    {
+        self.reader.seek(SeekFrom::Start(at))?;
+        self.reader.read(buf)
+    }
+}
+
+impl<R: Read + Seek + Drop> Placed for Placing<R> {
+    ghost use Rattle.std.specs.Prelude.{None};
+
+    ghost whole = { λ _. None };
+
+    ghost failures = { λ s. s.failures };
+
+    fn take_at(&mut self, at: u64, buf: &mut [u8]) -> Result<usize, Failed> {
+        if self.failures == u64::MAX {
+            return Err(Failed);
+        }
+        match self.read_from(at, buf) {
+            Ok(n) => Ok(n),
+            Err(error) => {
+                self.reason = Some(error);
+                self.failures += 1;
+                Err(Failed)
+            }
+        }
+    }
+
+    fn size(&mut self) -> Result<u64, Failed> {
+        if self.failures == u64::MAX {
+            return Err(Failed);
+        }
+        match self.reader.seek(SeekFrom::End(0)) {
+            Ok(size) => Ok(size),
+            Err(error) => {
+                self.reason = Some(error);
+                self.failures += 1;
+                Err(Failed)
+            }
+        }
+    }
+}

@@ -1,0 +1,4 @@
+pub mod Helping
+pub mod Numbers
+pub mod Numbered
+pub mod Saying

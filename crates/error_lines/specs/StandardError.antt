@@ -1,0 +1,122 @@
+-- What is said on standard error.
+use Rattle.std.specs.Prelude.{◌≡◌, ◌⊎◌, ℕ, Bool, true, false, ◌||◌, ◌==◌, List, [], ◌∷◌, ◌++◌, ◌-◌, codes, drop}
+use Rattle.std.specs.Prelude.{if◌then◌else◌, length, nat_eq, nat_lt, take, Option, Some, Result, Ok, Err}
+use Rattle.std.specs.List.{ends_with, flat_map, list_any, starts_with}
+use Rattle.clap.specs.Words.{Text}
+use Rattle.byte_device.specs.Disks.{cannot_create_text}
+use Rattle.command_line.specs.Lines.{Line}
+use Rattle.report_text.specs.Report.{line}
+use Rattle.command_ends.specs.declared.failures.Failure.{Failure}
+use Rattle.command_ends.specs.declared.failures.Failure.TheVariants.{Command, CannotCreate, CannotReplace}
+use Rattle.command_ends.specs.declared.faults.Status.{Status}
+use Rattle.command_ends.specs.FaultTexts.{command_fault_text}
+use Rattle.command_ends.specs.Outputs.{FailsBehind, Takes, Writer}
+use Rattle.archive_updates.specs.Notes.{note_text}
+use Rattle.archive_updates.specs.declared.notes.Note.{Note}
+use Rattle.error_lines.specs.Hints.{file_of, subject_of}
+
+-- the line of a failure
+unfoldable pub failure_text : Failure → List ℕ
+failure_text (Command fault) = codes "symarch: " ++ command_fault_text fault
+failure_text (CannotCreate _) = codes "symarch: " ++ cannot_create_text
+failure_text CannotReplace = codes "symarch: output: cannot replace"
+
+-- the line of want of memory
+abbrev pub wanting_text : List ℕ
+wanting_text = codes "symarch: out of memory"
+
+-- The writer took these bytes; or it failed inside them.
+abbrev pub IsPushed : Writer → List ℕ → Bool → Type 0
+IsPushed said bytes true = Takes said bytes
+IsPushed said bytes false = (n : ℕ) × FailsBehind said bytes n
+
+-- the line of want of memory was said
+abbrev pub SaysWanting : Writer → Bool → Type 0
+SaysWanting said whole = IsPushed said (line wanting_text) whole
+
+-- The line was said to its end; or the writer failed inside it, or there was no memory for it, and want of memory was
+-- said in its place.
+abbrev pub IsSaid : Writer → List ℕ → Bool → Type 0
+IsSaid said text true = Takes said (line text)
+IsSaid said text false = ((n : ℕ) × FailsBehind said (line text) n) ⊎ ((whole : Bool) × SaysWanting said whole)
+
+-- ---- what helps a person
+
+-- a text has a line feed
+abbrev pub has_line_feed : List ℕ → Bool
+has_line_feed text = list_any (λ byte. byte == 10) text
+
+-- a byte of a path for which that is shown otherwise: of a control character, or one that may begin one
+abbrev pub is_control : ℕ → Bool
+is_control byte = nat_lt byte 0x20 || (byte == 0x7f) || (byte == 0xc2)
+
+-- The line that helps with the failure of a line: two spaces, what the failure is of, and the path of that very file,
+-- and behind these what is free. A path with a control character is shown otherwise. It is one line.
+pub record IsHelp (asked : Line) (failure : Failure) (help : List ℕ) : Type 0 where
+  pub path : Text
+  pub path_is : Some path ≡ file_of asked failure
+  pub shown : List ℕ
+  pub shown_is : list_any is_control path ≡ false → shown ≡ path
+  pub shown_feedless : has_line_feed shown ≡ false
+  pub free : List ℕ
+  pub free_feedless : has_line_feed free ≡ false
+  pub help_is : help ≡ line (codes "  " ++ subject_of failure ++ codes " is " ++ shown ++ free)
+
+-- What is said behind the line of a failure: nothing, or the line that helps with it, or its beginning where the writer
+-- failed.
+abbrev pub SaysHelp : Writer → Line → Failure → Type 0
+SaysHelp said asked failure =
+    Takes said [] ⊎ ((help : List ℕ) × IsHelp asked failure help × (whole : Bool) × IsPushed said help whole)
+
+-- The writer took the line of a failure, and what helps a person after it; or it failed inside the line; or there was
+-- no memory for it, and want of memory was said in its place, and no more.
+abbrev pub SaysFailure : Writer → Line → Failure → Type 0
+SaysFailure said asked failure =
+    ((between : Option (List ℕ)) × (failures : ℕ)
+    × Takes (record said { new = between; failures_new = failures }) (line (failure_text failure))
+    × SaysHelp (record said { old = between; failures_old = failures }) asked failure)
+    ⊎ IsSaid said (failure_text failure) false
+
+-- Why the report failed is said in one line.
+abbrev pub SaysReport : Writer → Type 0
+SaysReport said =
+    (free : List ℕ) × (has_line_feed free ≡ false)
+    × (whole : Bool) × IsPushed said (line (codes "  report is standard output" ++ free)) whole
+
+-- ---- notes
+
+-- a line a note
+abbrev pub note_lines : List Note → List ℕ
+note_lines notes = flat_map (λ note. line (note_text note)) notes
+
+-- what is said where there is no memory for the lines of the notes
+abbrev pub unnoted_text : List ℕ
+unnoted_text = codes "note: out of memory"
+
+-- The writer took the lines of the notes, all of them, or failed inside them; or there was no memory for these, and
+-- that was said in their place. Without a note it took nothing.
+abbrev pub SaysNotes : Writer → List Note → Type 0
+SaysNotes said [] = Takes said []
+SaysNotes said (note ∷ notes) =
+    ((whole : Bool) × IsPushed said (note_lines (note ∷ notes)) whole)
+    ⊎ ((whole : Bool) × IsPushed said (line unnoted_text) whole)
+
+-- what a command of this line that ended so says: its notes, or why it failed
+abbrev pub SaysEnd : Writer → Line → Result Status Failure → List Note → Type 0
+SaysEnd said asked (Ok _) notes = SaysNotes said notes
+SaysEnd said asked (Err failure) notes = SaysFailure said asked failure
+
+-- a text without the line feed at its end, and without the word at its front
+abbrev pub without_line_feed : Text → Text
+without_line_feed text = if ends_with nat_eq text (10 ∷ []) then take (length text - 1) text else text
+
+abbrev pub behind_error : Text → Text
+behind_error text = if starts_with nat_eq text (codes "error: ") then drop 7 text else text
+
+-- the reason in the text of a refused line, which begins with `error: ` and ends with a line feed
+abbrev pub reason_in : Text → Text
+reason_in text = behind_error (without_line_feed text)
+
+-- This reason is said for which words are refused.
+abbrev pub SaysRefused : Writer → Text → Type 0
+SaysRefused said reason = (whole : Bool) × IsSaid said (codes "symarch: " ++ reason) whole
