@@ -8,10 +8,10 @@ ghost use Rattle.source_frames.specs.AddressFrames.{AreFramesOf};
 ghost use Rattle.line_tables.specs.FrameViews.{owned_frames};
 ghost use Rattle.slice_tables.specs.SliceTable.{HasNoLines, IsSliceTable};
 
+use byte_device::Placed;
 use checked_pages::{CheckFault, Claim};
 use line_tables::{LineTable, OwnedFrame};
 use memory::Heap;
-use placed_bytes::Placed;
 use symbol_tables::open_lines;
 
 /// The frames of an address of the file, the innermost first, by the table that a claim names; none where the slice has

@@ -8,9 +8,9 @@ ghost use Rattle.symbol_tables.specs.Stored.{IsRestFrom};
 ghost use Rattle.symbol_tables.specs.Table.{IsTableWith};
 
 use crate::Table;
+use byte_device::Placed;
 use checked_pages::{CheckFault, Claim, Pages};
 use memory::Heap;
-use placed_bytes::Placed;
 
 /// The bytes of the table that a claim names, and the offset among them from which on they are its lines.
 ///
