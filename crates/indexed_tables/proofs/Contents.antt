@@ -12,7 +12,7 @@ use Rattle.symbol_tables.specs.Asked.{IsSaid}
 use Rattle.symbol_tables.specs.Steps.{AreBytes}
 use Rattle.symbol_tables.specs.Table.{IsTableText}
 use Rattle.symbol_tables.specs.declared.nearest.NearestSymbol.{NearestSymbol}
-use Rattle.slice_tables.proofs.SliceTables.{one_slice_table}
+use Rattle.slice_tables.specs.SliceTable.{IsSliceTable}
 use Rattle.std.specs.FinSet as set
 use Rattle.archive_core.specs.Content.{IsContent, Operations, is_admission}
 use Rattle.archive_records.proofs.Contents.{members_listed}
@@ -31,23 +31,27 @@ use Rattle.table_index.proofs.Entries.{claim_read}
 
 -- ---- a content has one index
 
-pub same_table : (r t u : List ℕ) → IsTableOf r t → IsTableOf r u → t ≡ u
-same_table r t u a b = elim (cases_Bool (is_admission r)) [
-  | inl h ↦ one_slice_table (drop 33 r) t u (a.admitted h) (b.admitted h)
+-- a slice has one table
+abbrev pub HaveOneTable : Type 0
+HaveOneTable = (image bytes others : List ℕ) → IsSliceTable image bytes → IsSliceTable image others → bytes ≡ others
+
+pub same_table : HaveOneTable → (r t u : List ℕ) → IsTableOf r t → IsTableOf r u → t ≡ u
+same_table once r t u a b = elim (cases_Bool (is_admission r)) [
+  | inl h ↦ once (drop 33 r) t u (a.admitted h) (b.admitted h)
   | inr h ↦ a.retired h ∙ sym (b.retired h)
 ]
 
-pub same_tables : (rs ts us : List (List ℕ)) → AllZip IsTableOf rs ts → AllZip IsTableOf rs us → ts ≡ us
-same_tables [] [] [] a b = refl
-same_tables [] [] (u ∷ us) a b = absurd b
-same_tables [] (t ∷ ts) us a b = absurd a
-same_tables (r ∷ rs) [] us a b = absurd a
-same_tables (r ∷ rs) (t ∷ ts) [] a b = absurd b
-same_tables (r ∷ rs) (t ∷ ts) (u ∷ us) a b = cc (same_table r t u a.0 b.0, same_tables rs ts us a.1 b.1)
+pub same_tables : HaveOneTable → (rs ts us : List (List ℕ)) → AllZip IsTableOf rs ts → AllZip IsTableOf rs us → ts ≡ us
+same_tables once [] [] [] a b = refl
+same_tables once [] [] (u ∷ us) a b = absurd b
+same_tables once [] (t ∷ ts) us a b = absurd a
+same_tables once (r ∷ rs) [] us a b = absurd a
+same_tables once (r ∷ rs) (t ∷ ts) [] a b = absurd b
+same_tables once (r ∷ rs) (t ∷ ts) (u ∷ us) a b = cc (same_table once r t u a.0 b.0, same_tables once rs ts us a.1 b.1)
 
-pub one_of_content : (o : Operations) (text other : List ℕ) → IsIndexOf o text → IsIndexOf o other → text ≡ other
-one_of_content o text other a b =
-    let same = same_tables (listing o) a.tables b.tables a.each b.each in
+pub one_of_content : HaveOneTable → (o : Operations) (text other : List ℕ) → IsIndexOf o text → IsIndexOf o other → text ≡ other
+one_of_content once o text other a b =
+    let same = same_tables once (listing o) a.tables b.tables a.each b.each in
     a.text_is ∙ (λ i. index_text (tables_text (same i)) (entries_of (listing o) (same i))) ∙ sym b.text_is
 
 -- ---- the claim of a table

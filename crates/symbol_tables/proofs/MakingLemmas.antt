@@ -20,7 +20,6 @@ use Rattle.symbol_tables.specs.Table.{FitsTable, IsTableWith, SectionNames, Tabl
 use Rattle.symbol_tables.specs.InnerCandidates.{AreSectionsOf}
 use Rattle.symbol_tables.specs.declared.row.Row.{Row}
 use Rattle.symbol_tables.proofs.RowLemmas.{length-rows_bytes}
-use Rattle.symbol_tables.proofs.OneSteps.{steps_once}
 use Rattle.symbol_tables.proofs.TableLemmas.{length-head, length-names}
 
 -- ---- names of sections are short
@@ -163,17 +162,3 @@ pub part_of_three : (a b c : List ℕ) (from n : ℕ) → take n (drop from (a +
     ++ take (n - length (take n (drop from a)) - length (take (n - length (take n (drop from a))) (drop (from - length a) b))) (drop (from - length a - length b) c))
 part_of_three a b c from n =
     part_of_both a (b ++ c) from n ∙ ap (λ rest. take n (drop from a) ++ rest) (part_of_both b c (from - length a) (n - length (take n (drop from a))))
-
--- ---- one table
-
-pub one_text : (image lines bytes others : List ℕ) → IsTableWith image lines bytes → IsTableWith image lines others → bytes ≡ others
-one_text image lines bytes others a b =
-    let rows = steps_once image a.0.rows b.0.rows a.1.rows b.1.rows in
-    let same : a.0 ≡ b.0 = λ i. record {
-      base = (a.1.base ∙ sym b.1.base) i;
-      names = (a.1.names ∙ sym b.1.names) i;
-      rows = rows i;
-      strings = (a.1.strings ∙ sym b.1.strings) i;
-      lines = (a.4 ∙ sym b.4) i;
-    } in
-    a.3 ∙ ap table_bytes same ∙ sym b.3
