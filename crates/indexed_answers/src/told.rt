@@ -118,20 +118,13 @@ fn told_by<P: Placed>(
 {
     let Ok(device) = device else { unreachable!() };
     let input = numbered.input;
+    let entry = numbered.number;
+    let offset = numbered.entry.claim.offset;
     match column_of(heap, device, numbered, lines, asked) {
         Ok(Some(column)) => Ok(column),
-        Ok(None) => Err(AnswerFault::NoLines {
-            input,
-            entry: numbered.number,
-        }),
-        Err(CheckFault::Changed) => Err(AnswerFault::Damaged {
-            input,
-            entry: numbered.number,
-        }),
-        Err(CheckFault::Device) => Err(AnswerFault::Device {
-            input,
-            offset: numbered.entry.claim.offset,
-        }),
+        Ok(None) => Err(AnswerFault::NoLines { input, entry }),
+        Err(CheckFault::Changed) => Err(AnswerFault::Damaged { input, entry }),
+        Err(CheckFault::Device) => Err(AnswerFault::Device { input, offset }),
         Err(CheckFault::OutOfMemory) => Err(AnswerFault::OutOfMemory),
     }
 }

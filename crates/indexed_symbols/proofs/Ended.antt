@@ -66,7 +66,7 @@ module _ {D P : Type 0} (lines : Bool) (IsSought : List (List ℕ) → Type 0) (
   tables_refused (Report n) unfailed r = absurd r
   tables_refused OutOfMemory unfailed r = (r, unfailed)
 
--- ---- a table is not told
+  -- ---- a table is not told
 
   fault_of : (lines : Bool) (answering : List EntryAt) (fault : AnswerFault) (at : InputName) (why : Why) → command_fault fault ≡ Input at why → ((texts : List (List ℕ)) → HaveTexts left mid texts → IsUntoldAmong lines texts answering fault)
       → BlamesAmong answering (each_known failures mid) (each_known failures new) fault → IsChanged named answering at why ⊎ (IsLineless lines named answering at why ⊎ IsUnreadTable named answering at why)

@@ -88,12 +88,12 @@ module _ {I P : Type 0} (left : I → Option (List ℕ)) (failures : I → ℕ) 
       ⊎ (AreTiedUnder (keys_of said) all × AreHeldUnder IsSought all (readers whole failures_at seen after) (λ content. TellsFrames lines content said status text))
       → AreToldAt lines (readers left failures old new) (readers whole failures_at before after) said status text
   told_at status text (inl told) = inl (
-    record {
-      all = all;
-      read = read_all left failures whole failures_at old mid new before seen after all long more long_at more_at read unfailed kept;
-      tells = tell_from _ _ (given_texts left failures whole failures_at old mid new before seen after all long more long_at more_at read unfailed kept) all lines said status text told;
-    }
-  )
+      record {
+        all = all;
+        read = read_all left failures whole failures_at old mid new before seen after all long more long_at more_at read unfailed kept;
+        tells = tell_from _ _ (given_texts left failures whole failures_at old mid new before seen after all long more long_at more_at read unfailed kept) all lines said status text told;
+      }
+      )
   told_at status text (inr (tied, held)) =
       let made = slices_make left failures whole failures_at old mid new before seen after all long more long_at more_at read unfailed kept lines (keys_of said) IsSought (same_members (keys_of said)) still_tied
       (λ o s t. TellsFrames lines o said s t) status text tied held in

@@ -59,23 +59,23 @@ module _ {I P : Type 0} (left : I → Option (List ℕ)) (failures : I → ℕ) 
       → TellTables (HaveTexts left mid) all key load lines addresses status text ⊎ (AreTiedUnder keys all × AreHeldUnder (λ ks. ks ≡ keys) all later (λ content. TellsAddresses content key load lines addresses status text))
       → (symbolicate_at named known key load lines addresses).Makes status text
   key_told status text (inl tells) = inl (
-    record {
-      all = all;
-      read = read_all left failures whole failures_at old mid new before seen after all long more long_at more_at read unfailed kept;
-      tells = record {
-        rows = tells.rows;
-        addresses_are = tells.addresses_are;
-        answered = λ k d lt.
-            let row = tells.answered k d lt in
-            record {
-              answer_is = λ texts given. row.answer_is texts (given_texts left failures whole failures_at old mid new before seen after all long more long_at more_at read unfailed kept texts given);
-              none_shown = row.none_shown;
-            };
-        status_is = tells.status_is;
-        text_is = tells.text_is;
-      };
-    }
-  )
+      record {
+        all = all;
+        read = read_all left failures whole failures_at old mid new before seen after all long more long_at more_at read unfailed kept;
+        tells = record {
+          rows = tells.rows;
+          addresses_are = tells.addresses_are;
+          answered = λ k d lt.
+              let row = tells.answered k d lt in
+              record {
+                answer_is = λ texts given. row.answer_is texts (given_texts left failures whole failures_at old mid new before seen after all long more long_at more_at read unfailed kept texts given);
+                none_shown = row.none_shown;
+              };
+          status_is = tells.status_is;
+          text_is = tells.text_is;
+        };
+      }
+      )
   key_told status text (inr (tied, held)) =
       let made = slices_make left failures whole failures_at old mid new before seen after all long more long_at more_at read unfailed kept
       lines keys (λ ks. ks ≡ keys) refl tied_own (λ o s t. TellsAddresses o key load lines addresses s t) status text tied held in
