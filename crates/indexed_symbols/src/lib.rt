@@ -2,7 +2,7 @@
 //!
 //! - `tables`: what the tables of indexes tell under a key;
 //! - `places`: the places that frames mean, each once; `told`: what the tables tell of them;
-//! - `shown`: the lines of what is told of a place;
+//! - `lines`: the lines of what is told of a place;
 //! - `symbolicate`, `frames`: a command each.
 //!
 //! # Why it is so
@@ -13,8 +13,8 @@
 #![tactic(auto)]
 
 mod frames;
+mod lines;
 mod places;
-mod shown;
 mod symbolicate;
 mod tables;
 mod told;

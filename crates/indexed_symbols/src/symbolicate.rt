@@ -11,7 +11,7 @@ ghost use Rattle.indexed_symbols.specs.InnerAsking.{AreAllOpened, AsksEither, As
 ghost use Rattle.indexed_symbols.specs.InnerTold.{ShowsAddresses};
 ghost use Rattle.indexed_symbols.specs.Symbolicate.{symbolicate_at};
 
-use crate::shown::push_told;
+use crate::lines::push_told;
 use crate::tables::tell_key;
 use archive_core::{Archive, SliceKey};
 use archive_queries::{answer_each, places_of, status_behind};

@@ -13,8 +13,8 @@ ghost use Rattle.indexed_symbols.specs.InnerPlaces.{asked_cmp, has_key};
 ghost use Rattle.indexed_symbols.specs.InnerTold.{AreInOrder, AreTold, HasTold, HaveToldEach, IsToldUnder};
 ghost use Rattle.indexed_symbols.specs.InnerTold.{ShowsFrames, StandsAt};
 
+use crate::lines::push_told;
 use crate::places::{AskedPlace, compare_places};
-use crate::shown::push_told;
 use crate::tables::tell_key;
 use archive_core::{SliceKey, Where, compare_keys};
 use archive_queries::status_behind;
