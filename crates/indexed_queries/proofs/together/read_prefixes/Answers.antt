@@ -2,9 +2,9 @@ use Rattle.std.proofs.Common.{map}
 use Rattle.std.proofs.lemmas.Result.{err_from_is_err_and}
 use Rattle.command_ends.specs.Inputs.{readers}
 use Rattle.command_ends.proofs.Readers.{none_failed}
-use Rattle.indexed_queries.specs.Fronts.{front_bytes}
+use Rattle.indexed_queries.specs.Prefixes.{prefix_bytes}
 use Rattle.indexed_queries.proofs.Groups.{all_held}
-use Rattle.indexed_queries.proofs.together.read_fronts.Goals as goal
+use Rattle.indexed_queries.proofs.together.read_prefixes.Goals as goal
 
 pub returns-in_err-clone : goal.returns-in_err-clone
 returns-in_err-clone g c =
@@ -16,6 +16,6 @@ returns g c =
     let archives = readers g.P.Placed.whole g.P.Placed.failures c.args.archives.now c.join_each.new.archives in
     let joined = c.in_ok-join_each.ensures in
     record {
-      is = all_held (map front_bytes c.args.fronts.now) archives c.args.read.now _ _ c.empty-kept.ensures joined.is;
+      is = all_held (map prefix_bytes c.args.prefixes.now) archives c.args.read.now _ _ c.empty-kept.ensures joined.is;
       unfailed = joined.unfailed;
     }

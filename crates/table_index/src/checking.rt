@@ -1,12 +1,12 @@
-//! The tests of the entries of an index.
+//! The checks of the entries of an index.
 
 ghost use Rattle.std.specs.Prelude.{◌≡◌, ◌≢◌, ◌⊎◌, ◌+◌, ◌*◌, ◌<◌, ◌≤◌, ◌^◌, ℕ, List, IfOk, IfErr, length};
 ghost use Rattle.checked_pages.specs.Views.{claim_view};
 ghost use Rattle.archive_index.specs.Entry.{has_kind, has_length, has_tag};
 ghost use Rattle.table_index.specs.Entry.{has_claim, stored_size};
 ghost use Rattle.table_index.specs.Fault.{FailsAfter};
-ghost use Rattle.table_index.specs.InnerReading.{AreTested};
-ghost use Rattle.table_index.specs.Text.{test_entry};
+ghost use Rattle.table_index.specs.InnerReading.{AreChecked};
+ghost use Rattle.table_index.specs.Text.{check_entry};
 ghost use Rattle.index_faults.specs.declared.fault.IndexFaultKind.TheVariants.{Device, OutOfMemory};
 
 use crate::TableEntry;
@@ -76,11 +76,11 @@ fn has_claim(bytes: &[u8], end: u64) -> bool
     }
 }
 
-/// Tests an entry after this last one, where the tables end at this offset.
-#[tactic(auto, unfolding(crate::specs::Text::test_entry))]
-fn test_entry(last: &[u8], bytes: &[u8], end: u64) -> Result<(), IndexFaultKind>
+/// Checks an entry after this last one, where the tables end at this offset.
+#[tactic(auto, unfolding(crate::specs::Text::check_entry))]
+fn check_entry(last: &[u8], bytes: &[u8], end: u64) -> Result<(), IndexFaultKind>
     requires { length bytes.now ≡ 122 }
-    ensures tested { result ≡ test_entry end last.now bytes.now }
+    ensures checked { result ≡ check_entry end last.now bytes.now }
     ensures faulty { IfErr result (λ kind. kind ≢ Device) }
 {
     if !has_tag(bytes) {
@@ -110,7 +110,7 @@ pub(crate) fn entries_in(
 ) -> Result<Vec<TableEntry, Heap>, IndexFault>
     requires whole { length bytes.now ≡ 122 * count }
     requires fits { end + length bytes.now < 2 ^ 64 }
-    ensures read { IfOk result (λ entries. AreTested end bytes.now entries.items) }
+    ensures read { IfOk result (λ entries. AreChecked end bytes.now entries.items) }
     ensures faulty { IfErr result (λ fault. ((fault.kind ≡ OutOfMemory) × (fault.offset ≡ end))
         ⊎ ((before : List (List ℕ)) × FailsAfter end bytes.now before fault)) }
     ensures device { IfErr result (λ fault. fault.kind ≢ Device) }
@@ -120,7 +120,7 @@ pub(crate) fn entries_in(
     'reading: for index in 0..count {
         let at = ENTRY_LEN * index as usize;
         let entry = &bytes[at..at + ENTRY_LEN];
-        if let Err(kind) = test_entry(last, entry, end) {
+        if let Err(kind) = check_entry(last, entry, end) {
             return Err(IndexFault {
                 kind,
                 offset: end + at as u64,

@@ -9,7 +9,7 @@ use uuid::Uuid;
 
 /// What a key begins with.
 #[derive(Clone, Copy)]
-pub enum Front {
+pub enum KeyPrefix {
     /// A UUID, of which there may be several keys.
     Uuid(Uuid),
     /// A whole key.

@@ -3,13 +3,13 @@ use Rattle.std.specs.Prelude.{All}
 use Rattle.std.specs.List.{concat}
 use Rattle.archive_records.specs.Text.{last_of}
 use Rattle.table_index.specs.Entry.{HasItsFields, entry_bytes}
-use Rattle.table_index.specs.Text.{PassTests}
-use Rattle.table_index.proofs.testing.entries_in.Given as goal
+use Rattle.table_index.specs.Text.{PassChecks}
+use Rattle.table_index.proofs.checking.entries_in.Given as goal
 
 abbrev pub invariant-reading : goal.invariant-reading
 invariant-reading l = record {
   whole : concat (map entry_bytes l.entries.items) ≡ take (122 * l.index) l.bytes;
   fields : All HasItsFields l.entries.items;
-  pass : PassTests l.end [] (map entry_bytes l.entries.items);
+  pass : PassChecks l.end [] (map entry_bytes l.entries.items);
   last_is : l.last ≡ last_of [] (map entry_bytes l.entries.items);
 }
