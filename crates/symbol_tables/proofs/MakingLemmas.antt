@@ -72,7 +72,7 @@ unfolding head_bytes head_of_numbers
 head_along t base n r s l b p q e f = λ i. head_of_numbers (b i) (p i) (q i) (e i) (f i)
 
 -- the table of an image, by its rows and lines
-parts_for : List ℕ → List Row → List ℕ → TableParts
+abbrev parts_for : List ℕ → List Row → List ℕ → TableParts
 parts_for image rows lines = record { base = text_base_of image; names = map names_of (take 255 (sections image)); rows = rows; strings = strings_of image; lines = lines }
 
 pub text_is : (image : List ℕ) (ss : List Section) (rows : List Row) (base : Option ℕ) (n r s l : ℕ) (none one two front strings lines : List ℕ) → AreSectionsOf image ss → AreSteps image rows

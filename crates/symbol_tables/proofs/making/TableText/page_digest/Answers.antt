@@ -3,8 +3,11 @@ use Rattle.sha2.specs.Sha256.{sha256}
 use Rattle.symbol_tables.proofs.MakingLemmas.{part_of_three}
 use Rattle.symbol_tables.proofs.making.TableText.page_digest.Goals as goal
 
-pub overflow_sub-second : goal.overflow_sub-second
-overflow_sub-second c = omega (arith, ap length c.part-first.ensures, length-take 16384 (drop (16384 * c.args.index) c.deref.result.now))
+pub overflow_sub-first : goal.overflow_sub-first
+overflow_sub-first c = omega (arith, ap length c.part-first.ensures, length-take 16384 (drop (16384 * c.args.index) c.deref.result.now))
+
+pub overflow_sub-left : goal.overflow_sub-left
+overflow_sub-left c = omega (arith, ap length c.part-first.ensures, length-take 16384 (drop (16384 * c.args.index) c.deref.result.now))
 
 pub returns : goal.returns
 returns c =
