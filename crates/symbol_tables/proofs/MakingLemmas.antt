@@ -156,6 +156,9 @@ part_of_both a b from n = elim (cases_lt (length a) from) [
       ap (take n) (drop-append-le from a b l) ∙ take_of_both (drop from a) b n ∙ ap (λ k. take n (drop from a) ++ take (n - length (take n (drop from a))) (drop k b)) here
 ]
 
+pub part_short : (part : List ℕ) (n : ℕ) (all : List ℕ) → part ≡ take n all → length part ≤ n
+part_short part n all is = omega (arith, ap length is, length-take n all)
+
 -- and so it is of three, where the third has what the second leaves
 pub part_of_three : (a b c : List ℕ) (from n : ℕ) → take n (drop from (a ++ (b ++ c)))
     ≡ take n (drop from a) ++ (take (n - length (take n (drop from a))) (drop (from - length a) b)
