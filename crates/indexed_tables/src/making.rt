@@ -52,8 +52,8 @@ fn put_front<R: Source, W: Sink>(
 }
 
 /// Makes the index of an archive of version 2 as it comes: each table is written once its record was read and tested,
-/// and the entries last. It takes the memory of a record and its table, of 57 bytes for each retirement, and of the
-/// entries.
+/// and the entries last. It takes the memory of a record, of its table and of what makes the lines of that
+/// (`line_making::line_table`), of 57 bytes for each retirement, and of the entries.
 ///
 /// # Errors
 ///

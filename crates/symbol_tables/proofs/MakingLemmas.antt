@@ -72,7 +72,7 @@ unfolding head_bytes head_of_numbers
 head_along t base n r s l b p q e f = λ i. head_of_numbers (b i) (p i) (q i) (e i) (f i)
 
 -- the table of an image, by its rows and lines
-parts_for : List ℕ → List Row → List ℕ → TableParts
+abbrev parts_for : List ℕ → List Row → List ℕ → TableParts
 parts_for image rows lines = record { base = text_base_of image; names = map names_of (take 255 (sections image)); rows = rows; strings = strings_of image; lines = lines }
 
 pub text_is : (image : List ℕ) (ss : List Section) (rows : List Row) (base : Option ℕ) (n r s l : ℕ) (none one two front strings lines : List ℕ) → AreSectionsOf image ss → AreSteps image rows
@@ -155,6 +155,9 @@ part_of_both a b from n = elim (cases_lt (length a) from) [
       let here : 0 ≡ from - length a = omega (arith, l) in
       ap (take n) (drop-append-le from a b l) ∙ take_of_both (drop from a) b n ∙ ap (λ k. take n (drop from a) ++ take (n - length (take n (drop from a))) (drop k b)) here
 ]
+
+pub part_short : (part : List ℕ) (n : ℕ) (all : List ℕ) → part ≡ take n all → length part ≤ n
+part_short part n all is = omega (arith, ap length is, length-take n all)
 
 -- and so it is of three, where the third has what the second leaves
 pub part_of_three : (a b c : List ℕ) (from n : ℕ) → take n (drop from (a ++ (b ++ c)))

@@ -106,7 +106,8 @@ impl<'a> TableText<'a> {
         let after = from.saturating_sub(self.front.len());
         let second = part(self.strings, after, PAGE_LEN as usize - first.len());
         let left = PAGE_LEN as usize - first.len() - second.len();
-        let third = part(&self.lines, after.saturating_sub(self.strings.len()), left);
+        let past = after.saturating_sub(self.strings.len());
+        let third = part(&self.lines, past, left);
         let mut hasher = Sha256::new();
         hasher.update(first);
         hasher.update(second);

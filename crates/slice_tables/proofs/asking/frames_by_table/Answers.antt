@@ -8,26 +8,26 @@ use Rattle.line_tables.proofs.OpeningLemmas.{found_none, found_some}
 use Rattle.slice_tables.proofs.SliceTables.{without_lines}
 use Rattle.slice_tables.proofs.asking.frames_by_table.Goals as goal
 
-pub returns-in_err-open_lines : goal.returns-in_err-open_lines
-returns-in_err-open_lines g c =
-    let p = err_from_is_err_and c.from_residual-in_err-open_lines.result c.from_residual-in_err-open_lines.ensures.1 in
-    passed_on _ _ _ _ _ _ _ _ _ _ _ c.in_err-open_lines.was (p.1 ∙ ap Err p.2)
+pub returns-in_err-pages : goal.returns-in_err-pages
+returns-in_err-pages g c =
+    let p = err_from_is_err_and c.from_residual-in_err-pages.result c.from_residual-in_err-pages.ensures.1 in
+    passed_on _ _ _ _ _ _ _ _ _ _ _ c.in_err-pages.was (p.1 ∙ ap Err p.2)
     (λ text known absent long image all is stored. absent long image is.lines all is.is_table stored)
     c.open_lines.ensures.read
 
 pub returns-in_err-table : goal.returns-in_err-table
 returns-in_err-table g c =
     let p = err_from_is_err_and c.from_residual-in_err-table.result c.from_residual-in_err-table.ensures.1 in
-    let opened = c.in_ok-open_lines.ensures.read in
+    let opened = c.in_ok-pages.ensures.read in
     passed_on _ _ _ _ _ _ _ _ _ _ _ c.in_err-table.was (p.1 ∙ ap Err p.2)
     (λ text known absent long image all is stored.
     let pages = opened.says text known image is.lines all is.is_table (may_be text all (claim_view c.args.claim) stored) in
-    absent image all is.lines (subst (λ claim. AreStored text (claim_view claim) all) (sym c.in_ok-open_lines.ensures.claim) stored) pages.0 pages.1 is.are_lines)
+    absent image all is.lines (subst (λ claim. AreStored text (claim_view claim) all) (sym c.in_ok-pages.ensures.claim) stored) pages.0 pages.1 is.are_lines)
     (after_ok _ _ _ _ _ _ _ _ opened.keeps opened.counts c.open.ensures.read)
 
 pub returns-in_default : goal.returns-in_default
 returns-in_default g c =
-    let opened = c.in_ok-open_lines.ensures.read in
+    let opened = c.in_ok-pages.ensures.read in
     let table = after_ok _ _ _ _ _ _ _ _ opened.keeps opened.counts c.in_ok-table.ensures.read in
     record {
       says = λ text known image all is may.
@@ -41,18 +41,18 @@ returns-in_default g c =
 pub returns-in_err-frames : goal.returns-in_err-frames
 returns-in_err-frames g c =
     let p = err_from_is_err_and c.from_residual-in_err-frames.result c.from_residual-in_err-frames.ensures.1 in
-    let opened = c.in_ok-open_lines.ensures.read in
+    let opened = c.in_ok-pages.ensures.read in
     let table = after_ok _ _ _ _ _ _ _ _ opened.keeps opened.counts c.in_ok-table.ensures.read in
     passed_on _ _ _ _ _ _ _ _ _ _ _ c.in_err-frames.was (p.1 ∙ ap Err p.2)
     (λ text known absent long image all is stored.
     let pages = opened.says text known image is.lines all is.is_table (may_be text all (claim_view c.args.claim) stored) in
     let found = found_some image all is.lines text c.open.new.pages _ c.in-Some.table c.in-Some.is (table.says text known image all is.lines pages.0 pages.1 is.are_lines) in
-    absent image all found.0 (subst (λ claim. AreStored text (claim_view claim) all) (sym (c.in_ok-table.ensures.claim ∙ c.in_ok-open_lines.ensures.claim)) stored) found.1 found.2)
+    absent image all found.0 (subst (λ claim. AreStored text (claim_view claim) all) (sym (c.in_ok-table.ensures.claim ∙ c.in_ok-pages.ensures.claim)) stored) found.1 found.2)
     (after_ok _ _ _ _ _ _ _ _ table.keeps table.counts c.frames_at.ensures.read)
 
 pub returns : goal.returns
 returns g c =
-    let opened = c.in_ok-open_lines.ensures.read in
+    let opened = c.in_ok-pages.ensures.read in
     let table = after_ok _ _ _ _ _ _ _ _ opened.keeps opened.counts c.in_ok-table.ensures.read in
     let frames = after_ok _ _ _ _ _ _ _ _ table.keeps table.counts c.in_ok-frames.ensures.read in
     record {

@@ -1,10 +1,13 @@
 use Rattle.std.proofs.Common.{rules, ◌≡◌, ◌∙◌, ◌++◌, ◌-◌, ◌*◌, ap, append_assoc, arith, drop, length, length-take, sym, take}
 use Rattle.sha2.specs.Sha256.{sha256}
-use Rattle.symbol_tables.proofs.MakingLemmas.{part_of_three}
+use Rattle.symbol_tables.proofs.MakingLemmas.{part_of_three, part_short}
 use Rattle.symbol_tables.proofs.making.TableText.page_digest.Goals as goal
 
-pub overflow_sub-second : goal.overflow_sub-second
-overflow_sub-second c = omega (arith, ap length c.part-first.ensures, length-take 16384 (drop (16384 * c.args.index) c.deref.result.now))
+pub overflow_sub-first : goal.overflow_sub-first
+overflow_sub-first c = omega (arith, ap length c.part-first.ensures, length-take 16384 (drop (16384 * c.args.index) c.deref.result.now))
+
+pub overflow_sub-left : goal.overflow_sub-left
+overflow_sub-left c = omega (arith, part_short _ _ _ c.part-first.ensures, part_short _ _ _ c.part-second.ensures)
 
 pub returns : goal.returns
 returns c =
@@ -18,7 +21,8 @@ returns c =
     let first = c.part-first.ensures ∙ ap (λ b. take 16384 (drop from b)) c.deref.ensures.value in
     let after : c.saturating_sub-after.result ≡ from - length front = search rules in
     let second = c.part-second.ensures ∙ (λ i. take (16384 - length (first i)) (drop (after i) strings)) in
-    let past : c.saturating_sub.result ≡ from - length front - length strings = search rules in
+    let beyond : c.saturating_sub-past.result ≡ c.saturating_sub-after.result - length strings = search rules in
+    let past = beyond ∙ ap (λ n. n - length strings) after in
     let third = c.part-third.ensures ∙ (λ i. take (16384 - length (first i) - length (second i)) (drop (past i) (c.deref-2.ensures.value i))) in
     hashed ∙ ap sha256 (append_assoc a b c.part-third.result.now ∙ (λ i. first i ++ (second i ++ third i)) ∙ sym (part_of_three front strings lines from 16384)
     ∙ ap (λ b. take 16384 (drop from b)) c.self.view_is)
