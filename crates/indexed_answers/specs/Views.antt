@@ -1,13 +1,16 @@
 -- What is told, as the code has it.
 use Rattle.std.specs.Prelude.{◌≡◌, ℕ, Bool, true, false, List, [], ◌∷◌, map, take, drop, slice_get, slice_index_or}
-use Rattle.std.specs.Prelude.{Option, None, Some}
+use Rattle.std.specs.Prelude.{Option, None, Some, Vec}
 use Rattle.std.specs.List.{AllZip}
 use Rattle.std.specs.Option.{option_map}
 use Rattle.macho_symbols.specs.Found.{FoundRecord}
 use Rattle.source_frames.specs.Frames.{FrameRecord}
+use Rattle.source_frames.specs.FrameViews.{frame_view}
+use Rattle.source_frames.specs.declared.frame.Frame.{Frame}
 use Rattle.symbol_tables.specs.Found.{owned_view}
 use Rattle.symbol_tables.specs.declared.found.OwnedFound.{OwnedFound}
 use Rattle.line_tables.specs.FrameViews.{owned_frames}
+use Rattle.line_tables.specs.declared.frame.OwnedFrame.{OwnedFrame}
 use Rattle.archive_core.specs.Lookup.{AnswerRecord, OwnRow, Unanswered, Alone, Disputed}
 use Rattle.archive_core.specs.declared.lookup.Where.{Where}
 use Rattle.table_index.specs.Entry.{claim_in}
@@ -19,9 +22,17 @@ use Rattle.indexed_answers.specs.declared.answers.EntryAnswers.{EntryAnswers}
 abbrev pub told_view : Option OwnedFound → Option FoundRecord
 told_view own = option_map owned_view own
 
+-- the frames of a place
+abbrev pub list_in : {A : Type 0} → Vec OwnedFrame A → List FrameRecord
+list_in list = owned_frames list.items
+
+-- the same, lent
+abbrev pub lent_in : {A : Type 0} → Vec Frame A → List FrameRecord
+lent_in list = map (λ frame. frame_view frame) list.items
+
 -- the frames of places
 abbrev pub frame_lists : EntryAnswers → List (List FrameRecord)
-frame_lists column = map (λ list. owned_frames list.items) column.frames.items
+frame_lists column = map list_in column.frames.items
 
 -- what an entry tells of places, in their order, over these bytes of the indexes, and if lines are wanted the frames
 pub record IsColumnAt (texts : List (List ℕ)) (lines : Bool) (asked : List Where) (x : EntryAt)

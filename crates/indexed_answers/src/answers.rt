@@ -3,8 +3,7 @@
 ghost use Rattle.std.specs.Prelude.{◌≡◌, IfOk, map, slice_index_or, None};
 ghost use Rattle.archive_core.specs.Lookup.{Alone, answer_view, own_row, own_view};
 ghost use Rattle.line_tables.specs.FrameViews.{owned_frames};
-ghost use Rattle.source_frames.specs.FrameViews.{frame_view};
-ghost use Rattle.indexed_answers.specs.Views.{answer_of, frames_at, row_at, shown_of, told_view};
+ghost use Rattle.indexed_answers.specs.Views.{answer_of, frames_at, lent_in, row_at, shown_of, told_view};
 
 use archive_core::{Answer, Digest, Own};
 use line_tables::OwnedFrame;
@@ -43,7 +42,7 @@ impl EntryAnswers {
 
     /// The frames of the place of this number, lent.
     fn frames(&self, heap: Heap, number: usize) -> Result<Vec<Frame<'_>, Heap>, NoMemory>
-        ensures { IfOk result (λ frames. map (λ frame. frame_view frame) frames.items ≡ frames_at number self.now) }
+        ensures { IfOk result (λ frames. lent_in frames ≡ frames_at number self.now) }
     {
         match self.frames.get(number) {
             Some(frames) => lent_each(heap, frames),
@@ -54,7 +53,7 @@ impl EntryAnswers {
 
 /// Frames, lent.
 fn lent_each(heap: Heap, frames: &[OwnedFrame]) -> Result<Vec<Frame<'_>, Heap>, NoMemory>
-    ensures { IfOk result (λ lent. map (λ frame. frame_view frame) lent.items ≡ owned_frames frames.now) }
+    ensures { IfOk result (λ lent. lent_in lent ≡ owned_frames frames.now) }
 {
     let mut lent = Vec::with_capacity(heap, frames.len())?;
     'frames: for frame in frames {
@@ -94,7 +93,7 @@ fn frames_of_each<'c>(
     columns: &'c [EntryAnswers],
     number: usize,
 ) -> Result<Vec<Vec<Frame<'c>, Heap>, Heap>, NoMemory>
-    ensures { IfOk result (λ lists. map (λ list. map (λ frame. frame_view frame) list.items) lists.items
+    ensures { IfOk result (λ lists. map lent_in lists.items
         ≡ map (frames_at number) columns.now) }
 {
     let mut lists = Vec::new(heap.clone()?);
@@ -126,7 +125,7 @@ impl Answers {
         lines: bool,
         number: usize,
     ) -> Result<Vec<Vec<Frame<'_>, Heap>, Heap>, NoMemory>
-        ensures { IfOk result (λ lists. map (λ list. map (λ frame. frame_view frame) list.items) lists.items
+        ensures { IfOk result (λ lists. map lent_in lists.items
             ≡ shown_of lines number self.now.columns.items) }
     {
         if lines {

@@ -11,6 +11,7 @@ ghost use Rattle.line_tables.specs.Steps.{AreFrameSteps, StepRecord};
 ghost use Rattle.slice_tables.specs.SliceTable.{IsSliceTable};
 ghost use Rattle.indexed_answers.specs.InnerAnswering.{AreFramesBased, AreFramesOpened};
 ghost use Rattle.indexed_answers.specs.Told.{HasNoLinesBy};
+ghost use Rattle.indexed_answers.specs.Views.{list_in};
 
 use crate::own::address_of;
 use archive_core::Where;
@@ -54,7 +55,7 @@ fn frames_of_each<P: Placed>(
 ) -> Result<Vec<Vec<OwnedFrame, Heap>, Heap>, CheckFault>
     ensures { ReadsStored P.whole P.failures device.old device.new result
         (λ text lists. AllZip (AreFramesOpened table.now pages.old base text) asked.now
-        (map (λ list. owned_frames list.items) lists.items))
+        (map list_in lists.items))
         (λ text. (slice all : List ℕ) (steps : List StepRecord) → AreStored text (claim_view pages.old.claim) all
         → AreFrameSteps slice steps → IsOpened table.now pages.old text all steps → ⊥) }
 {
@@ -86,7 +87,7 @@ fn frames_by_claim<P: Placed>(
     ensures { ReadsStored P.whole P.failures device.old device.new result
         (λ text found. MatchOption found (HasNoLinesBy text (claim_view claim))
         (λ lists. AllZip (AreFramesBased base text (claim_view claim)) asked.now
-        (map (λ list. owned_frames list.items) lists.items)))
+        (map list_in lists.items)))
         (λ text. length text < 2 ^ 64 → (slice all : List ℕ) → IsSliceTable slice all
         → AreStored text (claim_view claim) all → ⊥) }
 {
@@ -113,7 +114,7 @@ pub(crate) fn frames_if<P: Placed>(
     ensures { ReadsStored P.whole P.failures device.old device.new result
         (λ text found. MatchOption found ((lines ≡ true) × HasNoLinesBy text (claim_view claim))
         (λ lists. lines ≡ true → AllZip (AreFramesBased base text (claim_view claim)) asked.now
-        (map (λ list. owned_frames list.items) lists.items)))
+        (map list_in lists.items)))
         (λ text. length text < 2 ^ 64 → (slice all : List ℕ) → IsSliceTable slice all
         → AreStored text (claim_view claim) all → ⊥) }
 {

@@ -2,7 +2,8 @@
 
 ghost use Rattle.std.specs.Prelude.{◌≡◌, ◌++◌, IfOk, OnOk, map, string_bytes};
 ghost use Rattle.report_text.specs.Answers.{answer_lines};
-ghost use Rattle.report_text.specs.FrameLists.{list_view, lists_view};
+ghost use Rattle.report_text.specs.FrameLists.{lists_view};
+ghost use Rattle.indexed_answers.specs.Views.{lent_in};
 ghost use Rattle.indexed_symbols.specs.InnerTold.{shown_at};
 
 use archive_core::Answer;
@@ -16,7 +17,7 @@ fn lent_lists<'l, 'f>(
     heap: Heap,
     lists: &'l [Vec<Frame<'f>, Heap>],
 ) -> Result<Vec<&'l [Frame<'f>], Heap>, NoMemory>
-    ensures { IfOk result (λ lent. lists_view lent.items ≡ map (λ list. list_view list.items) lists.now) }
+    ensures { IfOk result (λ lent. lists_view lent.items ≡ map lent_in lists.now) }
 {
     let mut lent = Vec::with_capacity(heap, lists.len())?;
     'lists: for list in lists {

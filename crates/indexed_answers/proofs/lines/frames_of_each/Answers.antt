@@ -6,12 +6,12 @@ use Rattle.checked_pages.specs.Pages.{AreStored}
 use Rattle.checked_pages.specs.Views.{ArePagesOf, claim_view}
 use Rattle.checked_pages.specs.declared.pages.Pages.{Pages}
 use Rattle.checked_pages.proofs.ReadLemmas.{after_ok, passed_on}
-use Rattle.line_tables.specs.FrameViews.{owned_frames}
 use Rattle.line_tables.specs.Opened.{IsOpened}
 use Rattle.line_tables.specs.Steps.{StepRecord}
 use Rattle.line_tables.specs.declared.table.LineTable.{LineTable}
 use Rattle.archive_core.specs.declared.lookup.Where.TheVariants.{File}
 use Rattle.indexed_answers.specs.InnerAnswering.{AreFramesOpened}
+use Rattle.indexed_answers.specs.Views.{list_in}
 use Rattle.indexed_answers.proofs.Columns.{any_default, zip_viewed}
 use Rattle.indexed_answers.proofs.lines.frames_of_each.Goals as goal
 
@@ -28,7 +28,7 @@ asked-preserved g c =
       unfailed = own.read.counts ∙ c.asked.invariant.unfailed;
       keeps = λ text all known pages. own.keeps text all (c.asked.invariant.whole ∙ known) (c.asked.invariant.keeps text all known pages);
       told = λ text known.
-          zip_viewed (AreFramesOpened c.args.table.now c.args.pages.now c.args.base text) (λ list. owned_frames list.items) c.args.asked.now c.asked.place-index (get_or c.args.asked.now c.asked.place-index (File 0)) c.asked.lists.items c.push.new.self.items c.in_ok-frames.frames c.asked-test.true (any_default c.args.asked.now c.asked.place-index (File 0) _ c.asked-test.true) c.in_default-push.ensures.items
+          zip_viewed (AreFramesOpened c.args.table.now c.args.pages.now c.args.base text) list_in c.args.asked.now c.asked.place-index (get_or c.args.asked.now c.asked.place-index (File 0)) c.asked.lists.items c.push.new.self.items c.in_ok-frames.frames c.asked-test.true (any_default c.args.asked.now c.asked.place-index (File 0) _ c.asked-test.true) c.in_default-push.ensures.items
           (c.asked.invariant.told text known)
           (λ slice all steps are base opened. own.read.says text (c.asked.invariant.whole ∙ known) slice all steps are base (still c.args.table.now c.args.pages.now c.asked.pages text all steps (c.asked.invariant.keeps text all known) opened));
     }
@@ -43,7 +43,7 @@ returns-in_err-frames g c =
 
 pub returns : goal.returns
 returns g c = record {
-  says = λ text known. subst (λ xs. AllZip (AreFramesOpened c.args.table.now c.args.pages.now c.args.base text) xs (map (λ list. owned_frames list.items) c.asked.lists.items)) (take_all c.asked.place-index c.args.asked.now (omega (arith, c.asked-test.false))) (c.asked.invariant.told text known);
+  says = λ text known. subst (λ xs. AllZip (AreFramesOpened c.args.table.now c.args.pages.now c.args.base text) xs (map list_in c.asked.lists.items)) (take_all c.asked.place-index c.args.asked.now (omega (arith, c.asked-test.false))) (c.asked.invariant.told text known);
   keeps = c.asked.invariant.whole;
   counts = c.asked.invariant.unfailed;
 }

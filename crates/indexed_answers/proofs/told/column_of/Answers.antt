@@ -3,9 +3,8 @@ use Rattle.std.specs.List.{AllZip}
 use Rattle.std.proofs.lemmas.Result.{err_from_is_err_and}
 use Rattle.checked_pages.specs.Pages.{AreStored}
 use Rattle.checked_pages.proofs.ReadLemmas.{after_ok, passed_on}
-use Rattle.line_tables.specs.FrameViews.{owned_frames}
 use Rattle.indexed_answers.specs.Told.{AreFramesToldBy, IsToldBy}
-use Rattle.indexed_answers.specs.Views.{told_view}
+use Rattle.indexed_answers.specs.Views.{list_in, told_view}
 use Rattle.indexed_answers.proofs.Columns.{zip_as}
 use Rattle.indexed_answers.proofs.Wanted.{found_none, found_one}
 use Rattle.indexed_answers.proofs.told.column_of.Goals as goal
@@ -43,10 +42,10 @@ returns g c =
       says = λ text known.
           let told = owns.says text known in
           record {
-            digest_is = c.digest_in.ensures ∙ ap (λ (b : List ℕ). take 32 (drop 25 b)) c.bytes.ensures;
+            digest_is = c.digest_in-digest.ensures ∙ ap (λ (b : List ℕ). take 32 (drop 25 b)) c.bytes.ensures;
             owns = subst (λ claim. AllZip (IsToldBy text claim) c.args.asked.now (map told_view c.in_ok-base.owns.items)) (sym c.args.numbered.now.fields.claim_is) told.1;
             frames = λ wanted.
-                subst (λ claim. AllZip (AreFramesToldBy text claim) c.args.asked.now (map (λ list. owned_frames list.items) c.in-Some.frames.items)) (sym c.args.numbered.now.fields.claim_is)
+                subst (λ claim. AllZip (AreFramesToldBy text claim) c.args.asked.now (map list_in c.in-Some.frames.items)) (sym c.args.numbered.now.fields.claim_is)
                 (zip_as _ _ c.args.asked.now _ (λ place list has slice all bytes is may. has slice all bytes (told.0 slice all bytes is may) is may) (found_one _ _ _ (frames.says text known) c.in-Some.frames c.in-Some.is wanted));
           };
       keeps = frames.keeps;

@@ -33,7 +33,7 @@ returns g c =
       says = λ text known. (
         λ slice all bytes is may.
             let here = opened.says text known is.is_table.0 is.is_table.2 (subst (MayBeStored text (claim_view c.args.claim)) is.is_table.3 may) in
-            c.text_base.ensures ∙ here.head.base ∙ is.is_table.1.base,
+            c.text_base-base.ensures ∙ here.head.base ∙ is.is_table.1.base,
         zip_as _ _ c.args.asked.now _ (λ place own told slice all bytes is may.
             told slice is.is_table.0 bytes is.is_table.1 (opened.says text known is.is_table.0 is.is_table.2 (subst (MayBeStored text (claim_view c.args.claim)) is.is_table.3 may))) (asked.says text known),
       );
