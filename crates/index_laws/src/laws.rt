@@ -41,12 +41,12 @@ pub fn undamaged_among()
         → answers_among front (all_of indexes) x.entry ≡ true → slice_get texts x.input ≡ Some text
         → HasNoTable text x.entry → ⊥ }
     ensures told { (os : List Operations) (texts : List (List ℕ)) (indexes : List (List (List ℕ))) (front : List ℕ)
-        (lines : Bool) (answering : List EntryAt) (input number : ℕ) → AreIndexes os texts indexes
-        → AreAnsweringAmong front indexes answering → IsUntoldAmong lines texts answering (Damaged input number) → ⊥ }
+        (answering : List EntryAt) (input number : ℕ) → AreIndexes os texts indexes
+        → AreAnsweringAmong front indexes answering → IsUntoldAmong texts answering (Damaged input number) → ⊥ }
     ensures lineless { (os : List Operations) (texts : List (List ℕ)) (indexes : List (List (List ℕ)))
-        (front : List ℕ) (lines : Bool) (answering : List EntryAt) (input number : ℕ) → AreIndexes os texts indexes
-        → AreAnsweringAmong front indexes answering → IsUntoldAmong lines texts answering (NoLines input number)
-        → (lines ≡ true) × ((slice : List ℕ) × IsHeld os slice × HasNoLines slice) }
+        (front : List ℕ) (answering : List EntryAt) (input number : ℕ) → AreIndexes os texts indexes
+        → AreAnsweringAmong front indexes answering → IsUntoldAmong texts answering (NoLines input number)
+        → (slice : List ℕ) × IsHeld os slice × HasNoLines slice }
 {}
 
 /// Entries that are tied are those of two different slices of one length that answer under the key, of two contents.

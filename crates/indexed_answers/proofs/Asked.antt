@@ -86,7 +86,7 @@ module _ {D : Type 0} (whole : D → Option (List ℕ)) (failures : D → ℕ) (
   named input number a b = subst (Contains answering) (λ i. record { input = sym a i; number = sym b i; entry = x.entry }) answers
 
   says_of : (r : Result EntryAnswers AnswerFault) (texts : List (List ℕ)) (text : List ℕ) → slice_get texts x.input ≡ Some text
-      → MatchResult r (λ column. IsColumnOf text lines asked x column) (IsUntoldOne lines text x) → MatchResult r (λ column. IsColumnAt texts lines asked x column) (IsUntoldAmong lines texts answering)
+      → MatchResult r (λ column. IsColumnOf text lines asked x column) (IsUntoldOne text x) → MatchResult r (λ column. IsColumnAt texts lines asked x column) (IsUntoldAmong texts answering)
   says_of (Ok column) texts text at h = record {
     digest_is = h.digest_is;
     owns = λ other there. subst (λ t. AllZip (IsToldBy t (claim_in x.entry)) asked (map told_view column.owns.items)) (same_Some text other (sym at ∙ there)) h.owns;
@@ -99,24 +99,21 @@ module _ {D : Type 0} (whole : D → Option (List ℕ)) (failures : D → ℕ) (
     text_is = ap (slice_get texts) h.0 ∙ at;
     absent = h.2;
   }
-  says_of (Err (NoLines input number)) texts text at h = (
-    h.2,
-    record {
-      entry = x.entry;
-      answers = named input number h.0 h.1;
-      text = text;
-      text_is = ap (slice_get texts) h.0 ∙ at;
-      lacks = h.3;
-    },
-  )
+  says_of (Err (NoLines input number)) texts text at h = record {
+    entry = x.entry;
+    answers = named input number h.0 h.1;
+    text = text;
+    text_is = ap (slice_get texts) h.0 ∙ at;
+    lacks = h.2;
+  }
   says_of (Err (Device input offset)) texts text at h = tt
   says_of (Err OutOfMemory) texts text at h = tt
 
-  counts_of : (r : Result EntryAnswers AnswerFault) → MatchResult r (λ _. failures after ≡ failures before) (BlamesOne x (failures before) (failures after))
-      → MatchResult r (λ _. each_known failures news ≡ each_known failures devices) (BlamesAmong answering (each_known failures devices) (each_known failures news))
+  counts_of : (r : Result EntryAnswers AnswerFault) → MatchResult r (λ _. failures after ≡ failures before) (BlamesOne lines x (failures before) (failures after))
+      → MatchResult r (λ _. each_known failures news ≡ each_known failures devices) (BlamesAmong lines answering (each_known failures devices) (each_known failures news))
   counts_of (Ok column) h = known_kept failures devices x.input before is after h
   counts_of (Err (Damaged input number)) h = known_kept failures devices x.input before is after h
-  counts_of (Err (NoLines input number)) h = known_kept failures devices x.input before is after h
+  counts_of (Err (NoLines input number)) h = (h.0, known_kept failures devices x.input before is after h.1)
   counts_of (Err OutOfMemory) h = known_kept failures devices x.input before is after h
   counts_of (Err (Device input offset)) h = (
     record { number = x.number; entry = x.entry; answers = named input x.number h.0 refl; offset_is = h.1 },
@@ -129,8 +126,8 @@ module _ {D : Type 0} (whole : D → Option (List ℕ)) (failures : D → ℕ) (
     },
   )
 
-  pub asked_one : (r : Result EntryAnswers AnswerFault) → ((text : List ℕ) → whole before ≡ Some text → MatchResult r (λ column. IsColumnOf text lines asked x column) (IsUntoldOne lines text x)) → whole after ≡ whole before
-      → MatchResult r (λ _. failures after ≡ failures before) (BlamesOne x (failures before) (failures after))
+  pub asked_one : (r : Result EntryAnswers AnswerFault) → ((text : List ℕ) → whole before ≡ Some text → MatchResult r (λ column. IsColumnOf text lines asked x column) (IsUntoldOne text x)) → whole after ≡ whole before
+      → MatchResult r (λ _. failures after ≡ failures before) (BlamesOne lines x (failures before) (failures after))
       → AsksAmong whole failures lines answering devices news r (λ texts column. IsColumnAt texts lines asked x column)
   asked_one r says keeps counts = record {
     says = λ texts have. let text = text_at whole devices texts x.input before is have in says_of r texts text.0 text.1 (says text.0 text.2);
@@ -177,7 +174,7 @@ module _ {D : Type 0} (whole : D → Option (List ℕ)) (failures : D → ℕ) (
       of_err h = record {
         says = λ texts have. h.says texts (have_texts old mid texts so_far.keeps have);
         keeps = h.keeps ∙ so_far.keeps;
-        counts = subst (λ ks. BlamesAmong answering ks (each_known failures new) f) so_far.counts h.counts;
+        counts = subst (λ ks. BlamesAmong lines answering ks (each_known failures new) f) so_far.counts h.counts;
       }
 
   -- no memory is left for what was told

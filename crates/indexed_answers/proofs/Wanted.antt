@@ -1,11 +1,10 @@
 -- What is told of lines, said otherwise.
-use Rattle.std.proofs.Common.{◌≡◌, Bool, true, false, Option, Some, None, MatchOption, subst, refl}
+use Rattle.std.proofs.Common.{◌≡◌, Bool, true, Option, Some, None, MatchOption, subst}
 
 -- what was found, if it was wanted
-pub found_if : {T : Type 0} (found : Option T) (IsNone : Type 0) (IsTrue : T → Type 0) (wanted : Bool) → wanted ≡ true → MatchOption found IsNone IsTrue
-    → MatchOption found ((wanted ≡ true) × IsNone) (λ value. wanted ≡ true → IsTrue value)
-found_if None IsNone IsTrue wanted is told = (is, told)
-found_if (Some value) IsNone IsTrue wanted is told = λ _. told
+pub found_if : {T : Type 0} (found : Option T) (IsNone : Type 0) (IsTrue : T → Type 0) (wanted : Bool) → MatchOption found IsNone IsTrue → MatchOption found IsNone (λ value. wanted ≡ true → IsTrue value)
+found_if None IsNone IsTrue wanted told = told
+found_if (Some value) IsNone IsTrue wanted told = λ _. told
 
 module _ {T : Type 0} (found : Option T) (IsNone : Type 0) (IsTrue : T → Type 0) (told : MatchOption found IsNone IsTrue) where
   pub found_none : found ≡ None → IsNone

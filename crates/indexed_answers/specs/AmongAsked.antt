@@ -66,13 +66,12 @@ pub record IsAskedAt (answering : List EntryAt) (input offset : ℕ) : Type 0 wh
   pub answers : Contains answering (record { input = input; number = number; entry = entry })
   pub offset_is : offset ≡ (claim_in entry).offset
 
--- what a fault says of the texts; no table is refused for its lines unless they are wanted
-abbrev pub IsUntoldAmong : Bool → List (List ℕ) → List EntryAt → AnswerFault → Type 0
-IsUntoldAmong lines texts answering (Damaged input number) = IsDamagedAt texts answering input number
-IsUntoldAmong lines texts answering (NoLines input number) =
-    (lines ≡ true) × IsLinelessAt texts answering input number
-IsUntoldAmong lines texts answering (Device input offset) = Unit {0}
-IsUntoldAmong lines texts answering OutOfMemory = Unit {0}
+-- what a fault says of the texts
+abbrev pub IsUntoldAmong : List (List ℕ) → List EntryAt → AnswerFault → Type 0
+IsUntoldAmong texts answering (Damaged input number) = IsDamagedAt texts answering input number
+IsUntoldAmong texts answering (NoLines input number) = IsLinelessAt texts answering input number
+IsUntoldAmong texts answering (Device input offset) = Unit {0}
+IsUntoldAmong texts answering OutOfMemory = Unit {0}
 
 -- the device of this number failed once, and no other did
 pub record FailedAt (input : ℕ) (olds news : List (Result ℕ CannotOpen)) : Type 0 where
@@ -82,12 +81,13 @@ pub record FailedAt (input : ℕ) (olds news : List (Result ℕ CannotOpen)) : T
   pub failed : FailedIn old new
   pub others : news ≡ slice_set olds input (Ok new)
 
--- what a fault says of the failures of the devices
-abbrev pub BlamesAmong : List EntryAt → List (Result ℕ CannotOpen) → List (Result ℕ CannotOpen) → AnswerFault → Type 0
-BlamesAmong answering olds news (Damaged input number) = news ≡ olds
-BlamesAmong answering olds news (NoLines input number) = news ≡ olds
-BlamesAmong answering olds news (Device input offset) = IsAskedAt answering input offset × FailedAt input olds news
-BlamesAmong answering olds news OutOfMemory = news ≡ olds
+-- what a fault says of the failures of the devices; no table is refused for its lines unless they are wanted
+abbrev pub BlamesAmong : Bool → List EntryAt → List (Result ℕ CannotOpen) → List (Result ℕ CannotOpen) → AnswerFault
+    → Type 0
+BlamesAmong lines answering olds news (Damaged input number) = news ≡ olds
+BlamesAmong lines answering olds news (NoLines input number) = (lines ≡ true) × (news ≡ olds)
+BlamesAmong lines answering olds news (Device input offset) = IsAskedAt answering input offset × FailedAt input olds news
+BlamesAmong lines answering olds news OutOfMemory = news ≡ olds
 
 -- What came of asking these entries, for their lines too if these are wanted: what is told is true of the texts that the
 -- devices are known to have. Each device stays opened or not, and keeps its bytes.
@@ -95,7 +95,7 @@ pub record AsksAmong {D T : Type 0} (whole : D → Option (List ℕ)) (failures 
     (answering : List EntryAt) (old new : List (Result D CannotOpen)) (result : Result T AnswerFault)
     (IsTrue : List (List ℕ) → T → Type 0) : Type 0 where
   pub says : (texts : List (List ℕ)) → HaveTexts whole old texts
-      → MatchResult result (IsTrue texts) (IsUntoldAmong lines texts answering)
+      → MatchResult result (IsTrue texts) (IsUntoldAmong texts answering)
   pub keeps : each_known whole new ≡ each_known whole old
   pub counts : MatchResult result (λ _. each_known failures new ≡ each_known failures old)
-      (BlamesAmong answering (each_known failures old) (each_known failures new))
+      (BlamesAmong lines answering (each_known failures old) (each_known failures new))

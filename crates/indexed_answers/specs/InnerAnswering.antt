@@ -113,19 +113,20 @@ pub record IsColumnOf (text : List ℕ) (lines : Bool) (asked : List Where) (x :
   pub frames : lines ≡ true → AllZip (AreFramesToldBy text (claim_in x.entry)) asked (frame_lists column)
 
 -- why one entry tells nothing
-abbrev pub IsUntoldOne : Bool → List ℕ → EntryAt → AnswerFault → Type 0
-IsUntoldOne lines text x (Damaged input number) = (input ≡ x.input) × (number ≡ x.number) × HasNoTable text x.entry
-IsUntoldOne lines text x (NoLines input number) =
-    (input ≡ x.input) × (number ≡ x.number) × (lines ≡ true) × HasNoLinesBy text (claim_in x.entry)
-IsUntoldOne lines text x (Device input offset) = Unit {0}
-IsUntoldOne lines text x OutOfMemory = Unit {0}
+abbrev pub IsUntoldOne : List ℕ → EntryAt → AnswerFault → Type 0
+IsUntoldOne text x (Damaged input number) = (input ≡ x.input) × (number ≡ x.number) × HasNoTable text x.entry
+IsUntoldOne text x (NoLines input number) =
+    (input ≡ x.input) × (number ≡ x.number) × HasNoLinesBy text (claim_in x.entry)
+IsUntoldOne text x (Device input offset) = Unit {0}
+IsUntoldOne text x OutOfMemory = Unit {0}
 
 -- what a fault of one entry says of the failures of its device
-abbrev pub BlamesOne : EntryAt → ℕ → ℕ → AnswerFault → Type 0
-BlamesOne x old new (Damaged input number) = new ≡ old
-BlamesOne x old new (NoLines input number) = new ≡ old
-BlamesOne x old new (Device input offset) = (input ≡ x.input) × (offset ≡ (claim_in x.entry).offset) × FailedIn old new
-BlamesOne x old new OutOfMemory = new ≡ old
+abbrev pub BlamesOne : Bool → EntryAt → ℕ → ℕ → AnswerFault → Type 0
+BlamesOne lines x old new (Damaged input number) = new ≡ old
+BlamesOne lines x old new (NoLines input number) = (lines ≡ true) × (new ≡ old)
+BlamesOne lines x old new (Device input offset) =
+    (input ≡ x.input) × (offset ≡ (claim_in x.entry).offset) × FailedIn old new
+BlamesOne lines x old new OutOfMemory = new ≡ old
 
 -- what came of asking one entry of its device, which was opened
 pub record AsksOne {D T : Type 0} (whole : D → Option (List ℕ)) (failures : D → ℕ) (lines : Bool) (x : EntryAt)
@@ -134,7 +135,7 @@ pub record AsksOne {D T : Type 0} (whole : D → Option (List ℕ)) (failures : 
   pub after : D
   pub old_is : old ≡ Ok before
   pub new_is : new ≡ Ok after
-  pub says : (text : List ℕ) → whole before ≡ Some text → MatchResult result (IsTrue text) (IsUntoldOne lines text x)
+  pub says : (text : List ℕ) → whole before ≡ Some text → MatchResult result (IsTrue text) (IsUntoldOne text x)
   pub keeps : whole after ≡ whole before
   pub counts : MatchResult result (λ _. failures after ≡ failures before)
-      (BlamesOne x (failures before) (failures after))
+      (BlamesOne lines x (failures before) (failures after))

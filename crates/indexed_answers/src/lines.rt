@@ -1,6 +1,6 @@
 //! The source frames of places, by the line table of an entry.
 
-ghost use Rattle.std.specs.Prelude.{◌≡◌, ◌<◌, ◌^◌, ℕ, List, MatchOption, Some, length, map, true};
+ghost use Rattle.std.specs.Prelude.{◌≡◌, ◌<◌, ◌^◌, ℕ, List, IfOk, MatchOption, None, Some, length, map, true};
 ghost use Rattle.std.specs.List.{AllZip};
 ghost use Rattle.checked_pages.specs.Pages.{AreStored};
 ghost use Rattle.checked_pages.specs.Views.{ArePagesOf, claim_view};
@@ -111,8 +111,9 @@ pub(crate) fn frames_if<P: Placed>(
     base: Option<u64>,
     asked: &[Where],
 ) -> Result<Option<Vec<Vec<OwnedFrame, Heap>, Heap>>, CheckFault>
-    ensures { ReadsStored P.whole P.failures device.old device.new result
-        (λ text found. MatchOption found ((lines ≡ true) × HasNoLinesBy text (claim_view claim))
+    ensures wanted { IfOk result (λ found. found ≡ None → lines ≡ true) }
+    ensures read { ReadsStored P.whole P.failures device.old device.new result
+        (λ text found. MatchOption found (HasNoLinesBy text (claim_view claim))
         (λ lists. lines ≡ true → AllZip (AreFramesBased base text (claim_view claim)) asked.now
         (map list_in lists.items)))
         (λ text. length text < 2 ^ 64 → (slice all : List ℕ) → IsSliceTable slice all

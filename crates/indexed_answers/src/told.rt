@@ -1,6 +1,6 @@
 //! What the table of an entry tells of several places.
 
-ghost use Rattle.std.specs.Prelude.{◌≡◌, ◌<◌, ◌^◌, ℕ, List, Contains, IsOk, MatchOption, map, length, true};
+ghost use Rattle.std.specs.Prelude.{◌≡◌, ◌<◌, ◌^◌, ℕ, List, Contains, IfOk, IsOk, MatchOption, None, map, length, true};
 ghost use Rattle.std.specs.List.{AllZip};
 ghost use Rattle.checked_pages.specs.Pages.{AreStored};
 ghost use Rattle.checked_pages.specs.Views.{claim_view};
@@ -85,9 +85,9 @@ fn column_of<P: Placed>(
     lines: bool,
     asked: &[Where],
 ) -> Result<Option<EntryAnswers>, CheckFault>
-    ensures { ReadsStored P.whole P.failures device.old device.new result
-        (λ text found. MatchOption found
-        ((lines ≡ true) × HasNoLinesBy text (claim_view numbered.now.entry.claim))
+    ensures wanted { IfOk result (λ found. found ≡ None → lines ≡ true) }
+    ensures read { ReadsStored P.whole P.failures device.old device.new result
+        (λ text found. MatchOption found (HasNoLinesBy text (claim_view numbered.now.entry.claim))
         (λ column. IsColumnOf text lines asked.now (entry_at numbered.now) column))
         (λ text. HasNoTable text (entry_at numbered.now).entry) }
 {

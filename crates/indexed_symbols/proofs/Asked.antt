@@ -76,7 +76,7 @@ module _ {D : Type 0} (whole : D → Option (List ℕ)) (failures : D → ℕ) (
     fault = r.fault;
     told_as = r.told_as;
     says = λ texts have. r.says texts (subst (λ (ds : List (Result (Option (List ℕ)) CannotOpen)). AllZip HasText ds texts) (sym texts_kept) have);
-    counts = subst (λ (olds : List (Result ℕ CannotOpen)). BlamesAmong r.answering olds (each_known failures new) r.fault) counts_kept r.counts;
+    counts = subst (λ (olds : List (Result ℕ CannotOpen)). BlamesAmong lines r.answering olds (each_known failures new) r.fault) counts_kept r.counts;
   }
   untold_first counts_kept new key keys (Output n) there r = absurd r
   untold_first counts_kept new key keys (Report n) there r = absurd r

@@ -68,8 +68,8 @@ module _ {D P : Type 0} (lines : Bool) (IsSought : List (List ℕ) → Type 0) (
 
   -- ---- a table is not told
 
-  fault_of : (lines : Bool) (answering : List EntryAt) (fault : AnswerFault) (at : InputName) (why : Why) → command_fault fault ≡ Input at why → ((texts : List (List ℕ)) → HaveTexts left mid texts → IsUntoldAmong lines texts answering fault)
-      → BlamesAmong answering (each_known failures mid) (each_known failures new) fault → IsChanged named answering at why ⊎ (IsLineless lines named answering at why ⊎ IsUnreadTable named answering at why)
+  fault_of : (lines : Bool) (answering : List EntryAt) (fault : AnswerFault) (at : InputName) (why : Why) → command_fault fault ≡ Input at why → ((texts : List (List ℕ)) → HaveTexts left mid texts → IsUntoldAmong texts answering fault)
+      → BlamesAmong lines answering (each_known failures mid) (each_known failures new) fault → IsChanged named answering at why ⊎ (IsLineless lines named answering at why ⊎ IsUnreadTable named answering at why)
   fault_of lines answering (answer.Damaged input number) at why told says counts = inl (record {
     input = input;
     number = number;
@@ -83,8 +83,9 @@ module _ {D P : Type 0} (lines : Bool) (IsSought : List (List ℕ) → Type 0) (
     number = number;
     at_is = cc;
     why_is = cc;
+    wanted = counts.0;
     lacks = λ texts given. says texts (given_texts texts given);
-    unfailed = none_failed_named counts;
+    unfailed = none_failed_named counts.1;
   }))
   fault_of lines answering (answer.Device input offset) at why told says counts =
       let failed = counts.1 in

@@ -78,8 +78,8 @@ pub record IsLineless {I : Type 0} (lines : Bool) (indexes : List (Reader I)) (a
   pub number : ℕ
   pub at_is : at ≡ Index input
   pub why_is : why ≡ NoLines number
-  pub lacks : (texts : List (List ℕ)) → AreGiven indexes texts
-      → (lines ≡ true) × IsLinelessAt texts answering input number
+  pub wanted : lines ≡ true
+  pub lacks : (texts : List (List ℕ)) → AreGiven indexes texts → IsLinelessAt texts answering input number
   pub unfailed : EachUnfailed indexes
 
 -- The device of an index failed while the table of one of the entries that answer was read in it.

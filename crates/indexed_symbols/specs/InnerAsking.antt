@@ -40,8 +40,8 @@ pub record IsUntoldBy {D : Type 0} (whole : D → Option (List ℕ)) (failures :
   pub are : AreAnsweringAmong key all answering
   pub fault : AnswerFault
   pub told_as : command_fault fault ≡ command.Input at why
-  pub says : (texts : List (List ℕ)) → HaveTexts whole old texts → IsUntoldAmong lines texts answering fault
-  pub counts : BlamesAmong answering (each_known failures old) (each_known failures new) fault
+  pub says : (texts : List (List ℕ)) → HaveTexts whole old texts → IsUntoldAmong texts answering fault
+  pub counts : BlamesAmong lines answering (each_known failures old) (each_known failures new) fault
 
 -- no device failed
 abbrev pub NoneFailed : {D : Type 0} → (D → ℕ) → List (Result D CannotOpen) → List (Result D CannotOpen) → Type 0

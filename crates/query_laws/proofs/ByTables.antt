@@ -159,9 +159,8 @@ module _ {I P : Type 0} (keys : List (List ℕ)) (inputs : List (Reader I)) (arc
       elim u.untold.untold [
         | inl changed ↦ absurd (told.none_damaged os t.texts u.all indexes u.untold.key u.untold.answering changed.input changed.number u.untold.are (changed.changed t.texts t.given))
         | inr (inl lacking) ↦
-            let lacks = lacking.lacks t.texts t.given in
-            let slice = told.lineless os t.texts u.all indexes u.untold.key u.untold.answering lacking.input lacking.number u.untold.are lacks.1 in
-            inr (record { wanted = lacks.0; number = lacking.number; why_is = lacking.why_is; slice = slice.0; is_held = slice.1; lacks = slice.2 })
+            let slice = told.lineless os t.texts u.all indexes u.untold.key u.untold.answering lacking.input lacking.number u.untold.are (lacking.lacks t.texts t.given) in
+            inr (record { wanted = lacking.wanted; number = lacking.number; why_is = lacking.why_is; slice = slice.0; is_held = slice.1; lacks = slice.2 })
         | inr (inr unread) ↦ inl (untold_table inputs u.untold.answering unread)
       ]
 

@@ -9,35 +9,35 @@ use Rattle.indexed_answers.proofs.Columns.{zip_as}
 use Rattle.indexed_answers.proofs.Wanted.{found_none, found_one}
 use Rattle.indexed_answers.proofs.told.column_of.Goals as goal
 
-pub returns-in_err-base : goal.returns-in_err-base
-returns-in_err-base g c =
+pub returns-in_err-base-clause-read : goal.returns-in_err-base-clause-read
+returns-in_err-base-clause-read g c =
     let p = err_from_is_err_and c.from_residual-in_err-base.result c.from_residual-in_err-base.ensures.1 in
     passed_on _ _ _ _ _ _ _ _ _ _ _ c.in_err-base.was (p.1 ∙ ap Err p.2)
     (λ text known absent long slice all is stored. absent long slice all is (subst (λ claim. AreStored text claim all) c.args.numbered.now.fields.claim_is stored))
     c.owns_by_claim.ensures
 
-pub returns-in_err-frames : goal.returns-in_err-frames
-returns-in_err-frames g c =
+pub returns-in_err-frames-clause-read : goal.returns-in_err-frames-clause-read
+returns-in_err-frames-clause-read g c =
     let p = err_from_is_err_and c.from_residual-in_err-frames.result c.from_residual-in_err-frames.ensures.1 in
     let owns = c.in_ok-base.ensures in
     passed_on _ _ _ _ _ _ _ _ _ _ _ c.in_err-frames.was (p.1 ∙ ap Err p.2)
     (λ text known absent long slice all is stored. absent long slice all is (subst (λ claim. AreStored text claim all) c.args.numbered.now.fields.claim_is stored))
-    (after_ok _ _ _ _ _ _ _ _ owns.keeps owns.counts c.frames_if.ensures)
+    (after_ok _ _ _ _ _ _ _ _ owns.keeps owns.counts c.frames_if.ensures.read)
 
-pub returns-in_default : goal.returns-in_default
-returns-in_default g c =
+pub returns-in_default-clause-read : goal.returns-in_default-clause-read
+returns-in_default-clause-read g c =
     let owns = c.in_ok-base.ensures in
-    let frames = after_ok _ _ _ _ _ _ _ _ owns.keeps owns.counts c.in_ok-frames.ensures in
+    let frames = after_ok _ _ _ _ _ _ _ _ owns.keeps owns.counts c.in_ok-frames.ensures.read in
     record {
       says = λ text known. found_none _ _ _ (frames.says text known) c.in_default.is;
       keeps = frames.keeps;
       counts = frames.counts;
     }
 
-pub returns : goal.returns
-returns g c =
+pub returns-clause-read : goal.returns-clause-read
+returns-clause-read g c =
     let owns = c.in_ok-base.ensures in
-    let frames = after_ok _ _ _ _ _ _ _ _ owns.keeps owns.counts c.in_ok-frames.ensures in
+    let frames = after_ok _ _ _ _ _ _ _ _ owns.keeps owns.counts c.in_ok-frames.ensures.read in
     record {
       says = λ text known.
           let told = owns.says text known in
@@ -51,3 +51,6 @@ returns g c =
       keeps = frames.keeps;
       counts = frames.counts;
     }
+
+pub returns-in_default-clause-wanted : goal.returns-in_default-clause-wanted
+returns-in_default-clause-wanted g c = λ none. c.in_ok-frames.ensures.wanted c.in_default.is
