@@ -32,7 +32,8 @@ use Rattle.command_ends.specs.declared.faults.InputName.TheVariants.{Frames}
 use Rattle.command_ends.specs.declared.faults.Why.{Why}
 use Rattle.command_ends.specs.declared.faults.Why.TheVariants.{Device as CannotRead, Record, Take, Script as Faulty}
 use Rattle.command_ends.specs.declared.faults.Why.TheVariants.{CannotOpen as NotOpened, BadFrame, OldArchive, TooLong}
-use Rattle.command_ends.specs.declared.faults.Why.TheVariants.{Index as IndexFaulty, Damaged, NoArchive, NoIndex, NoLines, Stale}
+use Rattle.command_ends.specs.declared.faults.Why.TheVariants.{Index as IndexFaulty, Damaged, NoArchive, NoIndex}
+use Rattle.command_ends.specs.declared.faults.Why.TheVariants.{NoLines, Stale}
 
 -- An input in a call, before it and after it: a reader, or that none was opened. The functions tell what a reader has
 -- left, where that is known, and how often it has failed.

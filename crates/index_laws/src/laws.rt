@@ -18,8 +18,8 @@ ghost use Rattle.indexed_answers.specs.declared.fault.AnswerFault.TheVariants.{D
 ghost use Rattle.index_laws.specs.Indexes.{AreIndexes, AreTiedSlices, DigestsTell, IsHeld, IsIndexFile, all_joined};
 
 /// The answer of several indexes under a key is that of the content that their contents make together, with the frames
-/// that are shown, if no two different slices of these have one SHA-256. The answer of one index is that of its content,
-/// and nothing is supposed of SHA-256.
+/// that are shown, if no two different slices of these have one SHA-256. The answer of one index is that of its
+/// content, and nothing is supposed of SHA-256.
 pub fn right_among()
     ensures several { (os : List Operations) (texts : List (List ℕ)) (indexes : List (List (List ℕ))) (key : SliceKey)
         (lines : Bool) (asked : Where) (answer : AnswerRecord) (frames : List (List FrameRecord))

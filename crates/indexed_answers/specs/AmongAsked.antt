@@ -86,11 +86,12 @@ abbrev pub BlamesAmong : Bool → List EntryAt → List (Result ℕ CannotOpen) 
     → Type 0
 BlamesAmong lines answering olds news (Damaged input number) = news ≡ olds
 BlamesAmong lines answering olds news (NoLines input number) = (lines ≡ true) × (news ≡ olds)
-BlamesAmong lines answering olds news (Device input offset) = IsAskedAt answering input offset × FailedAt input olds news
+BlamesAmong lines answering olds news (Device input offset) =
+    IsAskedAt answering input offset × FailedAt input olds news
 BlamesAmong lines answering olds news OutOfMemory = news ≡ olds
 
--- What came of asking these entries, for their lines too if these are wanted: what is told is true of the texts that the
--- devices are known to have. Each device stays opened or not, and keeps its bytes.
+-- What came of asking these entries, for their lines too if these are wanted: what is told is true of the texts that
+-- the devices are known to have. Each device stays opened or not, and keeps its bytes.
 pub record AsksAmong {D T : Type 0} (whole : D → Option (List ℕ)) (failures : D → ℕ) (lines : Bool)
     (answering : List EntryAt) (old new : List (Result D CannotOpen)) (result : Result T AnswerFault)
     (IsTrue : List (List ℕ) → T → Type 0) : Type 0 where

@@ -14,8 +14,8 @@ use byte_device::{CannotOpen, Placed};
 use memory::Heap;
 
 /// What the tables of entries that answer tell of several places, and if lines are wanted the frames of these in each
-/// slice. The devices are those of the indexes, in their order. One may be missing if none of these entries stands in its
-/// index. One table is open at a time.
+/// slice. The devices are those of the indexes, in their order. One may be missing if none of these entries stands in
+/// its index. One table is open at a time.
 ///
 /// # Errors
 ///

@@ -117,8 +117,8 @@ fn tell_addresses<A: Archive + Drop, I: Placed, P: Placed>(
 
 /// Writes what the join of the archives answers for each address to the report, as `run_symbolicate` of
 /// `archive_queries` does. The indexes are read, and compared with the lengths of their archives; then their tables
-/// answer, page by page, and if `lines` tell the source frames. The slices that the indexes name under the key are read at
-/// their places, tested and hashed, if two slices of one length answer in two archives.
+/// answer, page by page, and if `lines` tell the source frames. The slices that the indexes name under the key are read
+/// at their places, tested and hashed, if two slices of one length answer in two archives.
 ///
 /// The status is `Done` where each answer is one symbol, and else `Partial`.
 ///

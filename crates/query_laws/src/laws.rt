@@ -102,8 +102,8 @@ pub fn found_by_indexes<I: Placed, P: Placed>()
         → TellsFound (all_joined os) uuid status text }
 {}
 
-/// So does `symbolicate`, with lines and without: by tables whatever bytes the archives have, if no two different slices
-/// of several contents have one SHA-256; and by slices, where two are tied.
+/// So does `symbolicate`, with lines and without: by tables whatever bytes the archives have, if no two different
+/// slices of several contents have one SHA-256; and by slices, where two are tied.
 pub fn answered_by_indexes<I: Placed, P: Placed>()
     ensures tables { (inputs : List (Reader I)) (archives : List (Reader P)) (os : List Operations) (key : SliceKey)
         (load : Option ℕ) (lines : Bool) (addresses : List ℕ) (status : Status) (text : List ℕ)
@@ -136,7 +136,8 @@ pub fn framed_by_indexes<I: Placed, P: Placed>()
     ensures alone { (input : Reader I) (archive : Reader P) (o : Operations) (lines : Bool) (said : List Frame)
         (status : Status) (text : List ℕ) → IsIndexGiven input o
         → ((frame : Frame) → Contains said frame → IsKey frame.key)
-        → TellsFramesByTables lines (input ∷ []) (archive ∷ []) said status text → TellsFrames lines o said status text }
+        → TellsFramesByTables lines (input ∷ []) (archive ∷ []) said status text
+        → TellsFrames lines o said status text }
     ensures slices { (inputs : List (Reader I)) (archives : List (Reader P)) (os : List Operations) (lines : Bool)
         (said : List Frame) (status : Status) (text : List ℕ)
         → ((key : List ℕ) → Contains (keys_of said) key → length key ≤ 24) → AreIndexed inputs archives os
