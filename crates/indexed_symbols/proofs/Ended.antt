@@ -66,6 +66,44 @@ module _ {D P : Type 0} (lines : Bool) (IsSought : List (List ℕ) → Type 0) (
   tables_refused (Report n) unfailed r = absurd r
   tables_refused OutOfMemory unfailed r = (r, unfailed)
 
+-- after the indexes were read
+module _ {I P : Type 0} (left : I → Option (List ℕ)) (failures : I → ℕ) (whole : P → Option (List ℕ)) (failures_at : P → ℕ)
+    (old mid new : List (Result I CannotOpen)) (before seen after : List (Result P CannotOpen)) (all : List (List (List ℕ)))
+    (long : length mid ≡ length old) (more : length new ≡ length old) (long_at : length seen ≡ length before) (more_at : length after ≡ length before)
+    (read : AreReadWith (readers left failures old mid) (readers whole failures_at before seen) all)
+    (unfailed : EachUnfailed (readers left failures old mid) × EachUnfailed (readers whole failures_at before seen))
+    (kept : AreAllKept left failures old mid × AreAllKept whole failures_at before seen) where
+  abbrev named : List (Reader I)
+  named = readers left failures old new
+
+  abbrev known : List (Reader P)
+  known = readers whole failures_at before after
+
+  abbrev later : List (Reader P)
+  later = readers whole failures_at seen after
+
+  pub read_all : AreReadWith named known all
+  read_all = read_earlier whole failures_at named before seen after all long_at more_at (read_before left failures (readers whole failures_at before seen) all old mid new long more read)
+
+  texts_kept : each_known left mid ≡ each_known left old
+  texts_kept = kept_texts left failures old mid kept.0
+
+  counts_kept : each_known failures mid ≡ each_known failures old
+  counts_kept = kept_counts left failures old mid kept.0
+
+  -- the bytes that the indexes are given with are those that their tables were told of
+  pub given_texts : (texts : List (List ℕ)) → AreGiven named texts → HaveTexts left mid texts
+  given_texts texts given = subst (λ (ds : List (Result (Option (List ℕ)) CannotOpen)). AllZip HasText ds texts) (sym texts_kept) (texts_of left failures old new texts more given)
+
+  none_failed_named : NoneFailed failures mid new → EachUnfailed named
+  none_failed_named none = none_failed_of left failures old new (none ∙ counts_kept)
+
+  unfailed_known : EachUnfailed later → EachUnfailed known
+  unfailed_known each = unfailed_through whole failures_at before seen after long_at more_at unfailed.1 each
+
+  pub unfailed_all : NoneFailed failures mid new × EachUnfailed later → AreUnfailedTogether named known
+  unfailed_all u = (none_failed_named u.0, unfailed_known u.1)
+
   -- ---- a table is not told
 
   fault_of : (lines : Bool) (answering : List EntryAt) (fault : AnswerFault) (at : InputName) (why : Why) → command_fault fault ≡ Input at why → ((texts : List (List ℕ)) → HaveTexts left mid texts → IsUntoldAmong texts answering fault)

@@ -1,4 +1,4 @@
-use Rattle.std.proofs.Common.{◌≡◌, Option, None, Some, ℕ, [], refl, sym, subst, ◌∙◌}
+use Rattle.std.proofs.Common.{◌≡◌, Option, Some, ℕ, [], sym, subst, ◌∙◌}
 use Rattle.std.specs.Prelude.{MatchOption}
 use Rattle.checked_pages.proofs.ReadLemmas.{read_as}
 use Rattle.source_frames.specs.AddressFrames.{AreFramesOf}

@@ -1,5 +1,5 @@
 use Rattle.std.proofs.Common.{sym, arith}
-use Rattle.indexed_symbols.proofs.Shown.{more_frames, no_frames}
+use Rattle.indexed_symbols.proofs.Shown.{more_frames}
 use Rattle.indexed_symbols.proofs.told.answer_frames_by_tables.Goals as goal
 
 pub told_at-requires : goal.told_at-requires
