@@ -4,8 +4,8 @@ use Rattle.std.proofs.Common.{append_assoc, append-nil, arith, subst, ◌<◌, �
 use Rattle.std.proofs.lemmas.List.{length-append, length-take-le, map-append}
 use Rattle.std.proofs.lemmas.Bool.{and_parts}
 use Rattle.std.proofs.lemmas.Grind.{not_there}
-use Rattle.std.proofs.lemmas.List.Folds.{concat-append}
 use Rattle.std.specs.List.{concat}
+use Rattle.archive_records.proofs.Puts.{concat-push}
 use Rattle.archive_files.specs.FileCalls.{FileCall, Creates, Opens, Writes, Syncs, Renames, SyncsFolder, Removes}
 use Rattle.archive_files.specs.FileCalls.{Agrees, Covers, FindsFile, FindsNoArchive, FindsNoLink, FindsNothing, FindsOther, Leads, Loses}
 use Rattle.archive_files.specs.FileCalls.{are_looks, bytes_in, drafting, publishing, writing}
@@ -94,16 +94,13 @@ bytes_written : (pieces : List (List ℕ)) → bytes_in (map Writes pieces) ≡ 
 bytes_written [] = refl
 bytes_written (piece ∷ pieces) = ap (λ t. piece ++ t) (bytes_written pieces)
 
-one_more : (pieces : List (List ℕ)) (bytes : List ℕ) → concat (pieces ++ bytes ∷ []) ≡ concat pieces ++ bytes
-one_more pieces bytes = concat-append pieces (bytes ∷ []) ∙ ap (λ t. concat pieces ++ t) (append-nil bytes)
-
 pub more_through : (path text bytes : List ℕ) (calls : List FileCall) → IsWrittenThrough path text calls
     → IsWrittenThrough path (text ++ bytes) (calls ++ Writes bytes ∷ [])
 more_through path text bytes calls w = record {
   looks = w.looks;
   pieces = w.pieces ++ bytes ∷ [];
   writable = w.writable;
-  whole = one_more w.pieces bytes ∙ ap (λ t. t ++ bytes) w.whole;
+  whole = concat-push w.pieces bytes ∙ ap (λ t. t ++ bytes) w.whole;
   calls_are = ap (λ cs. cs ++ Writes bytes ∷ []) w.calls_are
       ∙ append_assoc w.looks (writing path w.pieces) (Writes bytes ∷ [])
       ∙ ap (λ cs. w.looks ++ Opens path ∷ cs) (sym (map-append Writes w.pieces (bytes ∷ [])));

@@ -9,3 +9,4 @@ pub mod Entries
 pub mod Made
 pub mod Versions
 pub mod Blamed
+pub mod Runs

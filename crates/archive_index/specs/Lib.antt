@@ -4,3 +4,4 @@ pub mod Text
 pub mod Reading
 pub mod Places
 pub mod InnerMaking
+pub mod Runs

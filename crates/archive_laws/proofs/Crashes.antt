@@ -8,10 +8,10 @@ use Rattle.std.proofs.lemmas.Slice.Eq.{bytes_eq-Decides}
 use Rattle.archive_files.specs.FileCalls.{FileCall, Creates, Opens, Writes, Syncs, Renames, SyncsFolder, Removes}
 use Rattle.archive_files.specs.FileCalls.{FindsFile, FindsOther, FindsNothing, FindsNoLink, Leads, FindsNoArchive}
 use Rattle.archive_files.specs.FileCalls.{Agrees, Covers, Loses, are_looks, drafting, is_look, publishing, writing}
-use Rattle.archive_files.specs.Publishing.{IsDescriptor, IsDraftRemoved, IsDrafted, IsReplaced, IsTargetOf, IsTested}
+use Rattle.archive_files.specs.Publishing.{IsDescriptor, IsDraftRemoved, IsDrafted, IsReplaced, IsTargetOf}
 use Rattle.archive_files.specs.Publishing.{IsWritable, IsWrittenThrough, folder_of}
 use Rattle.archive_files.specs.declared.replaceable.Replaces.{Replaces}
-use Rattle.archive_files.specs.declared.replaceable.Replaces.TheVariants.{OwnFiles, ArchivesBelow, SameBytes}
+use Rattle.archive_files.proofs.Publishings.{target_looks, tested_looks}
 use Rattle.archive_laws.specs.Crashes.{DraftState, MayBeAt, Old, New, Torn, Touched, behind, no_draft, replay}
 
 -- Where it was renamed it has the whole text, and that is on the disk; the target itself was not touched.
@@ -167,18 +167,6 @@ leaves_it before _ d still (Touched touched left) = cc still.1
 
 -- ---- behind some of the calls, and behind all
 
-target_asks : (path target : List ℕ) (looks : List FileCall) → IsTargetOf path target looks → are_looks looks ≡ true
-target_asks path target looks (inl none) = ap are_looks none.1
-target_asks path target looks (inr (inl file)) = ap are_looks file.1
-target_asks path target looks (inr (inr link)) = ap are_looks link
-
-tests_ask : (replaces : Replaces) (draft target : List ℕ) (tests : List FileCall) → IsTested replaces draft target tests
-    → are_looks tests ≡ true
-tests_ask OwnFiles draft target tests is = ap are_looks is
-tests_ask ArchivesBelow draft target tests (inl none) = ap are_looks none
-tests_ask ArchivesBelow draft target tests (inr covers) = ap are_looks covers
-tests_ask SameBytes draft target tests is = ap are_looks is
-
 -- the calls from the first that does more than ask
 flat : (looks drafted tests rest calls : List FileCall) → calls ≡ looks ++ drafted ++ tests ++ rest
     → calls ≡ looks ++ (drafted ++ (tests ++ rest))
@@ -195,7 +183,7 @@ module _ (path text : List ℕ) (replaces : Replaces) (calls : List FileCall) (i
   end = publishing is.draft is.target (folder_of is.target)
 
   asking : are_looks is.tests ≡ true
-  asking = tests_ask replaces is.draft is.target is.tests is.tested
+  asking = tested_looks replaces is.draft is.target is.tests is.tested
 
   are_flat : calls ≡ is.looks ++ (drafting is.draft is.pieces ++ (is.tests ++ end))
   are_flat = flat is.looks (drafting is.draft is.pieces) is.tests end calls is.calls_are
@@ -206,7 +194,7 @@ module _ (path text : List ℕ) (replaces : Replaces) (calls : List FileCall) (i
       (subst (λ t. IsWhole t (replay is.target (take done (is.looks ++ (drafting is.draft is.pieces ++ (is.tests ++ end))))))
       is.whole
       (behind_looks is.target (IsWhole (concat is.pieces)) is.looks (drafting is.draft is.pieces ++ (is.tests ++ end)) done
-      no_draft (target_asks path is.target is.looks is.target_is)
+      no_draft (target_looks path is.target is.looks is.target_is)
       (λ m. prefix is.draft is.target (folder_of is.target) is.beside.apart is.tests asking is.pieces m)))
 
   pub any_moment : (before left : Option (List ℕ)) (done : ℕ) → MayBeAt before (replay is.target (take done calls)) left
@@ -220,7 +208,7 @@ module _ (path text : List ℕ) (replaces : Replaces) (calls : List FileCall) (i
       (whole_at (length calls)))
       (ap (λ cs. (replay is.target cs).kept) are_flat
       ∙ ap (λ d. d.kept) (fold_looks is.target is.looks (drafting is.draft is.pieces ++ (is.tests ++ end)) no_draft
-      (target_asks path is.target is.looks is.target_is))
+      (target_looks path is.target is.looks is.target_is))
       ∙ at_end is.draft is.target (folder_of is.target) is.beside.apart is.tests asking is.pieces) may
 
   pub place_is : (is.target ≡ path) ⊎ Contains calls (Leads path is.target)
@@ -239,7 +227,7 @@ removed_at : (path : List ℕ) (calls : List FileCall) (done : ℕ) (is : IsDraf
 removed_at path calls done is =
     let d : IsDrafted path is.draft is.target is.drafted = is.is_drafted in
     let drafted = drafting is.draft d.pieces in
-    let asks_first = target_asks path is.target d.looks d.target_is in
+    let asks_first = target_looks path is.target d.looks d.target_is in
     let still : (rest : List FileCall)
     → ((e : DraftState) (n : ℕ) → IsStill e → IsStill (fold (behind is.target) e (take n rest)))
     → calls ≡ is.drafted ++ is.tests ++ rest → IsStill (replay is.target (take done calls)) =

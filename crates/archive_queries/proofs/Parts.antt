@@ -9,12 +9,11 @@ use Rattle.std.proofs.lemmas.List.{length-take, length-drop, nil_from_length, ta
 use Rattle.std.proofs.lemmas.Option.{same_Some}
 use Rattle.std.proofs.lemmas.List.Sums.{fold-append}
 use Rattle.std.proofs.lemmas.Result.{err_from_is_err_and}
+use Rattle.archive_records.proofs.KeptRecords.{long_record}
 use Rattle.archive_core.specs.Content.{IsContent, Operations, covering, joined, key_and_digest}
 use Rattle.archive_core.specs.Part.{AreAlikeUnder, is_under, part}
-use Rattle.archive_core.specs.Record.{IsRecord}
 use Rattle.archive_core.proofs.Made.{contains_made, joined_content}
 use Rattle.archive_core.proofs.Picked.{part_alike}
-use Rattle.archive_core.proofs.Records.{length-admission_record, length-retirement_record}
 use Rattle.archive_core.specs.declared.keys.SliceKey.{SliceKey}
 use Rattle.archive_core.proofs.Members.{in_rest}
 use Rattle.archive_reading.specs.Keys.{first_key}
@@ -34,11 +33,6 @@ use Rattle.archive_queries.specs.InnerTogether.{HasJoinedParts}
 use Rattle.archive_queries.specs.Together.{AreAlikeWhere}
 
 -- ---- records under a front of a key
-
--- a record has at least 33 bytes
-pub record_long : (r : List ℕ) → IsRecord r → 33 ≤ length r
-record_long r (inl a) = omega (arith, ap length a.is, length-admission_record a.slice a.valid)
-record_long r (inr t) = omega (arith, ap length t.is, length-retirement_record t.key t.digest t.is_key t.long)
 
 -- a retirement that covers a record is under the same front
 covering_under : (front r : List ℕ) → length front ≤ 24 → 33 ≤ length r → is_under front (covering r) ≡ is_under front r
@@ -64,8 +58,8 @@ module _ (front : List ℕ) (short : length front ≤ 24) (o p few some : Operat
 
   long_of : (r : List ℕ) → contains whole r ≡ true → 33 ≤ length r
   long_of r there = elim (or_cases (contains o r) (contains p r) (sym (contains-union nat_list_cmp_total o p r) ∙ there)) [
-    | inl first ↦ record_long r (content.records r first)
-    | inr second ↦ record_long r (other.records r second)
+    | inl first ↦ long_record r (content.records r first)
+    | inr second ↦ long_record r (other.records r second)
   ]
 
   -- so what is covered there is, too

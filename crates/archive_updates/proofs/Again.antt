@@ -12,6 +12,7 @@ use Rattle.admission.specs.File.{is_admissible, parts}
 use Rattle.archive_updates.specs.Slicing.{slice_in}
 use Rattle.admission.specs.Take.{admitted, taken_of, taken_rows}
 use Rattle.admission.specs.declared.taken.Taken.{Taken}
+use Rattle.admission.proofs.RowPlaces.{rows_number}
 use Rattle.report_text.specs.declared.rows.AdmitRow.{AdmitRow}
 use Rattle.archive_updates.specs.Admit.{admit_rows, file_rows}
 use Rattle.archive_updates.specs.InnerArriving.{images_in, record_in, records_in, records_of, row_again, rows_again, slice_rows, taken_again}
@@ -83,11 +84,6 @@ unfolding file_rows
 file_long index slice [] = refl
 file_long index slice (t ∷ ts) = ap suc (file_long index (slice + 1) ts)
 
-taken_long : (o : Operations) (xs : List (List ℕ)) → length (taken_rows o xs) ≡ length xs
-unfolding taken_rows
-taken_long o [] = refl
-taken_long o (x ∷ xs) = grind (arith, taken_long (admitted o (x ∷ [])) xs, taken_long o xs)
-
 -- a slice that came first among those that come is new where it is new to the other content, too
 one_joined : (o p : Operations) (image : List ℕ) → taken_again (changes o (admission_record image)) (taken_of p image) ≡ taken_of (joined o p) image
 unfolding taken_of
@@ -103,7 +99,7 @@ unfolding admit_rows rows_again
 rows_joined o p index [] = refl
 rows_joined o p index (t ∷ ts) =
     let long : length (records_in t) ≡ length (file_rows index 0 (taken_rows p (parts t))) =
-    length-map (map slice_in (parts t)) record_in ∙ length-map (parts t) slice_in ∙ sym (taken_long p (parts t)) ∙ sym (file_long index 0 (taken_rows p (parts t))) in
+    length-map (map slice_in (parts t)) record_in ∙ length-map (parts t) slice_in ∙ sym (rows_number p (parts t)) ∙ sym (file_long index 0 (taken_rows p (parts t))) in
     let first = file_again (changes o) index 0 (taken_rows p (parts t)) (records_in t) ∙ ap (file_rows index 0) (takens_joined o p (parts t)) in
     let rest = rows_joined o (admitted p (filter is_admissible (parts t))) (index + 1) ts ∙ ap (λ (q : Operations). admit_rows q (index + 1) ts) (sym (joined_taken o p (map admission_record (filter is_admissible (parts t))))) in
     again_append (changes o) (file_rows index 0 (taken_rows p (parts t))) (admit_rows (admitted p (filter is_admissible (parts t))) (index + 1) ts) (records_in t) (records_of ts) long

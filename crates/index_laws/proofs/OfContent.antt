@@ -1,5 +1,5 @@
 -- The entries of the index of a content: each is that of one of its records, and each record has one.
-use Rattle.std.proofs.Common.{◌≡◌, ◌↔◌, ℕ, zero, suc, ◌+◌, ◌<◌, ◌≤◌, ◌^◌, ◌⊎◌, true, List, [], ◌∷◌, ◌++◌, length, take, drop, get_or, refl, sym, ap, ◌∙◌, subst, inl, inr, arith, length-append}
+use Rattle.std.proofs.Common.{◌≡◌, ◌↔◌, ℕ, zero, suc, ◌+◌, ◌<◌, ◌≤◌, ◌^◌, ◌⊎◌, true, List, [], ◌∷◌, ◌++◌, length, take, drop, get_or, sym, ap, ◌∙◌, subst, inl, inr, arith, length-append}
 use Rattle.std.specs.Int.{w64, from_be_bytes}
 use Rattle.std.specs.Cmp.{tied_itself}
 use Rattle.std.specs.Cmp.Lexicographic.{nat_list_cmp_total}
@@ -39,7 +39,7 @@ use Rattle.table_index.proofs.Entries.{byte_kept, number_kept}
 use Rattle.table_index.proofs.Faults.{one_list}
 use Rattle.indexed_tables.specs.Content.{IsTableOf, claim_of, entries_of, table_entries, table_entry, tables_text}
 use Rattle.indexed_tables.proofs.Accepted.{accepted}
-use Rattle.indexed_tables.proofs.Apart.{entry_offset}
+use Rattle.indexed_tables.proofs.Apart.{entry_offset, length-table_entries}
 use Rattle.indexed_tables.proofs.Contents.{entry_begins, entry_claim, stored_among, stored_long}
 use Rattle.indexed_answers.specs.Contents.{IsSliceOf}
 use Rattle.index_laws.specs.Indexes.{IsIndexFile}
@@ -73,11 +73,6 @@ entry_at offset at (r ∷ rs) (t ∷ ts) (suc k) each lt =
     let here : offset + length r + length (concat (take k rs)) ≡ offset + length (concat (r ∷ take k rs)) = omega (arith, length-append r (concat (take k rs))) in
     let there : at + length (stored t) + length (tables_text (take k ts)) ≡ at + length (tables_text (t ∷ take k ts)) = omega (arith, length-append (stored t) (tables_text (take k ts))) in
     entry_at (offset + length r) (at + length (stored t)) rs ts k each.1 (omega (arith, lt)) ∙ (λ i. table_entry (here i) (there i) (get_or rs k []) (get_or ts k []))
-
-as_many : (offset at : ℕ) (rs ts : List (List ℕ)) → AllZip IsTableOf rs ts → length (table_entries offset at rs ts) ≡ length rs
-as_many offset at [] ts each = refl
-as_many offset at (r ∷ rs) [] each = absurd each
-as_many offset at (r ∷ rs) (t ∷ ts) each = omega (arith, as_many (offset + length r) (at + length (stored t)) rs ts each.1)
 
 -- the tables before one, and it, and those after it
 split_at : (ts : List (List ℕ)) (i : ℕ) → i < length ts → ts ≡ take i ts ++ (get_or ts i [] ∷ drop (suc i) ts)
@@ -233,7 +228,7 @@ module _ (o : Operations) (text : List ℕ) (file : IsIndexFile o text) where
     )
 
     many : length es ≡ length rs
-    many = as_many 8 8 rs ts file.index.each
+    many = length-table_entries 8 8 rs ts file.index.each
 
     -- an entry stands somewhere
     found : (e : List ℕ) → Contains entries e → (i : ℕ) × (i < length rs) × (get_or es i [] ≡ e)

@@ -49,7 +49,7 @@ zip_left R (z ∷ xs) (y ∷ ys) x all c = elim (in_cons z xs x c) [
   | inr there ↦ let f = zip_left R xs ys x all.1 there in (f.0, in_rest y ys f.0 f.1, f.2)
 ]
 
-zip_right : {X Y : Type 0} (R : X → Y → Type 0) (xs : List X) (ys : List Y) (y : Y) → AllZip R xs ys → Contains ys y → (x : X) × R x y
+pub zip_right : {X Y : Type 0} (R : X → Y → Type 0) (xs : List X) (ys : List Y) (y : Y) → AllZip R xs ys → Contains ys y → (x : X) × R x y
 zip_right R xs [] y all c = absurd (omega (arith, c.1))
 zip_right R [] (z ∷ ys) y all c = absurd all
 zip_right R (x ∷ xs) (z ∷ ys) y all c = elim (in_cons z ys y c) [

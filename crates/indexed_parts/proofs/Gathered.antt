@@ -30,7 +30,7 @@ use Rattle.archive_records.proofs.Puts.{length_written}
 use Rattle.join_core.specs.Listing.{listing}
 use Rattle.indexed_parts.specs.InnerPlaces.{AreGathered, IsGathered, IsReadOf, IsStaleAmong, IsUnnamed}
 use Rattle.indexed_parts.specs.Places.{AreGatheredUnder, IsEntryFault, ReadsPlaces}
-use Rattle.indexed_parts.specs.InnerRuns.{is_tagged}
+use Rattle.archive_index.specs.Runs.{is_tagged}
 use Rattle.indexed_parts.proofs.Ordered.{not_second, one_of_two, two_runs}
 
 module _ (R : List ℕ → List ℕ → Type 0) where

@@ -8,7 +8,7 @@ ghost use Rattle.archive_index.specs.Entry.{IsPlacedEntry, placed_bytes};
 ghost use Rattle.archive_index.specs.Index.{AreIndexed};
 ghost use Rattle.archive_index.specs.Places.{IsReadAmong, IsReadUnder};
 ghost use Rattle.indexed_parts.specs.InnerPlaces.{AreGathered, IsGathered, IsReadOf, IsStaleAmong, IsUnnamed};
-ghost use Rattle.indexed_parts.specs.InnerRuns.{is_tagged};
+ghost use Rattle.archive_index.specs.Runs.{is_tagged};
 ghost use Rattle.indexed_parts.specs.Places.{AreGatheredUnder, IsEntryFault, ReadsPlaces};
 
 use crate::records::{ADMISSION, RETIREMENT, operation_at};

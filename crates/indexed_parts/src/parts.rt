@@ -42,15 +42,14 @@ fn tells_size(entries: &Index, size: u64) -> bool
     size >= FRAME_LEN && u128::from(size - FRAME_LEN) == entries.total_length()
 }
 
-/// Whether an archive has the length that the index tells. No byte of it is read.
-pub fn has_length<P: Placed>(entries: &Index, archive: &mut P) -> Result<bool, Failed>
-    ensures has { IfOk result (λ has. IfSome (P.whole archive.old) (λ text.
-        IsTrue has ↔ HasIndexedLength entries.now text)) }
+/// Whether an archive has this size. No byte of it is read.
+pub fn has_size<P: Placed>(size: u128, archive: &mut P) -> Result<bool, Failed>
+    ensures has { IfOk result (λ has. IfSome (P.whole archive.old) (λ text. IsTrue has ↔ (length text ≡ size))) }
     ensures keeps { P.whole archive.new ≡ P.whole archive.old }
     ensures count { CountsFailure (P.failures archive.old) (P.failures archive.new) result }
 {
-    let size = archive.size()?;
-    Ok(tells_size(entries, size))
+    let found = archive.size()?;
+    Ok(u128::from(found) == size)
 }
 
 /// The size of an archive, where it is the length that the index tells. No byte of it is read.

@@ -5,7 +5,7 @@ ghost use Rattle.std.specs.Ordering.{nat_cmp};
 ghost use Rattle.std.specs.Cmp.Lexicographic.{slice_cmp};
 ghost use Rattle.archive_index.specs.Entry.{placed_bytes};
 ghost use Rattle.archive_index.specs.Index.{AreIndexed};
-ghost use Rattle.indexed_parts.specs.InnerRuns.{IsRun, is_tagged};
+ghost use Rattle.archive_index.specs.Runs.{IsRun, is_tagged};
 
 use archive_index::PlacedEntry;
 use std::cmp::Ordering;

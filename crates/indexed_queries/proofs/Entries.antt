@@ -109,20 +109,20 @@ module _ (entries : List PlacedEntry) (i : ℕ) (e : PlacedEntry) (lt : i < leng
   at : placed_bytes e ≡ get_or all i []
   at = bytes_at entries i e (placed_bytes e) lt is refl
 
-  -- one more, which is under the front
-  pub one_picked : (front : List ℕ) (before after : List PlacedEntry) → after ≡ before ++ e ∷ [] → is_under front (placed_bytes e) ≡ true → map placed_bytes before ≡ filter (is_under front) (take i all)
-      → map placed_bytes after ≡ filter (is_under front) (take (i + 1) all)
-  one_picked front before after grown under picked =
-      let one : cond (is_under front (get_or all i [])) (get_or all i [] ∷ []) [] ≡ placed_bytes e ∷ [] = ap (λ (z : List ℕ). cond (is_under front z) (z ∷ []) []) (sym at) ∙ ap (λ (b : Bool). cond b (placed_bytes e ∷ []) []) under in
+  -- one more, which is under the prefix
+  pub one_picked : (prefix : List ℕ) (before after : List PlacedEntry) → after ≡ before ++ e ∷ [] → is_under prefix (placed_bytes e) ≡ true → map placed_bytes before ≡ filter (is_under prefix) (take i all)
+      → map placed_bytes after ≡ filter (is_under prefix) (take (i + 1) all)
+  one_picked prefix before after grown under picked =
+      let one : cond (is_under prefix (get_or all i [])) (get_or all i [] ∷ []) [] ≡ placed_bytes e ∷ [] = ap (λ (z : List ℕ). cond (is_under prefix z) (z ∷ []) []) (sym at) ∙ ap (λ (b : Bool). cond b (placed_bytes e ∷ []) []) under in
       ap (map placed_bytes) grown ∙ map-append placed_bytes before (e ∷ []) ∙ ap (λ (ys : List (List ℕ)). ys ++ placed_bytes e ∷ []) picked
-      ∙ sym (filter_more (is_under front) all i [] within ∙ ap (λ (ys : List (List ℕ)). filter (is_under front) (take i all) ++ ys) one)
+      ∙ sym (filter_more (is_under prefix) all i [] within ∙ ap (λ (ys : List (List ℕ)). filter (is_under prefix) (take i all) ++ ys) one)
 
   -- one more, which is not
-  pub one_passed : (front : List ℕ) (before : List PlacedEntry) → is_under front (placed_bytes e) ≡ false → map placed_bytes before ≡ filter (is_under front) (take i all)
-      → map placed_bytes before ≡ filter (is_under front) (take (i + 1) all)
-  one_passed front before other picked =
-      let none : cond (is_under front (get_or all i [])) (get_or all i [] ∷ []) [] ≡ [] = ap (λ (z : List ℕ). cond (is_under front z) (z ∷ []) []) (sym at) ∙ ap (λ (b : Bool). cond b (placed_bytes e ∷ []) []) other in
-      picked ∙ sym (filter_more (is_under front) all i [] within ∙ ap (λ (ys : List (List ℕ)). filter (is_under front) (take i all) ++ ys) none ∙ append-nil (filter (is_under front) (take i all)))
+  pub one_passed : (prefix : List ℕ) (before : List PlacedEntry) → is_under prefix (placed_bytes e) ≡ false → map placed_bytes before ≡ filter (is_under prefix) (take i all)
+      → map placed_bytes before ≡ filter (is_under prefix) (take (i + 1) all)
+  one_passed prefix before other picked =
+      let none : cond (is_under prefix (get_or all i [])) (get_or all i [] ∷ []) [] ≡ [] = ap (λ (z : List ℕ). cond (is_under prefix z) (z ∷ []) []) (sym at) ∙ ap (λ (b : Bool). cond b (placed_bytes e ∷ []) []) other in
+      picked ∙ sym (filter_more (is_under prefix) all i [] within ∙ ap (λ (ys : List (List ℕ)). filter (is_under prefix) (take i all) ++ ys) none ∙ append-nil (filter (is_under prefix) (take i all)))
 
   -- one more row
   pub one_row : (rows after : List FindRow) (row : FindRow) → after ≡ rows ++ row ∷ [] → IsEntryRow (placed_bytes e) row → AllZip IsEntryRow (take i all) rows → AllZip IsEntryRow (take (i + 1) all) after

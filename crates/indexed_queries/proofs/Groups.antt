@@ -14,7 +14,7 @@ use Rattle.command_ends.specs.declared.faults.CommandFault.{CommandFault}
 use Rattle.command_ends.specs.declared.faults.CommandFault.TheVariants.{Input, Output, Report, OutOfMemory}
 use Rattle.command_ends.proofs.Readers.{all_take, readers_long, rest_kept, set_one, unfailed_more, untouched_behind}
 use Rattle.table_index.specs.Text.{placed_of}
-use Rattle.indexed_queries.specs.Fronts.{HoldsNamed}
+use Rattle.indexed_queries.specs.Prefixes.{HoldsNamed}
 use Rattle.indexed_queries.specs.Indexes.{IsRefusedByIndex}
 use Rattle.indexed_queries.specs.InnerParts.{HaveJoinedGroups, IsNamedIn}
 use Rattle.indexed_queries.specs.Several.{AreRefusedLater, AreRefusedTogether, AreUnfailedTogether, HoldTogether}
@@ -52,24 +52,24 @@ read_more {I} {P} indexes seen_indexes archives seen_archives all every index ar
 
 -- ---- groups of contents, one for each archive
 
-module _ {P : Type 0} (fronts : List (List ℕ)) where
-  pub groups_none : (o : Operations) → HaveJoinedGroups {P = P} fronts [] [] o o
+module _ {P : Type 0} (prefixes : List (List ℕ)) where
+  pub groups_none : (o : Operations) → HaveJoinedGroups {P = P} prefixes [] [] o o
   groups_none o = record { groups = []; named = tt; content = refl }
 
   pub groups_more : (archives seen : List (Reader P)) (all every : List (List (List ℕ))) (archive : Reader P) (entries : List (List ℕ)) (o mid new : Operations)
-      → seen ≡ archives ++ archive ∷ [] → every ≡ all ++ entries ∷ [] → HaveJoinedGroups fronts archives all o mid → IsNamedIn archive fronts (placed_of entries) mid new → HaveJoinedGroups fronts seen every o new
+      → seen ≡ archives ++ archive ∷ [] → every ≡ all ++ entries ∷ [] → HaveJoinedGroups prefixes archives all o mid → IsNamedIn archive prefixes (placed_of entries) mid new → HaveJoinedGroups prefixes seen every o new
   groups_more archives seen all every archive entries o mid new archives_are all_are h j = record {
     groups = h.groups ++ j.parts ∷ [];
-    named = subst (λ (ones : List (Reader P)). AreNamedBy fronts ones every (h.groups ++ j.parts ∷ [])) (sym archives_are)
-        (subst (λ (es : List (List (List ℕ))). AreNamedBy fronts (archives ++ archive ∷ []) es (h.groups ++ j.parts ∷ [])) (sym all_are)
-        (three_more (λ (a : Reader P) (es : List (List ℕ)) (ps : List Operations). HoldsNamed fronts a (placed_of es) ps) archives all h.groups archive entries j.parts h.named j.named));
+    named = subst (λ (ones : List (Reader P)). AreNamedBy prefixes ones every (h.groups ++ j.parts ∷ [])) (sym archives_are)
+        (subst (λ (es : List (List (List ℕ))). AreNamedBy prefixes (archives ++ archive ∷ []) es (h.groups ++ j.parts ∷ [])) (sym all_are)
+        (three_more (λ (a : Reader P) (es : List (List ℕ)) (ps : List Operations). HoldsNamed prefixes a (placed_of es) ps) archives all h.groups archive entries j.parts h.named j.named));
     content = j.content ∙ ap (λ (m : Operations). merged m j.parts) h.content ∙ sym (fold-append merged o h.groups (j.parts ∷ []));
   }
 
   -- what was joined to nothing
-  pub all_held : (archives : List (Reader P)) (all : List (List (List ℕ))) (none p : Operations) → none ≡ sets.empty → HaveJoinedGroups fronts archives all none p → HoldNamed fronts archives all p
+  pub all_held : (archives : List (Reader P)) (all : List (List (List ℕ))) (none p : Operations) → none ≡ sets.empty → HaveJoinedGroups prefixes archives all none p → HoldNamed prefixes archives all p
   all_held archives all none p is h =
-      let from_none = subst (λ (o : Operations). HaveJoinedGroups fronts archives all o p) is h in
+      let from_none = subst (λ (o : Operations). HaveJoinedGroups prefixes archives all o p) is h in
       record { groups = from_none.groups; named = from_none.named; content_is = from_none.content }
 
 -- ---- one of a list
@@ -186,20 +186,20 @@ module _ {I P : Type 0} (left : I → Option (List ℕ)) (failures : I → ℕ) 
 
 -- ---- one of the archives is refused
 
-module _ {P : Type 0} (whole : P → Option (List ℕ)) (failures : P → ℕ) (fronts : List (List ℕ)) (all : List (List (List ℕ)))
+module _ {P : Type 0} (whole : P → Option (List ℕ)) (failures : P → ℕ) (prefixes : List (List ℕ)) (all : List (List (List ℕ)))
     (before seen : List (Result P CannotOpen)) (place : ℕ) (archive later : Result P CannotOpen) (entries : List (List ℕ))
     (lt : place < length before) (long : length seen ≡ length before) (is : archive ≡ get_or before place archive) (rest : drop place seen ≡ drop place before) (each : EachUnfailed (readers whole failures before seen))
     (few : place < length all) (entries_are : entries ≡ get_or all place entries) where
   abbrev ones : List (Reader P)
   ones = readers whole failures before (set seen place later)
 
-  pub one_refused : (o mid : Operations) (fault : CommandFault) → HaveJoinedGroups fronts (take place (readers whole failures before seen)) (take place all) o mid
-      → IsRefusal (IsRefusedAtPlaces fronts place (reader whole failures archive later) entries) (Unfailed (reader whole failures archive later)) fault
-      → IsRefusal (IsFirstRefusedAtPlaces fronts ones all) (EachUnfailed ones) fault
+  pub one_refused : (o mid : Operations) (fault : CommandFault) → HaveJoinedGroups prefixes (take place (readers whole failures before seen)) (take place all) o mid
+      → IsRefusal (IsRefusedAtPlaces prefixes place (reader whole failures archive later) entries) (Unfailed (reader whole failures archive later)) fault
+      → IsRefusal (IsFirstRefusedAtPlaces prefixes ones all) (EachUnfailed ones) fault
   one_refused o mid (Input at why) h r = record {
     number = place;
     groups = h.groups;
-    before = subst (λ (rs : List (Reader P)). AreNamedBy fronts rs (take place all) h.groups) (sym (front_kept whole failures before seen place later)) h.named;
+    before = subst (λ (rs : List (Reader P)). AreNamedBy prefixes rs (take place all) h.groups) (sym (front_kept whole failures before seen place later)) h.named;
     archive = reader whole failures archive later;
     archive_is = one_of whole failures before seen place archive later lt long is rest each;
     entries = entries;
@@ -213,14 +213,14 @@ module _ {P : Type 0} (whole : P → Option (List ℕ)) (failures : P → ℕ) (
 -- ---- all of them
 
 -- indexes, which were read and are not read any more, or one of which was refused with its archive
-pub first_refused : {I P : Type 0} (fronts : List (List ℕ)) (indexes : List (Reader I)) (archives : List (Reader P)) (fault : CommandFault) → IsRefusal (IsFirstRefusedByIndex indexes archives) (EachUnfailed indexes × EachUnfailed archives) fault
-    → IsRefusal (AreRefusedTogether fronts indexes archives) (AreUnfailedTogether indexes archives) fault
-first_refused fronts indexes archives (Input at why) r = inl r
-first_refused fronts indexes archives (Output n) r = absurd r
-first_refused fronts indexes archives (Report n) r = absurd r
-first_refused fronts indexes archives OutOfMemory r = r
+pub first_refused : {I P : Type 0} (prefixes : List (List ℕ)) (indexes : List (Reader I)) (archives : List (Reader P)) (fault : CommandFault) → IsRefusal (IsFirstRefusedByIndex indexes archives) (EachUnfailed indexes × EachUnfailed archives) fault
+    → IsRefusal (AreRefusedTogether prefixes indexes archives) (AreUnfailedTogether indexes archives) fault
+first_refused prefixes indexes archives (Input at why) r = inl r
+first_refused prefixes indexes archives (Output n) r = absurd r
+first_refused prefixes indexes archives (Report n) r = absurd r
+first_refused prefixes indexes archives OutOfMemory r = r
 
-module _ {I P : Type 0} (fronts : List (List ℕ)) (indexes : List (Reader I)) (whole : P → Option (List ℕ)) (failures : P → ℕ) (old mid new : List (Result P CannotOpen)) (all : List (List (List ℕ)))
+module _ {I P : Type 0} (prefixes : List (List ℕ)) (indexes : List (Reader I)) (whole : P → Option (List ℕ)) (failures : P → ℕ) (old mid new : List (Result P CannotOpen)) (all : List (List (List ℕ)))
     (long : length mid ≡ length old) (more : length new ≡ length old) (read : AreReadWith indexes (readers whole failures old mid) all) (unfailed : EachUnfailed indexes × EachUnfailed (readers whole failures old mid)) (kept : AreAllKept whole failures old mid) where
   abbrev known : List (Reader P)
   known = readers whole failures old new
@@ -231,9 +231,9 @@ module _ {I P : Type 0} (fronts : List (List ℕ)) (indexes : List (Reader I)) (
   as_long : length new ≡ length mid
   as_long = more ∙ sym long
 
-  refused_later : (fault : CommandFault) → IsRefusal (IsFirstRefusedAtPlaces fronts later all) (EachUnfailed later) fault → IsRefusal (AreRefusedTogether fronts indexes known) (AreUnfailedTogether indexes known) fault
+  refused_later : (fault : CommandFault) → IsRefusal (IsFirstRefusedAtPlaces prefixes later all) (EachUnfailed later) fault → IsRefusal (AreRefusedTogether prefixes indexes known) (AreUnfailedTogether indexes known) fault
   refused_later (Input at why) r =
-      let told : AreRefusedLater fronts indexes known at why = record {
+      let told : AreRefusedLater prefixes indexes known at why = record {
         all = all;
         read = read_earlier whole failures indexes old mid new all long more read;
         unfailed = unfailed.0;
@@ -246,7 +246,7 @@ module _ {I P : Type 0} (fronts : List (List ℕ)) (indexes : List (Reader I)) (
   refused_later (Report n) r = absurd r
   refused_later OutOfMemory r = (unfailed.0, unfailed_through whole failures old mid new long more unfailed.1 r)
 
-  held_later : (p : Operations) → HoldNamed fronts later all p → HoldTogether fronts indexes known p
+  held_later : (p : Operations) → HoldNamed prefixes later all p → HoldTogether prefixes indexes known p
   held_later p named = record {
     all = all;
     read = read_earlier whole failures indexes old mid new all long more read;
@@ -259,7 +259,7 @@ module _ {I P : Type 0} (fronts : List (List ℕ)) (indexes : List (Reader I)) (
   unfailed_later r = (unfailed.0, unfailed_through whole failures old mid new long more unfailed.1 r)
 
   -- what comes of reading the archives once more is what comes of all
-  pub reads_later : {T : Type 0} (content : T → Operations) (r : Result T CommandFault) → ReadsInputs r (λ kept. HoldNamed fronts later all (content kept)) (IsFirstRefusedAtPlaces fronts later all) (EachUnfailed later)
-      → ReadsInputs r (λ kept. HoldTogether fronts indexes known (content kept)) (AreRefusedTogether fronts indexes known) (AreUnfailedTogether indexes known)
+  pub reads_later : {T : Type 0} (content : T → Operations) (r : Result T CommandFault) → ReadsInputs r (λ kept. HoldNamed prefixes later all (content kept)) (IsFirstRefusedAtPlaces prefixes later all) (EachUnfailed later)
+      → ReadsInputs r (λ kept. HoldTogether prefixes indexes known (content kept)) (AreRefusedTogether prefixes indexes known) (AreUnfailedTogether indexes known)
   reads_later content (Ok kept) r = record { is = held_later (content kept) r.is; unfailed = unfailed_later r.unfailed }
   reads_later content (Err fault) r = refused_later fault r

@@ -13,44 +13,44 @@ use Rattle.command_ends.specs.declared.faults.CommandFault.{CommandFault}
 use Rattle.command_ends.specs.declared.faults.CommandFault.TheVariants as command
 use Rattle.command_ends.specs.declared.faults.InputName.TheVariants as place
 use Rattle.command_ends.specs.declared.faults.Why.TheVariants as why
-use Rattle.indexed_queries.specs.Fronts.{AreNamedUnder, HoldsNamed, IsStaleUnder, IsUnnamedUnder}
+use Rattle.indexed_queries.specs.Prefixes.{AreNamedUnder, HoldsNamed, IsStaleUnder, IsUnnamedUnder}
 use Rattle.indexed_queries.specs.Together.{AreNamedBy, merged_each}
 
--- each entry under each of these fronts names one of the records of its group, in their order, and the groups stand
+-- each entry under each of these prefixes names one of the records of its group, in their order, and the groups stand
 -- after what was gathered
-pub record HaveGathered (whole : Option (List ℕ)) (fronts : List (List ℕ)) (entries : Entries)
+pub record HaveGathered (whole : Option (List ℕ)) (prefixes : List (List ℕ)) (entries : Entries)
     (old new : List (List ℕ)) : Type 0 where
   pub groups : List (List (List ℕ))
-  pub named : IfSome whole (λ text. AllZip (λ front records.
-      AllZip (IsNamedBy text) (entries_under front entries) records) fronts groups)
+  pub named : IfSome whole (λ text. AllZip (λ prefix records.
+      AllZip (IsNamedBy text) (entries_under prefix entries) records) prefixes groups)
   pub behind : new ≡ old ++ flat_map (λ records. records) groups
 
 -- why nothing was gathered: an entry names no record
 abbrev pub IsFaultAmong : List (List ℕ) → Entries → List ℕ → PlaceFault → Type 0
-IsFaultAmong fronts entries text (Stale None) = ⊥
-IsFaultAmong fronts entries text (Stale (Some entry)) = IsUnnamedUnder fronts entries text entry
-IsFaultAmong fronts entries text (Device offset) = Unit {0}
-IsFaultAmong fronts entries text OutOfMemory = Unit {0}
+IsFaultAmong prefixes entries text (Stale None) = ⊥
+IsFaultAmong prefixes entries text (Stale (Some entry)) = IsUnnamedUnder prefixes entries text entry
+IsFaultAmong prefixes entries text (Device offset) = Unit {0}
+IsFaultAmong prefixes entries text OutOfMemory = Unit {0}
 
--- what the entries under these fronts name was joined to the content
-pub record HasJoinedNamed (whole : Option (List ℕ)) (fronts : List (List ℕ)) (entries : Entries) (old new : Operations)
-    : Type 0 where
-  pub parts : List Operations
-  pub content : new ≡ merged old parts
-  pub named : IfSome whole (λ text. AreNamedUnder fronts entries text parts)
-
--- the same of an input, which was opened and has the length that the entries tell
-pub record IsNamedIn {S : Type 0} (archive : Reader S) (fronts : List (List ℕ)) (entries : Entries)
+-- what the entries under these prefixes name was joined to the content
+pub record HasJoinedNamed (whole : Option (List ℕ)) (prefixes : List (List ℕ)) (entries : Entries)
     (old new : Operations) : Type 0 where
   pub parts : List Operations
   pub content : new ≡ merged old parts
-  pub named : HoldsNamed fronts archive entries parts
+  pub named : IfSome whole (λ text. AreNamedUnder prefixes entries text parts)
+
+-- the same of an input, which was opened and has the length that the entries tell
+pub record IsNamedIn {S : Type 0} (archive : Reader S) (prefixes : List (List ℕ)) (entries : Entries)
+    (old new : Operations) : Type 0 where
+  pub parts : List Operations
+  pub content : new ≡ merged old parts
+  pub named : HoldsNamed prefixes archive entries parts
 
 -- why it was not
 abbrev pub IsFaultUnder : List (List ℕ) → Entries → List ℕ → PlaceFault → Type 0
-IsFaultUnder fronts entries text (Stale entry) = IsStaleUnder fronts entries text entry
-IsFaultUnder fronts entries text (Device offset) = Unit {0}
-IsFaultUnder fronts entries text OutOfMemory = Unit {0}
+IsFaultUnder prefixes entries text (Stale entry) = IsStaleUnder prefixes entries text entry
+IsFaultUnder prefixes entries text (Device offset) = Unit {0}
+IsFaultUnder prefixes entries text OutOfMemory = Unit {0}
 
 -- the same, as it is told of the archive with this number
 abbrev pub told_fault : ℕ → PlaceFault → CommandFault
@@ -60,8 +60,8 @@ told_fault number (Device offset) =
 told_fault number OutOfMemory = command.OutOfMemory
 
 -- what entries name in each of these archives was joined
-pub record HaveJoinedGroups {P : Type 0} (fronts : List (List ℕ)) (archives : List (Reader P))
+pub record HaveJoinedGroups {P : Type 0} (prefixes : List (List ℕ)) (archives : List (Reader P))
     (all : List (List (List ℕ))) (old new : Operations) : Type 0 where
   pub groups : List (List Operations)
-  pub named : AreNamedBy fronts archives all groups
+  pub named : AreNamedBy prefixes archives all groups
   pub content : new ≡ merged_each old groups

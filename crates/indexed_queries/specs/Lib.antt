@@ -3,7 +3,7 @@ pub mod Rows
 pub mod Find
 pub mod List
 pub mod Summary
-pub mod Fronts
+pub mod Prefixes
 pub mod InnerParts
 pub mod Together
 pub mod Several

@@ -26,11 +26,11 @@ stands_before a b = is_lt (nat_cmp (offset_in a) (offset_in b))
 abbrev pub has_lower_key : FindRow → FindRow → Bool
 has_lower_key a b = is_lt (slice_cmp nat_cmp (key_bytes a.key) (key_bytes b.key))
 
--- The rows of the entries under a front, a UUID or an empty one: by key, and those of a key in the order in which their
--- records stand.
-pub record AreIndexRows (front : List ℕ) (entries : Entries) (rows : List FindRow) : Type 0 where
+-- The rows of the entries under a prefix, a UUID or an empty one: by key, and those of a key in the order in which
+-- their records stand.
+pub record AreIndexRows (prefix : List ℕ) (entries : Entries) (rows : List FindRow) : Type 0 where
   pub placed : List (List ℕ)
-  pub moved : IsPermutation (entries_under front entries) placed
+  pub moved : IsPermutation (entries_under prefix entries) placed
   pub by_place : IsSortedBy stands_before placed
   pub told : List FindRow
   pub each : AllZip IsEntryRow placed told

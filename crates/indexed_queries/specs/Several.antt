@@ -9,48 +9,48 @@ use Rattle.command_ends.specs.declared.faults.Why.{Why}
 use Rattle.indexed_queries.specs.Together.{AreLater, AreReadWith, HoldNamed, IsFirstRefusedAtPlaces}
 use Rattle.indexed_queries.specs.Together.{IsFirstRefusedByIndex}
 
--- The indexes were read, and their archives, which stood so after that, hold this content under these fronts.
-pub record HoldTogether {I P : Type 0} (fronts : List (List ℕ)) (indexes : List (Reader I)) (archives : List (Reader P))
-    (p : Operations) : Type 0 where
+-- The indexes were read, and their archives, which stood so after that, hold this content under these prefixes.
+pub record HoldTogether {I P : Type 0} (prefixes : List (List ℕ)) (indexes : List (Reader I))
+    (archives : List (Reader P)) (p : Operations) : Type 0 where
   pub all : List (List (List ℕ))
   pub read : AreReadWith indexes archives all
   pub later : List (Reader P)
   pub are_later : AreLater archives later
-  pub named : HoldNamed fronts later all p
+  pub named : HoldNamed prefixes later all p
 
--- The indexes were read, and then one of the archives is refused, as far as these fronts tell.
-pub record AreRefusedLater {I P : Type 0} (fronts : List (List ℕ)) (indexes : List (Reader I))
+-- The indexes were read, and then one of the archives is refused, as far as these prefixes tell.
+pub record AreRefusedLater {I P : Type 0} (prefixes : List (List ℕ)) (indexes : List (Reader I))
     (archives : List (Reader P)) (at : InputName) (why : Why) : Type 0 where
   pub all : List (List (List ℕ))
   pub read : AreReadWith indexes archives all
   pub unfailed : EachUnfailed indexes
   pub later : List (Reader P)
   pub are_later : AreLater archives later
-  pub refused : IsFirstRefusedAtPlaces fronts later all at why
+  pub refused : IsFirstRefusedAtPlaces prefixes later all at why
 
 -- the first of them that is refused: of the indexes and the lengths of their archives; or, after these, of the archives
 abbrev pub AreRefusedTogether : {I P : Type 0} → List (List ℕ) → List (Reader I) → List (Reader P) → InputName → Why
     → Type 0
-AreRefusedTogether fronts indexes archives at why =
-    IsFirstRefusedByIndex indexes archives at why ⊎ AreRefusedLater fronts indexes archives at why
+AreRefusedTogether prefixes indexes archives at why =
+    IsFirstRefusedByIndex indexes archives at why ⊎ AreRefusedLater prefixes indexes archives at why
 
 -- no reader and no device of theirs failed
 abbrev pub AreUnfailedTogether : {I P : Type 0} → List (Reader I) → List (Reader P) → Type 0
 AreUnfailedTogether indexes archives = EachUnfailed indexes × EachUnfailed archives
 
--- what is joined under these fronts tells this
-pub record MakesTogether {I P : Type 0} (fronts : List (List ℕ)) (indexes : List (Reader I))
+-- what is joined under these prefixes tells this
+pub record MakesTogether {I P : Type 0} (prefixes : List (List ℕ)) (indexes : List (Reader I))
     (archives : List (Reader P)) (Tells : Operations → Status → List ℕ → Type 0) (status : Status) (text : List ℕ)
     : Type 0 where
   pub content : Operations
-  pub held : HoldTogether fronts indexes archives content
+  pub held : HoldTogether prefixes indexes archives content
   pub tells : Tells content status text
 
--- a command that tells so of what is joined under these fronts
+-- a command that tells so of what is joined under these prefixes
 abbrev pub asks_together : {I P : Type 0} → List (List ℕ) → List (Reader I) → List (Reader P)
     → (Operations → Status → List ℕ → Type 0) → Query
-asks_together fronts indexes archives Tells = record {
-  Makes = MakesTogether fronts indexes archives Tells;
-  Refuses = AreRefusedTogether fronts indexes archives;
+asks_together prefixes indexes archives Tells = record {
+  Makes = MakesTogether prefixes indexes archives Tells;
+  Refuses = AreRefusedTogether prefixes indexes archives;
   Unfailed = AreUnfailedTogether indexes archives;
 }

@@ -12,7 +12,7 @@ use Rattle.command_ends.specs.declared.faults.InputName.{InputName}
 use Rattle.command_ends.specs.declared.faults.InputName.TheVariants.{Archive, Index}
 use Rattle.command_ends.specs.declared.faults.Why.{Why}
 use Rattle.command_ends.specs.declared.faults.Why.TheVariants.{Stale}
-use Rattle.indexed_queries.specs.Fronts.{HoldsNamed, IsReadFor, IsStaleFor}
+use Rattle.indexed_queries.specs.Prefixes.{HoldsNamed, IsReadFor, IsStaleFor}
 use Rattle.indexed_queries.specs.Indexes.{HoldsTables, IsRefusedByIndex, IsUnreadAt}
 
 -- three lists have the same length, and this is true of those at each place
@@ -72,40 +72,40 @@ pub record IsLater {S : Type 0} (first later : Reader S) : Type 0 where
 abbrev pub AreLater : {S : Type 0} → List (Reader S) → List (Reader S) → Type 0
 AreLater firsts laters = AllZip IsLater firsts laters
 
--- what the entries of each name in its archive under these fronts makes these contents
+-- what the entries of each name in its archive under these prefixes makes these contents
 abbrev pub AreNamedBy : {P : Type 0} → List (List ℕ) → List (Reader P) → List (List (List ℕ)) → List (List Operations)
     → Type 0
-AreNamedBy fronts archives all groups =
-    AllThree (λ archive entries parts. HoldsNamed fronts archive (placed_of entries) parts) archives all groups
+AreNamedBy prefixes archives all groups =
+    AllThree (λ archive entries parts. HoldsNamed prefixes archive (placed_of entries) parts) archives all groups
 
 -- a content with groups of others, one joined after another
 abbrev pub merged_each : Operations → List (List Operations) → Operations
 merged_each o groups = fold merged o groups
 
--- The join of what these entries name in their archives under these fronts is this content.
-pub record HoldNamed {P : Type 0} (fronts : List (List ℕ)) (archives : List (Reader P)) (all : List (List (List ℕ)))
+-- The join of what these entries name in their archives under these prefixes is this content.
+pub record HoldNamed {P : Type 0} (prefixes : List (List ℕ)) (archives : List (Reader P)) (all : List (List (List ℕ)))
     (p : Operations) : Type 0 where
   pub groups : List (List Operations)
-  pub named : AreNamedBy fronts archives all groups
+  pub named : AreNamedBy prefixes archives all groups
   pub content_is : p ≡ merged_each set.empty groups
 
 -- An archive is refused at the places that its index names: it is not open, or its device failed, at 0 where its length
 -- was asked for, or at the record that was read; or it did not, and an entry names no record; or it has another length
 -- by now.
 abbrev pub IsRefusedAtPlaces : {P : Type 0} → List (List ℕ) → ℕ → Reader P → List (List ℕ) → InputName → Why → Type 0
-IsRefusedAtPlaces fronts number archive entries at why =
-    ((at ≡ Archive number) × IsUnreadAt (IsReadFor fronts (placed_of entries)) archive why)
+IsRefusedAtPlaces prefixes number archive entries at why =
+    ((at ≡ Archive number) × IsUnreadAt (IsReadFor prefixes (placed_of entries)) archive why)
     ⊎ ((at ≡ Index number) × Unfailed archive
-    × ((entry : Option ℕ) × (why ≡ Stale entry) × IsStaleFor fronts archive (placed_of entries) entry))
+    × ((entry : Option ℕ) × (why ≡ Stale entry) × IsStaleFor prefixes archive (placed_of entries) entry))
 
 -- One of these archives is refused so; those before it are not.
-pub record IsFirstRefusedAtPlaces {P : Type 0} (fronts : List (List ℕ)) (archives : List (Reader P))
+pub record IsFirstRefusedAtPlaces {P : Type 0} (prefixes : List (List ℕ)) (archives : List (Reader P))
     (all : List (List (List ℕ))) (at : InputName) (why : Why) : Type 0 where
   pub number : ℕ
   pub groups : List (List Operations)
-  pub before : AreNamedBy fronts (take number archives) (take number all) groups
+  pub before : AreNamedBy prefixes (take number archives) (take number all) groups
   pub archive : Reader P
   pub archive_is : IsOneOf archives number archive
   pub entries : List (List ℕ)
   pub entries_are : slice_get all number ≡ Some entries
-  pub refused : IsRefusedAtPlaces fronts number archive entries at why
+  pub refused : IsRefusedAtPlaces prefixes number archive entries at why

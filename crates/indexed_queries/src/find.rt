@@ -5,8 +5,8 @@ ghost use Rattle.command_ends.specs.Inputs.{reader, readers};
 ghost use Rattle.command_ends.specs.Outputs.{writer};
 ghost use Rattle.indexed_queries.specs.Find.{find_at, find_together};
 
-use crate::fronts::{Front, uuid_bytes};
 use crate::inputs::read_index_of;
+use crate::prefixes::{KeyPrefix, uuid_bytes};
 use crate::rows::rows_under;
 use crate::together::read_together;
 use archive_core::Archive;
@@ -34,9 +34,9 @@ pub fn run_find_at<I: Placed, P: Placed, W: Sink>(
         (reader P.whole P.failures archive.old archive.new) uuid.now)
         (writer W.held W.failures report.old report.new) result }
 {
-    let front = uuid_bytes(*uuid);
+    let prefix = uuid_bytes(*uuid);
     let entries = read_index_of(&heap, index, archive)?;
-    let rows = rows_under(&heap, &front, &entries)?;
+    let rows = rows_under(&heap, &prefix, &entries)?;
     let text = find_lines(heap, &rows)?;
     publish_report(found_status(&rows), &text, report)
 }
@@ -61,7 +61,7 @@ pub fn run_find_together<A: Archive + Drop, I: Placed, P: Placed, W: Sink>(
         (readers P.whole P.failures archives.old archives.new) uuid.now)
         (writer W.held W.failures report.old report.new) result }
 {
-    let kept: A = read_together(&heap, &[Front::Uuid(*uuid)], indexes, archives)?;
+    let kept: A = read_together(&heap, &[KeyPrefix::Uuid(*uuid)], indexes, archives)?;
     let rows = kept.find(uuid)?;
     let text = find_lines(heap, &rows)?;
     publish_report(found_status(&rows), &text, report)

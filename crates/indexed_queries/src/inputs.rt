@@ -1,6 +1,7 @@
 //! An index that is read, and the archive that it is of.
 
-ghost use Rattle.std.specs.Prelude.{◌≡◌, ◌≢◌, IfOk, OnOk};
+ghost use Rattle.std.specs.Prelude.{◌≡◌, ◌≢◌, OnOk};
+ghost use Rattle.archive_index.specs.Index.{AreIndexEntries};
 ghost use Rattle.archive_index.specs.Places.{HasIndexedLength};
 ghost use Rattle.index_faults.specs.declared.fault.IndexFaultKind.TheVariants.{OutOfMemory as IndexOutOfMemory};
 ghost use Rattle.table_index.specs.Text.{placed_of};
@@ -18,7 +19,7 @@ use archive_records::{RecordFault, RecordFaultKind};
 use byte_device::{CannotOpen, Failed, Placed};
 use command_ends::{CommandFault, InputName, Why, opened};
 use index_faults::{IndexFault, IndexFaultKind};
-use indexed_parts::has_length;
+use indexed_parts::has_size;
 use memory::Heap;
 use table_index::{TableIndex, read_index};
 
@@ -64,16 +65,18 @@ fn read_tables<I: Placed>(
 /// Tests that the archive with this number among those of the words has the length that its index tells.
 fn test_length<P: Placed>(
     number: u64,
-    entries: &Index,
+    tables: &TableIndex,
     archive: &mut Result<P, CannotOpen>,
 ) -> Result<(), CommandFault>
+    ensures entries { AreIndexEntries (placed_of tables.now) }
     ensures tests { Reads (reader P.whole P.failures archive.old archive.new) result
-        (λ archive _. Gives archive (HasIndexedLength entries.now))
-        (λ archive. IsOfOtherLength number archive entries.now) }
+        (λ archive _. Gives archive (HasIndexedLength (placed_of tables.now)))
+        (λ archive. IsOfOtherLength number archive (placed_of tables.now)) }
     ensures kept { OnOk result (IsKept P.whole P.failures archive.old archive.new) }
 {
+    let size = tables.archive_size();
     let device = opened(archive, InputName::Archive(number))?;
-    match has_length(entries, device) {
+    match has_size(size, device) {
         Ok(true) => Ok(()),
         Ok(false) => Err(CommandFault::Input(InputName::Index(number), Why::Stale(None))),
         Err(Failed) => Err(unread(number, 0)),
@@ -81,26 +84,23 @@ fn test_length<P: Placed>(
 }
 
 /// Reads the index of an archive, and tests that this has the length that it tells. Both have this number among those
-/// of the words. The entries are given with their claims, and without them.
+/// of the words.
 pub(crate) fn read_with_tables<I: Placed, P: Placed>(
     heap: &Heap,
     number: u64,
     index: &mut Result<I, CannotOpen>,
     archive: &mut Result<P, CannotOpen>,
-) -> Result<(TableIndex, Index), CommandFault>
+) -> Result<TableIndex, CommandFault>
     ensures read { let named = reader I.whole I.failures index.old index.new in
         let known = reader P.whole P.failures archive.old archive.new in
-        ReadsInputs result (λ read. IsReadWith named known read.0) (IsRefusedByIndex number named known)
+        ReadsInputs result (IsReadWith named known) (IsRefusedByIndex number named known)
         (Unfailed named × Unfailed known) }
-    ensures placed { IfOk result (λ read. read.1 ≡ placed_of read.0) }
     ensures kept { OnOk result (IsKept I.whole I.failures index.old index.new
         × IsKept P.whole P.failures archive.old archive.new) }
 {
     let tables = read_tables(heap.clone()?, number, index)?;
-    let entries = tables.placed(heap.clone()?)?;
-    let _count = entries.len();
-    test_length(number, &entries, archive)?;
-    Ok((tables, entries))
+    test_length(number, &tables, archive)?;
+    Ok(tables)
 }
 
 /// Reads the index of the first archive, and tests that this has the length that it tells.
@@ -113,7 +113,8 @@ pub(crate) fn read_index_of<I: Placed, P: Placed>(
         let known = reader P.whole P.failures archive.old archive.new in
         ReadsInputs result (IsIndexOf named known) (IsRefusedByIndex 0 named known) (Unfailed named × Unfailed known) }
 {
-    let (_, entries) = read_with_tables(heap, 0, index, archive)?;
+    let tables = read_with_tables(heap, 0, index, archive)?;
+    let entries = tables.placed(heap.clone()?)?;
     let _count = entries.len();
     Ok(entries)
 }

@@ -3,8 +3,9 @@
 //!
 //! - `inputs`: an index that is read, and the archive that it is of;
 //! - `rows`: the rows that an index tells; `summaries`: the summary that it tells;
-//! - `fronts`: [`Front`], what a key begins with; `parts`: what an index names there, read and joined;
-//! - `together`: indexes of several archives, read ([`read_indexes`]), and the slices that they name ([`read_fronts`]);
+//! - `prefixes`: [`KeyPrefix`], what a key begins with; `parts`: what an index names there, read and joined;
+//! - `together`: indexes of several archives, read ([`read_indexes`]), and the slices that they name
+//!   ([`read_prefixes`]);
 //! - `find`, `list`, `summary`: commands that read entries alone, and the archive's length; `find` over several archives
 //!   reads the slices of the UUID.
 //!
@@ -15,17 +16,17 @@
 #![tactic(auto)]
 
 mod find;
-mod fronts;
 mod inputs;
 mod list;
 mod parts;
+mod prefixes;
 mod rows;
 mod summaries;
 mod summary;
 mod together;
 
 pub use find::{run_find_at, run_find_together};
-pub use fronts::Front;
 pub use list::run_list_at;
+pub use prefixes::KeyPrefix;
 pub use summary::run_summary_at;
-pub use together::{read_fronts, read_indexes, read_together};
+pub use together::{read_indexes, read_prefixes, read_together};

@@ -9,13 +9,13 @@ ghost use Rattle.archive_index.specs.Places.{HasIndexedLength, IsReadUnder};
 ghost use Rattle.table_index.specs.Text.{placed_of};
 ghost use Rattle.command_ends.specs.Inputs.{Reads, reader};
 ghost use Rattle.indexed_parts.specs.Places.{AreGatheredUnder, IsEntryFault, ReadsPlaces};
-ghost use Rattle.indexed_queries.specs.Fronts.{IsReadFor, IsReadUnderOne, front_bytes};
+ghost use Rattle.indexed_queries.specs.Prefixes.{IsReadFor, IsReadUnderOne, prefix_bytes};
 ghost use Rattle.indexed_queries.specs.InnerParts.{HasJoinedNamed, HaveGathered, IsFaultAmong, IsFaultUnder, IsNamedIn};
 ghost use Rattle.indexed_queries.specs.InnerParts.{told_fault};
 ghost use Rattle.indexed_queries.specs.Together.{IsRefusedAtPlaces};
 
-use crate::fronts::{Front, key_of, uuid_bytes};
 use crate::inputs::unread;
+use crate::prefixes::{KeyPrefix, key_of, uuid_bytes};
 use archive_core::{Archive, Operation, take_all};
 use archive_index::{Index, PlaceFault};
 use byte_device::{CannotOpen, Placed};
@@ -24,52 +24,52 @@ use indexed_parts::{archive_of, gather_at, indexed_size};
 use memory::{Heap, NoMemory};
 use table_index::TableIndex;
 
-/// Gathers the records under a front, at the places that an index names, after those that were gathered.
-fn gather_front<P: Placed>(
+/// Gathers the records under a prefix, at the places that an index names, after those that were gathered.
+fn gather_prefix<P: Placed>(
     heap: &Heap,
     gathered: &mut Vec<Operation, Heap>,
-    front: &Front,
+    prefix: &KeyPrefix,
     entries: &Index,
     device: &mut P,
     size: u64,
 ) -> Result<(), PlaceFault>
     requires { HasSize (P.whole device.old) size }
     ensures { ReadsPlaces P.whole P.failures device.old device.new result
-        (λ _. AreGatheredUnder (P.whole device.old) (front_bytes front.now) entries.now
+        (λ _. AreGatheredUnder (P.whole device.old) (prefix_bytes prefix.now) entries.now
         (map record_bytes gathered.old.items) (map record_bytes gathered.new.items))
-        (IsEntryFault (front_bytes front.now) entries.now) (IsReadUnder (front_bytes front.now) entries.now) }
+        (IsEntryFault (prefix_bytes prefix.now) entries.now) (IsReadUnder (prefix_bytes prefix.now) entries.now) }
 {
-    match front {
-        Front::Uuid(uuid) => {
+    match prefix {
+        KeyPrefix::Uuid(uuid) => {
             gather_at(heap, gathered, &uuid_bytes(*uuid), entries, device, size)
         }
-        Front::Key(key) => gather_at(heap, gathered, &key_of(*key), entries, device, size),
+        KeyPrefix::Key(key) => gather_at(heap, gathered, &key_of(*key), entries, device, size),
     }
 }
 
-/// Gathers the records under each of these fronts, at the places that an index names.
-fn gather_fronts<P: Placed>(
+/// Gathers the records under each of these prefixes, at the places that an index names.
+fn gather_prefixes<P: Placed>(
     heap: &Heap,
     gathered: &mut Vec<Operation, Heap>,
-    fronts: &[Front],
+    prefixes: &[KeyPrefix],
     entries: &Index,
     device: &mut P,
     size: u64,
 ) -> Result<(), PlaceFault>
     requires { HasSize (P.whole device.old) size }
     ensures { ReadsPlaces P.whole P.failures device.old device.new result
-        (λ _. HaveGathered (P.whole device.old) (map front_bytes fronts.now) entries.now
+        (λ _. HaveGathered (P.whole device.old) (map prefix_bytes prefixes.now) entries.now
         (map record_bytes gathered.old.items) (map record_bytes gathered.new.items))
-        (IsFaultAmong (map front_bytes fronts.now) entries.now)
-        (IsReadUnderOne (map front_bytes fronts.now) entries.now) }
+        (IsFaultAmong (map prefix_bytes prefixes.now) entries.now)
+        (IsReadUnderOne (map prefix_bytes prefixes.now) entries.now) }
 {
-    'fronts: for front in fronts {
-        gather_front(heap, gathered, front, entries, device, size)?;
+    'prefixes: for prefix in prefixes {
+        gather_prefix(heap, gathered, prefix, entries, device, size)?;
     }
     Ok(())
 }
 
-/// Joins operations that were gathered, together: a join for each front would go through what is there for each.
+/// Joins operations that were gathered, together: a join for each prefix would go through what is there for each.
 fn join_gathered<A: Archive + Drop>(
     heap: &Heap,
     kept: &mut A,
@@ -83,18 +83,19 @@ fn join_gathered<A: Archive + Drop>(
     Ok(())
 }
 
-/// Joins the records under these fronts, at the places that an index names in an archive of the length that it tells.
-fn join_fronts<A: Archive + Drop, P: Placed>(
+/// Joins the records under these prefixes, at the places that an index names in an archive of the length that it tells.
+fn join_prefixes<A: Archive + Drop, P: Placed>(
     heap: &Heap,
     kept: &mut A,
-    fronts: &[Front],
+    prefixes: &[KeyPrefix],
     entries: &Index,
     device: &mut P,
 ) -> Result<(), PlaceFault>
     ensures { ReadsPlaces P.whole P.failures device.old device.new result
         (λ _. IfSome (P.whole device.old) (HasIndexedLength entries.now) × HasJoinedNamed (P.whole device.old)
-        (map front_bytes fronts.now) entries.now (A.content kept.old) (A.content kept.new))
-        (IsFaultUnder (map front_bytes fronts.now) entries.now) (IsReadFor (map front_bytes fronts.now) entries.now) }
+        (map prefix_bytes prefixes.now) entries.now (A.content kept.old) (A.content kept.new))
+        (IsFaultUnder (map prefix_bytes prefixes.now) entries.now)
+        (IsReadFor (map prefix_bytes prefixes.now) entries.now) }
 {
     let _held = kept.len();
     let size = indexed_size(entries, device)?;
@@ -102,7 +103,7 @@ fn join_fronts<A: Archive + Drop, P: Placed>(
         return Err(PlaceFault::OutOfMemory);
     };
     let mut gathered = Vec::new(own);
-    gather_fronts(heap, &mut gathered, fronts, entries, device, size)?;
+    gather_prefixes(heap, &mut gathered, prefixes, entries, device, size)?;
     match join_gathered(heap, kept, gathered) {
         Ok(()) => Ok(()),
         Err(NoMemory) => Err(PlaceFault::OutOfMemory),
@@ -123,24 +124,24 @@ fn told(number: u64, fault: PlaceFault) -> CommandFault
     }
 }
 
-/// Joins what an index names under each of these fronts in its archive, which have this number among those of the
+/// Joins what an index names under each of these prefixes in its archive, which have this number among those of the
 /// words.
 pub(crate) fn join_archive<A: Archive + Drop, P: Placed>(
     heap: &Heap,
     kept: &mut A,
     number: u64,
-    fronts: &[Front],
+    prefixes: &[KeyPrefix],
     tables: &TableIndex,
     archive: &mut Result<P, CannotOpen>,
 ) -> Result<(), CommandFault>
-    ensures { let sought = map front_bytes fronts.now in
+    ensures { let sought = map prefix_bytes prefixes.now in
         Reads (reader P.whole P.failures archive.old archive.new) result
         (λ archive _. IsNamedIn archive sought (placed_of tables.now) (A.content kept.old) (A.content kept.new))
         (λ archive. IsRefusedAtPlaces sought number archive tables.now) }
 {
     let entries = tables.placed(heap.clone()?)?;
     let device = opened(archive, InputName::Archive(number))?;
-    match join_fronts(heap, kept, fronts, &entries, device) {
+    match join_prefixes(heap, kept, prefixes, &entries, device) {
         Ok(()) => Ok(()),
         Err(fault) => Err(told(number, fault)),
     }

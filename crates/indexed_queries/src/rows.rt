@@ -29,18 +29,18 @@ fn row_of(entry: &PlacedEntry) -> FindRow
     row_with(entry.row.key, entry.row.digest, entry.row.state)
 }
 
-/// The entries under a front, in their order.
+/// The entries under a prefix, in their order.
 fn entries_under(
     heap: Heap,
-    front: &[u8],
+    prefix: &[u8],
     entries: &[PlacedEntry],
 ) -> Result<Vec<PlacedEntry, Heap>, NoMemory>
     ensures { IfOk result (λ picked. map placed_bytes picked.items
-        ≡ filter (is_under front.now) (map placed_bytes entries.now)) }
+        ≡ filter (is_under prefix.now) (map placed_bytes entries.now)) }
 {
     let mut picked = Vec::new(heap);
     'entries: for entry in entries {
-        if !is_under(front, entry) {
+        if !is_under(prefix, entry) {
             continue 'entries;
         }
         picked.push(*entry)?;
@@ -93,17 +93,17 @@ fn put_by_key(rows: &mut Vec<FindRow, Heap>) -> Result<(), NoMemory>
     Ok(())
 }
 
-/// The rows of the entries of an index under a front, a UUID or an empty one: by key, and those of a key in the order
+/// The rows of the entries of an index under a prefix, a UUID or an empty one: by key, and those of a key in the order
 /// in which their records stand. Refused for want of memory alone.
 pub(crate) fn rows_under(
     heap: &Heap,
-    front: &[u8],
+    prefix: &[u8],
     index: &Index,
 ) -> Result<Vec<FindRow, Heap>, NoMemory>
-    ensures { IfOk result (λ rows. AreIndexRows front.now index.now rows.items) }
+    ensures { IfOk result (λ rows. AreIndexRows prefix.now index.now rows.items) }
 {
     let _count = index.len();
-    let mut placed = entries_under(heap.clone()?, front, index.entries())?;
+    let mut placed = entries_under(heap.clone()?, prefix, index.entries())?;
     put_by_place(&mut placed);
     let mut rows = rows_of(heap.clone()?, &placed)?;
     put_by_key(&mut rows)?;

@@ -2,15 +2,15 @@
 
 ghost use Rattle.std.specs.Prelude.{◌≡◌, OnOk, length, map};
 ghost use Rattle.command_ends.specs.Inputs.{EachUnfailed, ReadsInputs, readers};
-ghost use Rattle.indexed_queries.specs.Fronts.{front_bytes};
+ghost use Rattle.indexed_queries.specs.Prefixes.{prefix_bytes};
 ghost use Rattle.indexed_queries.specs.InnerParts.{HaveJoinedGroups};
 ghost use Rattle.indexed_queries.specs.Several.{AreRefusedTogether, AreUnfailedTogether, HoldTogether};
 ghost use Rattle.indexed_queries.specs.Together.{AreAllKept, AreReadWith, HoldNamed, IsFirstRefusedAtPlaces};
 ghost use Rattle.indexed_queries.specs.Together.{IsFirstRefusedByIndex};
 
-use crate::fronts::Front;
 use crate::inputs::read_with_tables;
 use crate::parts::join_archive;
+use crate::prefixes::KeyPrefix;
 use archive_core::Archive;
 use byte_device::{CannotOpen, Placed};
 use command_ends::CommandFault;
@@ -38,7 +38,7 @@ pub fn read_indexes<I: Placed, P: Placed>(
 {
     let mut read = Vec::new(heap.clone()?);
     'indexes: for number in 0..indexes.len() {
-        let (tables, _) = read_with_tables(
+        let tables = read_with_tables(
             heap,
             number as u64,
             &mut indexes[number],
@@ -49,17 +49,17 @@ pub fn read_indexes<I: Placed, P: Placed>(
     Ok(read)
 }
 
-/// Joins what is under these fronts in each of these archives, in their order: the slices that the entries of its index
-/// name are read at their places, tested and hashed.
+/// Joins what is under these prefixes in each of these archives, in their order: the slices that the entries of its
+/// index name are read at their places, tested and hashed.
 fn join_each<A: Archive + Drop, P: Placed>(
     heap: &Heap,
     kept: &mut A,
-    fronts: &[Front],
+    prefixes: &[KeyPrefix],
     read: &[TableIndex],
     archives: &mut [Result<P, CannotOpen>],
 ) -> Result<(), CommandFault>
     requires { length read.now ≡ length archives.old }
-    ensures { let sought = map front_bytes fronts.now in
+    ensures { let sought = map prefix_bytes prefixes.now in
         let known = readers P.whole P.failures archives.old archives.new in
         ReadsInputs result
         (λ _. HaveJoinedGroups sought known read.now (A.content kept.old) (A.content kept.new))
@@ -70,7 +70,7 @@ fn join_each<A: Archive + Drop, P: Placed>(
             heap,
             kept,
             number as u64,
-            fronts,
+            prefixes,
             &read[number],
             &mut archives[number],
         )?;
@@ -78,48 +78,48 @@ fn join_each<A: Archive + Drop, P: Placed>(
     Ok(())
 }
 
-/// Reads what archives have under these fronts, whose indexes were read: the slices that these name, at their places, in
-/// the order of the words. The length of each archive is compared again before that.
+/// Reads what archives have under these prefixes, whose indexes were read: the slices that these name, at their places,
+/// in the order of the words. The length of each archive is compared again before that.
 ///
 /// # Errors
 ///
 /// `Input` for the first archive that is refused, or whose index names another; `OutOfMemory`.
-pub fn read_fronts<A: Archive + Drop, P: Placed>(
+pub fn read_prefixes<A: Archive + Drop, P: Placed>(
     heap: &Heap,
-    fronts: &[Front],
+    prefixes: &[KeyPrefix],
     read: &[TableIndex],
     archives: &mut [Result<P, CannotOpen>],
 ) -> Result<A, CommandFault>
     requires { length read.now ≡ length archives.old }
-    ensures { let sought = map front_bytes fronts.now in
+    ensures { let sought = map prefix_bytes prefixes.now in
         let known = readers P.whole P.failures archives.old archives.new in
         ReadsInputs result (λ kept. HoldNamed sought known read.now (A.content kept))
         (IsFirstRefusedAtPlaces sought known read.now) (EachUnfailed known) }
 {
     let mut kept = A::empty(heap.clone()?);
-    join_each(heap, &mut kept, fronts, read, archives)?;
+    join_each(heap, &mut kept, prefixes, read, archives)?;
     Ok(kept)
 }
 
-/// Reads what archives have under these fronts: all their indexes first, as [`read_indexes`] does, and then the slices
-/// that these name, as [`read_fronts`] does.
+/// Reads what archives have under these prefixes: all their indexes first, as [`read_indexes`] does, and then the
+/// slices that these name, as [`read_prefixes`] does.
 ///
 /// # Errors
 ///
 /// Those of the two, in this order.
 pub fn read_together<A: Archive + Drop, I: Placed, P: Placed>(
     heap: &Heap,
-    fronts: &[Front],
+    prefixes: &[KeyPrefix],
     indexes: &mut [Result<I, CannotOpen>],
     archives: &mut [Result<P, CannotOpen>],
 ) -> Result<A, CommandFault>
     requires { length indexes.old ≡ length archives.old }
-    ensures { let sought = map front_bytes fronts.now in
+    ensures { let sought = map prefix_bytes prefixes.now in
         let named = readers I.whole I.failures indexes.old indexes.new in
         let known = readers P.whole P.failures archives.old archives.new in
         ReadsInputs result (λ kept. HoldTogether sought named known (A.content kept))
         (AreRefusedTogether sought named known) (AreUnfailedTogether named known) }
 {
     let read = read_indexes(heap, indexes, archives)?;
-    read_fronts(heap, fronts, &read, archives)
+    read_prefixes(heap, prefixes, &read, archives)
 }

@@ -48,9 +48,6 @@ first_equal Less b e = absurd (cc e)
 first_equal Equal b e = (refl, e)
 first_equal Greater b e = absurd (cc e)
 
-bytes_total : IsTotalOrder (slice_cmp nat_cmp)
-bytes_total = nat_list_cmp_total
-
 bytes_itself : (a : List ℕ) → slice_cmp nat_cmp a a ≡ Equal
 bytes_itself a = tied_itself nat_list_cmp_total a
 
@@ -167,7 +164,7 @@ module _ (key : SliceKey) where
 
   still_above : (y z : AskedPlace) → IsAbove y → asked_cmp y z ≡ Less → IsAbove z
   still_above y z above less = elim (first_less _ _ less) [
-    | inl l ↦ bytes_total.trans (key_bytes key) (key_bytes y.key) (key_bytes z.key) above l
+    | inl l ↦ nat_list_cmp_total.trans (key_bytes key) (key_bytes y.key) (key_bytes z.key) above l
     | inr b ↦ subst (λ (k : List ℕ). slice_cmp nat_cmp (key_bytes key) k ≡ Less) (bytes_same (key_bytes y.key) (key_bytes z.key) b.0) above
   ]
 

@@ -7,7 +7,7 @@ ghost use Rattle.command_ends.specs.Ends.{EndsReport};
 ghost use Rattle.command_ends.specs.Inputs.{reader, readers};
 ghost use Rattle.command_ends.specs.Outputs.{writer};
 ghost use Rattle.indexed_answers.specs.AmongAsked.{HaveTexts};
-ghost use Rattle.indexed_queries.specs.Fronts.{front_bytes};
+ghost use Rattle.indexed_queries.specs.Prefixes.{prefix_bytes};
 ghost use Rattle.indexed_symbols.specs.Frames.{TellTablesOfFrames, frames_at, keys_of};
 ghost use Rattle.indexed_symbols.specs.InnerAsking.{AreAllOpened, AsksEither, AsksSlices, AsksWithout};
 
@@ -18,7 +18,7 @@ use archive_queries::answer_frames;
 use byte_device::{CannotOpen, Placed, Sink, Source};
 use command_ends::{CommandFault, Status, publish_bytes, read_crash};
 use crash_frames::Frame;
-use indexed_queries::{Front, read_fronts, read_indexes};
+use indexed_queries::{KeyPrefix, read_indexes, read_prefixes};
 use memory::{Heap, NoMemory};
 use table_index::TableIndex;
 
@@ -39,13 +39,13 @@ fn keys_once(heap: Heap, frames: &[Frame]) -> Result<Vec<SliceKey, Heap>, NoMemo
     Ok(keys)
 }
 
-/// The same as fronts.
-fn fronts_of(heap: &Heap, frames: &[Frame]) -> Result<Vec<Front, Heap>, NoMemory>
-    ensures { IfOk result (λ fronts. HaveSameMembers (map front_bytes fronts.items) (keys_of frames.now)) }
+/// The same as prefixes.
+fn prefixes_of(heap: &Heap, frames: &[Frame]) -> Result<Vec<KeyPrefix, Heap>, NoMemory>
+    ensures { IfOk result (λ prefixes. HaveSameMembers (map prefix_bytes prefixes.items) (keys_of frames.now)) }
 {
     let keys = keys_once(heap.clone()?, frames)?;
     keys.iter()
-        .map(|key| Front::Key(*key))
+        .map(|key| KeyPrefix::Key(*key))
         .collect(heap.clone()?)
 }
 
@@ -87,8 +87,8 @@ fn tell_by_slices<A: Archive + Drop, P: Placed>(
         (readers P.whole P.failures archives.old archives.new) result
         (λ content told. TellsFrames lines content frames.now told.0 told.1.items) }
 {
-    let fronts = fronts_of(heap, frames)?;
-    let kept: A = read_fronts(heap, &fronts, read, archives)?;
+    let prefixes = prefixes_of(heap, frames)?;
+    let kept: A = read_prefixes(heap, &prefixes, read, archives)?;
     let told = answer_frames(heap.clone()?, &kept, frames, lines)?;
     Ok(told)
 }

@@ -17,7 +17,7 @@ use archive_queries::{answer_each, places_of, status_behind};
 use byte_device::{CannotOpen, Placed, Sink};
 use command_ends::{CommandFault, Status, publish_report};
 use indexed_answers::Answers;
-use indexed_queries::{Front, read_fronts, read_indexes};
+use indexed_queries::{KeyPrefix, read_indexes, read_prefixes};
 use memory::{Heap, NoMemory};
 use report_text::push_answer;
 use table_index::TableIndex;
@@ -84,7 +84,7 @@ fn tell_by_slices<A: Archive + Drop, P: Placed>(
         (readers P.whole P.failures archives.old archives.new) result
         (λ content told. TellsAddresses content key.now load lines addresses.now told.0 (string_bytes told.1)) }
 {
-    let kept: A = read_fronts(heap, &[Front::Key(*key)], read, archives)?;
+    let kept: A = read_prefixes(heap, &[KeyPrefix::Key(*key)], read, archives)?;
     let told = answer_each(heap.clone()?, &kept, key, load, lines, addresses)?;
     Ok(told)
 }

@@ -32,9 +32,9 @@ use Rattle.archive_index.proofs.Placed.{entry_long, is_placed, length_is, offset
 use Rattle.archive_index.proofs.Sums.{AreApart as AreDistinct, any_ascending_of, is_same, listing_of, nonempty, text_length}
 use Rattle.indexed_tables.specs.Content.{IsIndexOf, IsTableOf, claim_of, entries_of, table_entries, table_entry, tables_text}
 use Rattle.table_index.specs.Entry.{claim_at, claim_bytes, claim_in, has_claim, no_claim, stored_size}
-use Rattle.table_index.specs.Text.{FollowOn, IsIndexText, PassTests, end_of, test_entry}
+use Rattle.table_index.specs.Text.{FollowOn, IsIndexText, PassChecks, end_of, check_entry}
 use Rattle.table_index.proofs.Entries.{byte_kept, claim_read, long_with, number_kept}
-use Rattle.table_index.proofs.Tests.{long_entries}
+use Rattle.table_index.proofs.Checks.{long_entries}
 use Rattle.indexed_tables.proofs.Apart.{apart, moved, near_all}
 use Rattle.indexed_tables.proofs.Contents.{claim_admitted, claim_retired, stored_long}
 
@@ -144,8 +144,8 @@ sound_entry offset at end r t is table offset_fits fits within = record {
   claim = claim_passes offset at end r t is table offset_fits fits within;
 }
 
-sound_passes : (end : ℕ) (last e : List ℕ) → IsSound end e → is_lt (slice_cmp nat_cmp last e) ≡ true → test_entry end last e ≡ Ok tt
-unfolding test_entry
+sound_passes : (end : ℕ) (last e : List ℕ) → IsSound end e → is_lt (slice_cmp nat_cmp last e) ≡ true → check_entry end last e ≡ Ok tt
+unfolding check_entry
 sound_passes end last e s above = rw (s.tag, s.kind, s.length_is, above, s.claim) refl
 
 -- ---- all entries
@@ -189,7 +189,7 @@ follow_entries low offset at (r ∷ rs) (t ∷ ts) a each of fits =
 -- ---- entries in byte order
 
 -- sound entries that are strictly sorted pass their tests
-pass_sorted : (end : ℕ) (low : List ℕ) (xs : List (List ℕ)) → AllByRecursion (IsSound end) xs → AllByRecursion (λ y. order low y ≡ Less) xs → IsStrictlySortedBy order xs → PassTests end low xs
+pass_sorted : (end : ℕ) (low : List ℕ) (xs : List (List ℕ)) → AllByRecursion (IsSound end) xs → AllByRecursion (λ y. order low y ≡ Less) xs → IsStrictlySortedBy order xs → PassChecks end low xs
 unfolding IsStrictlySortedBy
 pass_sorted end low [] sound above sorted = tt
 pass_sorted end low (x ∷ xs) sound above sorted = (sound.0.long, sound_passes end low x sound.0 (ap is_lt above.0), pass_sorted end x xs sound.1 sorted.0 sorted.1)
@@ -224,7 +224,7 @@ accepted o text index content short fits =
     let each : AllByRecursion (IsSound end) entries = along (IsSound end) entries (λ q h.
     All-contains (IsSound end) es q (All-from_recursion (IsSound end) es sound) (containing es q (sym (any_ascending_of q es) ∙ ap (λ (xs : List (List ℕ)). list_any (is_same q) xs) (sym (listing_of es)) ∙ h))) in
     let sorted : IsStrictlySortedBy order entries = (listed nat_list_cmp_total bytes_same (set.from_list es)).ascending in
-    let pass : PassTests end [] entries = pass_sorted end [] entries each (along_list (IsSound end) (λ y. order [] y ≡ Less) (above_empty end) entries each) sorted in
+    let pass : PassChecks end [] entries = pass_sorted end [] entries each (along_list (IsSound end) (λ y. order [] y ≡ Less) (above_empty end) entries each) sorted in
     record {
       tables = tables;
       whole = index.text_is;

@@ -16,12 +16,12 @@ use Rattle.archive_records.specs.Text.{written}
 use Rattle.indexed_tables.specs.Asked.{DigestsTell, IsToldBy}
 use Rattle.indexed_tables.specs.Content.{EndAlike, HasTable, IsIndexOf, entries_of}
 use Rattle.table_index.specs.Entry.{claim_in}
-use Rattle.table_index.specs.Text.{IsIndexText, PassTests, end_of}
+use Rattle.table_index.specs.Text.{IsIndexText, PassChecks, end_of}
 use Rattle.indexed_tables.proofs.Accepted.{accepted}
 use Rattle.table_index.proofs.Texts.{last_is}
 
 -- entries of one length are those that their bytes are
-long_each : (end : ℕ) (low : List ℕ) (xs : List (List ℕ)) → PassTests end low xs → AllByRecursion (λ e. length e ≡ 122) xs
+long_each : (end : ℕ) (low : List ℕ) (xs : List (List ℕ)) → PassChecks end low xs → AllByRecursion (λ e. length e ≡ 122) xs
 long_each end low [] pass = tt
 long_each end low (x ∷ xs) pass = (pass.0, long_each end x xs pass.2)
 

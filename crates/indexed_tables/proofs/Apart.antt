@@ -84,7 +84,7 @@ moved (x ∷ xs) a =
     IsPermutation-trans (x ∷ xs) (x ∷ ascending_of order xs) (put order x (ascending_of order xs)) (IsPermutation-cons x xs (ascending_of order xs) (moved xs a.1))
     (put_moves x (ascending_of order xs) (any_ascending_of x xs ∙ a.0))
 
-length-table_entries : (offset at : ℕ) (rs ts : List (List ℕ)) → AllZip IsTableOf rs ts → length (table_entries offset at rs ts) ≡ length rs
+pub length-table_entries : (offset at : ℕ) (rs ts : List (List ℕ)) → AllZip IsTableOf rs ts → length (table_entries offset at rs ts) ≡ length rs
 length-table_entries offset at [] ts each = refl
 length-table_entries offset at (r ∷ rs) [] each = absurd each
 length-table_entries offset at (r ∷ rs) (t ∷ ts) each = omega (arith, length-table_entries (offset + length r) (at + length (stored t)) rs ts each.1)

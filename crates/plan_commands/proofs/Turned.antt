@@ -1,6 +1,5 @@
 -- Inputs that are opened at their turn.
-use Rattle.std.proofs.Common.{◌≡◌, List, [], ◌∷◌, length, refl, ap, suc, Result, Ok, Err}
-use Rattle.std.specs.List.{AllZip}
+use Rattle.std.proofs.Common.{List, [], ◌∷◌, Result, Ok, Err}
 use Rattle.byte_device.specs.declared.Source.{Ghosts as Sources}
 use Rattle.byte_device.specs.declared.disks.CannotOpen.{CannotOpen}
 use Rattle.byte_device.specs.declared.Placed.{Ghosts as Places}
@@ -8,13 +7,6 @@ use Rattle.archive_files.specs.declared.disks.Disk.{Ghosts as Disks}
 use Rattle.archive_files.specs.AtTurns.{told_by}
 use Rattle.archive_files.specs.InputStates.{AreAtTurn}
 use Rattle.archive_files.specs.declared.input_state.AtTurn.{AtTurn}
-
--- there are as many inputs as paths
-pub as_many : {A B : Type 0} (R : A → B → Type 0) (xs : List A) (ys : List B) → AllZip R xs ys → length ys ≡ length xs
-as_many R [] [] all = refl
-as_many R [] (y ∷ ys) all = absurd all
-as_many R (x ∷ xs) [] all = absurd all
-as_many R (x ∷ xs) (y ∷ ys) all = ap suc (as_many R xs ys all.1)
 
 -- each input keeps its rules
 pub at_turn : {D I P : Type 0} (disk : Disks D I P) (input : Sources I) (places : Places P)

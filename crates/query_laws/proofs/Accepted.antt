@@ -33,7 +33,7 @@ use Rattle.command_ends.specs.declared.faults.Why.TheVariants.{CannotOpen as Not
 use Rattle.command_ends.specs.declared.faults.Why.TheVariants.{Script, BadFrame, OldArchive, TooLong}
 use Rattle.command_ends.specs.declared.faults.Why.TheVariants.{Index as IndexFaulty, Stale, Damaged, NoArchive, NoIndex}
 use Rattle.index_laws.specs.Indexes.{IsIndexFile}
-use Rattle.indexed_queries.specs.Fronts.{IsReadFor, IsStaleFor, IsStaleUnder, IsUnnamedUnder}
+use Rattle.indexed_queries.specs.Prefixes.{IsReadFor, IsStaleFor, IsStaleUnder, IsUnnamedUnder}
 use Rattle.indexed_queries.specs.Indexes.{HasOtherLength, IsOfOtherLength, IsRefusedByIndex, IsUnreadAt, IsUnreadIndex}
 use Rattle.indexed_queries.specs.Together.{IsKept, IsLater, IsRefusedAtPlaces}
 use Rattle.query_laws.specs.Contents.{IsIndexGiven}
@@ -101,25 +101,25 @@ member_at (x ∷ xs) zero lt = or_left _ _ (ap is_eq (tied_itself nat_list_cmp_t
 member_at (x ∷ xs) (suc k) lt = or_right (eq_by_cmp order (get_or xs k []) x) _ (member_at xs k (omega arith))
 
 module _ (o : Operations) (text : List ℕ) (file : IsIndexFile o text) where
-  named_at : (fronts : List (List ℕ)) (k : ℕ) → IsUnnamedUnder fronts (index o) (written o) k → ⊥
-  named_at fronts k (number, lt, before, stale) =
+  named_at : (prefixes : List (List ℕ)) (k : ℕ) → IsUnnamedUnder prefixes (index o) (written o) k → ⊥
+  named_at prefixes k (number, lt, before, stale) =
       let s = index o in
       let it = get_or (listing s) k [] in
       let member : set.contains s it ≡ true = sym (any_listing nat_list_cmp_total s it) ∙ member_at (listing s) k (omega (arith, stale.0, length_written s)) in
       let named = named_there o it file.content file.archive_fits member in
       stale.2 named.0 named.1
 
-  not_stale : (fronts : List (List ℕ)) (entry : Option ℕ) → IsStaleUnder fronts (index o) (written o) entry → ⊥
-  not_stale fronts None stale = stale (right_length o file.content file.archive_fits)
-  not_stale fronts (Some k) stale = named_at fronts k stale.1
+  not_stale : (prefixes : List (List ℕ)) (entry : Option ℕ) → IsStaleUnder prefixes (index o) (written o) entry → ⊥
+  not_stale prefixes None stale = stale (right_length o file.content file.archive_fits)
+  not_stale prefixes (Some k) stale = named_at prefixes k stale.1
 
-  never_stale : {P : Type 0} (archive : Reader P) (fronts : List (List ℕ)) (entry : Option ℕ) → IsGiven archive (written o) → IsStaleFor fronts archive (index o) entry → ⊥
-  never_stale archive fronts entry known h = not_stale fronts entry (of_given archive (written o) (λ t. IsStaleUnder fronts (index o) t entry) known h)
+  never_stale : {P : Type 0} (archive : Reader P) (prefixes : List (List ℕ)) (entry : Option ℕ) → IsGiven archive (written o) → IsStaleFor prefixes archive (index o) entry → ⊥
+  never_stale archive prefixes entry known h = not_stale prefixes entry (of_given archive (written o) (λ t. IsStaleUnder prefixes (index o) t entry) known h)
 
-  pub at_places : {P : Type 0} (fronts : List (List ℕ)) (number : ℕ) (archive : Reader P) (entries : List (List ℕ)) (at : InputName) (why : Why) → placed_of entries ≡ index o → IsGiven archive (written o) → IsRefusedAtPlaces fronts number archive entries at why → IsDeviceFault why
-  at_places fronts number archive entries at why is known (inl (place, unread)) = unread_at_device (IsReadFor fronts (placed_of entries)) archive (written o) why known unread
-  at_places fronts number archive entries at why is known (inr (place, unfailed, (entry, why_is, stale))) =
-      absurd (never_stale archive fronts entry known (subst (λ (s : Entries). IsStaleFor fronts archive s entry) is stale))
+  pub at_places : {P : Type 0} (prefixes : List (List ℕ)) (number : ℕ) (archive : Reader P) (entries : List (List ℕ)) (at : InputName) (why : Why) → placed_of entries ≡ index o → IsGiven archive (written o) → IsRefusedAtPlaces prefixes number archive entries at why → IsDeviceFault why
+  at_places prefixes number archive entries at why is known (inl (place, unread)) = unread_at_device (IsReadFor prefixes (placed_of entries)) archive (written o) why known unread
+  at_places prefixes number archive entries at why is known (inr (place, unfailed, (entry, why_is, stale))) =
+      absurd (never_stale archive prefixes entry known (subst (λ (s : Entries). IsStaleFor prefixes archive s entry) is stale))
 
 -- ---- an archive from a later state on
 

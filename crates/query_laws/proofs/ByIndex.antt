@@ -28,7 +28,8 @@ use Rattle.command_ends.specs.Archives.{merged}
 use Rattle.command_ends.specs.Inputs.{IsGiven, Reader}
 use Rattle.command_ends.specs.declared.faults.Status.{Status}
 use Rattle.index_laws.specs.Indexes.{IsIndexFile, all_joined}
-use Rattle.indexed_queries.specs.Fronts.{AreNamedUnder, HoldsNamed}
+use Rattle.index_laws.proofs.Right.{zip_right}
+use Rattle.indexed_queries.specs.Prefixes.{AreNamedUnder, HoldsNamed}
 use Rattle.indexed_queries.specs.Several.{HoldTogether}
 use Rattle.indexed_queries.specs.Together.{IsLater, IsReadWith, merged_each}
 use Rattle.indexed_symbols.specs.Frames.{keys_of}
@@ -37,9 +38,9 @@ use Rattle.query_laws.proofs.Accepted.{still_given}
 use Rattle.query_laws.proofs.OfIndex.{held_tables, of_given}
 use Rattle.query_laws.proofs.Three.{for_first, third_fourth, with_fourth}
 
--- a record is under one of these fronts
+-- a record is under one of these prefixes
 abbrev is_under_any : List (List ℕ) → List ℕ → Bool
-is_under_any fronts r = list_any (λ (front : List ℕ). is_under front r) fronts
+is_under_any prefixes r = list_any (λ (prefix : List ℕ). is_under prefix r) prefixes
 
 -- ---- parts of a content, joined
 
@@ -63,10 +64,10 @@ module _ (o : Operations) (content : IsContent o) where
       contains-union nat_list_cmp_total (part o p) (part o q) r ∙ (λ i. contains_part o p r i || contains_part o q r i) ∙ both_and (set.contains o r) (p r) (q r) ∙ sym (contains_part o picks r)) in
       ap content_of one ∙ (part_content o picks content).itself
 
-  there : (fronts : List (List ℕ)) (front r : List ℕ) → Contains fronts front → is_under front r ≡ true → list_any (λ (f : List ℕ). is_under f r) fronts ≡ true
-  there [] front r in_fronts under = absurd (omega (arith, in_fronts.1))
-  there (f ∷ fs) front r (zero, lt, is) under = ap (λ (b : Bool). b || list_any (λ (g : List ℕ). is_under g r) fs) (ap (λ (g : List ℕ). is_under g r) is ∙ under)
-  there (f ∷ fs) front r (suc k, lt, is) under = or_true (is_under f r) (there fs front r (k, omega arith, is) under)
+  there : (prefixes : List (List ℕ)) (prefix r : List ℕ) → Contains prefixes prefix → is_under prefix r ≡ true → list_any (λ (f : List ℕ). is_under f r) prefixes ≡ true
+  there [] prefix r in_prefixes under = absurd (omega (arith, in_prefixes.1))
+  there (f ∷ fs) prefix r (zero, lt, is) under = ap (λ (b : Bool). b || list_any (λ (g : List ℕ). is_under g r) fs) (ap (λ (g : List ℕ). is_under g r) is ∙ under)
+  there (f ∷ fs) prefix r (suc k, lt, is) under = or_true (is_under f r) (there fs prefix r (k, omega arith, is) under)
     where
       or_true : (a : Bool) {b : Bool} → b ≡ true → (a || b) ≡ true
       or_true true e = refl
@@ -74,34 +75,27 @@ module _ (o : Operations) (content : IsContent o) where
 
 -- ---- what was named is what the content has
 
-zip_back : {X Y : Type 0} (R : X → Y → Type 0) (xs : List X) (ys : List Y) (y : Y) → AllZip R xs ys → Contains ys y → (x : X) × R x y
-zip_back R [] [] y zip in_ys = absurd (omega (arith, in_ys.1))
-zip_back R [] (_ ∷ _) y zip in_ys = absurd zip
-zip_back R (_ ∷ _) [] y zip in_ys = absurd zip
-zip_back R (x ∷ xs) (z ∷ ys) y zip (zero, lt, is) = (x, subst (R x) is zip.0)
-zip_back R (x ∷ xs) (z ∷ ys) y zip (suc k, lt, is) = zip_back R xs ys y zip.1 (k, omega arith, is)
-
-found_tells : (o : Operations) (front bytes : List ℕ) (entries : Entries) (p : Operations) → DigestsTellOver o bytes → (n : AreNamed front entries bytes p) → TellsFound o n.records
-found_tells o front bytes entries p tells n = λ a b in_o found same.
-    let named = zip_back (IsNamedBy bytes) _ n.records (admission_record b) n.named found in
+found_tells : (o : Operations) (prefix bytes : List ℕ) (entries : Entries) (p : Operations) → DigestsTellOver o bytes → (n : AreNamed prefix entries bytes p) → TellsFound o n.records
+found_tells o prefix bytes entries p tells n = λ a b in_o found same.
+    let named = zip_right (IsNamedBy bytes) _ n.records (admission_record b) n.named found in
     tells a b named.1.offset in_o (named.1.stands refl) same
 
 module _ (o : Operations) (content : IsContent o) where
-  zip_along : (P Q : List ℕ → Operations → Type 0) (fronts : List (List ℕ)) (parts : List Operations) → AllByRecursion (λ (f : List ℕ). length f ≤ 24) fronts → ((f : List ℕ) (q : Operations) → length f ≤ 24 → P f q → Q f q) → AllZip P fronts parts → AllZip Q fronts parts
+  zip_along : (P Q : List ℕ → Operations → Type 0) (prefixes : List (List ℕ)) (parts : List Operations) → AllByRecursion (λ (f : List ℕ). length f ≤ 24) prefixes → ((f : List ℕ) (q : Operations) → length f ≤ 24 → P f q → Q f q) → AllZip P prefixes parts → AllZip Q prefixes parts
   zip_along P Q [] [] short more zip = tt
   zip_along P Q [] (_ ∷ _) short more zip = absurd zip
   zip_along P Q (_ ∷ _) [] short more zip = absurd zip
   zip_along P Q (f ∷ fs) (q ∷ qs) short more zip = (more f q short.0 zip.0, zip_along P Q fs qs short.1 more zip.1)
 
   -- in the text that the index is of
-  pub parts_right : (fronts : List (List ℕ)) (parts : List Operations) → length (written o) < 2 ^ 64 → AllByRecursion (λ (f : List ℕ). length f ≤ 24) fronts → AreNamedUnder fronts (index o) (written o) parts
-      → AllZip (λ (f : List ℕ) (q : Operations). q ≡ part o (is_under f)) fronts parts
-  parts_right fronts parts fits short named = zip_along (λ f q. AreNamed f (index o) (written o) q) (λ f q. q ≡ part o (is_under f)) fronts parts short (λ f q le n. right f o q le content fits n) named
+  pub parts_right : (prefixes : List (List ℕ)) (parts : List Operations) → length (written o) < 2 ^ 64 → AllByRecursion (λ (f : List ℕ). length f ≤ 24) prefixes → AreNamedUnder prefixes (index o) (written o) parts
+      → AllZip (λ (f : List ℕ) (q : Operations). q ≡ part o (is_under f)) prefixes parts
+  parts_right prefixes parts fits short named = zip_along (λ f q. AreNamed f (index o) (written o) q) (λ f q. q ≡ part o (is_under f)) prefixes parts short (λ f q le n. right f o q le content fits n) named
 
   -- in any bytes
-  pub parts_told : (fronts : List (List ℕ)) (parts : List Operations) (bytes : List ℕ) → DigestsTellOver o bytes → AllByRecursion (λ (f : List ℕ). length f ≤ 24) fronts → AreNamedUnder fronts (index o) bytes parts
-      → AllZip (λ (f : List ℕ) (q : Operations). q ≡ part o (is_under f)) fronts parts
-  parts_told fronts parts bytes tells short named = zip_along (λ f q. AreNamed f (index o) bytes q) (λ f q. q ≡ part o (is_under f)) fronts parts short (λ f q le n. of_the_index f bytes o q le content n (found_tells o f bytes (index o) q tells n)) named
+  pub parts_told : (prefixes : List (List ℕ)) (parts : List Operations) (bytes : List ℕ) → DigestsTellOver o bytes → AllByRecursion (λ (f : List ℕ). length f ≤ 24) prefixes → AreNamedUnder prefixes (index o) bytes parts
+      → AllZip (λ (f : List ℕ) (q : Operations). q ≡ part o (is_under f)) prefixes parts
+  parts_told prefixes parts bytes tells short named = zip_along (λ f q. AreNamed f (index o) bytes q) (λ f q. q ≡ part o (is_under f)) prefixes parts short (λ f q le n. of_the_index f bytes o q le content n (found_tells o f bytes (index o) q tells n)) named
 
 -- ---- joined to others
 
@@ -119,26 +113,26 @@ module _ (w : Operations) (content : IsContent w) where
   abbrev IsPart : List ℕ → Operations → Type 0
   IsPart f q = q ≡ part w (is_under f)
 
-  merged_after : (few : Operations) (p picks : List ℕ → Bool) (fronts : List (List ℕ)) (parts : List Operations) → AllZip IsPart fronts parts
-      → ((r : List ℕ) → picks r ≡ (p r || list_any (λ (front : List ℕ). is_under front r) fronts)) → merged (joined few (part w p)) parts ≡ joined few (part w picks)
+  merged_after : (few : Operations) (p picks : List ℕ → Bool) (prefixes : List (List ℕ)) (parts : List Operations) → AllZip IsPart prefixes parts
+      → ((r : List ℕ) → picks r ≡ (p r || list_any (λ (prefix : List ℕ). is_under prefix r) prefixes)) → merged (joined few (part w p)) parts ≡ joined few (part w picks)
   merged_after few p picks [] [] are same = ap (joined few) (part_same w content p picks (λ r. sym (same r ∙ or_none (p r))))
   merged_after few p picks [] (q ∷ qs) are same = absurd are
   merged_after few p picks (f ∷ fs) [] are same = absurd are
   merged_after few p picks (f ∷ fs) (q ∷ qs) are same =
       let both : List ℕ → Bool = λ (r : List ℕ). p r || is_under f r in
       ap (λ (m : Operations). merged m qs) (joined_assoc few (part w p) q ∙ ap (joined few) (ap (joined (part w p)) are.0 ∙ parts_joined w content p (is_under f)))
-      ∙ merged_after few both picks fs qs are.1 (λ r. same r ∙ sym (or_assoc (p r) (is_under f r) (list_any (λ (front : List ℕ). is_under front r) fs)))
+      ∙ merged_after few both picks fs qs are.1 (λ r. same r ∙ sym (or_assoc (p r) (is_under f r) (list_any (λ (prefix : List ℕ). is_under prefix r) fs)))
 
-  merged_some : (few : Operations) (fronts : List (List ℕ)) (parts : List Operations) (front : List ℕ) → Contains fronts front → AllZip IsPart fronts parts → merged few parts ≡ joined few (part w (is_under_any fronts))
-  merged_some few [] parts front in_fronts are = absurd (omega (arith, in_fronts.1))
-  merged_some few (f ∷ fs) [] front in_fronts are = absurd are
-  merged_some few (f ∷ fs) (q ∷ qs) front in_fronts are =
+  merged_some : (few : Operations) (prefixes : List (List ℕ)) (parts : List Operations) (prefix : List ℕ) → Contains prefixes prefix → AllZip IsPart prefixes parts → merged few parts ≡ joined few (part w (is_under_any prefixes))
+  merged_some few [] parts prefix in_prefixes are = absurd (omega (arith, in_prefixes.1))
+  merged_some few (f ∷ fs) [] prefix in_prefixes are = absurd are
+  merged_some few (f ∷ fs) (q ∷ qs) prefix in_prefixes are =
       ap (λ (m : Operations). merged (joined few m) qs) are.0 ∙ merged_after few (is_under f) (is_under_any (f ∷ fs)) fs qs are.1 (λ r. refl)
 
-  group_alike : (front : List ℕ) (fronts : List (List ℕ)) (few o : Operations) (parts : List Operations) → length front ≤ 24 → Contains fronts front → IsContent o → AllZip IsPart fronts parts → AreAlikeUnder front few o → AreAlikeUnder front (merged few parts) (joined o w)
-  group_alike front fronts few o parts short in_fronts is are same =
-      subst (λ (m : Operations). AreAlikeUnder front m (joined o w)) (sym (merged_some few fronts parts front in_fronts are))
-      (joined_alike front short o w few (part w (is_under_any fronts)) is content same (part_alike w (is_under_any fronts) front (λ r under. there w content fronts front r in_fronts under)))
+  group_alike : (prefix : List ℕ) (prefixes : List (List ℕ)) (few o : Operations) (parts : List Operations) → length prefix ≤ 24 → Contains prefixes prefix → IsContent o → AllZip IsPart prefixes parts → AreAlikeUnder prefix few o → AreAlikeUnder prefix (merged few parts) (joined o w)
+  group_alike prefix prefixes few o parts short in_prefixes is are same =
+      subst (λ (m : Operations). AreAlikeUnder prefix m (joined o w)) (sym (merged_some few prefixes parts prefix in_prefixes are))
+      (joined_alike prefix short o w few (part w (is_under_any prefixes)) is content same (part_alike w (is_under_any prefixes) prefix (λ r under. there w content prefixes prefix r in_prefixes under)))
 
 -- ---- the archive of an index
 
@@ -161,40 +155,40 @@ module _ {P : Type 0} (archive later : Reader P) (all : List (List ℕ)) (o : Op
   held_later held = record { text = held.text; file = held.file; entries = held.entries; known = still_known held.known }
 
 -- what such entries name is of the content
-record IsGroupOf (fronts : List (List ℕ)) (w : Operations) (parts : List Operations) : Type 0 where
+record IsGroupOf (prefixes : List (List ℕ)) (w : Operations) (parts : List Operations) : Type 0 where
   content : IsContent w
-  parts_are : AllZip (λ (f : List ℕ) (q : Operations). q ≡ part w (is_under f)) fronts parts
+  parts_are : AllZip (λ (f : List ℕ) (q : Operations). q ≡ part w (is_under f)) prefixes parts
 
-module _ (fronts : List (List ℕ)) (short : AllByRecursion (λ (f : List ℕ). length f ≤ 24) fronts) where
-  named_in : {P : Type 0} (archive : Reader P) (w : Operations) (text : List ℕ) (parts : List Operations) → IsIndexFile w text → HoldsNamed fronts archive (index w) parts
-      → IsGiven archive (written w) ⊎ ((bytes : List ℕ) × IsGiven archive bytes × DigestsTellOver w bytes) → AllZip (λ (f : List ℕ) (q : Operations). q ≡ part w (is_under f)) fronts parts
+module _ (prefixes : List (List ℕ)) (short : AllByRecursion (λ (f : List ℕ). length f ≤ 24) prefixes) where
+  named_in : {P : Type 0} (archive : Reader P) (w : Operations) (text : List ℕ) (parts : List Operations) → IsIndexFile w text → HoldsNamed prefixes archive (index w) parts
+      → IsGiven archive (written w) ⊎ ((bytes : List ℕ) × IsGiven archive bytes × DigestsTellOver w bytes) → AllZip (λ (f : List ℕ) (q : Operations). q ≡ part w (is_under f)) prefixes parts
   named_in archive w text parts file named (inl own) =
-      let both = of_given archive (written w) (λ t. HasIndexedLength (index w) t × AreNamedUnder fronts (index w) t parts) own named in
-      parts_right w file.content fronts parts file.archive_fits short both.1
+      let both = of_given archive (written w) (λ t. HasIndexedLength (index w) t × AreNamedUnder prefixes (index w) t parts) own named in
+      parts_right w file.content prefixes parts file.archive_fits short both.1
   named_in archive w text parts file named (inr (bytes, given, tells)) =
-      let both = of_given archive bytes (λ t. HasIndexedLength (index w) t × AreNamedUnder fronts (index w) t parts) given named in
-      parts_told w file.content fronts parts bytes tells short both.1
+      let both = of_given archive bytes (λ t. HasIndexedLength (index w) t × AreNamedUnder prefixes (index w) t parts) given named in
+      parts_told w file.content prefixes parts bytes tells short both.1
 
-  group_of : {P : Type 0} (archive : Reader P) (all : List (List ℕ)) (w : Operations) (parts : List Operations) → IsHeldAs archive all w → HoldsNamed fronts archive (placed_of all) parts → IsGroupOf fronts w parts
+  group_of : {P : Type 0} (archive : Reader P) (all : List (List ℕ)) (w : Operations) (parts : List Operations) → IsHeldAs archive all w → HoldsNamed prefixes archive (placed_of all) parts → IsGroupOf prefixes w parts
   group_of archive all w parts held named = record {
     content = held.file.content;
-    parts_are = named_in archive w held.text parts held.file (subst (λ (s : Entries). HoldsNamed fronts archive s parts) held.entries named) held.known;
+    parts_are = named_in archive w held.text parts held.file (subst (λ (s : Entries). HoldsNamed prefixes archive s parts) held.entries named) held.known;
   }
 
 -- ---- one after another
 
-record AreAlikeAfter (front : List ℕ) (few o : Operations) : Type 0 where
-  alike : AreAlikeUnder front few o
+record AreAlikeAfter (prefix : List ℕ) (few o : Operations) : Type 0 where
+  alike : AreAlikeUnder prefix few o
   content : IsContent o
 
-module _ (front : List ℕ) (fronts : List (List ℕ)) (le : length front ≤ 24) (in_fronts : Contains fronts front) where
-  groups_alike : (os : List Operations) (groups : List (List Operations)) (few o : Operations) → AllZip (IsGroupOf fronts) os groups → AreAlikeAfter front few o → AreAlikeAfter front (merged_each few groups) (fold joined o os)
+module _ (prefix : List ℕ) (prefixes : List (List ℕ)) (le : length prefix ≤ 24) (in_prefixes : Contains prefixes prefix) where
+  groups_alike : (os : List Operations) (groups : List (List Operations)) (few o : Operations) → AllZip (IsGroupOf prefixes) os groups → AreAlikeAfter prefix few o → AreAlikeAfter prefix (merged_each few groups) (fold joined o os)
   groups_alike [] [] few o are same = same
   groups_alike [] (_ ∷ _) few o are same = absurd are
   groups_alike (_ ∷ _) [] few o are same = absurd are
   groups_alike (w ∷ os) (parts ∷ groups) few o are same =
       groups_alike os groups (merged few parts) (joined o w) are.1 (record {
-        alike = group_alike w are.0.content front fronts few o parts le in_fronts same.content are.0.parts_are same.alike;
+        alike = group_alike w are.0.content prefix prefixes few o parts le in_prefixes same.content are.0.parts_are same.alike;
         content = joined_content o w same.content are.0.content;
       })
 
@@ -204,21 +198,21 @@ no_truth e = cc
 empty_content : IsContent set.empty
 empty_content = record { itself = made_empty; records = λ r h. absurd (no_truth (sym (contains-empty _ r) ∙ h)) }
 
-at_front : (fronts : List (List ℕ)) (front : List ℕ) → Contains fronts front → AllByRecursion (λ (f : List ℕ). length f ≤ 24) fronts → length front ≤ 24
-at_front [] front in_fronts short = absurd (omega (arith, in_fronts.1))
-at_front (f ∷ fs) front (zero, lt, is) short = subst (λ (x : List ℕ). length x ≤ 24) is short.0
-at_front (f ∷ fs) front (suc k, lt, is) short = at_front fs front (k, omega arith, is) short.1
+at_prefix : (prefixes : List (List ℕ)) (prefix : List ℕ) → Contains prefixes prefix → AllByRecursion (λ (f : List ℕ). length f ≤ 24) prefixes → length prefix ≤ 24
+at_prefix [] prefix in_prefixes short = absurd (omega (arith, in_prefixes.1))
+at_prefix (f ∷ fs) prefix (zero, lt, is) short = subst (λ (x : List ℕ). length x ≤ 24) is short.0
+at_prefix (f ∷ fs) prefix (suc k, lt, is) short = at_prefix fs prefix (k, omega arith, is) short.1
 
--- what is held together has what the join of the contents has, under each of the fronts
-pub held_alike : {I P : Type 0} (fronts : List (List ℕ)) (inputs : List (Reader I)) (archives : List (Reader P)) (os : List Operations) (p : Operations) → AllByRecursion (λ (f : List ℕ). length f ≤ 24) fronts
-    → AreIndexed inputs archives os → HoldTogether fronts inputs archives p → (front : List ℕ) → Contains fronts front → AreAlikeUnder front p (all_joined os)
-held_alike fronts inputs archives os p short are h front in_fronts =
-    let le = at_front fronts front in_fronts short in
+-- what is held together has what the join of the contents has, under each of the prefixes
+pub held_alike : {I P : Type 0} (prefixes : List (List ℕ)) (inputs : List (Reader I)) (archives : List (Reader P)) (os : List Operations) (p : Operations) → AllByRecursion (λ (f : List ℕ). length f ≤ 24) prefixes
+    → AreIndexed inputs archives os → HoldTogether prefixes inputs archives p → (prefix : List ℕ) → Contains prefixes prefix → AreAlikeUnder prefix p (all_joined os)
+held_alike prefixes inputs archives os p short are h prefix in_prefixes =
+    let le = at_prefix prefixes prefix in_prefixes short in
     let held = with_fourth IsIndexed IsReadWith IsHeldAs inputs archives os h.all (λ x y z w is read. held_as x y z w is read) are h.read in
     let there = for_first IsHeldAs IsLater IsHeldAs archives h.all os h.later (λ x y z w is later. held_later x w y z later is) held h.are_later in
-    let groups = third_fourth IsHeldAs (λ archive entries parts. HoldsNamed fronts archive (placed_of entries) parts) (IsGroupOf fronts) h.later h.all os h.named.groups (λ x y z w is named. group_of fronts short x y z w is named) there h.named.named in
-    let whole = groups_alike front fronts le in_fronts os h.named.groups set.empty set.empty groups (record { alike = λ r under. refl; content = empty_content }) in
-    subst (λ (m : Operations). AreAlikeUnder front m (all_joined os)) (sym h.named.content_is) whole.alike
+    let groups = third_fourth IsHeldAs (λ archive entries parts. HoldsNamed prefixes archive (placed_of entries) parts) (IsGroupOf prefixes) h.later h.all os h.named.groups (λ x y z w is named. group_of prefixes short x y z w is named) there h.named.named in
+    let whole = groups_alike prefix prefixes le in_prefixes os h.named.groups set.empty set.empty groups (record { alike = λ r under. refl; content = empty_content }) in
+    subst (λ (m : Operations). AreAlikeUnder prefix m (all_joined os)) (sym h.named.content_is) whole.alike
 
 -- ---- frames
 
@@ -239,7 +233,7 @@ frames_told lines m o frames status text alike told = record {
   text_is = told.text_is;
 }
 
--- fronts that are short, of which each is a key of frames
+-- prefixes that are short, of which each is a key of frames
 pub short_keys : (keys all : List (List ℕ)) → ((key : List ℕ) → Contains keys key → Contains all key) → ((key : List ℕ) → Contains all key → length key ≤ 24) → AllByRecursion (λ (f : List ℕ). length f ≤ 24) keys
 short_keys [] all within short = tt
 short_keys (k ∷ keys) all within short = (short k (within k (0, omega arith, refl)), short_keys keys all (λ q h. within q (in_rest k keys q h)) short)

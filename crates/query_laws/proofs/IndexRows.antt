@@ -15,6 +15,7 @@ use Rattle.std.proofs.Math.Seq.{take-append_seam}
 use Rattle.std.proofs.lemmas.Slice.Eq.{bytes_eq-Decides}
 use Rattle.std.proofs.lemmas.List.Elements.{All-cons}
 use Rattle.std.proofs.lemmas.List.Sorted.{list_any-IsPermutation}
+use Rattle.index_laws.proofs.Records.{same_key}
 use Rattle.sha2.specs.Sha256.{sha256}
 use Rattle.sha2.proofs.Facts256.{length-sha256}
 use Rattle.macho_image.specs.Contents.{is_dsym_image}
@@ -40,7 +41,7 @@ use Rattle.archive_core.proofs.Compare.{length_key_bytes}
 use Rattle.archive_core.proofs.Entries.{admission_entry, retirement_entry, slice_of}
 use Rattle.archive_core.proofs.Made.{bytes_same, and_right}
 use Rattle.archive_core.proofs.Picked.{contains_part, finds_alike, part_alike, part_content}
-use Rattle.archive_core.proofs.Records.{length-key_of, one_operation}
+use Rattle.archive_core.proofs.Records.{length-key_of}
 use Rattle.archive_core.proofs.Told.{found_under}
 use Rattle.archive_records.specs.Text.{written}
 use Rattle.archive_records.proofs.Contents.{order, along}
@@ -69,12 +70,6 @@ admitted_state s b t k = grind arith
 retired_state : (s : FindState) → tag_byte s ≡ 1 → s ≡ Retired
 retired_state s t = grind arith
 
--- keys with one form are one
-one_key : (k l : SliceKey) → IsKey k → IsKey l → key_bytes k ≡ key_bytes l → k ≡ l
-one_key k l is_k is_l same =
-    let zeros : List ℕ = sha256 [] in
-    ap key_in (one_operation (Retire k (record { 0 = zeros })) (Retire l (record { 0 = zeros })) (is_k, length-sha256 []) (is_l, length-sha256 []) (ap (λ (t : List ℕ). 1 ∷ (t ++ zeros)) same))
-
 row_told : (row : FindRow) (a : Operation) → row.key ≡ key_in a → row.digest.0 ≡ (row_of a).digest.0 → row.state ≡ (row_of a).state → row ≡ row_of a
 row_told row a key digest state = λ i. record { key = key i; digest = record { 0 = digest i }; state = state i }
 
@@ -86,7 +81,7 @@ row_of_entry offset r row (inl a) keyed told =
     let tail : List ℕ = kind_byte r ∷ (to_be_bytes w64 offset ++ to_be_bytes w64 (length r)) in
     let whole : placed_entry offset r ≡ (2 ∷ (key_bytes (key_of s) ++ sha256 s)) ++ tail = ap (λ (t : List ℕ). t ++ tail) e in
     let key_long = length-key_of s a.valid in
-    let key : row.key ≡ key_of s = one_key row.key (key_of s) told.is_key (keyed s a.is a.valid) (told.key_is ∙ ap (λ (t : List ℕ). take 24 (drop 1 t)) whole ∙ key_there 2 (key_bytes (key_of s)) (sha256 s) tail key_long (length-sha256 s)) in
+    let key : row.key ≡ key_of s = same_key row.key (key_of s) told.is_key (keyed s a.is a.valid) (told.key_is ∙ ap (λ (t : List ℕ). take 24 (drop 1 t)) whole ∙ key_there 2 (key_bytes (key_of s)) (sha256 s) tail key_long (length-sha256 s)) in
     let digest : row.digest.0 ≡ sha256 s = told.digest_is ∙ ap (λ (t : List ℕ). take 32 (drop 25 t)) whole ∙ digest_there 2 (key_bytes (key_of s)) (sha256 s) tail key_long (length-sha256 s) in
     let tag : tag_byte row.state ≡ 2 = told.tag_is ∙ ap (λ (t : List ℕ). get_or t 0 0) whole in
     let kind : dsym_byte row.state ≡ cond (is_dsym_image s) 1 0 = told.kind_is ∙ kind_of offset r (inl a) ∙ ap kind_byte a.is ∙ ap (λ (t : List ℕ). cond (is_dsym_image t) 1 0) (slice_of s a.valid) in
@@ -102,7 +97,7 @@ row_of_entry offset r row (inr b) keyed told =
     let tail : List ℕ = kind_byte r ∷ (to_be_bytes w64 offset ++ to_be_bytes w64 (length r)) in
     let whole : placed_entry offset r ≡ (1 ∷ (key_bytes b.key ++ b.digest)) ++ tail = ap (λ (t : List ℕ). t ++ tail) e in
     let key_long = length_key_bytes b.key b.is_key.uuid in
-    let key : row.key ≡ b.key = one_key row.key b.key told.is_key b.is_key (told.key_is ∙ ap (λ (t : List ℕ). take 24 (drop 1 t)) whole ∙ key_there 1 (key_bytes b.key) b.digest tail key_long b.long) in
+    let key : row.key ≡ b.key = same_key row.key b.key told.is_key b.is_key (told.key_is ∙ ap (λ (t : List ℕ). take 24 (drop 1 t)) whole ∙ key_there 1 (key_bytes b.key) b.digest tail key_long b.long) in
     let digest : row.digest.0 ≡ b.digest = told.digest_is ∙ ap (λ (t : List ℕ). take 32 (drop 25 t)) whole ∙ digest_there 1 (key_bytes b.key) b.digest tail key_long b.long in
     let tag : tag_byte row.state ≡ 1 = told.tag_is ∙ ap (λ (t : List ℕ). get_or t 0 0) whole in
     record {
@@ -140,17 +135,17 @@ rows_of_entries (e ∷ es) (r ∷ rs) [] of told = absurd told
 rows_of_entries (e ∷ es) (r ∷ rs) (row ∷ rows) of told =
     rows_one r row rs rows (row_of_entry of.0.offset r row of.0.is of.0.keyed (subst (λ (x : List ℕ). IsEntryRow x row) of.0.entry_is told.0)) (rows_of_entries es rs rows of.1 told.1)
 
-module _ (front : List ℕ) (short : length front ≤ 24) where
-  -- those under a front
-  of_under : (k : ℕ) (rs : List (List ℕ)) → AllByRecursion (λ r. IsRecord r × ((slice : List ℕ) → r ≡ admission_record slice → IsValid slice → IsKey (key_of slice))) rs → AllZip IsEntryOf (filter (is_under front) (placed_entries k rs)) (filter (is_under front) rs)
+module _ (prefix : List ℕ) (short : length prefix ≤ 24) where
+  -- those under a prefix
+  of_under : (k : ℕ) (rs : List (List ℕ)) → AllByRecursion (λ r. IsRecord r × ((slice : List ℕ) → r ≡ admission_record slice → IsValid slice → IsKey (key_of slice))) rs → AllZip IsEntryOf (filter (is_under prefix) (placed_entries k rs)) (filter (is_under prefix) rs)
   of_under k [] all = tt
   of_under k (r ∷ rs) all =
       let rest = of_under (k + length r) rs all.1 in
-      subst (λ (b : Bool). AllZip IsEntryOf (cond b (placed_entry k r ∷ filter (is_under front) (placed_entries (k + length r) rs)) (filter (is_under front) (placed_entries (k + length r) rs))) (filter (is_under front) (r ∷ rs))) (sym (under_same front k r short all.0.0))
-      (by (is_under front r) rest)
+      subst (λ (b : Bool). AllZip IsEntryOf (cond b (placed_entry k r ∷ filter (is_under prefix) (placed_entries (k + length r) rs)) (filter (is_under prefix) (placed_entries (k + length r) rs))) (filter (is_under prefix) (r ∷ rs))) (sym (under_same prefix k r short all.0.0))
+      (by (is_under prefix r) rest)
     where
-      by : (b : Bool) → AllZip IsEntryOf (filter (is_under front) (placed_entries (k + length r) rs)) (filter (is_under front) rs)
-          → AllZip IsEntryOf (cond b (placed_entry k r ∷ filter (is_under front) (placed_entries (k + length r) rs)) (filter (is_under front) (placed_entries (k + length r) rs))) (cond b (r ∷ filter (is_under front) rs) (filter (is_under front) rs))
+      by : (b : Bool) → AllZip IsEntryOf (filter (is_under prefix) (placed_entries (k + length r) rs)) (filter (is_under prefix) rs)
+          → AllZip IsEntryOf (cond b (placed_entry k r ∷ filter (is_under prefix) (placed_entries (k + length r) rs)) (filter (is_under prefix) (placed_entries (k + length r) rs))) (cond b (r ∷ filter (is_under prefix) rs) (filter (is_under prefix) rs))
       by true rest = (record { is = all.0.0; keyed = all.0.1; offset = k; entry_is = refl }, rest)
       by false rest = rest
 
@@ -182,12 +177,12 @@ ascend_placed k (r ∷ rs) p all fits =
 
 -- ---- the rows of the index of a content
 
-module _ (front : List ℕ) (o : Operations) (short : length front ≤ 24) (content : IsContent o) (keys : HaveKeys o) (fits : length (written o) < 2 ^ 64) where
+module _ (prefix : List ℕ) (o : Operations) (short : length prefix ≤ 24) (content : IsContent o) (keys : HaveKeys o) (fits : length (written o) < 2 ^ 64) where
   abbrev rs : List (List ℕ)
   rs = listing o
 
   abbrev placed_under : List (List ℕ)
-  placed_under = filter (is_under front) (placed_entries 8 rs)
+  placed_under = filter (is_under prefix) (placed_entries 8 rs)
 
   records_are : AllByRecursion IsRecord rs
   records_are = along IsRecord rs (λ r h. content.records r (sym (any_listing nat_list_cmp_total o r) ∙ h))
@@ -198,30 +193,30 @@ module _ (front : List ℕ) (o : Operations) (short : length front ≤ 24) (cont
       (content.records r member, λ slice is. keys slice (ap (set.contains o) (sym is) ∙ member)))
 
   up : Ascend offset_in placed_under
-  up = ascend_placed 8 rs (is_under front) records_are (omega (arith, fits, text_length o))
+  up = ascend_placed 8 rs (is_under prefix) records_are (omega (arith, fits, text_length o))
 
   -- the same entries
-  members : (q : List ℕ) → list_any (is_same q) (entries_under front (index o)) ≡ list_any (is_same q) placed_under
+  members : (q : List ℕ) → list_any (is_same q) (entries_under prefix (index o)) ≡ list_any (is_same q) placed_under
   unfolding index
   members q =
-      any_passed (is_under front) q (listing (index o))
-      ∙ ap (λ (b : Bool). b && is_under front q) (any_listing nat_list_cmp_total (index o) q ∙ contains-from_list nat_list_cmp_total (placed_entries 8 rs) q)
-      ∙ sym (any_passed (is_under front) q (placed_entries 8 rs))
+      any_passed (is_under prefix) q (listing (index o))
+      ∙ ap (λ (b : Bool). b && is_under prefix q) (any_listing nat_list_cmp_total (index o) q ∙ contains-from_list nat_list_cmp_total (placed_entries 8 rs) q)
+      ∙ sym (any_passed (is_under prefix) q (placed_entries 8 rs))
 
-  at_most_once : (t : ℕ) → count offset_in t (entries_under front (index o)) ≤ 1
-  at_most_once = once offset_in (entries_under front (index o))
-      (subst (IsStrictlySortedBy order) (listing_retain nat_list_cmp_total bytes_same (is_under front) (index o)) (listed nat_list_cmp_total bytes_same (set.retain (index o) (is_under front))).ascending)
+  at_most_once : (t : ℕ) → count offset_in t (entries_under prefix (index o)) ≤ 1
+  at_most_once = once offset_in (entries_under prefix (index o))
+      (subst (IsStrictlySortedBy order) (listing_retain nat_list_cmp_total bytes_same (is_under prefix) (index o)) (listed nat_list_cmp_total bytes_same (set.retain (index o) (is_under prefix))).ascending)
       (λ p q in_p in_q same. one_of_number offset_in placed_under p q up (sym (members p) ∙ in_p) (sym (members q) ∙ in_q) same)
 
-  pub rows_of_index : (rows : List FindRow) → AreIndexRows front (index o) rows → IsList (part o (is_under front)) rows
+  pub rows_of_index : (rows : List FindRow) → AreIndexRows prefix (index o) rows → IsList (part o (is_under prefix)) rows
   rows_of_index rows is =
-      let sorted = ascend_sorted offset_in (entries_under front (index o)) is.placed is.moved is.by_place at_most_once in
+      let sorted = ascend_sorted offset_in (entries_under prefix (index o)) is.placed is.moved is.by_place at_most_once in
       let same : is.placed ≡ placed_under = one_ascent offset_in is.placed placed_under sorted up (λ q.
-      sym (list_any-IsPermutation (is_same q) (entries_under front (index o)) is.placed is.moved) ∙ members q) in
+      sym (list_any-IsPermutation (is_same q) (entries_under prefix (index o)) is.placed is.moved) ∙ members q) in
       let told : AllZip IsEntryRow placed_under is.told = subst (λ (es : List (List ℕ)). AllZip IsEntryRow es is.told) same is.each in
-      let of : AreRowsOf (filter (is_under front) rs) is.told = rows_of_entries placed_under (filter (is_under front) rs) is.told (of_under front short 8 rs keyed_are) told in
-      list_of (part o (is_under front)) is.told rows (part_content o (is_under front) content)
-      (subst (λ (ss : List (List ℕ)). AreRowsOf ss is.told) (sym (listing_retain nat_list_cmp_total bytes_same (is_under front) o)) of) is.by_key is.stable
+      let of : AreRowsOf (filter (is_under prefix) rs) is.told = rows_of_entries placed_under (filter (is_under prefix) rs) is.told (of_under prefix short 8 rs keyed_are) told in
+      list_of (part o (is_under prefix)) is.told rows (part_content o (is_under prefix) content)
+      (subst (λ (ss : List (List ℕ)). AreRowsOf ss is.told) (sym (listing_retain nat_list_cmp_total bytes_same (is_under prefix) o)) of) is.by_key is.stable
 
 -- ---- all of them, and those of a UUID
 

@@ -28,19 +28,19 @@ own_read index archive o all ((text, given, file), known) read = record { text =
 own_later : {P : Type 0} (archive : Reader P) (all : List (List ℕ)) (o : Operations) (later : Reader P) → IsOwnRead archive all o → IsLater archive later → IsOwnRead later all o
 own_later archive all o later own is = record { text = own.text; file = own.file; entries = own.entries; known = still_given archive later (written o) is own.known }
 
-module _ {I P : Type 0} (fronts : List (List ℕ)) (inputs : List (Reader I)) (archives : List (Reader P)) (os : List Operations) (at : InputName) (why : Why) (are : AreOwnIndexes inputs archives os) where
+module _ {I P : Type 0} (prefixes : List (List ℕ)) (inputs : List (Reader I)) (archives : List (Reader P)) (os : List Operations) (at : InputName) (why : Why) (are : AreOwnIndexes inputs archives os) where
   pub first_by_device : IsFirstRefusedByIndex inputs archives at why → IsDeviceFault why
   first_by_device r =
       let found = three_at IsOwnIndex inputs archives os r.number r.index r.archive are r.index_is.is r.archive_is.is in
       by_device r.number r.index r.archive found.0 at why found.1.0 found.1.1 r.refused
 
-  pub later_by_device : AreRefusedLater fronts inputs archives at why → IsDeviceFault why
+  pub later_by_device : AreRefusedLater prefixes inputs archives at why → IsDeviceFault why
   later_by_device r =
       let own = with_fourth IsOwnIndex IsReadWith IsOwnRead inputs archives os r.all (λ x y z w is read. own_read x y z w is read) are r.read in
       let there = for_first IsOwnRead IsLater IsOwnRead archives r.all os r.later (λ x y z w is later. own_later x y z w is later) own r.are_later in
       let found = three_at IsOwnRead r.later r.all os r.refused.number r.refused.archive r.refused.entries there r.refused.archive_is.is r.refused.entries_are in
-      at_places found.0 found.1.text found.1.file fronts r.refused.number r.refused.archive r.refused.entries at why found.1.entries found.1.known r.refused.refused
+      at_places found.0 found.1.text found.1.file prefixes r.refused.number r.refused.archive r.refused.entries at why found.1.entries found.1.known r.refused.refused
 
-  pub together_by_device : AreRefusedTogether fronts inputs archives at why → IsDeviceFault why
+  pub together_by_device : AreRefusedTogether prefixes inputs archives at why → IsDeviceFault why
   together_by_device (inl first) = first_by_device first
   together_by_device (inr later) = later_by_device later

@@ -43,12 +43,12 @@ ghost use Rattle.query_laws.specs.Undecided.{TellsUndecided};
 
 use byte_device::Placed;
 
-/// The rows of the index of a content, under a front, are the list of what the content has there. Nothing is supposed
+/// The rows of the index of a content, under a prefix, are the list of what the content has there. Nothing is supposed
 /// of SHA-256, and no archive is read. A content that has an index file has such keys as this asks.
 pub fn rows_of_index()
-    ensures rows { (front : List ℕ) (o : Operations) (rows : List FindRow) → length front ≤ 24 → IsContent o
-        → HaveKeys o → length (written o) < 2 ^ 64 → AreIndexRows front (index o) rows
-        → IsList (part o (is_under front)) rows }
+    ensures rows { (prefix : List ℕ) (o : Operations) (rows : List FindRow) → length prefix ≤ 24 → IsContent o
+        → HaveKeys o → length (written o) < 2 ^ 64 → AreIndexRows prefix (index o) rows
+        → IsList (part o (is_under prefix)) rows }
     ensures keys { (o : Operations) (text : List ℕ) → IsIndexFile o text → HaveKeys o }
 {}
 
@@ -79,19 +79,19 @@ pub fn right_index_is_accepted<I: Placed, P: Placed>()
     ensures alone { (number : ℕ) (input : Reader I) (archive : Reader P) (o : Operations) (at : InputName) (why : Why)
         → IsIndexGiven input o → IsGiven archive (written o) → IsRefusedByIndex number input archive at why
         → IsDeviceFault why }
-    ensures together { (fronts : List (List ℕ)) (inputs : List (Reader I)) (archives : List (Reader P))
+    ensures together { (prefixes : List (List ℕ)) (inputs : List (Reader I)) (archives : List (Reader P))
         (os : List Operations) (at : InputName) (why : Why) → AreOwnIndexes inputs archives os
-        → AreRefusedTogether fronts inputs archives at why → IsDeviceFault why }
+        → AreRefusedTogether prefixes inputs archives at why → IsDeviceFault why }
 {}
 
-/// If each INDEX is that of a content, what is held under fronts of keys has what the join of these contents has there.
-/// Its archive is the text of the content, and nothing is supposed of SHA-256; or it has any bytes, and no slice of the
-/// content has the SHA-256 of a different slice in these.
+/// If each INDEX is that of a content, what is held under prefixes of keys has what the join of these contents has
+/// there. Its archive is the text of the content, and nothing is supposed of SHA-256; or it has any bytes, and no slice
+/// of the content has the SHA-256 of a different slice in these.
 pub fn held_by_indexes<I: Placed, P: Placed>()
-    ensures { (fronts : List (List ℕ)) (inputs : List (Reader I)) (archives : List (Reader P)) (os : List Operations)
-        (p : Operations) → AllByRecursion (λ front. length front ≤ 24) fronts → AreIndexed inputs archives os
-        → HoldTogether fronts inputs archives p → (front : List ℕ) → Contains fronts front
-        → AreAlikeUnder front p (all_joined os) }
+    ensures { (prefixes : List (List ℕ)) (inputs : List (Reader I)) (archives : List (Reader P)) (os : List Operations)
+        (p : Operations) → AllByRecursion (λ prefix. length prefix ≤ 24) prefixes → AreIndexed inputs archives os
+        → HoldTogether prefixes inputs archives p → (prefix : List ℕ) → Contains prefixes prefix
+        → AreAlikeUnder prefix p (all_joined os) }
 {}
 
 /// So `find` tells of several archives what the join of the contents tells.

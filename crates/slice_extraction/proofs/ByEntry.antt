@@ -1,9 +1,7 @@
 -- How `extract` ends by indexes, from what its parts did.
-use Rattle.std.proofs.Common.{◌≡◌, ℕ, ◌<◌, List, [], ◌∷◌, length, get_or, set, take, drop, Option, Some, None, Result, Ok, Err, refl, sym, ap, ◌∙◌, subst, inl, inr, arith}
-use Rattle.std.specs.Prelude.{slice_get}
+use Rattle.std.proofs.Common.{◌≡◌, ℕ, ◌<◌, List, [], ◌∷◌, length, get_or, set, Option, Some, None, Result, Err, refl, sym, ap, ◌∙◌, subst, inl, inr, arith}
 use Rattle.std.specs.List.{AllZip}
 use Rattle.std.specs.Io.KnownBytes.{Appends}
-use Rattle.std.proofs.KnownBytes.{Appends-nil}
 use Rattle.std.proofs.lemmas.Option.{slice_get_within}
 use Rattle.byte_device.specs.declared.disks.CannotOpen.{CannotOpen}
 use Rattle.archive_core.specs.Content.{Operations}
@@ -14,20 +12,20 @@ use Rattle.archive_core.specs.declared.keys.SliceKey.{SliceKey}
 use Rattle.report_text.specs.Finds.{find_lines}
 use Rattle.command_ends.specs.Ends.{IsStopped}
 use Rattle.command_ends.specs.Inputs.{EachUnfailed, IsRefusal, Reader, Unfailed, reader, readers}
-use Rattle.command_ends.specs.Outputs.{Outs, PlacesNothing, Publishes, Takes, Writer, out_of}
+use Rattle.command_ends.specs.Outputs.{Outs, PlacesNothing, Takes, Writer, out_of}
 use Rattle.command_ends.specs.declared.faults.CommandFault.{CommandFault}
 use Rattle.command_ends.specs.declared.faults.CommandFault.TheVariants.{Input, Output, Report, OutOfMemory}
 use Rattle.command_ends.specs.declared.faults.InputName.{InputName}
 use Rattle.command_ends.specs.declared.faults.Status.{Status}
 use Rattle.command_ends.specs.declared.faults.Why.{Why}
 use Rattle.command_ends.specs.declared.outputs.Output.{Output as Out_value}
-use Rattle.command_ends.proofs.Readers.{none_failed, unfailed_more}
+use Rattle.command_ends.proofs.Readers.{none_failed, readers_long, unfailed_more}
 use Rattle.indexed_answers.specs.Among.{AreTied, EntryAt, IsAmong}
 use Rattle.indexed_answers.specs.Named.{IsRowAt}
 use Rattle.indexed_queries.specs.Several.{AreRefusedLater, AreUnfailedTogether, HoldTogether}
-use Rattle.indexed_queries.specs.Together.{AreAllKept, AreLater, AreReadWith, HoldNamed, IsFirstRefusedAtPlaces, IsFirstRefusedByIndex, IsOneOf}
-use Rattle.indexed_queries.proofs.Groups.{later_readers, one_of, read_earlier, unfailed_through}
-use Rattle.slice_extraction.specs.Entries.{AreUnchosen, Hinders, HoldsSlice, IsChosen, StopsSlice}
+use Rattle.indexed_queries.specs.Together.{AreAllKept, AreLater, AreReadWith, HoldNamed, IsFirstRefusedAtPlaces, IsFirstRefusedByIndex, IsOneOf, IsReadWith}
+use Rattle.indexed_queries.proofs.Groups.{later_readers, one_of, read_earlier, three_long, unfailed_through}
+use Rattle.slice_extraction.specs.Entries.{AreUnchosen, IsChosen, StopsSlice}
 use Rattle.slice_extraction.specs.Extract.{Extraction, Extracts}
 use Rattle.slice_extraction.specs.Indexed.{HoldTied, IsChosenFrom, LacksEntry, MakesEntry, StopsEntry, extract_at}
 use Rattle.slice_extraction.specs.InnerChoice.{PublishesRows, PublishesWanted}
@@ -44,6 +42,10 @@ chosen_among key (Some digest) all x is = is.among
 -- so that its archive does
 pub archive_there : (key : SliceKey) (digest : Option Digest) (all : List (List (List ℕ))) (x : EntryAt) → IsChosen key digest all x → x.input < length all
 archive_there key digest all x is = let among = chosen_among key digest all x is in slice_get_within all x.input among.entries among.index_is
+
+-- as many indexes are read as there are archives
+pub as_many : {I P : Type 0} (indexes : List (Reader I)) (whole : P → Option (List ℕ)) (failures : P → ℕ) (before seen : List (Result P CannotOpen)) (all : List (List (List ℕ))) → length seen ≡ length before → AreReadWith indexes (readers whole failures before seen) all → length all ≡ length seen
+as_many indexes whole failures before seen all long read = three_long IsReadWith indexes (readers whole failures before seen) all read ∙ readers_long whole failures before seen long ∙ sym long
 
 -- ---- a command that is stopped
 

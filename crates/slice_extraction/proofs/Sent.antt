@@ -3,7 +3,6 @@ use Rattle.std.proofs.Common.{◌≡◌, ℕ, ◌+◌, ◌<◌, List, [], take, 
 use Rattle.std.specs.Prelude.{IfSome, MatchResult}
 use Rattle.byte_device.specs.Devices.{stream}
 use Rattle.byte_device.specs.declared.disks.CannotOpen.{CannotOpen}
-use Rattle.byte_device.proofs.Known.{Appends-none}
 use Rattle.byte_device.specs.Places.{Stands}
 use Rattle.placed_passes.specs.Copies.{IsCopied}
 use Rattle.placed_passes.specs.Sending.{HaveOther, HaveSome, StopsSending}
@@ -13,7 +12,7 @@ use Rattle.placed_passes.specs.declared.sending.SendFault.TheVariants.{Other, De
 use Rattle.command_ends.specs.Inputs.{Gives, Reader, Unfailed, reader}
 use Rattle.command_ends.specs.Outputs.{Takes, Writer, writer}
 use Rattle.command_ends.specs.declared.faults.CommandFault.{CommandFault}
-use Rattle.command_ends.specs.declared.faults.CommandFault.TheVariants.{Input, OutOfMemory}
+use Rattle.command_ends.specs.declared.faults.CommandFault.TheVariants.{Input}
 use Rattle.command_ends.specs.declared.faults.InputName.TheVariants.{Archive, Index}
 use Rattle.command_ends.specs.declared.faults.Why.TheVariants.{CannotOpen as NotOpened, Stale}
 use Rattle.indexed_answers.specs.Among.{EntryAt}
@@ -22,10 +21,6 @@ use Rattle.indexed_answers.specs.Named.{Names}
 use Rattle.indexed_answers.specs.declared.named.NamedSlice.{NamedSlice}
 use Rattle.slice_extraction.specs.Entries.{Hinders, HoldsSlice, IsSliceOf, StandFor, StopsSlice}
 use Rattle.slice_extraction.specs.InnerEntries.{told_fault}
-
--- what an input was whose source was lent
-pub lent_from : {S : Type 0} (old : Result S CannotOpen) (lent : S) → MatchResult old (λ source. lent ≡ source) (λ _. ⊥) → old ≡ Ok lent
-lent_from = grind arith
 
 -- the draft was not begun
 pub unbegun : {P : Type 0} (archive : Reader P) (x : EntryAt) (draft : Writer) (fault : CommandFault) → Takes draft [] → Hinders archive x draft 0 fault → StopsSlice archive x draft fault

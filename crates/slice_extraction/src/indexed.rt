@@ -17,7 +17,7 @@ use archive_core::{Archive, Digest, SliceKey};
 use byte_device::{CannotOpen, Placed, Sink};
 use command_ends::{CommandFault, Output, Status, Target};
 use indexed_answers::NamedSlice;
-use indexed_queries::{Front, read_fronts, read_indexes};
+use indexed_queries::{KeyPrefix, read_indexes, read_prefixes};
 use memory::Heap;
 use table_index::TableIndex;
 
@@ -87,6 +87,6 @@ fn publish_tied<A: Archive + Drop, P: Placed, T: Target, W: Sink>(
         (writer W.held W.failures report.old report.new) result }
 {
     let _front = bytes_of(key);
-    let kept: A = read_fronts(heap, &[Front::Key(*key)], read, archives)?;
+    let kept: A = read_prefixes(heap, &[KeyPrefix::Key(*key)], read, archives)?;
     publish_wanted(heap, &kept, key, &None, out, report)
 }

@@ -16,20 +16,20 @@ use Rattle.archive_records.specs.Text.{last_of}
 use Rattle.archive_records.proofs.Forms.{IsBytes, IsBytes-drop, IsBytes-take}
 use Rattle.archive_index.specs.Entry.{length_in, offset_in}
 use Rattle.table_index.specs.Entry.{claim_in, stored_size}
-use Rattle.table_index.specs.Fault.{HasDigest, HasEnds, IsIndexFault, front_offset, test_end, test_front}
+use Rattle.table_index.specs.Fault.{HasDigest, HasEnds, IsIndexFault, front_offset, check_end, check_front}
 use Rattle.table_index.specs.InnerReading.{AreEndsOf}
-use Rattle.table_index.specs.Text.{AreLaid, FollowOn, IsIndexText, PassTests, count_in, digest_in, entries_in, start_in, test_entry}
+use Rattle.table_index.specs.Text.{AreLaid, FollowOn, IsIndexText, PassChecks, count_in, digest_in, entries_in, start_in, check_entry}
 use Rattle.table_index.specs.declared.ends.Ends.{Ends}
 use Rattle.index_faults.specs.declared.fault.IndexFault.{IndexFault}
 use Rattle.index_faults.specs.declared.fault.IndexFaultKind.{IndexFaultKind}
 use Rattle.index_faults.specs.declared.fault.IndexFaultKind.TheVariants.{BadDigest, BadPlace}
 use Rattle.table_index.proofs.PlaceLemmas.{follow_sorted}
-use Rattle.table_index.proofs.Tests.{long_entries}
+use Rattle.table_index.proofs.Checks.{long_entries}
 use Rattle.table_index.proofs.Texts.{front_passed, length_entries, tables_long, whole_text}
 
 -- ---- the text of entries that were read
 
-pub index_of : (text : List ℕ) (ends : Ends) (entries : List (List ℕ)) → AreEndsOf text ends → ends.count < 2 ^ 64 → HasDigest text → concat entries ≡ entries_in text → PassTests (start_in text) [] entries → AreLaid (start_in text) entries → IsIndexText text entries
+pub index_of : (text : List ℕ) (ends : Ends) (entries : List (List ℕ)) → AreEndsOf text ends → ends.count < 2 ^ 64 → HasDigest text → concat entries ≡ entries_in text → PassChecks (start_in text) [] entries → AreLaid (start_in text) entries → IsIndexText text entries
 index_of text ends entries are few digest whole pass laid =
     let each : length (concat entries) ≡ 122 * length entries = long_entries (start_in text) [] entries pass in
     let long : length (concat entries) ≡ 122 * count_in text = ap length whole ∙ length_entries text ends are in
@@ -39,7 +39,7 @@ index_of text ends entries are few digest whole pass laid =
       tables = take (start_in text - 8) (drop 8 text);
       whole = whole_text text ends are entries whole count digest.same;
       few = omega (arith, count, are.count_is, few);
-      pass = subst (λ (n : ℕ). PassTests n [] entries) (sym start) pass;
+      pass = subst (λ (n : ℕ). PassChecks n [] entries) (sym start) pass;
       laid = subst (λ (n : ℕ). AreLaid n entries) (sym start) laid;
     }
 
@@ -48,18 +48,18 @@ index_of text ends entries are few digest whole pass laid =
 record Parsed (end : ℕ) (low bytes : List ℕ) : Type 0 where
   entries : List (List ℕ)
   whole : bytes ≡ concat entries
-  pass : PassTests end low entries
+  pass : PassChecks end low entries
 
 record Stopped (end : ℕ) (low bytes : List ℕ) : Type 0 where
   before : List (List ℕ)
   rest : List ℕ
   kind : IndexFaultKind
-  pass : PassTests end low before
+  pass : PassChecks end low before
   whole : bytes ≡ concat before ++ rest
   long : 122 ≤ length rest
-  fails : test_entry end (last_of low before) (take 122 rest) ≡ Err kind
+  fails : check_entry end (last_of low before) (take 122 rest) ≡ Err kind
 
-parsed_more : (end : ℕ) (low bytes : List ℕ) → length (take 122 bytes) ≡ 122 → test_entry end low (take 122 bytes) ≡ Ok tt → Parsed end (take 122 bytes) (drop 122 bytes) ⊎ Stopped end (take 122 bytes) (drop 122 bytes) → Parsed end low bytes ⊎ Stopped end low bytes
+parsed_more : (end : ℕ) (low bytes : List ℕ) → length (take 122 bytes) ≡ 122 → check_entry end low (take 122 bytes) ≡ Ok tt → Parsed end (take 122 bytes) (drop 122 bytes) ⊎ Stopped end (take 122 bytes) (drop 122 bytes) → Parsed end low bytes ⊎ Stopped end low bytes
 parsed_more end low bytes long passes (inl p) = inl (record {
   entries = take 122 bytes ∷ p.entries;
   whole = sym (take-append-drop 122 bytes) ∙ ap (λ (t : List ℕ). take 122 bytes ++ t) p.whole;
@@ -75,7 +75,7 @@ parsed_more end low bytes long passes (inr s) = inr (record {
   fails = s.fails;
 })
 
-parse_next : (end : ℕ) (low bytes : List ℕ) (r : Result (Unit {0}) IndexFaultKind) → test_entry end low (take 122 bytes) ≡ r → 122 ≤ length bytes → Parsed end (take 122 bytes) (drop 122 bytes) ⊎ Stopped end (take 122 bytes) (drop 122 bytes) → Parsed end low bytes ⊎ Stopped end low bytes
+parse_next : (end : ℕ) (low bytes : List ℕ) (r : Result (Unit {0}) IndexFaultKind) → check_entry end low (take 122 bytes) ≡ r → 122 ≤ length bytes → Parsed end (take 122 bytes) (drop 122 bytes) ⊎ Stopped end (take 122 bytes) (drop 122 bytes) → Parsed end low bytes ⊎ Stopped end low bytes
 parse_next end low bytes (Err kind) is long rest = inr (record { before = []; rest = bytes; kind = kind; pass = tt; whole = refl; long = long; fails = is })
 parse_next end low bytes (Ok tt) is long rest = parsed_more end low bytes (length-take-le 122 bytes long) is rest
 
@@ -83,7 +83,7 @@ parse : (end n : ℕ) (low bytes : List ℕ) → length bytes ≡ 122 * n → Pa
 parse end zero low [] long = inl (record { entries = []; whole = refl; pass = tt })
 parse end zero low (b ∷ bs) long = absurd (omega (arith, long))
 parse end (suc n) low bytes long =
-    parse_next end low bytes (test_entry end low (take 122 bytes)) refl (omega (arith, long)) (parse end n (take 122 bytes) (drop 122 bytes) (omega (arith, long, length-drop 122 bytes)))
+    parse_next end low bytes (check_entry end low (take 122 bytes)) refl (omega (arith, long)) (parse end n (take 122 bytes) (drop 122 bytes) (omega (arith, long, length-drop 122 bytes)))
 
 -- ---- entries in the order of their offsets
 
@@ -154,11 +154,11 @@ follow_or_not offset at end (x ∷ xs) = elim (cases_eq (offset_in x) offset) [
 abbrev pub IsDecided : List ℕ → Type 0
 IsDecided text = ((entries : List (List ℕ)) × IsIndexText text entries) ⊎ ((fault : IndexFault) × IsIndexFault text fault)
 
-by_front : (text : List ℕ) (r : Result (Unit {0}) IndexFaultKind) → test_front text ≡ r → (test_front text ≡ Ok tt → IsDecided text) → IsDecided text
+by_front : (text : List ℕ) (r : Result (Unit {0}) IndexFaultKind) → check_front text ≡ r → (check_front text ≡ Ok tt → IsDecided text) → IsDecided text
 by_front text (Err kind) is rest = inr (record { kind = kind; offset = front_offset text kind }, inl (record { fails = is; offset_is = refl }))
 by_front text (Ok tt) is rest = rest is
 
-by_end : (text : List ℕ) (r : Result (Unit {0}) IndexFaultKind) → test_front text ≡ Ok tt → test_end text ≡ r → (HasEnds text → IsDecided text) → IsDecided text
+by_end : (text : List ℕ) (r : Result (Unit {0}) IndexFaultKind) → check_front text ≡ Ok tt → check_end text ≡ r → (HasEnds text → IsDecided text) → IsDecided text
 by_end text (Err kind) front is rest = inr (record { kind = kind; offset = length text - 41 }, inr (inl (record { front = front; fails = is; offset_is = refl })))
 by_end text (Ok tt) front is rest = rest (record { front = front; end = is })
 
@@ -236,4 +236,4 @@ module _ (text : List ℕ) (bytes : IsBytes text) (digest : HasDigest text) wher
 
 pub decided : (text : List ℕ) → IsBytes text → IsDecided text
 decided text bytes =
-    by_front text (test_front text) refl (λ front. by_end text (test_end text) front refl (λ ends. by_digest text ends (λ digest. by_entries text bytes digest)))
+    by_front text (check_front text) refl (λ front. by_end text (check_end text) front refl (λ ends. by_digest text ends (λ digest. by_entries text bytes digest)))

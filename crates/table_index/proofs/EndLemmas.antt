@@ -6,7 +6,7 @@ use Rattle.std.specs.Str.{bytes_eq}
 use Rattle.std.proofs.lemmas.Bool.{cases_lt, le-ltb, lt-ltb, ne_eqb}
 use Rattle.std.proofs.lemmas.List.{drop-drop, get_or-drop, take_all}
 use Rattle.archive_index.specs.Text.{index_magic}
-use Rattle.table_index.specs.Fault.{IsPartOffset, test_end, test_front}
+use Rattle.table_index.specs.Fault.{IsPartOffset, check_end, check_front}
 use Rattle.table_index.specs.InnerReading.{AreEndsOf, IsUnread}
 use Rattle.table_index.specs.Reading.{IsRefused}
 use Rattle.table_index.specs.Text.{count_in, digest_in}
@@ -41,16 +41,16 @@ pub asked : (text front : List ℕ) (size : ℕ) → size ≡ length text → fr
 asked text front size same is long =
     ap (λ (n : ℕ). bytes_eq front (take n index_magic)) (long ∙ ap (λ (n : ℕ). min n 8) same) ∙ ap (λ (t : List ℕ). bytes_eq t (take (min (length text) 8) index_magic)) is
 
-pub magic_fails : (text : List ℕ) → bytes_eq (take 8 text) (take (min (length text) 8) index_magic) ≡ false → test_front text ≡ Err BadMagic
-unfolding test_front
+pub magic_fails : (text : List ℕ) → bytes_eq (take 8 text) (take (min (length text) 8) index_magic) ≡ false → check_front text ≡ Err BadMagic
+unfolding check_front
 magic_fails text h = rw h refl
 
-pub room_fails : (text : List ℕ) → bytes_eq (take 8 text) (take (min (length text) 8) index_magic) ≡ true → length text < 49 → test_front text ≡ Err Truncated
-unfolding test_front
+pub room_fails : (text : List ℕ) → bytes_eq (take 8 text) (take (min (length text) 8) index_magic) ≡ true → length text < 49 → check_front text ≡ Err Truncated
+unfolding check_front
 room_fails text h short = rw (h, lt-ltb (length text) 49 short) refl
 
-pub front_passes : (text : List ℕ) → bytes_eq (take 8 text) (take (min (length text) 8) index_magic) ≡ true → 49 ≤ length text → test_front text ≡ Ok tt
-unfolding test_front
+pub front_passes : (text : List ℕ) → bytes_eq (take 8 text) (take (min (length text) 8) index_magic) ≡ true → 49 ≤ length text → check_front text ≡ Ok tt
+unfolding check_front
 front_passes text h room = rw (h, le-ltb (length text) 49 room) refl
 
 -- ---- the end record
@@ -71,8 +71,8 @@ module _ (text end : List ℕ) (room : 49 ≤ length text) (is : end ≡ drop (l
       let at : length text - 41 + 9 ≡ length text - 32 = omega (arith, room) in
       ap (drop 9) is ∙ drop-drop 9 (length text - 41) text ∙ ap (λ (n : ℕ). drop n text) at
 
-  pub tag_fails : get_or end 0 0 ≢ 3 → test_end text ≡ Err Truncated
-  unfolding test_end
+  pub tag_fails : get_or end 0 0 ≢ 3 → check_end text ≡ Err Truncated
+  unfolding check_end
   tag_fails other = rw (ap (λ (n : ℕ). eqb n 3) (sym tag_at) ∙ ne_eqb (get_or end 0 0) 3 other) refl
 
   module _ (tag : get_or end 0 0 ≡ 3) (count : ℕ) (number : count ≡ from_be_bytes w64 (take 8 (drop 1 end))) where
@@ -82,19 +82,19 @@ module _ (text end : List ℕ) (room : 49 ≤ length text) (is : end ≡ drop (l
     tagged : get_or text (length text - 41) 0 ≡ 3
     tagged = sym tag_at ∙ tag
 
-    pub count_fails : length text < 49 + 122 * count → test_end text ≡ Err BadCount
-    unfolding test_end
+    pub count_fails : length text < 49 + 122 * count → check_end text ≡ Err BadCount
+    unfolding check_end
     count_fails many =
         let more : length text < 49 + 122 * count_in text = omega (arith, many, count_is) in
         rw (tagged, lt-ltb (length text) (49 + 122 * count_in text) more) refl
 
-    pub end_passes : 49 + 122 * count ≤ length text → test_end text ≡ Ok tt
-    unfolding test_end
+    pub end_passes : 49 + 122 * count ≤ length text → check_end text ≡ Ok tt
+    unfolding check_end
     end_passes few =
         let less : 49 + 122 * count_in text ≤ length text = omega (arith, few, count_is) in
         rw (tagged, le-ltb (length text) (49 + 122 * count_in text) less) refl
 
-    pub are_ends : (ends : Ends) → test_front text ≡ Ok tt → 49 + 122 * count ≤ length text → ends.count ≡ count → ends.start ≡ length text - 41 - 122 * count → ends.digest ≡ drop 9 end → to_be_bytes w64 count ≡ take 8 (drop 1 end) → AreEndsOf text ends
+    pub are_ends : (ends : Ends) → check_front text ≡ Ok tt → 49 + 122 * count ≤ length text → ends.count ≡ count → ends.start ≡ length text - 41 - 122 * count → ends.digest ≡ drop 9 end → to_be_bytes w64 count ≡ take 8 (drop 1 end) → AreEndsOf text ends
     are_ends ends front few same start digest bytes = record {
       has = record { front = front; end = end_passes few };
       start_is = omega (arith, start, count_is);

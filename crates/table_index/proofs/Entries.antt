@@ -25,7 +25,7 @@ laid_two part first second n long p q =
 -- ---- the entry that bytes are
 
 -- numbers in the first 74 bytes
-front_number : (at : ℕ) (bytes : List ℕ) → at + 8 < 75 → take 8 (drop at (take 74 bytes)) ≡ take 8 (drop at bytes)
+pub front_number : (at : ℕ) (bytes : List ℕ) → at + 8 < 75 → take 8 (drop at (take 74 bytes)) ≡ take 8 (drop at bytes)
 front_number at bytes within =
     let rest : ℕ = 74 - at in
     let whole : 74 ≡ at + rest = omega (arith, within) in
@@ -46,7 +46,7 @@ length_front e h =
     let long : length_in (take 74 e) ≡ length_in e = ap (from_be_bytes w64) (front_number 66 e (omega arith)) in
     (λ i. cond (eqb (tag i) 2) (nat_le 33 (long i) && nat_le (long i) (33 + largest_slice)) (eqb (long i) 57)) ∙ h
 
--- the first 74 bytes of an entry that passes its tests
+-- the first 74 bytes of an entry that passes its checks
 pub placed_front : (e : List ℕ) → length e ≡ 122 → has_tag e ≡ true → has_kind e ≡ true → has_length e ≡ true → IsPlacedEntry (take 74 e)
 placed_front e long tag kind length_is = record {
   long = length-take-le 74 e (omega (arith, long));

@@ -4,10 +4,10 @@ use Rattle.std.specs.Prelude.{◌⊎◌, Ok}
 use Rattle.std.specs.List.{concat}
 use Rattle.std.proofs.lemmas.List.{append-nil}
 use Rattle.archive_records.specs.Text.{last_of}
-use Rattle.table_index.specs.Fault.{FailsAfter, FailsAtEnd, FailsDigest, FailsInEntries, FailsInFront, FailsInPlaces, HasDigest, IsIndexFault, front_offset, test_end, test_front}
-use Rattle.table_index.specs.Text.{AreLaid, IsIndexText, PassTests, entries_in, start_in, test_entry}
+use Rattle.table_index.specs.Fault.{FailsAfter, FailsAtEnd, FailsDigest, FailsInEntries, FailsInFront, FailsInPlaces, HasDigest, IsIndexFault, front_offset, check_end, check_front}
+use Rattle.table_index.specs.Text.{AreLaid, IsIndexText, PassChecks, entries_in, start_in, check_entry}
 use Rattle.index_faults.specs.declared.fault.IndexFault.{IndexFault}
-use Rattle.table_index.proofs.Tests.{IsStop, long_entries, one_front}
+use Rattle.table_index.proofs.Checks.{IsStop, long_entries, one_front}
 use Rattle.table_index.proofs.Texts.{entries_are, has_digest, start_is}
 
 same_fault : (f g : IndexFault) → f.kind ≡ g.kind → f.offset ≡ g.offset → f ≡ g
@@ -27,16 +27,16 @@ stops_there end bytes xs f a long h = cc (a.fails, h)
 one_after : (end : ℕ) (bytes : List ℕ) (xs ys : List (List ℕ)) (f g : IndexFault) → FailsAfter end bytes xs f → FailsAfter end bytes ys g → f ≡ g
 one_after end bytes xs ys f g a b =
     let same = one_front end [] xs ys bytes a.rest b.rest a.pass b.pass a.whole b.whole (stops_there end bytes xs f a) (stops_there end bytes ys g b) in
-    let tested : test_entry end (last_of [] xs) (take 122 a.rest) ≡ test_entry end (last_of [] ys) (take 122 b.rest) = λ i. test_entry end (last_of [] (same.0 i)) (take 122 (same.1 i)) in
-    let kinds : f.kind ≡ g.kind = cc (a.fails, tested, b.fails) in
+    let checked : check_entry end (last_of [] xs) (take 122 a.rest) ≡ check_entry end (last_of [] ys) (take 122 b.rest) = λ i. check_entry end (last_of [] (same.0 i)) (take 122 (same.1 i)) in
+    let kinds : f.kind ≡ g.kind = cc (a.fails, checked, b.fails) in
     same_fault f g kinds (a.offset_is ∙ (λ i. end + length (concat (same.0 i))) ∙ sym b.offset_is)
 
-not_both : (end : ℕ) (bytes : List ℕ) (xs ys : List (List ℕ)) (f : IndexFault) → FailsAfter end bytes xs f → PassTests end [] ys → bytes ≡ concat ys → ⊥
+not_both : (end : ℕ) (bytes : List ℕ) (xs ys : List (List ℕ)) (f : IndexFault) → FailsAfter end bytes xs f → PassChecks end [] ys → bytes ≡ concat ys → ⊥
 not_both end bytes xs ys f a pass whole =
     let same = one_front end [] xs ys bytes a.rest [] a.pass pass a.whole (whole_rest bytes ys whole) (stops_there end bytes xs f a) (none_left end (last_of [] ys)) in
     omega (arith, a.long, ap length same.1)
 
-pub same_entries : (end : ℕ) (xs ys : List (List ℕ)) → PassTests end [] xs → PassTests end [] ys → concat xs ≡ concat ys → xs ≡ ys
+pub same_entries : (end : ℕ) (xs ys : List (List ℕ)) → PassChecks end [] xs → PassChecks end [] ys → concat xs ≡ concat ys → xs ≡ ys
 same_entries end xs ys a b e =
     (one_front end [] xs ys (concat xs) [] [] a b (whole_rest (concat xs) xs refl) (whole_rest (concat xs) ys e) (none_left end (last_of [] xs)) (none_left end (last_of [] ys))).0
 
@@ -55,16 +55,16 @@ module _ (text : List ℕ) (xs : List (List ℕ)) (is : IsIndexText text xs) whe
   pub entries_there : entries_in text ≡ concat xs
   entries_there = ap entries_in is.whole ∙ entries_are is.tables xs is.few each
 
-  pub pass_there : PassTests (start_in text) [] xs
-  pass_there = subst (λ (n : ℕ). PassTests n [] xs) (sym start_there) is.pass
+  pub pass_there : PassChecks (start_in text) [] xs
+  pass_there = subst (λ (n : ℕ). PassChecks n [] xs) (sym start_there) is.pass
 
   pub laid_there : AreLaid (start_in text) xs
   laid_there = subst (λ (n : ℕ). AreLaid n xs) (sym start_there) is.laid
 
-no_front : (text : List ℕ) (f : IndexFault) → FailsInFront text f → test_front text ≡ Ok tt → ⊥
+no_front : (text : List ℕ) (f : IndexFault) → FailsInFront text f → check_front text ≡ Ok tt → ⊥
 no_front text f a h = cc (a.fails, h)
 
-no_end : (text : List ℕ) (f : IndexFault) → FailsAtEnd text f → test_end text ≡ Ok tt → ⊥
+no_end : (text : List ℕ) (f : IndexFault) → FailsAtEnd text f → check_end text ≡ Ok tt → ⊥
 no_end text f a h = cc (a.fails, h)
 
 pub no_fault : (text : List ℕ) (xs : List (List ℕ)) (f : IndexFault) → IsIndexText text xs → IsIndexFault text f → ⊥
@@ -101,7 +101,7 @@ one_in_entries text f g (inl a) (inr b) = absurd (not_both (start_in text) (entr
 one_in_entries text f g (inr a) (inl b) = absurd (not_both (start_in text) (entries_in text) b.before a.entries g b.after a.pass a.whole)
 one_in_entries text f g (inr a) (inr b) = same_fault f g (a.kind_is ∙ sym b.kind_is) (a.offset_is ∙ sym b.offset_is)
 
-end_of_later : (text : List ℕ) (f : IndexFault) → BehindEnds text f → test_end text ≡ Ok tt
+end_of_later : (text : List ℕ) (f : IndexFault) → BehindEnds text f → check_end text ≡ Ok tt
 end_of_later text f (inl a) = a.ends.end
 end_of_later text f (inr a) = (digest_of text f a).ends.end
 
@@ -111,7 +111,7 @@ one_behind_ends text f g (inl a) (inr b) = absurd (a.other (digest_of text g b).
 one_behind_ends text f g (inr a) (inl b) = absurd (b.other (digest_of text f a).same)
 one_behind_ends text f g (inr a) (inr b) = one_in_entries text f g a b
 
-front_of_later : (text : List ℕ) (f : IndexFault) → BehindFront text f → test_front text ≡ Ok tt
+front_of_later : (text : List ℕ) (f : IndexFault) → BehindFront text f → check_front text ≡ Ok tt
 front_of_later text f (inl a) = a.front
 front_of_later text f (inr (inl a)) = a.ends.front
 front_of_later text f (inr (inr a)) = (digest_of text f a).ends.front

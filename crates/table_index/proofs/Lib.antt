@@ -1,9 +1,10 @@
 pub mod Texts
 pub mod Entries
-pub mod Tests
+pub mod Checks
 pub mod ReadLemmas
 pub mod EndLemmas
 pub mod Faults
 pub mod PlaceLemmas
+pub mod Fronts
 pub mod Decided
 pub mod RunLemmas

@@ -1,5 +1,5 @@
 -- Entries whose records follow one another, in the order of their offsets.
-use Rattle.std.proofs.Common.{◌≡◌, ℕ, ◌+◌, ◌<◌, ◌≤◌, Bool, true, cond, ◌&&◌, ◌↔◌, eqb, suc, List, [], ◌∷◌, length, map, drop, get_or, refl, sym, ap, ◌∙◌, subst, inl, inr, arith, nat_le}
+use Rattle.std.proofs.Common.{◌≡◌, ℕ, ◌+◌, ◌<◌, ◌≤◌, Bool, true, cond, ◌&&◌, ◌↔◌, eqb, suc, List, [], ◌∷◌, length, map, drop, get_or, refl, sym, ap, ◌∙◌, subst, inl, inr, arith, nat_le, Bor}
 use Rattle.std.specs.Prelude.{All, Contains}
 use Rattle.std.specs.List.{sum_by}
 use Rattle.std.specs.List.Sorted.{IsNonDecreasingBy, IsPermutation}
@@ -20,8 +20,8 @@ use Rattle.archive_index.specs.Entry.{length_in, offset_in}
 use Rattle.checked_pages.specs.Views.{claim_view}
 use Rattle.table_index.specs.Entry.{HasItsFields, claim_in, entry_bytes, stored_size}
 use Rattle.table_index.specs.declared.entry.TableEntry.{TableEntry}
-use Rattle.table_index.specs.Text.{AreLaid, FollowOn, PassTests}
-use Rattle.table_index.proofs.Tests.{passed}
+use Rattle.table_index.specs.Text.{AreLaid, FollowOn, PassChecks}
+use Rattle.table_index.proofs.Checks.{passed}
 
 -- ---- lists of which each sum is the same
 
@@ -78,12 +78,12 @@ one_order offset at end (x ∷ xs) (y ∷ ys) follow some up alike =
           absurd (omega (arith, least, follow.0, some x (here x xs), follows (offset + length_in x) (at + stored_size (claim_in x)) end xs y follow.2 there))
     ]
 
--- ---- entries that pass their tests
+-- ---- entries that pass their checks
 
 pub some_length : (a : Bool) (n : ℕ) → cond a (nat_le 33 n && nat_le n (33 + largest_slice)) (eqb n 57) ≡ true → 0 < n
 some_length a n h = grind (arith, nat_tests)
 
-pub each_some : (end : ℕ) (low : List ℕ) (xs : List (List ℕ)) (z : List ℕ) → PassTests end low xs → Contains xs z → 0 < length_in z
+pub each_some : (end : ℕ) (low : List ℕ) (xs : List (List ℕ)) (z : List ℕ) → PassChecks end low xs → Contains xs z → 0 < length_in z
 each_some end low [] z pass c = absurd (omega (arith, c.1))
 each_some end low (x ∷ xs) z pass c = elim (cons_cases x z xs c) [
   | inl e ↦ subst (λ (t : List ℕ). 0 < length_in t) e (some_length (is_admission x) (length_in x) (passed end low x pass.1).length_is)
@@ -91,7 +91,7 @@ each_some end low (x ∷ xs) z pass c = elim (cons_cases x z xs c) [
 ]
 
 -- in the order of their offsets they follow one another, if they do in any
-pub follow_sorted : (end : ℕ) (entries sorted : List (List ℕ)) → PassTests end [] entries → IsPermutation entries sorted → IsNonDecreasingBy offset_in sorted → AreLaid end entries → FollowOn 8 8 end sorted
+pub follow_sorted : (end : ℕ) (entries sorted : List (List ℕ)) → PassChecks end [] entries → IsPermutation entries sorted → IsNonDecreasingBy offset_in sorted → AreLaid end entries → FollowOn 8 8 end sorted
 follow_sorted end entries sorted pass moved up laid =
     let alike : AreAlike laid.order sorted = λ f. sum_by-IsPermutation f entries laid.order laid.permuted ∙ sym (sum_by-IsPermutation f entries sorted moved) in
     let some : (z : List ℕ) → Contains laid.order z → 0 < length_in z = λ z c. each_some end [] entries z pass (Contains-permutation laid.order entries z (IsPermutation-sym entries laid.order laid.permuted) c) in
@@ -153,4 +153,30 @@ offsets_rise (x ∷ xs) fields up = λ i j d le lt.
     let before : i < length all = omega (arith, le, within) in
     let a : offset_in (get_or (map entry_bytes all) i d) ≡ (get_or all i x).placed.offset = ap offset_in (get_or-map entry_bytes all i x d before) ∙ (All-contains HasItsFields all (get_or all i x) fields (Contains-get_or all i x before)).offset_is in
     let b : offset_in (get_or (map entry_bytes all) j d) ≡ (get_or all j x).placed.offset = ap offset_in (get_or-map entry_bytes all j x d within) ∙ (All-contains HasItsFields all (get_or all j x) fields (Contains-get_or all j x within)).offset_is in
+    omega (arith, a, b, up i j x le within)
+
+-- ---- entries that are lent
+
+abbrev pub of_lent : Bor TableEntry → TableEntry
+of_lent e = e.now
+
+abbrev pub all_lent : List (Bor TableEntry) → List TableEntry
+all_lent xs = map of_lent xs
+
+-- the one at a place
+pub lent_at : (xs : List (Bor TableEntry)) (i : ℕ) (e : Bor TableEntry) → i < length xs → e ≡ get_or xs i e → of_lent e ≡ get_or (all_lent xs) i (of_lent e)
+lent_at xs i e lt is = ap of_lent is ∙ sym (get_or-map of_lent xs i e (of_lent e) lt)
+
+pub lent_within : (xs : List (Bor TableEntry)) (i : ℕ) → i < length xs → i < length (all_lent xs)
+lent_within xs i lt = omega (arith, lt, length-map xs of_lent)
+
+-- offsets do not fall, where they are lent and as they are
+pub lent_rise : (xs : List (Bor TableEntry)) → IsNonDecreasingBy (λ e. e.now.placed.offset) xs → IsNonDecreasingBy (λ e. e.placed.offset) (all_lent xs)
+lent_rise [] up = λ i j d le lt. absurd (omega (arith, lt))
+lent_rise (x ∷ xs) up = λ i j d le lt.
+    let all : List (Bor TableEntry) = x ∷ xs in
+    let within : j < length all = omega (arith, lt, length-map all of_lent) in
+    let before : i < length all = omega (arith, le, within) in
+    let a : (get_or (all_lent all) i d).placed.offset ≡ (get_or all i x).now.placed.offset = ap (λ (e : TableEntry). e.placed.offset) (get_or-map of_lent all i x d before) in
+    let b : (get_or (all_lent all) j d).placed.offset ≡ (get_or all j x).now.placed.offset = ap (λ (e : TableEntry). e.placed.offset) (get_or-map of_lent all j x d within) in
     omega (arith, a, b, up i j x le within)

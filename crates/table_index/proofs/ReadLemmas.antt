@@ -59,11 +59,11 @@ pub unfailed_blames : (old new : ℕ) (kind : IndexFaultKind) → kind ≢ Devic
 unfailed_blames old new Device other same = absurd (other refl)
 unfailed_blames old new _ other same = same
 
--- what was read is tested
-pub tested : {D T : Type 0} (whole : D → Option (List ℕ)) (failures : D → ℕ) (old new : D) (r : Result T IndexFault) (A : List ℕ → T → Type 0) (B : List ℕ → IndexFault → Type 0)
+-- what was read is checked
+pub checked : {D T : Type 0} (whole : D → Option (List ℕ)) (failures : D → ℕ) (old new : D) (r : Result T IndexFault) (A : List ℕ → T → Type 0) (B : List ℕ → IndexFault → Type 0)
     → whole new ≡ whole old → failures new ≡ failures old → ((text : List ℕ) → whole old ≡ Some text → MatchResult r (A text) (B text)) → IfErr r (λ f. f.kind ≢ Device) → ReadsText whole failures old new r A B
-tested whole failures old new (Ok value) A B keeps same says other = record { says = says; keeps = keeps; counts = same }
-tested whole failures old new (Err f) A B keeps same says other = record { says = λ text is. inr (says text is); keeps = keeps; counts = unfailed_blames (failures old) (failures new) f.kind other same }
+checked whole failures old new (Ok value) A B keeps same says other = record { says = says; keeps = keeps; counts = same }
+checked whole failures old new (Err f) A B keeps same says other = record { says = λ text is. inr (says text is); keeps = keeps; counts = unfailed_blames (failures old) (failures new) f.kind other same }
 
 -- a premise of what is said
 pub under : {T P : Type 0} (r : Result T IndexFault) (A : T → Type 0) (B : IndexFault → Type 0) → (P → MatchResult r A B) → MatchResult r (λ value. P → A value) (λ f. P → B f)

@@ -1,130 +1,13 @@
--- Entries of one tag under a front stand together.
-use Rattle.std.proofs.Common.{◌≡◌, ℕ, suc, ◌+◌, ◌-◌, ◌<◌, ◌≤◌, Bool, true, false, ◌&&◌, eqb, nat_lt, List, [], ◌∷◌, length, map, take, drop, get_or, refl, sym, ap, ◌∙◌, subst, arith, eq-eqb}
-use mathlib.Core.Bool.{true≢false}
-use Rattle.std.specs.declared.cmp.Ordering.{Ordering}
-use Rattle.std.specs.declared.cmp.Ordering.TheVariants.{Less, Equal, Greater}
-use Rattle.std.specs.Ordering.{nat_cmp, is_lt, is_le, is_eq, ordering_then}
-use Rattle.std.specs.Cmp.{Equal-is, both_ways, tied_itself}
-use Rattle.std.specs.Cmp.Lexicographic.{slice_cmp, nat_list_cmp_total}
-use Rattle.std.specs.List.{AllByRecursion, AllWithin}
-use Rattle.std.specs.List.Sorted.{IsStrictlySortedBy, IsPartitionedBy, IsPartitionPoint}
-use Rattle.std.specs.Str.{bytes_eq}
-use Rattle.std.proofs.lemmas.Bool.{eqb-true}
-use Rattle.std.proofs.lemmas.Bool.Decides.{nat_tests}
-use Rattle.std.proofs.lemmas.List.{get_or-map as get_or-map_at, length-take-le, take-append-drop}
-use Rattle.std.proofs.lemmas.List.Elements.{All-from_recursion, recursion_from_All}
-use Rattle.std.proofs.lemmas.Map.Keys.{Less-from_sorted}
-use Rattle.std.proofs.lemmas.Slice.Eq.{bytes_eq-Decides}
-use Rattle.std.proofs.Math.ListN.{get_or-map, length-map}
-use Rattle.archive_core.specs.Part.{is_under}
-use Rattle.archive_core.proofs.Compare.{slice_cmp-append}
-use Rattle.archive_core.proofs.Made.{and_left, and_right, bytes_same, by_test}
+-- Entries are long enough for a tag and a key.
+use Rattle.std.proofs.Common.{◌≤◌, ℕ, List, [], ◌∷◌, length, map, arith}
+use Rattle.std.specs.List.{AllByRecursion}
+use Rattle.std.proofs.lemmas.List.Elements.{recursion_from_All}
 use Rattle.table_index.specs.declared.entry.TableEntry.{TableEntry}
 use Rattle.table_index.specs.Entry.{AreTableEntries, HasItsFields, entry_bytes}
-use Rattle.table_index.specs.Runs.{IsRun, is_tagged}
 
-abbrev order : List ℕ → List ℕ → Ordering
-order = slice_cmp nat_cmp
+with_fields : (n : ℕ) (xs : List TableEntry) → n ≤ 122 → AllByRecursion HasItsFields xs → AllByRecursion (λ e. n ≤ length e) (map entry_bytes xs)
+with_fields n [] few fields = tt
+with_fields n (x ∷ xs) few fields = (omega (arith, few, fields.0.long), with_fields n xs few fields.1)
 
--- how the first n bytes of an entry compare with these
-abbrev pub begins : ℕ → List ℕ → List ℕ → Ordering
-begins n w e = order (take n e) w
-
-module _ (test : Ordering → Bool) (less : test Less ≡ true) (greater : test Greater ≡ false) where
-  -- what is not above a text that passes, passes
-  passes : (x y w : List ℕ) (r s : Ordering) → order x y ≡ r → order y w ≡ s → (t : Ordering) → ordering_then r t ≡ Less → test s ≡ true → test (order x w) ≡ true
-  passes x y w Less Less e f t h g = rw (nat_list_cmp_total.trans x y w e f) less
-  passes x y w Less Equal e f t h g = let same = bytes_same y w f in rw (← same, e) less
-  passes x y w Less Greater e f t h g = cc
-  passes x y w Equal s e f t h g = let same = bytes_same x y e in rw (same, f) g
-  passes x y w Greater s e f t h g = cc
-
-  rises : (n : ℕ) (w a b : List ℕ) → length (take n a) ≡ length (take n b) → order a b ≡ Less → test (begins n w b) ≡ true → test (begins n w a) ≡ true
-  rises n w a b same h g =
-      passes (take n a) (take n b) w _ _ refl refl (order (drop n a) (drop n b))
-      (sym (slice_cmp-append (take n a) (take n b) (drop n a) (drop n b) same) ∙ (λ i. order (take-append-drop n a i) (take-append-drop n b i)) ∙ h)
-      g
-
-  -- so the test of how they begin parts entries that ascend
-  pub parts : (n : ℕ) (w : List ℕ) (xs : List (List ℕ)) → IsStrictlySortedBy order xs → AllByRecursion (λ e. n ≤ length e) xs → IsPartitionedBy (λ e. test (begins n w e)) xs
-  parts n w xs ascending long i j d le lt t = by_test _ (nat_lt i j)
-      (λ yes.
-      let below : i < j = grind (arith, nat_tests) in
-      let long_at : (k : ℕ) → k < length xs → length (take n (get_or xs k d)) ≡ n = λ k there. length-take-le n (get_or xs k d) (All-from_recursion (λ (e : List ℕ). n ≤ length e) xs long k d there) in
-      rises n w (get_or xs i d) (get_or xs j d) (long_at i (omega arith) ∙ sym (long_at j lt)) (Less-from_sorted order xs i j d ascending below lt) t)
-      (λ no. let same : j ≡ i = grind (arith, nat_tests) in subst (λ (k : ℕ). test (begins n w (get_or xs k d)) ≡ true) same t)
-
--- entries are long enough for a tag and a key
-long_enough : (n : ℕ) (xs : List TableEntry) → n ≤ 122 → AllByRecursion HasItsFields xs → AllByRecursion (λ e. n ≤ length e) (map entry_bytes xs)
-long_enough n [] few fields = tt
-long_enough n (x ∷ xs) few fields = (omega (arith, few, fields.0.long), long_enough n xs few fields.1)
-
-module _ (test : Ordering → Bool) (less : test Less ≡ true) (greater : test Greater ≡ false) where
-  pub parts_entries : (n : ℕ) (w : List ℕ) (xs : List TableEntry) → n ≤ 122 → AreTableEntries xs → IsPartitionedBy (λ x. test (begins n w (entry_bytes x))) xs
-  parts_entries n w xs short are i j d le lt t =
-      let P : List ℕ → Type 0 = λ e. test (begins n w e) ≡ true in
-      let long = long_enough n xs short (recursion_from_All HasItsFields xs are.fields) in
-      subst P (get_or-map entry_bytes xs i d) (parts test less greater n w (map entry_bytes xs) are.ascending long i j (entry_bytes d) le (omega (arith, length-map xs entry_bytes)) (subst P (sym (get_or-map entry_bytes xs j d)) t))
-
--- an entry has a tag and a front where it begins with the two
-tagged : (tag : ℕ) (front e : List ℕ) → 0 < length e → is_eq (begins (length front + 1) (tag ∷ front) e) ≡ is_tagged tag front e
-unfolding is_under
-tagged tag front [] some = absurd (omega arith)
-tagged tag front (x ∷ xs) some =
-    let one : length front + 1 ≡ suc (length front) = omega arith in
-    let first : take (length front + 1) (x ∷ xs) ≡ x ∷ take (length front) xs = ap (λ (k : ℕ). take k (x ∷ xs)) one in
-    both_ways _ _
-    (λ h.
-    let same : x ∷ take (length front) xs ≡ tag ∷ front = sym first ∙ bytes_same _ (tag ∷ front) ((Equal-is (begins (length front + 1) (tag ∷ front) (x ∷ xs))).0 h) in
-    ap (λ (b : Bool). b && bytes_eq front (take (length front) xs)) (eq-eqb x tag (ap (λ (l : List ℕ). get_or l 0 0) same)) ∙ (bytes_eq-Decides front (take (length front) xs)).1 (sym (ap (drop 1) same)))
-    (λ h.
-    let tag_is : x ≡ tag = eqb-true x tag (and_left _ _ h) in
-    let front_is : front ≡ take (length front) xs = (bytes_eq-Decides front (take (length front) xs)).0 (and_right (eqb x tag) _ h) in
-    ap (λ (l : List ℕ). is_eq (order l (tag ∷ front))) (first ∙ (λ i. tag_is i ∷ sym front_is i)) ∙ ap is_eq (tied_itself nat_list_cmp_total (tag ∷ front)))
-
--- what is true of entries at places is true of their bytes
-along : (P : List ℕ → Type 0) (xs : List TableEntry) (low high : ℕ) → high ≤ length xs → AllWithin (λ x. P (entry_bytes x)) xs low high → AllWithin P (map entry_bytes xs) low high
-along P [] low high within h k d le lt = absurd (omega arith)
-along P (x ∷ xs) low high within h k d le lt = subst P (sym (get_or-map_at entry_bytes (x ∷ xs) k x d (omega (arith, within, lt)))) (h k x le lt)
-
--- the three tests of a comparison
-eq_of_lt : (r : Ordering) → is_lt r ≡ true → is_eq r ≡ false
-eq_of_lt r h = grind arith
-
-eq_of_gt : (r : Ordering) → is_le r ≡ false → is_eq r ≡ false
-eq_of_gt r h = grind arith
-
-eq_of_both : (r : Ordering) → is_lt r ≡ false → is_le r ≡ true → is_eq r ≡ true
-eq_of_both r h g = grind arith
-
-le_of_lt : (r : Ordering) → is_lt r ≡ true → is_le r ≡ true
-le_of_lt r h = grind arith
-
--- the two places that a test by halves finds
-pub run_found : (tag : ℕ) (front : List ℕ) (xs : List TableEntry) (start stop : ℕ) → AreTableEntries xs → start ≤ length xs → stop ≤ length xs
-    → IsPartitionPoint (λ x. is_lt (begins (length front + 1) (tag ∷ front) (entry_bytes x)) ≡ true) (λ x. is_lt (begins (length front + 1) (tag ∷ front) (entry_bytes x)) ≡ false) xs start
-    → IsPartitionPoint (λ x. is_le (begins (length front + 1) (tag ∷ front) (entry_bytes x)) ≡ true) (λ x. is_le (begins (length front + 1) (tag ∷ front) (entry_bytes x)) ≡ false) xs stop
-    → IsRun (is_tagged tag front) (map entry_bytes xs) start stop
-run_found tag front xs start stop are start_in stop_in first second =
-    let entries = map entry_bytes xs in
-    let long : length entries ≡ length xs = length-map xs entry_bytes in
-    let compared = begins (length front + 1) (tag ∷ front) in
-    let below = along (λ e. is_lt (compared e) ≡ true) xs 0 start start_in first.0 in
-    let from = along (λ e. is_lt (compared e) ≡ false) xs start (length xs) (omega arith) first.1 in
-    let upto = along (λ e. is_le (compared e) ≡ true) xs 0 stop stop_in second.0 in
-    let above = along (λ e. is_le (compared e) ≡ false) xs stop (length xs) (omega arith) second.1 in
-    let some : (k : ℕ) (d : List ℕ) → k < length entries → 0 < length (get_or entries k d) =
-    λ k d lt. All-from_recursion (λ (e : List ℕ). 1 ≤ length e) entries (long_enough 1 xs (omega arith) (recursion_from_All HasItsFields xs are.fields)) k d lt in
-    let same : (k : ℕ) (d : List ℕ) → k < length entries → is_tagged tag front (get_or entries k d) ≡ is_eq (compared (get_or entries k d)) =
-    λ k d lt. sym (tagged tag front (get_or entries k d) (some k d lt)) in
-    record {
-      ordered = by_test _ (nat_lt stop start)
-          (λ yes.
-          let behind : stop < start = grind (arith, nat_tests) in
-          absurd (true≢false (sym (le_of_lt (compared (get_or entries stop [])) (below stop [] (omega arith) behind)) ∙ above stop [] (omega arith) (omega (arith, behind, start_in)))))
-          (λ no. grind (arith, nat_tests));
-      within = omega (arith, long, stop_in);
-      before = λ k d le lt. same k d (omega (arith, long, start_in, lt)) ∙ eq_of_lt _ (below k d le lt);
-      inside = λ k d le lt. same k d (omega (arith, long, stop_in, lt)) ∙ eq_of_both _ (from k d le (omega (arith, stop_in, lt))) (upto k d (omega arith) lt);
-      behind = λ k d le lt. same k d lt ∙ eq_of_gt _ (above k d le (omega (arith, long, lt)));
-    }
+pub long_enough : (n : ℕ) (xs : List TableEntry) → n ≤ 122 → AreTableEntries xs → AllByRecursion (λ e. n ≤ length e) (map entry_bytes xs)
+long_enough n xs few are = with_fields n xs few (recursion_from_All HasItsFields xs are.fields)

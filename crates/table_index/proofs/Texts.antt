@@ -12,7 +12,7 @@ use Rattle.std.proofs.lemmas.Slice.Eq.{bytes_eq-Decides}
 use Rattle.sha2.specs.Sha256.{sha256}
 use Rattle.sha2.proofs.Facts256.{length-sha256}
 use Rattle.archive_index.specs.Text.{index_magic}
-use Rattle.table_index.specs.Fault.{HasDigest, HasEnds, test_end, test_front}
+use Rattle.table_index.specs.Fault.{HasDigest, HasEnds, check_end, check_front}
 use Rattle.table_index.specs.InnerReading.{AreEndsOf}
 use Rattle.table_index.specs.Text.{IsIndexText, count_in, digest_in, end_of, entries_in, index_text, start_in}
 use Rattle.table_index.specs.declared.ends.Ends.{Ends}
@@ -82,7 +82,7 @@ module _ (tables : List ℕ) (entries : List (List ℕ)) (few : length entries <
       (λ i. get_or (parts i) (at i) 0) ∙ get_or_at front 3 (to_be_bytes w64 (length entries) ++ sha256 (concat entries)) 0 (length front) refl
 
   pub has_ends : HasEnds text
-  unfolding test_front test_end
+  unfolding check_front check_end
   has_ends =
       let least : min (length text) 8 ≡ 8 = omega (arith, text_long) in
       let begins : take 8 text ≡ take (min (length text) 8) index_magic = take-append_seam index_magic (tables ++ (concat entries ++ end_of entries)) ∙ ap (λ (n : ℕ). take n index_magic) (sym least) in
@@ -100,16 +100,16 @@ module _ (tables : List ℕ) (entries : List (List ℕ)) (few : length entries <
 two_pass : (a b : Bool) (k l : IndexFaultKind) → cond (not a) (failed k) (cond b (failed l) fine) ≡ fine → (a ≡ true) × (b ≡ false)
 two_pass a b k l h = grind arith
 
-pub front_passed : (text : List ℕ) → test_front text ≡ Ok tt → (take 8 text ≡ index_magic) × (49 ≤ length text)
-unfolding test_front
+pub front_passed : (text : List ℕ) → check_front text ≡ Ok tt → (take 8 text ≡ index_magic) × (49 ≤ length text)
+unfolding check_front
 front_passed text h =
     let p = two_pass (bytes_eq (take 8 text) (take (min (length text) 8) index_magic)) (ltb (length text) 49) BadMagic Truncated h in
     let long : 49 ≤ length text = ltb-false (length text) 49 p.1 in
     let least : min (length text) 8 ≡ 8 = omega arith in
     ((bytes_eq-Decides (take 8 text) (take (min (length text) 8) index_magic)).0 p.0 ∙ ap (λ (n : ℕ). take n index_magic) least, long)
 
-pub end_passed : (text : List ℕ) → test_end text ≡ Ok tt → (get_or text (length text - 41) 0 ≡ 3) × (49 + 122 * count_in text ≤ length text)
-unfolding test_end
+pub end_passed : (text : List ℕ) → check_end text ≡ Ok tt → (get_or text (length text - 41) 0 ≡ 3) × (49 + 122 * count_in text ≤ length text)
+unfolding check_end
 end_passed text h =
     let p = two_pass (eqb (get_or text (length text - 41) 0) 3) (ltb (length text) (49 + 122 * count_in text)) Truncated BadCount h in
     (eqb-true (get_or text (length text - 41) 0) 3 p.0, ltb-false (length text) (49 + 122 * count_in text) p.1)

@@ -60,7 +60,8 @@ pub record HasItsFields (e : TableEntry) : Type 0 where
   pub claim_is : claim_in (entry_bytes e) ≡ claim_view e.claim
   pub placed : IsPlacedEntry (placed_bytes e.placed)
 
--- Each of these entries has its fields, and they ascend strictly in byte order.
+-- Each of these entries has its fields, and they ascend strictly in byte order, with their claims and without them.
 pub record AreTableEntries (entries : List TableEntry) : Type 0 where
   pub fields : All HasItsFields entries
   pub ascending : IsStrictlySortedBy (slice_cmp nat_cmp) (map entry_bytes entries)
+  pub placed_ascending : IsStrictlySortedBy (slice_cmp nat_cmp) (map (take 74) (map entry_bytes entries))

@@ -6,21 +6,21 @@ use Rattle.std.specs.Str.{bytes_eq}
 use Rattle.sha2.specs.Sha256.{sha256}
 use Rattle.archive_records.specs.Text.{last_of}
 use Rattle.archive_index.specs.Text.{index_magic}
-use Rattle.table_index.specs.Text.{AreLaid, PassTests, count_in, digest_in, entries_in, start_in, test_entry}
+use Rattle.table_index.specs.Text.{AreLaid, PassChecks, count_in, digest_in, entries_in, start_in, check_entry}
 use Rattle.index_faults.specs.declared.fault.IndexFault.{IndexFault}
 use Rattle.index_faults.specs.declared.fault.IndexFaultKind.{IndexFaultKind}
 use Rattle.index_faults.specs.declared.fault.IndexFaultKind.TheVariants.{BadMagic, Truncated, BadCount, BadDigest}
 use Rattle.index_faults.specs.declared.fault.IndexFaultKind.TheVariants.{BadPlace, Device, OutOfMemory}
 
 -- What the front of a text must be: the magic, and 41 bytes more for an end record.
-unfoldable pub test_front : List ℕ → Result (Unit {0}) IndexFaultKind
-test_front text = if not (bytes_eq (take 8 text) (take (min (length text) 8) index_magic)) then Err BadMagic
+unfoldable pub check_front : List ℕ → Result (Unit {0}) IndexFaultKind
+check_front text = if not (bytes_eq (take 8 text) (take (min (length text) 8) index_magic)) then Err BadMagic
     else if nat_lt (length text) 49 then Err Truncated
     else Ok tt
 
 -- What its last 41 bytes must be: an end record, of no more entries than there is room for.
-unfoldable pub test_end : List ℕ → Result (Unit {0}) IndexFaultKind
-test_end text = if not (slice_index text (length text - 41) == 3) then Err Truncated
+unfoldable pub check_end : List ℕ → Result (Unit {0}) IndexFaultKind
+check_end text = if not (slice_index text (length text - 41) == 3) then Err Truncated
     else if nat_lt (length text) (49 + 122 * count_in text) then Err BadCount
     else Ok tt
 
@@ -29,21 +29,21 @@ abbrev pub front_offset : List ℕ → IndexFaultKind → ℕ
 front_offset text BadMagic = 0
 front_offset text _ = length text - 41
 
--- the front fails its first test
+-- the front fails its first check
 pub record FailsInFront (text : List ℕ) (fault : IndexFault) : Type 0 where
-  pub fails : test_front text ≡ Err fault.kind
+  pub fails : check_front text ≡ Err fault.kind
   pub offset_is : fault.offset ≡ front_offset text fault.kind
 
--- the front stands, and the end record fails its first test
+-- the front stands, and the end record fails its first check
 pub record FailsAtEnd (text : List ℕ) (fault : IndexFault) : Type 0 where
-  pub front : test_front text ≡ Ok tt
-  pub fails : test_end text ≡ Err fault.kind
+  pub front : check_front text ≡ Ok tt
+  pub fails : check_end text ≡ Err fault.kind
   pub offset_is : fault.offset ≡ length text - 41
 
 -- a text with the magic and an end record
 pub record HasEnds (text : List ℕ) : Type 0 where
-  pub front : test_front text ≡ Ok tt
-  pub end : test_end text ≡ Ok tt
+  pub front : check_front text ≡ Ok tt
+  pub end : check_end text ≡ Ok tt
 
 -- the entries have another SHA-256 than the end record says
 pub record FailsDigest (text : List ℕ) (fault : IndexFault) : Type 0 where
@@ -52,13 +52,13 @@ pub record FailsDigest (text : List ℕ) (fault : IndexFault) : Type 0 where
   pub offset_is : fault.offset ≡ start_in text
   pub other : sha256 (entries_in text) ≢ digest_in text
 
--- of these bytes, which begin where the tables end, the entry after these fails its first test
+-- of these bytes, which begin where the tables end, the entry after these fails its first check
 pub record FailsAfter (end : ℕ) (bytes : List ℕ) (before : List (List ℕ)) (fault : IndexFault) : Type 0 where
-  pub pass : PassTests end [] before
+  pub pass : PassChecks end [] before
   pub rest : List ℕ
   pub whole : bytes ≡ concat before ++ rest
   pub long : 122 ≤ length rest
-  pub fails : test_entry end (last_of [] before) (take 122 rest) ≡ Err fault.kind
+  pub fails : check_entry end (last_of [] before) (take 122 rest) ≡ Err fault.kind
   pub offset_is : fault.offset ≡ end + length (concat before)
 
 -- the bytes of the entries have the SHA-256 that the end record says
@@ -66,18 +66,18 @@ pub record HasDigest (text : List ℕ) : Type 0 where
   pub ends : HasEnds text
   pub same : sha256 (entries_in text) ≡ digest_in text
 
--- an entry fails its first test, and those before it pass theirs
+-- an entry fails its first check, and those before it pass theirs
 pub record FailsInEntries (text : List ℕ) (fault : IndexFault) : Type 0 where
   pub digest : HasDigest text
   pub before : List (List ℕ)
   pub after : FailsAfter (start_in text) (entries_in text) before fault
 
--- the entries pass their tests, but their records or tables do not follow one another
+-- the entries pass their checks, but their records or tables do not follow one another
 pub record FailsInPlaces (text : List ℕ) (fault : IndexFault) : Type 0 where
   pub digest : HasDigest text
   pub entries : List (List ℕ)
   pub whole : entries_in text ≡ concat entries
-  pub pass : PassTests (start_in text) [] entries
+  pub pass : PassChecks (start_in text) [] entries
   pub unlaid : AreLaid (start_in text) entries → ⊥
   pub kind_is : fault.kind ≡ BadPlace
   pub offset_is : fault.offset ≡ start_in text

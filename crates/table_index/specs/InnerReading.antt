@@ -4,8 +4,8 @@ use Rattle.std.specs.Int.{w64, to_be_bytes}
 use Rattle.std.specs.List.{concat}
 use Rattle.table_index.specs.Entry.{HasItsFields, entry_bytes}
 use Rattle.table_index.specs.Fault.{FailsAtEnd, FailsDigest, FailsInEntries, FailsInFront, FailsInPlaces, HasDigest}
-use Rattle.table_index.specs.Fault.{HasEnds, IsOfMachine, test_front}
-use Rattle.table_index.specs.Text.{AreLaid, PassTests, count_in, digest_in, entries_in, start_in}
+use Rattle.table_index.specs.Fault.{HasEnds, IsOfMachine, check_front}
+use Rattle.table_index.specs.Text.{AreLaid, PassChecks, count_in, digest_in, entries_in, start_in}
 use Rattle.table_index.specs.declared.ends.Ends.{Ends}
 use Rattle.table_index.specs.declared.entry.TableEntry.{TableEntry}
 use Rattle.index_faults.specs.declared.fault.IndexFault.{IndexFault}
@@ -17,7 +17,7 @@ IsUnread offset count text fault = (fault.offset ≡ offset) × (IsOfMachine fau
 -- the text has the magic, and this is its size
 pub record IsFronted (text : List ℕ) (size : ℕ) : Type 0 where
   pub size_is : size ≡ length text
-  pub front : test_front text ≡ Ok tt
+  pub front : check_front text ≡ Ok tt
 
 -- these are the ends of a text
 pub record AreEndsOf (text : List ℕ) (ends : Ends) : Type 0 where
@@ -36,16 +36,16 @@ pub record AreEntriesOf (text bytes : List ℕ) : Type 0 where
   pub digest : HasDigest text
   pub bytes_are : bytes ≡ entries_in text
 
--- these are the entries that the bytes are, and they pass their tests
-pub record AreTested (end : ℕ) (bytes : List ℕ) (entries : List TableEntry) : Type 0 where
+-- these are the entries that the bytes are, and they pass their checks
+pub record AreChecked (end : ℕ) (bytes : List ℕ) (entries : List TableEntry) : Type 0 where
   pub whole : concat (map entry_bytes entries) ≡ bytes
   pub fields : All HasItsFields entries
-  pub pass : PassTests end [] (map entry_bytes entries)
+  pub pass : PassChecks end [] (map entry_bytes entries)
 
 -- the same of the entries of a text, whose records and tables follow one another
 pub record AreReadOf (text : List ℕ) (entries : List TableEntry) : Type 0 where
   pub digest : HasDigest text
-  pub tested : AreTested (start_in text) (entries_in text) entries
+  pub checked : AreChecked (start_in text) (entries_in text) entries
   pub laid : AreLaid (start_in text) (map entry_bytes entries)
 
 -- what is wrong with the entries of a text

@@ -1,6 +1,5 @@
 pub mod Entry
 pub mod Text
-pub mod Runs
 pub mod Fault
 pub mod Reading
 pub mod InnerReading

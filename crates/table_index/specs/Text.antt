@@ -18,18 +18,18 @@ use Rattle.index_faults.specs.declared.fault.IndexFaultKind.TheVariants.{BadTag,
 use Rattle.index_faults.specs.declared.fault.IndexFaultKind.TheVariants.{BadTable}
 
 -- what an entry must be after this last one, where the tables end at this offset
-unfoldable pub test_entry : ℕ → List ℕ → List ℕ → Result (Unit {0}) IndexFaultKind
-test_entry end last e = if not (has_tag e) then Err BadTag
+unfoldable pub check_entry : ℕ → List ℕ → List ℕ → Result (Unit {0}) IndexFaultKind
+check_entry end last e = if not (has_tag e) then Err BadTag
     else if not (has_kind e) then Err BadKind
     else if not (has_length e) then Err BadLength
     else if not (is_lt (slice_cmp nat_cmp last e)) then Err NotAscending
     else if not (has_claim end e) then Err BadTable
     else Ok tt
 
--- entries that pass their tests, each after the one before it, and the first after this one
-abbrev pub PassTests : ℕ → List ℕ → List (List ℕ) → Type 0
-PassTests end last [] = Unit {0}
-PassTests end last (e ∷ es) = (length e ≡ 122) × (test_entry end last e ≡ Ok tt) × PassTests end e es
+-- entries that pass their checks, each after the one before it, and the first after this one
+abbrev pub PassChecks : ℕ → List ℕ → List (List ℕ) → Type 0
+PassChecks end last [] = Unit {0}
+PassChecks end last (e ∷ es) = (length e ≡ 122) × (check_entry end last e ≡ Ok tt) × PassChecks end e es
 
 -- Each record stands where the one before it ends, the first at this offset of the archive; and so does each table, the
 -- first at that offset of the index, and they end at the other.
@@ -59,7 +59,7 @@ pub record IsIndexText (text : List ℕ) (entries : List (List ℕ)) : Type 0 wh
   pub tables : List ℕ
   pub whole : text ≡ index_text tables entries
   pub few : length entries < 2 ^ 64
-  pub pass : PassTests (8 + length tables) [] entries
+  pub pass : PassChecks (8 + length tables) [] entries
   pub laid : AreLaid (8 + length tables) entries
 
 -- the number in the end record of a text

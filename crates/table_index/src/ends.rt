@@ -5,7 +5,7 @@ ghost use Rattle.std.specs.Prelude.{IfOk, IfErr, OnOk, MatchResult};
 ghost use Rattle.std.specs.Prelude.{IsTrue, length, slice_index, take, drop, min};
 ghost use Rattle.std.specs.Str.{bytes_eq};
 ghost use Rattle.archive_index.specs.Text.{index_magic};
-ghost use Rattle.table_index.specs.Fault.{FailsInFront, FailsAtEnd, test_front};
+ghost use Rattle.table_index.specs.Fault.{FailsInFront, FailsAtEnd, check_front};
 ghost use Rattle.table_index.specs.InnerReading.{AreEndsOf, FailsInEnds, IsFronted, IsUnread};
 ghost use Rattle.table_index.specs.Reading.{IsRefused, ReadsText};
 ghost use Rattle.index_faults.specs.declared.fault.IndexFaultKind.TheVariants.{Device};
@@ -98,11 +98,11 @@ fn has_room(size: u64, count: u64) -> bool
     u128::from(MAGIC_LEN + END_LEN) + entries <= u128::from(size)
 }
 
-/// Tests the front of a text of this size, whose first bytes these are.
-fn test_front(size: u64, front: &[u8]) -> Result<(), IndexFault>
+/// Checks the front of a text of this size, whose first bytes these are.
+fn check_front(size: u64, front: &[u8]) -> Result<(), IndexFault>
     requires { length front.now ≡ min size 8 }
-    ensures tested { (text : List ℕ) → size ≡ length text → front.now ≡ take 8 text
-        → MatchResult result (λ _. test_front text ≡ Ok tt) (FailsInFront text) }
+    ensures checked { (text : List ℕ) → size ≡ length text → front.now ≡ take 8 text
+        → MatchResult result (λ _. check_front text ≡ Ok tt) (FailsInFront text) }
     ensures room { OnOk result (49 ≤ size) }
     ensures faulty { IfErr result (λ fault. fault.kind ≢ Device) }
 {
@@ -129,7 +129,7 @@ fn read_front<P: Placed>(heap: Heap, device: &mut P) -> Result<u64, IndexFault>
 {
     let size = read_size(device)?;
     let front = read_part(heap, device, 0, size.min(MAGIC_LEN))?;
-    test_front(size, &front)?;
+    check_front(size, &front)?;
     Ok(size)
 }
 
@@ -155,7 +155,7 @@ fn digest_in(end: &[u8]) -> [u8; 32]
 fn ends_in(size: u64, end: &[u8]) -> Result<Ends, IndexFault>
     requires room { 49 ≤ size }
     requires long { length end.now ≡ 41 }
-    ensures tested { (text : List ℕ) → IsFronted text size → end.now ≡ drop (length text - 41) text
+    ensures checked { (text : List ℕ) → IsFronted text size → end.now ≡ drop (length text - 41) text
         → MatchResult result (AreEndsOf text) (FailsAtEnd text) }
     ensures faulty { IfErr result (λ fault. fault.kind ≢ Device) }
     ensures fits { IfOk result (λ ends. ends.start + 122 * ends.count + 41 ≡ size) }

@@ -1,8 +1,11 @@
 //! The entries of an index that was read.
 
-ghost use Rattle.std.specs.Prelude.{◌≡◌, ◌≤◌, All, IfOk, length, map};
+ghost use Rattle.std.specs.Prelude.{◌≡◌, ◌+◌, ◌≤◌, All, IfOk, length, map};
+ghost use Rattle.std.specs.List.{sum_by};
+ghost use Rattle.archive_index.specs.Entry.{length_in};
+ghost use Rattle.archive_index.specs.Index.{AreIndexEntries, lengths_of};
 ghost use Rattle.table_index.specs.Entry.{AreTableEntries, HasItsFields, entry_bytes};
-ghost use Rattle.table_index.specs.Runs.{IsRun, is_tagged};
+ghost use Rattle.archive_index.specs.Runs.{IsRun, is_tagged};
 ghost use Rattle.table_index.specs.Text.{placed_of};
 
 use crate::TableEntry;
@@ -10,6 +13,9 @@ use crate::runs::run_under;
 use archive_index::{Index, PlacedEntry};
 use memory::{Heap, NoMemory};
 use std::marker::Model;
+
+/// How many bytes the magic and the end record of an archive have together.
+const FRAME_LEN: u128 = 17;
 
 /// The entries of an index, in ascending byte order. A contract sees it as the list of their bytes.
 #[derive(Drop)]
@@ -33,6 +39,18 @@ fn placed_in(heap: Heap, entries: &[TableEntry]) -> Result<Vec<PlacedEntry, Heap
     ensures { IfOk result (λ placed. placed.items ≡ map (λ entry. entry.placed) entries.now) }
 {
     entries.iter().map(|entry| entry.placed).collect(heap)
+}
+
+/// How many bytes the magic, the records that entries name and the end record have together.
+fn framed_size(entries: &[TableEntry]) -> u128
+    requires { All HasItsFields entries.now }
+    ensures { result ≡ 17 + sum_by length_in (map entry_bytes entries.now) }
+{
+    let mut size = FRAME_LEN;
+    'adding: for entry in entries {
+        size += u128::from(entry.placed.length);
+    }
+    size
 }
 
 impl TableIndex {
@@ -66,6 +84,14 @@ impl TableIndex {
         ensures { IsRun (is_tagged tag front.now) self.now result.0 result.1 }
     {
         run_under(&self.entries, tag, front)
+    }
+
+    /// How many bytes an archive has whose records the entries name: the magic, the records and the end record.
+    pub fn archive_size(&self) -> u128
+        ensures size { result ≡ 17 + lengths_of (placed_of self.now) }
+        ensures entries { AreIndexEntries (placed_of self.now) }
+    {
+        framed_size(&self.entries)
     }
 
     /// What the entries say of their records, without the claims. It is refused for want of memory alone.

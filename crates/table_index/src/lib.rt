@@ -8,7 +8,7 @@
 //!
 //! - `entry`: [`TableEntry`], what a record is, where it stands, and where its table is stored;
 //! - `index`: [`TableIndex`], the entries of an index that was read; `runs`: those of one tag under a front;
-//! - `ends`: the magic and the end record; `testing`: the tests of an entry; `places`: whether records and tables
+//! - `ends`: the magic and the end record; `checking`: the checks of an entry; `places`: whether records and tables
 //!   follow one another; `reading`: [`read_index`];
 //! - [`laws`]: a text is the index with one list of entries, or has one fault.
 //!
@@ -19,6 +19,7 @@
 //!   read.
 #![tactic(auto)]
 
+mod checking;
 mod ends;
 mod entry;
 mod index;
@@ -26,7 +27,6 @@ pub mod laws;
 mod places;
 mod reading;
 mod runs;
-mod testing;
 
 pub use ends::{END_LEN, MAGIC_LEN, magic};
 pub use entry::{ENTRY_LEN, TableEntry, no_claim};

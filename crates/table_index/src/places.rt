@@ -1,14 +1,14 @@
 //! Whether the records of entries follow one another, and their tables.
 
-ghost use Rattle.std.specs.Prelude.{◌≡◌, ◌↔◌, All, IfOk, IsTrue, [], map, true};
+ghost use Rattle.std.specs.Prelude.{◌≡◌, ◌↔◌, ◌<◌, ◌^◌, All, IfOk, IsTrue, [], length, map, true};
 ghost use Rattle.archive_core.specs.Content.{is_admission};
 ghost use Rattle.archive_index.specs.Entry.{offset_in};
 ghost use Rattle.table_index.specs.Entry.{HasItsFields, claim_in, entry_bytes};
-ghost use Rattle.table_index.specs.Text.{AreLaid, FollowOn, PassTests};
+ghost use Rattle.table_index.specs.Text.{AreLaid, FollowOn, PassChecks};
 
 use crate::TableEntry;
+use crate::checking::stored_size;
 use crate::ends::MAGIC_LEN;
-use crate::testing::stored_size;
 use archive_core::FindState;
 use memory::{Heap, NoMemory};
 
@@ -35,14 +35,15 @@ fn follows(entry: &TableEntry, offset: u128, at: u128) -> bool
 
 /// Whether the records follow one another in this order from the magic of their archive on, and the tables from that of
 /// the index up to this offset.
-fn follow_on(order: &[TableEntry], end: u64) -> bool
-    requires { All HasItsFields order.now }
-    ensures { IsTrue result ↔ FollowOn 8 8 end (map entry_bytes order.now) }
+fn follow_on(order: &[&TableEntry], end: u64) -> bool
+    requires fields { All HasItsFields (map (λ entry. entry.now) order.now) }
+    requires few { length order.now < 2 ^ 58 }
+    ensures { IsTrue result ↔ FollowOn 8 8 end (map entry_bytes (map (λ entry. entry.now) order.now)) }
 {
     let mut offset = u128::from(MAGIC_LEN);
     let mut at = u128::from(MAGIC_LEN);
     'following: for entry in order {
-        if !follows(entry, offset, at) {
+        if !follows(*entry, offset, at) {
             return false;
         }
         offset += u128::from(entry.placed.length);
@@ -51,13 +52,28 @@ fn follow_on(order: &[TableEntry], end: u64) -> bool
     at == u128::from(end)
 }
 
-/// Whether in some order they do. The entries are copied to be sorted by their offsets.
+/// So many entries have no room in memory.
+fn fit_memory(entries: &[TableEntry])
+    ensures { length entries.now < 2 ^ 58 }
+{
+    let _count = entries.len();
+}
+
+/// The places of the entries in memory, which are sorted in their stead.
+fn lent(heap: Heap, entries: &[TableEntry]) -> Result<Vec<&TableEntry, Heap>, NoMemory>
+    ensures { IfOk result (λ lent. map (λ entry. entry.now) lent.items ≡ entries.now) }
+{
+    entries.iter().collect(heap)
+}
+
+/// Whether in some order they do. Entries are sorted by their offsets where they are lent: none is copied.
 pub(crate) fn are_laid(heap: Heap, entries: &[TableEntry], end: u64) -> Result<bool, NoMemory>
     requires fields { All HasItsFields entries.now }
-    requires tested { PassTests end [] (map entry_bytes entries.now) }
+    requires checked { PassChecks end [] (map entry_bytes entries.now) }
     ensures { IfOk result (λ laid. IsTrue laid ↔ AreLaid end (map entry_bytes entries.now)) }
 {
-    let mut order = Vec::from_slice(heap, entries)?;
+    fit_memory(entries);
+    let mut order = lent(heap, entries)?;
     order.sort_unstable_by_key(|entry| entry.placed.offset);
     Ok(follow_on(&order, end))
 }

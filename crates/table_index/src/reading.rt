@@ -8,10 +8,10 @@ ghost use Rattle.table_index.specs.Fault.{FailsDigest, FailsInEntries, FailsInPl
 ghost use Rattle.table_index.specs.Reading.{IsRefused, ReadsIndex, ReadsText};
 ghost use Rattle.index_faults.specs.declared.fault.IndexFaultKind.TheVariants.{Device, OutOfMemory};
 
+use crate::checking::entries_in;
 use crate::ends::{Ends, read_ends, read_part};
 use crate::entry::ENTRY_LEN;
 use crate::places::are_laid;
-use crate::testing::entries_in;
 use crate::{TableEntry, TableIndex};
 use byte_device::Placed;
 use index_faults::{IndexFault, IndexFaultKind};
@@ -49,7 +49,7 @@ fn read_bytes<P: Placed>(
 }
 
 /// The entries of a text with these ends, whose bytes these are.
-fn test_entries(heap: Heap, bytes: &[u8], ends: &Ends) -> Result<Vec<TableEntry, Heap>, IndexFault>
+fn check_entries(heap: Heap, bytes: &[u8], ends: &Ends) -> Result<Vec<TableEntry, Heap>, IndexFault>
     requires whole { length bytes.now ≡ 122 * ends.now.count }
     requires fits { ends.now.start + 122 * ends.now.count + 41 < 2 ^ 64 }
     ensures sorted { IfOk result (λ entries. AreTableEntries entries.items) }
@@ -90,7 +90,7 @@ fn read_entries<P: Placed>(
         return Err(IndexFault::out_of_memory(ends.start));
     };
     let bytes = read_bytes(own, device, ends)?;
-    test_entries(heap, &bytes, ends)
+    check_entries(heap, &bytes, ends)
 }
 
 /// Reads an index from its end: the magic, the end record and the entries, which are compared with their digest, and

@@ -4,7 +4,7 @@ ghost use Rattle.std.specs.Prelude.{◌≡◌, ◌+◌, ◌≤◌, ◌∷◌, le
 ghost use Rattle.std.specs.Ordering.{nat_cmp};
 ghost use Rattle.std.specs.Cmp.Lexicographic.{slice_cmp};
 ghost use Rattle.table_index.specs.Entry.{AreTableEntries, entry_bytes};
-ghost use Rattle.table_index.specs.Runs.{IsRun, is_tagged};
+ghost use Rattle.archive_index.specs.Runs.{IsRun, is_tagged};
 
 use crate::TableEntry;
 use std::cmp::Ordering;

@@ -2,7 +2,7 @@ use Rattle.std.proofs.Common.{◌≡◌, ◌+◌, map}
 use Rattle.archive_core.specs.Record.{record_bytes}
 use Rattle.archive_index.specs.Entry.{placed_bytes}
 use Rattle.indexed_parts.specs.InnerPlaces.{AreGathered}
-use Rattle.indexed_parts.specs.InnerRuns.{is_tagged}
+use Rattle.archive_index.specs.Runs.{is_tagged}
 use Rattle.indexed_parts.proofs.gathering.gather_run.Given as goal
 
 abbrev pub invariant-run : goal.invariant-run

@@ -4,7 +4,7 @@ use Rattle.archive_records.proofs.Blamed.{failed}
 use Rattle.archive_index.specs.Entry.{placed_bytes}
 use Rattle.archive_core.specs.Part.{is_under}
 use Rattle.archive_index.specs.Places.{IsReadAmong}
-use Rattle.indexed_parts.specs.InnerRuns.{is_tagged}
+use Rattle.archive_index.specs.Runs.{is_tagged}
 use Rattle.indexed_parts.proofs.Gathered.{blamed_behind, gathered_both, read_tagged, reads_behind, stale_first, stale_second}
 use Rattle.indexed_parts.proofs.gathering.gather_under.Goals as goal
 

@@ -26,7 +26,7 @@ returns g c =
       index_of = c.in_ok-entries.ensures.is;
       tells = record {
         rows = rows;
-        are_rows = subst (λ (front : List ℕ). AreIndexRows front c.in_ok-entries.entries rows) c.uuid_bytes-front.ensures.bytes c.in_ok-rows.ensures;
+        are_rows = subst (λ (prefix : List ℕ). AreIndexRows prefix c.in_ok-entries.entries rows) c.uuid_bytes-prefix.ensures.bytes c.in_ok-rows.ensures;
         status_is = c.found_status.ensures ∙ ap found_status c.deref-2.ensures.value;
         text_is = c.deref-3.ensures ∙ c.in_ok-text.ensures ∙ ap find_lines c.deref.ensures.value;
       };

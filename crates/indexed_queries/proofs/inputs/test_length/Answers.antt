@@ -1,4 +1,4 @@
-use Rattle.std.proofs.Common.{refl}
+use Rattle.std.proofs.Common.{refl, ◌∙◌}
 use Rattle.std.proofs.lemmas.Option.{IfSome_then}
 use Rattle.indexed_queries.proofs.Refused.{lent_from}
 use Rattle.indexed_queries.proofs.inputs.test_length.Goals as goal
@@ -6,7 +6,7 @@ use Rattle.indexed_queries.proofs.inputs.test_length.Goals as goal
 pub returns-in-Ok-true-clause-tests : goal.returns-in-Ok-true-clause-tests
 returns-in-Ok-true-clause-tests g c =
     rw (lent_from c.args.archive.now _ c.in_ok-device.ensures.source) (record {
-      is = IfSome_then (g.P.Placed.whole c.in_ok-device.device.now) (rw c.in-Ok-true.field-0-test at c.in-Ok-true.ensures.has) (λ text has. has.0 refl);
+      is = IfSome_then (g.P.Placed.whole c.in_ok-device.device.now) (rw c.in-Ok-true.field-0-test at c.in-Ok-true.ensures.has) (λ text has. has.0 refl ∙ c.archive_size-size.ensures.size);
       unfailed = c.in-Ok-true.ensures.count.1;
     })
 

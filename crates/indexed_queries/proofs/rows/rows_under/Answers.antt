@@ -13,7 +13,7 @@ returns c =
     let placed = c.put_by_place.new.entries.items in
     record {
       placed = map placed_bytes placed;
-      moved = subst (λ es. IsPermutation es (map placed_bytes placed)) (c.in_ok-placed.ensures ∙ ap (filter (is_under c.args.front.now)) c.entries.ensures) c.put_by_place.ensures.moved;
+      moved = subst (λ es. IsPermutation es (map placed_bytes placed)) (c.in_ok-placed.ensures ∙ ap (filter (is_under c.args.prefix.now)) c.entries.ensures) c.put_by_place.ensures.moved;
       by_place = c.put_by_place.ensures.sorted;
       told = c.in_ok-rows.rows.items;
       each = subst (λ (es : List PlacedEntry). AllZip IsEntryRow (map placed_bytes es) c.in_ok-rows.rows.items) c.deref.ensures.value c.in_ok-rows.ensures;

@@ -1,15 +1,16 @@
 use Rattle.std.proofs.Common.{◌∙◌}
+use Rattle.command_ends.proofs.Readers.{pairs_long}
 use Rattle.command_line.specs.LineView.{line_view}
 use Rattle.plan_commands.proofs.Counted.{enough}
-use Rattle.plan_commands.proofs.Turned.{as_many, at_turn}
+use Rattle.plan_commands.proofs.Turned.{at_turn}
 use Rattle.plan_commands.proofs.disks.execute_on.Goals as goal
 
 pub execute-ended-requires : goal.execute-ended-requires
 execute-ended-requires g c =
-    rw (as_many _ _ _ c.requires.inputs) (enough c.args.plan.now (line_view c.args.line.now) c.requires.plan c.args.line.now.of_table)
+    rw (pairs_long _ _ _ c.requires.inputs) (enough c.args.plan.now (line_view c.args.line.now) c.requires.plan c.args.line.now.of_table)
 
 pub blamed-requires : goal.blamed-requires
-blamed-requires g c = c.execute-ended.auto.inputs ∙ as_many _ _ _ c.requires.inputs
+blamed-requires g c = c.execute-ended.auto.inputs ∙ pairs_long _ _ _ c.requires.inputs
 
 pub returns : goal.returns
 returns g c = record {

@@ -6,4 +6,4 @@ pub returns-clause-alone : goal.returns-clause-alone
 returns-clause-alone g c = λ number input archive o at why of known refused. by_device number input archive o at why of known refused
 
 pub returns-clause-together : goal.returns-clause-together
-returns-clause-together g c = λ fronts inputs archives os at why are refused. together_by_device fronts inputs archives os at why are refused
+returns-clause-together g c = λ prefixes inputs archives os at why are refused. together_by_device prefixes inputs archives os at why are refused

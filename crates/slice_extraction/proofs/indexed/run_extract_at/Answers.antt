@@ -1,4 +1,4 @@
-use Rattle.std.proofs.Common.{◌≡◌, ◌<◌, ◌∙◌, ℕ, List, Result, length, refl, sym, ap, subst, arith}
+use Rattle.std.proofs.Common.{◌<◌, ◌∙◌, List, Result, length, refl, sym, ap, subst, arith}
 use Rattle.std.proofs.Math.ListN.{length-set}
 use Rattle.std.proofs.lemmas.Result.{err_from_is_err_and}
 use Rattle.byte_device.proofs.Known.{Appends-none}
@@ -11,11 +11,10 @@ use Rattle.indexed_answers.specs.Among.{AreTied}
 use Rattle.slice_extraction.specs.Extract.{Extracts}
 use Rattle.slice_extraction.specs.Indexed.{extract_at}
 use Rattle.slice_extraction.specs.InnerEntries.{IsEntryChoice}
-use Rattle.command_ends.proofs.Readers.{none_failed, readers_long}
-use Rattle.indexed_queries.specs.Together.{AreReadWith, IsReadWith}
-use Rattle.indexed_queries.proofs.Groups.{three_long}
+use Rattle.command_ends.proofs.Readers.{none_failed}
+use Rattle.indexed_queries.specs.Together.{AreReadWith}
 use Rattle.slice_extraction.specs.InnerChoice.{PublishesRows}
-use Rattle.slice_extraction.proofs.ByEntry.{archive_there, refused_first, rows_so, sent_so, tied_so, wanting}
+use Rattle.slice_extraction.proofs.ByEntry.{archive_there, as_many, refused_first, rows_so, sent_so, tied_so, wanting}
 use Rattle.slice_extraction.proofs.indexed.run_extract_at.Goals as goal
 
 pub returns-in_err-read : goal.returns-in_err-read
@@ -47,8 +46,7 @@ publish_from-requires g c =
     let indexes = readers g.I.Placed.whole g.I.Placed.failures c.args.indexes.now c.read_indexes.new.indexes in
     let long = c.read_indexes.auto.archives in
     let choice = subst (IsEntryChoice c.args.key.now c.args.digest.now c.deref.result.now) c.in-One.is c.in_ok-named.ensures in
-    let many : length c.in_ok-read.read.items ≡ length seen =
-    three_long IsReadWith indexes (readers whole failures before seen) c.in_ok-read.read.items c.in_ok-read.ensures.read.is ∙ readers_long whole failures before seen long ∙ sym long in
+    let many = as_many indexes whole failures before seen c.in_ok-read.read.items long c.in_ok-read.ensures.read.is in
     omega (arith, archive_there c.args.key.now c.args.digest.now c.deref.result.now choice.0 choice.1, choice.2.input_is, many, ap length c.deref.ensures.value)
 
 pub publish_tied-requires : goal.publish_tied-requires
@@ -58,9 +56,7 @@ publish_tied-requires g c =
     let before = c.args.archives.now in
     let seen = c.read_indexes.new.archives in
     let indexes = readers g.I.Placed.whole g.I.Placed.failures c.args.indexes.now c.read_indexes.new.indexes in
-    let long = c.read_indexes.auto.archives in
-    ap length c.deref-in-Tied.ensures.value ∙ three_long IsReadWith indexes (readers whole failures before seen) c.in_ok-read.read.items c.in_ok-read.ensures.read.is
-    ∙ readers_long whole failures before seen long ∙ sym long
+    ap length c.deref-in-Tied.ensures.value ∙ as_many indexes whole failures before seen c.in_ok-read.read.items c.read_indexes.auto.archives c.in_ok-read.ensures.read.is
 
 pub returns-in-One : goal.returns-in-One
 returns-in-One g c =
@@ -74,7 +70,7 @@ returns-in-One g c =
     let choice = subst (IsEntryChoice c.args.key.now c.args.digest.now all) c.in-One.is c.in_ok-named.ensures in
     let x = choice.0 in
     let long = c.read_indexes.auto.archives in
-    let many : length all ≡ length seen = three_long IsReadWith indexes (readers whole failures before seen) all read ∙ readers_long whole failures before seen long ∙ sym long in
+    let many = as_many indexes whole failures before seen all long read in
     let within : x.input < length seen = omega (arith, archive_there c.args.key.now c.args.digest.now all x choice.1, many) in
     let s = c.publish_from.ensures x choice.2 in
     let out = outs g.T.Draft.Sink.held g.T.Draft.Sink.failures g.T.Target.published g.T.Target.failures c.args.out.now c.publish_from.new.out in

@@ -5,7 +5,7 @@ use Rattle.table_index.specs.Fault.{FailsAtEnd}
 use Rattle.table_index.specs.InnerReading.{AreEndsOf, IsFronted}
 use Rattle.table_index.specs.Reading.{IsRefused}
 use Rattle.table_index.proofs.EndLemmas.{part_unread}
-use Rattle.table_index.proofs.ReadLemmas.{as_refused, passed_on, tested, under}
+use Rattle.table_index.proofs.ReadLemmas.{as_refused, passed_on, checked, under}
 use Rattle.table_index.proofs.ends.read_end.Goals as goal
 
 -- the last bytes are those from there on
@@ -22,8 +22,8 @@ returns-in_err-end-clause-read g c =
 pub returns-clause-read : goal.returns-clause-read
 returns-clause-read g c =
     let read = c.in_ok-end.ensures.read in
-    tested _ _ _ _ _ _ _ read.keeps read.counts
+    checked _ _ _ _ _ _ _ read.keeps read.counts
     (λ text known.
     under c.ends_in.result (AreEndsOf text) (IsRefused FailsAtEnd text) (λ (fronted : IsFronted text c.args.size).
-    as_refused c.ends_in.result (AreEndsOf text) FailsAtEnd text (c.ends_in.ensures.tested text fronted (c.deref.ensures.value ∙ read.says text known ∙ last_part text c.args.size 41 fronted.size_is))))
+    as_refused c.ends_in.result (AreEndsOf text) FailsAtEnd text (c.ends_in.ensures.checked text fronted (c.deref.ensures.value ∙ read.says text known ∙ last_part text c.args.size 41 fronted.size_is))))
     c.ends_in.ensures.faulty

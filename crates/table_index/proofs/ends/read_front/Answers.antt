@@ -23,16 +23,16 @@ returns-in_err-front-clause-read g c =
 front_bytes : (text front : List ℕ) (size n : ℕ) → size ≡ length text → n ≡ min size 8 → front ≡ take n (drop 0 text) → front ≡ take 8 text
 front_bytes text front size n same least is = is ∙ ap (λ (k : ℕ). take k text) (least ∙ ap (λ (k : ℕ). min k 8) same) ∙ first_eight text
 
-pub returns-in_err-test_front-clause-read : goal.returns-in_err-test_front-clause-read
-returns-in_err-test_front-clause-read g c =
+pub returns-in_err-check_front-clause-read : goal.returns-in_err-check_front-clause-read
+returns-in_err-check_front-clause-read g c =
     let sized = c.in_ok-size.ensures in
     let read = after_ok _ _ _ _ _ _ _ _ sized.keeps sized.counts c.in_ok-front.ensures.read in
-    let faulty = c.in_err-test_front.ensures in
-    rw (failed c.from_residual-in_err-test_front.result c.in_err-test_front.field-0.0 c.from_residual-in_err-test_front.ensures.1)
+    let faulty = c.in_err-check_front.ensures in
+    rw (failed c.from_residual-in_err-check_front.result c.in_err-check_front.field-0.0 c.from_residual-in_err-check_front.ensures.1)
     (record {
-      says = λ text known. inr (faulty.tested text (sized.says text known) (c.deref.ensures.value ∙ front_bytes text _ _ _ (sized.says text known) c.min.ensures (read.says text known)));
+      says = λ text known. inr (faulty.checked text (sized.says text known) (c.deref.ensures.value ∙ front_bytes text _ _ _ (sized.says text known) c.min.ensures (read.says text known)));
       keeps = read.keeps;
-      counts = unfailed_blames _ _ c.in_err-test_front.field-0.0.kind faulty.faulty read.counts;
+      counts = unfailed_blames _ _ c.in_err-check_front.field-0.0.kind faulty.faulty read.counts;
     })
 
 pub returns-clause-read : goal.returns-clause-read
@@ -42,7 +42,7 @@ returns-clause-read g c =
     record {
       says = λ text known. record {
         size_is = sized.says text known;
-        front = c.in_ok-test_front.ensures.tested text (sized.says text known) (c.deref.ensures.value ∙ front_bytes text _ _ _ (sized.says text known) c.min.ensures (read.says text known));
+        front = c.in_ok-check_front.ensures.checked text (sized.says text known) (c.deref.ensures.value ∙ front_bytes text _ _ _ (sized.says text known) c.min.ensures (read.says text known));
       };
       keeps = read.keeps;
       counts = read.counts;

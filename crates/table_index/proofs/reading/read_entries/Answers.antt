@@ -8,7 +8,7 @@ use Rattle.table_index.specs.declared.ends.Ends.{Ends}
 use Rattle.table_index.specs.declared.entry.TableEntry.{TableEntry}
 use Rattle.index_faults.specs.declared.fault.IndexFault.{IndexFault}
 use Rattle.index_faults.specs.declared.fault.IndexFaultKind.TheVariants.{OutOfMemory}
-use Rattle.table_index.proofs.ReadLemmas.{memory_refused, passed_on, refused_as, tested, flat}
+use Rattle.table_index.proofs.ReadLemmas.{memory_refused, passed_on, refused_as, checked, flat}
 use Rattle.table_index.proofs.reading.read_entries.Goals as goal
 
 pub returns-in_default-clause-read : goal.returns-in_default-clause-read
@@ -20,7 +20,7 @@ returns-in_err-bytes-clause-read g c =
     passed_on _ _ _ _ _ _ _ _ _ _ _ c.in_err-bytes.was (p.1 ∙ ap Err p.2)
     (λ text known refused. inr (λ are. refused_as FailsDigest FailsBehindEnds text _ (λ fault. inl fault) (flat FailsDigest text _ refused (λ under. under are)))) c.read_bytes.ensures.read
 
--- what the tests say of the text
+-- what the checks say of the text
 said : {T : Type 0} (r : Result T IndexFault) (ends : Ends) (bytes text : List ℕ) (entries_of : T → List TableEntry)
     → IfOk r (λ v. (t : List ℕ) → AreEndsOf t ends → AreEntriesOf t bytes → AreReadOf t (entries_of v))
     → IfErr r (λ f. ((f.kind ≡ OutOfMemory) × (f.offset ≡ ends.start)) ⊎ ((t : List ℕ) → AreEndsOf t ends → AreEntriesOf t bytes → FailsInEntries t f ⊎ FailsInPlaces t f))
@@ -33,7 +33,7 @@ said (Err f) ends bytes text entries_of read (inr fault) are_entries = λ are. i
 pub returns-clause-read : goal.returns-clause-read
 returns-clause-read g c =
     let read = c.in_ok-bytes.ensures.read in
-    tested _ _ _ _ _ _ _ read.keeps read.counts
-    (λ text known. said c.test_entries.result c.args.ends.now c.deref.result.now text (λ entries. entries.items) c.test_entries.ensures.read c.test_entries.ensures.faulty
+    checked _ _ _ _ _ _ _ read.keeps read.counts
+    (λ text known. said c.check_entries.result c.args.ends.now c.deref.result.now text (λ entries. entries.items) c.check_entries.ensures.read c.check_entries.ensures.faulty
     (λ are. subst (AreEntriesOf text) (sym c.deref.ensures.value) (read.says text known are)))
-    c.test_entries.ensures.device
+    c.check_entries.ensures.device

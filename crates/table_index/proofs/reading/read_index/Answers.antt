@@ -39,7 +39,7 @@ returns g c =
       says = λ text known.
           let are = ends.says text known in
           let of = read.says text known are in
-          rw c.of_entries.ensures (index_of text c.in_ok-ends.ends (map entry_bytes c.in_ok-entries.entries.items) are (omega (arith, c.in_ok-ends.ensures.fits)) of.digest of.tested.whole of.tested.pass of.laid);
+          rw c.of_entries.ensures (index_of text c.in_ok-ends.ends (map entry_bytes c.in_ok-entries.entries.items) are (omega (arith, c.in_ok-ends.ensures.fits)) of.digest of.checked.whole of.checked.pass of.laid);
       keeps = read.keeps;
       counts = read.counts;
     }

@@ -1,11 +1,11 @@
 use Rattle.std.proofs.Common.{rules, arith, drop, take, ◌∙◌}
 use Rattle.std.proofs.lemmas.Fn.{always_returns_same}
 use Rattle.archive_queries.proofs.Framed.{found_asked, place_of}
-use Rattle.archive_queries.proofs.Parts.{record_long}
+use Rattle.archive_records.proofs.KeptRecords.{long_record}
 use Rattle.archive_queries.proofs.asked_frames.AskedKeysSelects.picks.Goals as goal
 
 pub slice_bounds-front-end : goal.slice_bounds-front-end
-slice_bounds-front-end c = omega (arith, record_long c.args.bytes.now c.requires)
+slice_bounds-front-end c = omega (arith, long_record c.args.bytes.now c.requires)
 
 pub returns : goal.returns
 returns c =

@@ -1,6 +1,6 @@
 use Rattle.std.proofs.Common.{List, ℕ, ap, map, subst, sym, ◌∙◌}
 use Rattle.table_index.specs.Entry.{AreTableEntries, entry_bytes}
-use Rattle.table_index.specs.Runs.{IsRun, is_tagged}
+use Rattle.archive_index.specs.Runs.{IsRun, is_tagged}
 use Rattle.table_index.proofs.index.TableIndex.run_under.Goals as goal
 
 pub run_under-requires-clause-entries : goal.run_under-requires-clause-entries

@@ -1,0 +1,80 @@
+-- What is told where making the index of an archive was stopped, and what OUT's draft has then.
+use Rattle.std.proofs.Common.{◌≡◌, ℕ, List, [], length, Option, Result, Ok, Err, refl, ap, sym, ◌∙◌, inl, inr, arith}
+use Rattle.std.specs.Prelude.{MatchResult, None, Some}
+use Rattle.byte_device.specs.Devices.{stream}
+use Rattle.byte_device.proofs.Known.{Appends-none, Consumes-none}
+use Rattle.archive_records.specs.Reader.{HasStopped}
+use Rattle.archive_records.specs.Reading.{Blames}
+use Rattle.archive_records.specs.declared.fault.RecordFault.{RecordFault}
+use Rattle.archive_records.specs.declared.fault.RecordFaultKind.TheVariants.{OutOfMemory as RecordOutOfMemory}
+use Rattle.archive_records.specs.declared.kind.TextKind.TheVariants.{Archive as Archive_text}
+use Rattle.archive_index.specs.Reading.{TellsVersion}
+use Rattle.archive_index.specs.declared.fault.IndexingFault.{IndexingFault}
+use Rattle.archive_index.specs.declared.fault.IndexingFault.TheVariants.{Archive as OfArchive}
+use Rattle.byte_device.specs.declared.disks.CannotOpen.{CannotOpen}
+use Rattle.indexed_tables.specs.Making.{Makes}
+use Rattle.indexed_tables.specs.declared.fault.MakingFault.{MakingFault}
+use Rattle.indexed_tables.specs.declared.fault.MakingFault.TheVariants.{Archive as Refused, Write as Wrote}
+use Rattle.indexed_tables.proofs.Made.{gained_bytes, stopped}
+use Rattle.command_ends.specs.Ends.{HasTaken}
+use Rattle.command_ends.specs.Inputs.{reader}
+use Rattle.command_ends.specs.Outputs.{writer}
+use Rattle.command_ends.specs.declared.faults.CommandFault.{CommandFault}
+use Rattle.command_ends.specs.declared.faults.CommandFault.TheVariants.{Input, Output, Report, OutOfMemory}
+use Rattle.command_ends.specs.declared.faults.InputName.TheVariants.{Archive}
+use Rattle.command_ends.specs.declared.faults.Why.TheVariants.{CannotOpen as NotOpened}
+use Rattle.index_writing.specs.Index.{TellsRefusal, TellsStop}
+use Rattle.index_writing.specs.InnerIndexing.{IndexesAmidst}
+
+-- of a refusal no count of bytes is told
+uncounted : (fault : IndexingFault) (told : CommandFault) (n k : ℕ) → TellsRefusal fault told → told ≡ Output n → n ≡ k
+uncounted fault (Input at why) n k tells is = cc
+uncounted fault (Output m) n k tells is = absurd tells
+uncounted fault (Report m) n k tells is = absurd tells
+uncounted fault OutOfMemory n k tells is = cc
+
+module _ {R D : Type 0} (left : R → Option (List ℕ)) (failures : R → ℕ) (source after : R) (held : D → Option (List ℕ)) (writes : D → ℕ) (start end : D) where
+  -- what the draft took is counted where it failed
+  taken : (fault : MakingFault) (told : CommandFault) → Makes (stream left failures source after) (stream held writes start end) (Err fault) → TellsStop fault told → HasTaken (writer held writes start end) told
+  taken (Refused fault) told makes tells =
+      let gained = gained_bytes (left source) (left after) (held start) (held end) makes.count makes.begun in
+      (gained.0, gained.1, λ n is. uncounted fault told n (length gained.0) tells is)
+  taken (Wrote fault) told makes tells = (makes.bytes, makes.took, λ n is. let same : Output n ≡ Output fault.written = sym is ∙ tells in let count : n ≡ fault.written = cc in count ∙ makes.count)
+
+  pub stopped_so : (fault : MakingFault) (told : CommandFault) → Makes (stream left failures source after) (stream held writes start end) (Err fault) → TellsStop fault told
+      → IndexesAmidst (reader left failures (Ok source) (Ok after)) (stream held writes start end) (Err told)
+  stopped_so fault told makes tells = (taken fault told makes tells, (after, refl, record { stopped = fault; makes = makes; tells = tells }))
+
+-- ---- memory was wanted before anything was read
+
+abbrev wanted : RecordFault
+wanted = record { kind = RecordOutOfMemory; offset = 0 }
+
+nothing_read : (a : Option (List ℕ)) → HasStopped Archive_text a a wanted
+nothing_read a = inl ([], Consumes-none a, λ format is. inr (inr (refl, omega arith)), refl)
+
+no_version : (a : Option (List ℕ)) → TellsVersion a (OfArchive wanted)
+no_version None = tt
+no_version (Some text) = λ old. inr refl
+
+module _ {R D : Type 0} (left : R → Option (List ℕ)) (failures : R → ℕ) (source : R) (held : D → Option (List ℕ)) (writes : D → ℕ) (draft : D) where
+  unblamed : Blames left failures source source RecordOutOfMemory
+  unblamed = (λ device. absurd (cc (device)), λ other. refl, λ cut. absurd (cc (cut)))
+
+  pub wanted_before : IndexesAmidst (reader left failures (Ok source) (Ok source)) (stream held writes draft draft) (Err OutOfMemory)
+  wanted_before =
+      stopped_so left failures source source held writes draft draft (Refused (OfArchive wanted)) OutOfMemory
+      (stopped left failures held writes source source draft draft (Refused (OfArchive wanted)) (nothing_read (left source), refl, (0, inl (refl, Appends-none (held draft)))) unblamed (no_version (left source)))
+      refl
+
+-- ---- the archive was not opened
+
+pub unopened : {R D : Type 0} (left : R → Option (List ℕ)) (failures : R → ℕ) (old : Result R CannotOpen) (held : D → Option (List ℕ)) (writes : D → ℕ) (draft : D) (told : CommandFault)
+    → MatchResult old (λ source. ⊥) (λ _. told ≡ Input (Archive 0) NotOpened) → IndexesAmidst (reader left failures old old) (stream held writes draft draft) (Err told)
+unopened left failures (Ok source) held writes draft told is = absurd is
+unopened left failures (Err e) held writes draft told is = (([], Appends-none (held draft), λ n same. cc), record { tells = is; untouched = refl; unwritten = (Appends-none (held draft), refl) })
+
+-- what an input was whose source was lent
+pub lent_from : {S : Type 0} (old : Result S CannotOpen) (lent : S) → MatchResult old (λ source. lent ≡ source) (λ _. ⊥) → old ≡ Ok lent
+lent_from {S = S} (Ok source) lent is = ap (λ (s : S). Ok s) (sym is)
+lent_from (Err e) lent is = absurd is

@@ -1,0 +1,31 @@
+use Rattle.std.proofs.lemmas.Result.{err_from_is_err_and}
+use Rattle.index_writing.proofs.Stopped.{lent_from, stopped_so, unopened, wanted_before}
+use Rattle.index_writing.proofs.indexing.index_input.Goals as goal
+
+pub returns-in_err-source : goal.returns-in_err-source
+returns-in_err-source g c =
+    let p = err_from_is_err_and c.from_residual.result c.from_residual.ensures.1 in
+    rw (p.1, p.2) (unopened _ _ _ _ _ _ _ c.in_err-source.ensures.source)
+
+pub returns-in_err-clone : goal.returns-in_err-clone
+returns-in_err-clone g c =
+    let p = err_from_is_err_and c.from_residual-in_err-clone.result c.from_residual-in_err-clone.ensures.1 in
+    rw (p.1, p.2, lent_from c.args.archive.now _ c.in_ok-source.ensures.source) (wanted_before g.R.Source.left g.R.Source.failures _ g.W.Sink.held g.W.Sink.failures _)
+
+pub returns-in-Ok : goal.returns-in-Ok
+returns-in-Ok g c =
+    let m = c.in-Ok.ensures in
+    rw (lent_from c.args.archive.now _ c.in_ok-source.ensures.source) (record {
+      content = m.content;
+      is_content = m.whole.is;
+      archive_is = m.text;
+      unfailed = m.whole.unfailed;
+      text = m.index;
+      is_index = m.is_index;
+      written_is = m.put;
+    })
+
+pub returns-in-Err : goal.returns-in-Err
+returns-in-Err g c =
+    rw (lent_from c.args.archive.now _ c.in_ok-source.ensures.source)
+    (stopped_so g.R.Source.left g.R.Source.failures _ _ g.W.Sink.held g.W.Sink.failures _ _ _ _ c.in-Err.ensures c.stop_of.ensures)

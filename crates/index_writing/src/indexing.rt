@@ -1,0 +1,50 @@
+//! ARCHIVE's index, made in OUT's draft as ARCHIVE comes.
+ghost use Rattle.byte_device.specs.Devices.{stream};
+ghost use Rattle.command_ends.specs.Inputs.{reader};
+ghost use Rattle.index_writing.specs.Index.{TellsRefusal, TellsStop};
+ghost use Rattle.index_writing.specs.InnerIndexing.{IndexesAmidst};
+
+use archive_index::IndexingFault;
+use archive_records::Sizes;
+use byte_device::{CannotOpen, Sink, Source};
+use command_ends::{CommandFault, InputName, Why, opened, refusal};
+use indexed_tables::{MakingFault, index_into};
+use memory::Heap;
+
+/// What is told of an archive that is refused so.
+fn refusal_of(fault: IndexingFault) -> CommandFault
+    ensures { TellsRefusal fault result }
+{
+    let at = InputName::Archive(0);
+    match fault {
+        IndexingFault::Archive(fault) => refusal(at, fault),
+        IndexingFault::OldArchive => CommandFault::Input(at, Why::OldArchive),
+        IndexingFault::TooLong => CommandFault::Input(at, Why::TooLong),
+    }
+}
+
+/// What is told where making an index was stopped so.
+fn stop_of(fault: MakingFault) -> CommandFault
+    ensures { TellsStop fault result }
+{
+    match fault {
+        MakingFault::Archive(fault) => refusal_of(fault),
+        MakingFault::Write(fault) => CommandFault::Output(fault.written),
+    }
+}
+
+/// Makes the index of the archive in the draft.
+pub fn index_input<R: Source, W: Sink>(
+    heap: &Heap,
+    archive: &mut Result<R, CannotOpen>,
+    draft: &mut W,
+) -> Result<Sizes, CommandFault>
+    ensures { IndexesAmidst (reader R.left R.failures archive.old archive.new)
+        (stream W.held W.failures draft.old draft.new) result }
+{
+    let source = opened(archive, InputName::Archive(0))?;
+    match index_into(heap.clone()?, source, draft) {
+        Ok(sizes) => Ok(sizes),
+        Err(fault) => Err(stop_of(fault)),
+    }
+}
