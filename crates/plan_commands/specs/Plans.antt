@@ -37,7 +37,7 @@ use Rattle.command_ends.specs.Outputs.{Outs, Publishes, Writer, draft_of, out_of
 use Rattle.rehearse.specs.Rehearse.{rehearse}
 use Rattle.archive_updates.specs.Retire.{retire_as_it_comes}
 use Rattle.archive_updates.specs.Summary.{summary}
-use Rattle.index_updates.specs.Index.{index}
+use Rattle.index_writing.specs.Index.{index}
 use Rattle.slice_extraction.specs.Extract.{Extraction, Extracts}
 use Rattle.plan_commands.specs.declared.plans.Plan.{Plan}
 use Rattle.plan_commands.specs.declared.plans.Plan.TheVariants as plan

@@ -21,7 +21,7 @@ use command_ends::{CommandFault, Output, Status, Target};
 use command_line::Amount::{Flag, One, Perhaps, Several};
 use command_line::Values::{Archs, Digests, Numbers, Texts, Uuids};
 use command_line::{Line, Values};
-use index_updates::run_index;
+use index_writing::run_index;
 use memory::Heap;
 use rehearse::run_rehearse;
 use uuid::Uuid;

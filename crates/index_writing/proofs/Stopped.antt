@@ -23,8 +23,8 @@ use Rattle.command_ends.specs.declared.faults.CommandFault.{CommandFault}
 use Rattle.command_ends.specs.declared.faults.CommandFault.TheVariants.{Input, Output, Report, OutOfMemory}
 use Rattle.command_ends.specs.declared.faults.InputName.TheVariants.{Archive}
 use Rattle.command_ends.specs.declared.faults.Why.TheVariants.{CannotOpen as NotOpened}
-use Rattle.index_updates.specs.Index.{TellsRefusal, TellsStop}
-use Rattle.index_updates.specs.InnerIndexing.{IndexesAmidst}
+use Rattle.index_writing.specs.Index.{TellsRefusal, TellsStop}
+use Rattle.index_writing.specs.InnerIndexing.{IndexesAmidst}
 
 -- of a refusal no count of bytes is told
 uncounted : (fault : IndexingFault) (told : CommandFault) (n k : ℕ) → TellsRefusal fault told → told ≡ Output n → n ≡ k

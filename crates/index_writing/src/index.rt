@@ -2,7 +2,7 @@
 ghost use Rattle.command_ends.specs.Ends.{EndsStreamed};
 ghost use Rattle.command_ends.specs.Inputs.{reader};
 ghost use Rattle.command_ends.specs.Outputs.{draft_of, out_of, outs, writer};
-ghost use Rattle.index_updates.specs.Index.{index};
+ghost use Rattle.index_writing.specs.Index.{index};
 
 use crate::indexing::index_input;
 use crate::publishing::publish_index;

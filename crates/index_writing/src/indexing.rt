@@ -1,8 +1,8 @@
 //! ARCHIVE's index, made in OUT's draft as ARCHIVE comes.
 ghost use Rattle.byte_device.specs.Devices.{stream};
 ghost use Rattle.command_ends.specs.Inputs.{reader};
-ghost use Rattle.index_updates.specs.Index.{TellsRefusal, TellsStop};
-ghost use Rattle.index_updates.specs.InnerIndexing.{IndexesAmidst};
+ghost use Rattle.index_writing.specs.Index.{TellsRefusal, TellsStop};
+ghost use Rattle.index_writing.specs.InnerIndexing.{IndexesAmidst};
 
 use archive_index::IndexingFault;
 use archive_records::Sizes;

@@ -11,7 +11,7 @@ use Rattle.command_ends.specs.Ends.{HasTaken}
 use Rattle.command_ends.specs.Inputs.{Holds, Reader, Unfailed}
 use Rattle.command_ends.specs.Outputs.{writer}
 use Rattle.command_ends.specs.declared.faults.CommandFault.{CommandFault}
-use Rattle.index_updates.specs.Index.{StopsIndex}
+use Rattle.index_writing.specs.Index.{StopsIndex}
 
 -- The archive is the text of a content in version 2, and its index was written, with these sizes.
 pub record IsIndexed {R D : Type 0} (archive : Reader R) (draft : Stream D) (sizes : Sizes) : Type 0 where

@@ -1,6 +1,6 @@
 use Rattle.std.proofs.lemmas.Result.{err_from_is_err_and}
-use Rattle.index_updates.proofs.Stopped.{lent_from, stopped_so, unopened, wanted_before}
-use Rattle.index_updates.proofs.indexing.index_input.Goals as goal
+use Rattle.index_writing.proofs.Stopped.{lent_from, stopped_so, unopened, wanted_before}
+use Rattle.index_writing.proofs.indexing.index_input.Goals as goal
 
 pub returns-in_err-source : goal.returns-in_err-source
 returns-in_err-source g c =

@@ -1,7 +1,7 @@
 //! The end of the command: OUT, which is put in place, and then the report.
 ghost use Rattle.std.specs.Prelude.{◌≡◌, ℕ, List, IfOk, length, string_bytes};
 ghost use Rattle.command_ends.specs.Outputs.{Publishes, Takes, out_of, outs, writer};
-ghost use Rattle.index_updates.specs.Index.{index_line};
+ghost use Rattle.index_writing.specs.Index.{index_line};
 
 use archive_records::Sizes;
 use byte_device::Sink;

@@ -12,8 +12,8 @@ use Rattle.command_ends.specs.Outputs.{Out, PlacesNothing, Publishes, Takes, Wri
 use Rattle.command_ends.specs.declared.faults.CommandFault.{CommandFault}
 use Rattle.command_ends.specs.declared.faults.CommandFault.TheVariants.{Input, Output, Report, OutOfMemory}
 use Rattle.command_ends.specs.declared.faults.Status.{Status}
-use Rattle.index_updates.specs.Index.{MakesIndex, StopsIndex, TellsStop, index, index_line}
-use Rattle.index_updates.specs.InnerIndexing.{IsIndexed}
+use Rattle.index_writing.specs.Index.{MakesIndex, StopsIndex, TellsStop, index, index_line}
+use Rattle.index_writing.specs.InnerIndexing.{IsIndexed}
 
 -- the report stops nothing
 untold : (fault : MakingFault) (n : ℕ) → TellsStop fault (Report n) → ⊥

@@ -1,8 +1,8 @@
 use Rattle.std.proofs.Common.{refl}
 use Rattle.std.proofs.lemmas.Result.{err_from_is_err_and}
 use Rattle.byte_device.proofs.Known.{Appends-none}
-use Rattle.index_updates.proofs.Ended.{ends_published, ends_stopped}
-use Rattle.index_updates.proofs.index.run_index.Goals as goal
+use Rattle.index_writing.proofs.Ended.{ends_published, ends_stopped}
+use Rattle.index_writing.proofs.index.run_index.Goals as goal
 
 pub returns-in_err-sizes : goal.returns-in_err-sizes
 returns-in_err-sizes g c =
