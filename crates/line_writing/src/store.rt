@@ -46,8 +46,9 @@ impl<'a> LineStore<'a> {
         })
     }
 
-    /// Takes the frames of an address, the innermost first; an address is to come once. It takes the time of six
-    /// searches for each frame, and the memory of what has not come before, beside 16 bytes; texts are not copied.
+    /// Takes the frames of an address, the innermost first; an address is to come once. For each
+    /// frame it takes the time of six comparisons, or of as many searches, and the memory of what has not come before,
+    /// beside 16 bytes; texts are not copied.
     ///
     /// # Errors
     ///
