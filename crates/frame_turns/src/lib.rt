@@ -15,9 +15,9 @@
 
 mod ascending;
 mod by_unit;
-mod giving;
 pub mod laws;
-mod own_turns;
+mod merging;
+mod numbers;
 mod taker;
 mod unit_boundaries;
 mod unit_by_unit;

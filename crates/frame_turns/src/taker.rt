@@ -1,19 +1,26 @@
 //! What takes turns with their frames.
 
-ghost use Rattle.std.specs.Prelude.{◌∷◌, [], List, OnOk, map};
-ghost use Rattle.frame_turns.specs.Given.{Takes, TurnRecord};
-ghost use Rattle.source_frames.specs.FrameViews.{frame_view};
-
+use line_programs::PathParts;
 use memory::NoMemory;
-use source_frames::Frame;
 
-/// What takes turns with their frames.
+/// What takes turns with their frames, of which it has told by number.
 pub trait FrameTaker<'a> {
-    // It is as it is once it has taken these, in this order.
-    ghost has_taken: { Self → List TurnRecord → Type 0 };
+    /// The number of a name.
+    fn name(&mut self, name: Option<&'a [u8]>) -> Result<u32, NoMemory>;
 
-    /// Takes an address and its frames, the innermost first.
-    fn take(&mut self, address: u64, frames: &[Frame<'a>]) -> Result<(), NoMemory>
-        ensures { OnOk result (Takes (has_taken self.old) (has_taken self.new)
-            (record { address = address; frames = map (λ f. frame_view f) frames.now } ∷ [])) };
+    /// The number of a path.
+    fn file(&mut self, path: Option<PathParts<'a>>) -> Result<u32, NoMemory>;
+
+    /// The number of a frame that is inlined into another one, or into none (0); `None` if it has no number.
+    fn location(
+        &mut self,
+        name: u32,
+        file: u32,
+        line: u64,
+        column: u64,
+        caller: Option<u32>,
+    ) -> Result<Option<u32>, NoMemory>;
+
+    /// Takes an address and its innermost frame.
+    fn take(&mut self, address: u64, location: Option<u32>) -> Result<(), NoMemory>;
 }

@@ -1,23 +1,48 @@
 //! The frames at the turns of an image, unit by unit.
 
-ghost use Rattle.std.specs.Prelude.{◌≡◌, ◌↔◌, ℕ, List, OnOk, Some};
-ghost use Rattle.std.specs.List.{Contains};
-ghost use Rattle.std.specs.BTreeMap as tree_map;
-ghost use Rattle.frame_turns.specs.ByUnit.{addresses_under};
-ghost use Rattle.frame_turns.specs.Given.{AreTurnsIn, AreTurnsOf, AreTurnsWithUnits, Takes, TurnRecord};
-ghost use Rattle.frame_turns.specs.UnitSteps.{AreUnitSteps, IsStep};
-ghost use Rattle.source_frames.specs.SectionsViews.{sections_view};
-
 use crate::ascending::ascending;
 use crate::by_unit::{ByUnit, by_unit, take_unit};
-use crate::giving::{give_frames, give_without};
-use crate::own_turns::own_turns;
+use crate::merging::UnitParts;
 use crate::taker::FrameTaker;
 use crate::unit_steps::UnitSteps;
-use dwarf_numbers::Units;
+use dwarf_numbers::{Units, Value};
 use macho_image::Image;
 use memory::{Heap, NoMemory};
-use source_frames::{DebugInfo, UnitLines};
+use source_frames::{DebugInfo, DebugUnit, RowSteps, UnitLines};
+
+/// A unit whose boundaries are known, and where its program stands.
+#[derive(Drop)]
+struct Waits {
+    program: u64,
+    place: u64,
+    boundaries: Vec<u64, Heap>,
+}
+
+/// Gives addresses without frames.
+fn give_without<'a, T: FrameTaker<'a>>(taker: &mut T, addresses: &[u64]) -> Result<(), NoMemory> {
+    for address in addresses {
+        taker.take(*address, Some(0))?;
+    }
+    Ok(())
+}
+
+/// The rows of the last program.
+#[derive(Drop)]
+struct LastRows {
+    program: u64,
+    rows: Option<RowSteps>,
+}
+
+impl LastRows {
+    fn of<'a>(&mut self, heap: Heap, lines: &UnitLines<'a>, program: u64) -> Result<(), NoMemory> {
+        if self.rows.is_some() && self.program == program {
+            return Ok(());
+        }
+        self.rows = Some(RowSteps::of(heap, lines)?);
+        self.program = program;
+        Ok(())
+    }
+}
 
 /// Gives the turns whose unit is the one at an offset, with their frames. Its boundaries are given.
 fn give_unit<'a, T: FrameTaker<'a>>(
@@ -25,28 +50,50 @@ fn give_unit<'a, T: FrameTaker<'a>>(
     info: &DebugInfo<'a>,
     line_units: &Units<'a>,
     steps: &UnitSteps,
-    place: u64,
-    boundaries: Vec<u64, Heap>,
+    waits: &Waits,
+    last: &mut LastRows,
     taker: &mut T,
-) -> Result<(), NoMemory>
-    requires lines { line_units.now ≡ info.now.sections.debug_line.now }
-    requires steps { AreUnitSteps (sections_view info.now.sections) steps.now.starts.items steps.now.places.items }
-    requires boundaries { (a : ℕ) → Contains boundaries.items a
-        ↔ IsStep steps.now.starts.items steps.now.places.items a (Some place) }
-    ensures { OnOk result ((given : List TurnRecord)
-        × Takes (T.has_taken taker.old) (T.has_taken taker.new) given
-        × AreTurnsIn (sections_view info.now.sections) (Some place) given) }
-{
-    let Some(unit) = info.unit_at(place) else {
-        let turns = ascending(boundaries);
-        give_without(taker, &turns)?;
-        return Ok(());
+) -> Result<(), NoMemory> {
+    let Some(unit) = info.unit_at(waits.place) else {
+        return give_without(taker, &waits.boundaries);
     };
     let lines = UnitLines::read(heap.clone()?, &info.sections, line_units, &unit)?;
-    let turns = own_turns(heap.clone()?, info, steps, place, &unit, &lines, boundaries)?;
-    let frames = info.frames_in_unit(heap, &lines, &unit, &turns)?;
-    give_frames(taker, &frames, &turns)?;
+    last.of(heap.clone()?, &lines, waits.program)?;
+    let mut parts = UnitParts::read(heap, info, &unit, &lines, taker)?;
+    if let Some(rows) = &last.rows {
+        parts.give_all(&lines, rows, steps, &waits.boundaries, taker)?;
+    }
     Ok(())
+}
+
+/// The offset of the program of the unit at an offset.
+fn program_at(info: &DebugInfo<'_>, place: u64) -> u64 {
+    match info.unit_at(place) {
+        Some(unit) => match unit.first.attributes.stmt_list {
+            Some(Value::SectionOffset(offset)) => offset,
+            Some(Value::Constant(offset)) if unit.header.version < 4 => offset,
+            _ => u64::MAX,
+        },
+        None => u64::MAX,
+    }
+}
+
+/// The units, in the order of their programs.
+fn in_order(
+    heap: Heap,
+    info: &DebugInfo<'_>,
+    mut by_unit: ByUnit,
+) -> Result<Vec<Waits, Heap>, NoMemory> {
+    let mut all = Vec::new(heap);
+    'units: while let Some((place, list)) = take_unit(&mut by_unit) {
+        all.push(Waits {
+            program: program_at(info, place),
+            place,
+            boundaries: list.addresses,
+        })?;
+    }
+    all.sort_unstable_by_key(|waits| waits.program);
+    Ok(all)
 }
 
 /// Gives the turns that have a unit, one unit after another, with their frames. The boundaries are given.
@@ -55,25 +102,22 @@ fn give_units<'a, T: FrameTaker<'a>>(
     info: &DebugInfo<'a>,
     line_units: &Units<'a>,
     steps: &UnitSteps,
-    mut by_unit: ByUnit,
+    by_unit: ByUnit,
     taker: &mut T,
-) -> Result<(), NoMemory>
-    requires lines { line_units.now ≡ info.now.sections.debug_line.now }
-    requires steps { AreUnitSteps (sections_view info.now.sections) steps.now.starts.items steps.now.places.items }
-    requires boundaries { (place a : ℕ) → Contains (addresses_under by_unit place) a
-        ↔ IsStep steps.now.starts.items steps.now.places.items a (Some place) }
-    ensures { OnOk result ((given : List TurnRecord)
-        × Takes (T.has_taken taker.old) (T.has_taken taker.new) given
-        × AreTurnsWithUnits (sections_view info.now.sections) given) }
-{
-    'units: while let Some((place, list)) = take_unit(&mut by_unit) {
+) -> Result<(), NoMemory> {
+    let all = in_order(heap.clone()?, info, by_unit)?;
+    let mut last = LastRows {
+        program: 0,
+        rows: None,
+    };
+    for waits in all.iter() {
         give_unit(
             heap.clone()?,
             info,
             line_units,
             steps,
-            place,
-            list.addresses,
+            waits,
+            &mut last,
             taker,
         )?;
     }
@@ -88,10 +132,7 @@ pub fn give_turns<'a, T: FrameTaker<'a>>(
     heap: Heap,
     image: &Image<'a>,
     taker: &mut T,
-) -> Result<(), NoMemory>
-    ensures { OnOk result ((given : List TurnRecord)
-        × Takes (T.has_taken taker.old) (T.has_taken taker.new) given × AreTurnsOf image.now given) }
-{
+) -> Result<(), NoMemory> {
     let info = DebugInfo::read(heap.clone()?, image)?;
     let line_units = Units::read(heap.clone()?, info.sections.debug_line)?;
     let steps = UnitSteps::read(heap.clone()?, &info)?;

@@ -55,4 +55,9 @@ impl UnitSteps {
         }
         self.places[count - 1]
     }
+
+    /// The first boundary after an address.
+    pub fn after(&self, address: u64) -> Option<u64> {
+        self.starts.get(count_to(&self.starts, address)).copied()
+    }
 }

@@ -3,7 +3,7 @@
 use frame_turns::FrameTaker;
 use line_writing::LineStore;
 use memory::NoMemory;
-use source_frames::Frame;
+use line_programs::PathParts;
 
 /// A store that takes turns.
 #[derive(Drop)]
@@ -12,15 +12,26 @@ pub(crate) struct StoreTaker<'a> {
 }
 
 impl<'a> FrameTaker<'a> for StoreTaker<'a> {
-    ghost use Rattle.std.specs.Prelude.{[], ◌≡◌, Some};
-    ghost use Rattle.line_making.specs.TurnSteps.{steps_of_turns};
-    ghost use Rattle.line_writing.specs.Lines.{after_steps};
+    fn name(&mut self, name: Option<&'a [u8]>) -> Result<u32, NoMemory> {
+        self.store.name(name)
+    }
 
-    // The store has taken the frames of each of the turns.
-    ghost has_taken = { λ taker turns. taker.store ≡ after_steps (Some []) (steps_of_turns turns) };
+    fn file(&mut self, path: Option<PathParts<'a>>) -> Result<u32, NoMemory> {
+        self.store.file(path)
+    }
 
-    fn take(&mut self, address: u64, frames: &[Frame<'a>]) -> Result<(), NoMemory> {
-        self.store.add(address, frames)?;
-        Ok(())
+    fn location(
+        &mut self,
+        name: u32,
+        file: u32,
+        line: u64,
+        column: u64,
+        caller: Option<u32>,
+    ) -> Result<Option<u32>, NoMemory> {
+        self.store.location(name, file, line, column, caller)
+    }
+
+    fn take(&mut self, address: u64, location: Option<u32>) -> Result<(), NoMemory> {
+        self.store.add_located(address, location)
     }
 }

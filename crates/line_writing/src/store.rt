@@ -3,7 +3,9 @@
 ghost use Rattle.std.specs.Prelude.{◌≡◌, IfOk, OnErr, OnOk, Some, [], map};
 
 use crate::kept::Kept;
+use crate::keys::LocationKey;
 use crate::step::Step;
+use line_programs::PathParts;
 use memory::{Heap, NoMemory};
 use source_frames::Frame;
 use std::marker::Model;
@@ -61,6 +63,53 @@ impl<'a> LineStore<'a> {
             return Ok(());
         }
         match self.kept.locate(frames)? {
+            Some(location) => self.steps.push(Step {
+                start: address,
+                location,
+            })?,
+            None => self.too_wide = true,
+        }
+        Ok(())
+    }
+
+    /// The number of a name.
+    pub fn name(&mut self, name: Option<&'a [u8]>) -> Result<u32, NoMemory> {
+        self.kept.name(name)
+    }
+
+    /// The number of a path.
+    pub fn file(&mut self, path: Option<PathParts<'a>>) -> Result<u32, NoMemory> {
+        self.kept.file(path)
+    }
+
+    /// The number of a location; `None` if its line or its column has more than four bytes.
+    pub fn location(
+        &mut self,
+        name: u32,
+        file: u32,
+        line: u64,
+        column: u64,
+        caller: Option<u32>,
+    ) -> Result<Option<u32>, NoMemory> {
+        let (Ok(line), Ok(column)) = (u32::try_from(line), u32::try_from(column)) else {
+            return Ok(None);
+        };
+        let Some(caller) = caller else {
+            return Ok(None);
+        };
+        let number = self.kept.locations.number(LocationKey {
+            name,
+            file,
+            line,
+            column,
+            caller,
+        })?;
+        Ok(Some(number))
+    }
+
+    /// Takes an address and its location.
+    pub fn add_located(&mut self, address: u64, location: Option<u32>) -> Result<(), NoMemory> {
+        match location {
             Some(location) => self.steps.push(Step {
                 start: address,
                 location,

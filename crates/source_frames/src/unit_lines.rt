@@ -29,7 +29,7 @@ pub struct UnitLines<'a> {
 }
 
 /// The offset in `__debug_line` that DW_AT_stmt_list names.
-fn program_offset(unit: &DebugUnit<'_>, value: Option<Value<'_>>) -> Option<u64>
+pub(crate) fn program_offset(unit: &DebugUnit<'_>, value: Option<Value<'_>>) -> Option<u64>
     ensures { result ≡ program_offset (unit_view unit.now) (option_map value_view value.entry) }
 {
     match value {
