@@ -1,26 +1,37 @@
-//! The numbers that a taker has told of the names, files and links of a unit.
+//! The numbers that a taker gave to the paths and the links of a unit.
+
+ghost use Rattle.std.specs.Prelude.{◌≡◌, ◌≤◌, ℕ, IfOk, List, length};
+ghost use Rattle.frame_turns.specs.Given.{Takes};
+ghost use Rattle.frame_turns.specs.Taking.{StillTells};
+ghost use Rattle.frame_turns.specs.UnitNumbers.{AreLinked, IsPathNumber};
+ghost use Rattle.source_frames.specs.Frames.{FrameRecord};
+ghost use Rattle.source_frames.specs.FrameViews.{lines_view};
+ghost use Rattle.source_frames.specs.Links.{AreFramesOfRowAndLink};
+ghost use Rattle.source_frames.specs.LinkViews.{links_view};
 
 use crate::taker::FrameTaker;
 use line_programs::Row;
 use memory::{Heap, NoMemory};
-use source_frames::{Functions, Links, Place, UnitLines};
+use source_frames::{Link, Place, UnitLines};
 use std::collections::BTreeMap;
 
-/// The numbers of files.
+/// The numbers of paths under the indexes of their files, and the last one that was asked for.
 #[derive(Drop)]
-pub(crate) struct Files {
+pub(crate) struct Paths {
     by_index: BTreeMap<u64, u32, Heap>,
     last: Option<(u64, u32)>,
 }
 
-impl Files {
-    pub fn new(heap: Heap) -> Files {
-        Files {
+impl Paths {
+    /// None.
+    pub fn new(heap: Heap) -> Paths {
+        Paths {
             by_index: BTreeMap::new(heap),
             last: None,
         }
     }
 
+    /// The number of the path of a file, which is kept.
     fn find<'a, T: FrameTaker<'a>>(
         &mut self,
         lines: &UnitLines<'a>,
@@ -30,20 +41,25 @@ impl Files {
         if let Some(number) = self.by_index.get(&index) {
             return Ok(*number);
         }
-        let number = taker.file(lines.path_in(Some(index)))?;
+        let number = taker.path(lines.path_in(Some(index)))?;
         self.by_index.insert(index, number)?;
         Ok(number)
     }
 
-    /// The number of a file.
+    /// The number of the path of a file, or of none.
     pub fn number<'a, T: FrameTaker<'a>>(
         &mut self,
         lines: &UnitLines<'a>,
         taker: &mut T,
         file: Option<u64>,
-    ) -> Result<u32, NoMemory> {
+    ) -> Result<u32, NoMemory>
+        ensures is { IfOk result (λ number.
+            IsPathNumber (T.tells_path taker.new) (lines_view lines.now) file number) }
+        ensures names { StillTells (T.tells_name taker.old) (T.tells_name taker.new) }
+        ensures frames { StillTells (T.tells_frames taker.old) (T.tells_frames taker.new) }
+    {
         let Some(index) = file else {
-            return taker.file(None);
+            return taker.path(None);
         };
         if let Some((known, number)) = self.last {
             if known == index {
@@ -56,63 +72,86 @@ impl Files {
     }
 }
 
-/// The numbers of a link: of its name, and of the frame of the call that it is.
+/// The numbers of a link: of its name, and of the frames of those that it stands in.
 #[derive(Clone, Copy)]
 pub(crate) struct Linked {
     pub name: u32,
-    pub caller: Option<u32>,
+    pub callers: Option<u32>,
+}
+
+/// The numbers of a link, those of the links before it being known.
+fn linked_of<'a, T: FrameTaker<'a>>(
+    lines: &UnitLines<'a>,
+    paths: &mut Paths,
+    all: &[Linked],
+    link: &Link<'a>,
+    taker: &mut T,
+) -> Result<Linked, NoMemory> {
+    let name = taker.name(link.name)?;
+    if link.caller == 0 {
+        return Ok(Linked {
+            name,
+            callers: taker.no_frames(),
+        });
+    }
+    let outer = all[link.caller - 1];
+    let path = paths.number(lines, taker, link.call.file)?;
+    let callers = taker.frames(
+        outer.name,
+        path,
+        link.call.line,
+        link.call.column,
+        outer.callers,
+    )?;
+    Ok(Linked { name, callers })
 }
 
 /// The numbers of all links of a unit.
 pub(crate) fn linked<'a, T: FrameTaker<'a>>(
     heap: Heap,
     lines: &UnitLines<'a>,
-    files: &mut Files,
-    functions: &Functions<'a>,
-    links: &Links,
+    paths: &mut Paths,
+    links: &[Link<'a>],
     taker: &mut T,
-) -> Result<Vec<Linked, Heap>, NoMemory> {
+) -> Result<Vec<Linked, Heap>, NoMemory>
+    ensures is { IfOk result (λ all. AreLinked (T.tells_name taker.new) (T.tells_frames taker.new)
+        (lines_view lines.now) (links_view links.now) (length links.now) all.items) }
+{
     let mut all: Vec<Linked, Heap> = Vec::new(heap);
-    for link in links.links.iter() {
-        let function = functions.functions[link.function as usize];
-        let name = taker.name(function.name)?;
-        let mut caller = Some(0);
-        if link.caller != 0 {
-            let outer = all[link.caller as usize - 1];
-            let file = files.number(lines, taker, function.call.file)?;
-            caller = taker.location(
-                outer.name,
-                file,
-                function.call.line,
-                function.call.column,
-                outer.caller,
-            )?;
-        }
-        all.push(Linked { name, caller })?;
+    for link in links {
+        let next = linked_of(lines, paths, &all, link, taker)?;
+        all.push(next)?;
     }
     Ok(all)
 }
 
-/// The number of the innermost frame of a row and a link.
-pub(crate) fn innermost<'a, T: FrameTaker<'a>>(
+/// The number of the frames of a row and of the link of a number.
+pub(crate) fn frames_of_both<'a, T: FrameTaker<'a>>(
     lines: &UnitLines<'a>,
-    files: &mut Files,
+    paths: &mut Paths,
+    links: &[Link<'a>],
     linked: &[Linked],
     row: Option<Row>,
-    link: u32,
+    number: usize,
     taker: &mut T,
-) -> Result<Option<u32>, NoMemory> {
-    if link == 0 && row.is_none() {
-        return Ok(Some(0));
+) -> Result<Option<u32>, NoMemory>
+    requires within { number ≤ length links.now }
+    requires linked { AreLinked (T.tells_name taker.old) (T.tells_frames taker.old) (lines_view lines.now)
+        (links_view links.now) (length links.now) linked.now }
+    ensures is { IfOk result (λ found. (frames : List FrameRecord)
+        × AreFramesOfRowAndLink (lines_view lines.now) (links_view links.now) row number frames
+        × T.tells_frames taker.new found frames) }
+{
+    if number == 0 && row.is_none() {
+        return Ok(taker.no_frames());
     }
     let place = Place::of_row(row);
-    let file = files.number(lines, taker, place.file)?;
-    let mut of = Linked {
-        name: 0,
-        caller: Some(0),
-    };
-    if link != 0 {
-        of = linked[link as usize - 1];
+    let path = paths.number(lines, taker, place.file)?;
+    if number == 0 {
+        let none = taker.name(None)?;
+        let callers = taker.no_frames();
+        return taker.frames(none, path, place.line, place.column, callers);
     }
-    taker.location(of.name, file, place.line, place.column, of.caller)
+    let of = linked[number - 1];
+    taker.frames(of.name, path, place.line, place.column, of.callers)
 }

@@ -1,44 +1,68 @@
 //! The frames at the turns of an image, unit by unit.
 
+ghost use Rattle.std.specs.Prelude.{◌≡◌, ◌↔◌, ◌<◌, ℕ, All, IfOk, IfSome, List, OnOk, Some, map};
+ghost use Rattle.std.specs.List.{Contains};
+ghost use Rattle.std.specs.BTreeMap as tree_map;
+ghost use Rattle.frame_turns.specs.Between.{rows_at};
+ghost use Rattle.frame_turns.specs.ByUnit.{addresses_under};
+ghost use Rattle.frame_turns.specs.Given.{AreTurnsIn, AreTurnsOf, AreTurnsWithUnits, Takes, TurnRecord, without_frames};
+ghost use Rattle.frame_turns.specs.UnitSteps.{AreUnitSteps, IsStep};
+ghost use Rattle.source_frames.specs.FrameViews.{lines_view};
+ghost use Rattle.source_frames.specs.AddressFrames.{rows_of};
+ghost use Rattle.source_frames.specs.RowSteps.{AreRowSteps};
+ghost use Rattle.source_frames.specs.SectionsViews.{sections_view};
+
 use crate::ascending::ascending;
 use crate::by_unit::{ByUnit, by_unit, take_unit};
 use crate::merging::UnitParts;
 use crate::taker::FrameTaker;
 use crate::unit_steps::UnitSteps;
-use dwarf_numbers::{Units, Value};
+use dwarf_numbers::Units;
 use macho_image::Image;
 use memory::{Heap, NoMemory};
-use source_frames::{DebugInfo, DebugUnit, RowSteps, UnitLines};
+use source_frames::{DebugInfo, RowSteps, UnitLines};
 
-/// A unit whose boundaries are known, and where its program stands.
+/// A unit: where its program stands, its offset, and its boundaries.
 #[derive(Drop)]
-struct Waits {
+struct UnitBoundaries {
     program: u64,
     place: u64,
     boundaries: Vec<u64, Heap>,
 }
 
+/// The rows of the program that was run last.
+#[derive(Drop)]
+struct LastRows {
+    program: Option<u64>,
+    rows: RowSteps,
+}
+
 /// Gives addresses without frames.
-fn give_without<'a, T: FrameTaker<'a>>(taker: &mut T, addresses: &[u64]) -> Result<(), NoMemory> {
+fn give_without<'a, T: FrameTaker<'a>>(taker: &mut T, addresses: &[u64]) -> Result<(), NoMemory>
+    ensures { OnOk result (Takes (T.has_taken taker.old) (T.has_taken taker.new)
+        (map (λ a. without_frames a) addresses.now)) }
+{
+    let none = taker.no_frames();
     for address in addresses {
-        taker.take(*address, Some(0))?;
+        taker.take(*address, none)?;
     }
     Ok(())
 }
 
-/// The rows of the last program.
-#[derive(Drop)]
-struct LastRows {
-    program: u64,
-    rows: Option<RowSteps>,
-}
-
 impl LastRows {
-    fn of<'a>(&mut self, heap: Heap, lines: &UnitLines<'a>, program: u64) -> Result<(), NoMemory> {
-        if self.rows.is_some() && self.program == program {
+    /// Those of the program at an offset, which a unit has.
+    fn run(
+        &mut self,
+        heap: Heap,
+        lines: &UnitLines<'_>,
+        program: Option<u64>,
+    ) -> Result<(), NoMemory>
+        requires { IfSome lines.now.program (λ p. 0 < p.header.line_range) }
+    {
+        if self.program.is_some() && self.program == program {
             return Ok(());
         }
-        self.rows = Some(RowSteps::of(heap, lines)?);
+        self.rows = RowSteps::of(heap, lines)?;
         self.program = program;
         Ok(())
     }
@@ -50,49 +74,54 @@ fn give_unit<'a, T: FrameTaker<'a>>(
     info: &DebugInfo<'a>,
     line_units: &Units<'a>,
     steps: &UnitSteps,
-    waits: &Waits,
+    of: &UnitBoundaries,
     last: &mut LastRows,
     taker: &mut T,
-) -> Result<(), NoMemory> {
-    let Some(unit) = info.unit_at(waits.place) else {
-        return give_without(taker, &waits.boundaries);
+) -> Result<(), NoMemory>
+    requires lines { line_units.now ≡ info.now.sections.debug_line.now }
+    requires steps { AreUnitSteps (sections_view info.now.sections) steps.now.starts.items steps.now.places.items }
+    requires boundaries { (a : ℕ) → Contains of.now.boundaries.items a
+        ↔ IsStep steps.now.starts.items steps.now.places.items a (Some of.now.place) }
+    requires last { AreRowSteps (rows_at (sections_view info.now.sections) last.old.program) last.old.rows.starts.items
+        last.old.rows.rows.items }
+    ensures given { OnOk result ((given : List TurnRecord)
+        × Takes (T.has_taken taker.old) (T.has_taken taker.new) given
+        × AreTurnsIn (sections_view info.now.sections) (Some of.now.place) given) }
+    ensures last { OnOk result (AreRowSteps (rows_at (sections_view info.now.sections) last.new.program)
+        last.new.rows.starts.items last.new.rows.rows.items) }
+{
+    let Some(unit) = info.unit_at(of.place) else {
+        return give_without(taker, &of.boundaries);
     };
     let lines = UnitLines::read(heap.clone()?, &info.sections, line_units, &unit)?;
-    last.of(heap.clone()?, &lines, waits.program)?;
+    last.run(heap.clone()?, &lines, unit.program_offset())?;
     let mut parts = UnitParts::read(heap, info, &unit, &lines, taker)?;
-    if let Some(rows) = &last.rows {
-        parts.give_all(&lines, rows, steps, &waits.boundaries, taker)?;
-    }
-    Ok(())
+    parts.give_all(&lines, &last.rows, steps, &of.boundaries, taker)
 }
 
-/// The offset of the program of the unit at an offset.
+/// The offset of the program of the unit at an offset; units without one come last.
 fn program_at(info: &DebugInfo<'_>, place: u64) -> u64 {
     match info.unit_at(place) {
-        Some(unit) => match unit.first.attributes.stmt_list {
-            Some(Value::SectionOffset(offset)) => offset,
-            Some(Value::Constant(offset)) if unit.header.version < 4 => offset,
-            _ => u64::MAX,
-        },
+        Some(unit) => unit.program_offset().unwrap_or(u64::MAX),
         None => u64::MAX,
     }
 }
 
-/// The units, in the order of their programs.
-fn in_order(
+/// The units, in the order of their programs, each with its boundaries, which ascend.
+fn by_program(
     heap: Heap,
     info: &DebugInfo<'_>,
     mut by_unit: ByUnit,
-) -> Result<Vec<Waits, Heap>, NoMemory> {
+) -> Result<Vec<UnitBoundaries, Heap>, NoMemory> {
     let mut all = Vec::new(heap);
     'units: while let Some((place, list)) = take_unit(&mut by_unit) {
-        all.push(Waits {
+        all.push(UnitBoundaries {
             program: program_at(info, place),
             place,
-            boundaries: list.addresses,
+            boundaries: ascending(list.addresses),
         })?;
     }
-    all.sort_unstable_by_key(|waits| waits.program);
+    all.sort_unstable_by_key(|unit| unit.program);
     Ok(all)
 }
 
@@ -104,19 +133,27 @@ fn give_units<'a, T: FrameTaker<'a>>(
     steps: &UnitSteps,
     by_unit: ByUnit,
     taker: &mut T,
-) -> Result<(), NoMemory> {
-    let all = in_order(heap.clone()?, info, by_unit)?;
+) -> Result<(), NoMemory>
+    requires lines { line_units.now ≡ info.now.sections.debug_line.now }
+    requires steps { AreUnitSteps (sections_view info.now.sections) steps.now.starts.items steps.now.places.items }
+    requires boundaries { (place a : ℕ) → Contains (addresses_under by_unit place) a
+        ↔ IsStep steps.now.starts.items steps.now.places.items a (Some place) }
+    ensures { OnOk result ((given : List TurnRecord)
+        × Takes (T.has_taken taker.old) (T.has_taken taker.new) given
+        × AreTurnsWithUnits (sections_view info.now.sections) given) }
+{
+    let all = by_program(heap.clone()?, info, by_unit)?;
     let mut last = LastRows {
-        program: 0,
-        rows: None,
+        program: None,
+        rows: RowSteps::none(heap.clone()?)?,
     };
-    for waits in all.iter() {
+    for unit in all.iter() {
         give_unit(
             heap.clone()?,
             info,
             line_units,
             steps,
-            waits,
+            unit,
             &mut last,
             taker,
         )?;
@@ -126,13 +163,17 @@ fn give_units<'a, T: FrameTaker<'a>>(
 
 /// Gives each turn of an image, once, with its frames: first those that have no unit, and so no frames, then those of
 /// one unit after another. `__debug_aranges`, the declarations and the first entries of units are read for all
-/// together. Each unit that has a turn is read twice, and its program is run twice, also where several units have one
-/// program. It takes the memory of the boundaries of units, and of the turns and frames of one unit.
+/// together. Each unit that has a turn is read once. Units come in the order of their programs, and each program is run
+/// twice, however many units have it. It takes the memory of the boundaries of units, of the links of one unit, and of
+/// the rows of one program.
 pub fn give_turns<'a, T: FrameTaker<'a>>(
     heap: Heap,
     image: &Image<'a>,
     taker: &mut T,
-) -> Result<(), NoMemory> {
+) -> Result<(), NoMemory>
+    ensures { OnOk result ((given : List TurnRecord)
+        × Takes (T.has_taken taker.old) (T.has_taken taker.new) given × AreTurnsOf image.now given) }
+{
     let info = DebugInfo::read(heap.clone()?, image)?;
     let line_units = Units::read(heap.clone()?, info.sections.debug_line)?;
     let steps = UnitSteps::read(heap.clone()?, &info)?;

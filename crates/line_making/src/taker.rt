@@ -12,26 +12,45 @@ pub(crate) struct StoreTaker<'a> {
 }
 
 impl<'a> FrameTaker<'a> for StoreTaker<'a> {
+    ghost use Rattle.std.specs.Prelude.{[], ◌≡◌, Some};
+    ghost use Rattle.line_making.specs.TurnSteps.{steps_of_turns};
+    ghost use Rattle.line_writing.specs.Kept.{IsFile, IsName};
+    ghost use Rattle.line_writing.specs.Lines.{after_steps};
+    ghost use Rattle.line_writing.specs.Located.{IsLocated};
+
+    // The store tells of names, paths and frames.
+    ghost tells_name = { λ taker number name. IsName taker.store.kept number name };
+    ghost tells_path = { λ taker number path. IsFile taker.store.kept number path };
+    ghost tells_frames = { λ taker number frames. IsLocated taker.store.kept frames number };
+
+    // The store has taken the frames of each of the turns.
+    ghost has_taken = { λ taker turns. taker.store.taken ≡ after_steps (Some []) (steps_of_turns turns) };
+
     fn name(&mut self, name: Option<&'a [u8]>) -> Result<u32, NoMemory> {
         self.store.name(name)
     }
 
-    fn file(&mut self, path: Option<PathParts<'a>>) -> Result<u32, NoMemory> {
-        self.store.file(path)
+    fn path(&mut self, path: Option<PathParts<'a>>) -> Result<u32, NoMemory> {
+        self.store.path(path)
     }
 
-    fn location(
+    fn no_frames(&self) -> Option<u32> {
+        Some(0)
+    }
+
+    fn frames(
         &mut self,
         name: u32,
-        file: u32,
+        path: u32,
         line: u64,
         column: u64,
-        caller: Option<u32>,
+        callers: Option<u32>,
     ) -> Result<Option<u32>, NoMemory> {
-        self.store.location(name, file, line, column, caller)
+        self.store.frames(name, path, line, column, callers)
     }
 
-    fn take(&mut self, address: u64, location: Option<u32>) -> Result<(), NoMemory> {
-        self.store.add_located(address, location)
+    fn take(&mut self, address: u64, number: Option<u32>) -> Result<(), NoMemory> {
+        self.store.add_frames(address, number)?;
+        Ok(())
     }
 }

@@ -7,3 +7,5 @@ mod NestedLemmas
 pub mod UnitAddressLemmas
 mod FoundLemmas
 mod LawLemmas
+mod CoveringLemmas
+mod RisingLemmas

@@ -14,3 +14,10 @@ pub mod UnitAddresses
 pub mod Inner
 pub mod AddressFrames
 pub mod FoundFrames
+pub mod Waiting
+pub mod UnitFunctions
+pub mod Links
+pub mod LinkViews
+pub mod AddressSteps
+pub mod RowSteps
+pub mod RowCover

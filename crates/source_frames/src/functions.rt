@@ -1,5 +1,13 @@
 //! The functions of a unit, and the ranges of their code.
 
+ghost use Rattle.std.specs.Prelude.{◌≡◌, ◌≤◌, ◌++◌, IfOk, OnOk, length, true};
+ghost use Rattle.code_ranges.specs.UnitViews.{unit_view as ranges_view};
+ghost use Rattle.debug_entries.specs.EntryViews.{unread_view};
+ghost use Rattle.source_frames.specs.Scopes.{left_after_scope};
+ghost use Rattle.source_frames.specs.SectionsViews.{sections_view};
+ghost use Rattle.source_frames.specs.UnitFunctions.{AreFunctions};
+ghost use Rattle.source_frames.specs.UnitViews.{unit_view};
+
 use crate::debug_info::DebugInfo;
 use crate::debug_unit::{DebugUnit, UnitEntry};
 use crate::frame::Place;
@@ -10,7 +18,7 @@ use memory::{Heap, NoMemory};
 
 /// A function of a unit.
 #[derive(Clone, Copy)]
-pub struct Function<'a> {
+pub(crate) struct Function<'a> {
     /// Its name.
     pub name: Option<&'a [u8]>,
     /// The place of the call that it is.
@@ -23,16 +31,26 @@ pub struct Function<'a> {
 
 /// A function in which further ones may stand: its depth and its index.
 #[derive(Clone, Copy)]
-struct Open {
-    depth: usize,
-    index: usize,
+pub(crate) struct Open {
+    pub depth: usize,
+    pub index: usize,
 }
 
 /// The functions of a unit that have ranges, in the order of their entries.
 #[derive(Drop)]
-pub struct Functions<'a> {
+pub(crate) struct Functions<'a> {
     pub functions: Vec<Function<'a>, Heap>,
     pub ranges: Vec<CodeRange, Heap>,
+}
+
+/// Adds ranges.
+fn push_ranges(all: &mut Vec<CodeRange, Heap>, ranges: Ranges<'_>) -> Result<(), NoMemory>
+    ensures { OnOk result (all.new.items ≡ all.old.items ++ ranges.entry) }
+{
+    for range in ranges {
+        all.push(range)?;
+    }
+    Ok(())
 }
 
 impl<'a> Functions<'a> {
@@ -47,16 +65,6 @@ impl<'a> Functions<'a> {
         open.truncate(left);
     }
 
-    /// Adds ranges.
-    fn push_ranges(&mut self, ranges: Ranges<'_>) -> Result<(), NoMemory> {
-        for range in ranges {
-            if range.low < range.high {
-                self.ranges.push(range)?;
-            }
-        }
-        Ok(())
-    }
-
     /// Adds an entry that is of a function, if it has ranges.
     fn push_entry(
         &mut self,
@@ -68,7 +76,7 @@ impl<'a> Functions<'a> {
         ranges: Ranges<'a>,
     ) -> Result<(), NoMemory> {
         let before = self.ranges.len();
-        self.push_ranges(ranges)?;
+        push_ranges(&mut self.ranges, ranges)?;
         if self.ranges.len() == before {
             return Ok(());
         }
@@ -78,14 +86,15 @@ impl<'a> Functions<'a> {
         self.functions.push(Function {
             name: info.name_of(&of),
             call,
-            end: usize::MAX,
+            end: index + 1,
             ranges_end: self.ranges.len(),
         })?;
         open.push(Open { depth, index })?;
         Ok(())
     }
 
-    /// Takes an entry.
+    /// Adds an entry of a depth, if it is of a function and has ranges. Of its list, `left` entries count at most, and
+    /// `left` is then how many more may count.
     fn take(
         &mut self,
         info: &DebugInfo<'a>,
@@ -95,7 +104,10 @@ impl<'a> Functions<'a> {
         open: &mut Vec<Open, Heap>,
         depth: usize,
         entry: &UnreadEntry<'_, 'a>,
-    ) -> Result<(), NoMemory> {
+    ) -> Result<(), NoMemory>
+        ensures { OnOk result (left.new
+            ≡ left_after_scope (ranges_view ranges.now) left.old (unread_view entry.now)) }
+    {
         self.close(open, depth);
         if !is_function(entry) {
             return Ok(());
@@ -105,12 +117,17 @@ impl<'a> Functions<'a> {
         self.push_entry(info, unit, open, depth, entry, own)
     }
 
-    /// The functions of a unit.
+    /// The functions of a unit. It takes the time of the unit, which is read once, and of their names, and the memory
+    /// of 100 bytes for each and of 16 for each of their ranges.
     pub fn read(
         heap: Heap,
         info: &DebugInfo<'a>,
         unit: &DebugUnit<'a>,
-    ) -> Result<Functions<'a>, NoMemory> {
+    ) -> Result<Functions<'a>, NoMemory>
+        requires { unit.now.header.entries_offset ≤ length unit.now.bytes.now }
+        ensures { IfOk result (λ all. AreFunctions (sections_view info.now.sections) (unit_view unit.now)
+            all.functions.items all.ranges.items) }
+    {
         let ranges = unit.unit_ranges(&info.sections);
         let mut left = unit.entries_of_lists();
         let mut all = Functions {
@@ -129,6 +146,7 @@ impl<'a> Functions<'a> {
                 &placed.entry,
             )?;
         }
+        all.close(&mut open, 0);
         Ok(all)
     }
 }

@@ -29,7 +29,7 @@ pub struct UnitLines<'a> {
 }
 
 /// The offset in `__debug_line` that DW_AT_stmt_list names.
-pub(crate) fn program_offset(unit: &DebugUnit<'_>, value: Option<Value<'_>>) -> Option<u64>
+fn program_offset(unit: &DebugUnit<'_>, value: Option<Value<'_>>) -> Option<u64>
     ensures { result ≡ program_offset (unit_view unit.now) (option_map value_view value.entry) }
 {
     match value {
@@ -84,6 +84,15 @@ fn program_in(unit: Option<&[u8]>) -> Option<Program<'_>>
     match unit {
         Some(unit) => Program::of(unit),
         None => None,
+    }
+}
+
+impl<'a> DebugUnit<'a> {
+    /// The offset of the program of the unit in `__debug_line`.
+    pub fn program_offset(&self) -> Option<u64>
+        ensures { result ≡ program_offset (unit_view self.now) (unit_view self.now).first.attributes.stmt_list }
+    {
+        program_offset(self, self.first.attributes.stmt_list)
     }
 }
 
