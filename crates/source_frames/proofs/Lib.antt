@@ -9,3 +9,6 @@ mod FoundLemmas
 mod LawLemmas
 mod CoveringLemmas
 mod RisingLemmas
+mod CoverLemmas
+mod RowStepLemmas
+mod LinkFrameLemmas

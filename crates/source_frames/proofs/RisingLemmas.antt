@@ -3,7 +3,7 @@ use Rattle.std.proofs.Common.{◌≡◌, ℕ, ◌<◌, ◌≤◌, ◌+◌, nat_c
 use Rattle.std.specs.Prelude.{eqb, ◌↔◌}
 use Rattle.std.specs.List.{Contains, dedup}
 use Rattle.std.specs.List.Sorted.{IsPartitionPoint, IsPartitionedBy, IsPermutation, IsSorted}
-use Rattle.std.proofs.lemmas.Bool.{cases_Bool, ltb-true, ltb-false}
+use Rattle.std.proofs.lemmas.Bool.{cases_Bool, cases_lt, ltb-true, ltb-false}
 use Rattle.std.proofs.lemmas.Bool.Decides.{nat_tests}
 use Rattle.std.proofs.lemmas.List.Kept.{AllPairs-from_increasing, Contains-dedup_nat, Contains-from_dedup}
 use Rattle.std.proofs.lemmas.List.Sorted.{Contains-permutation, IsPermutation-sym}
@@ -33,6 +33,19 @@ parted starts a rising i j d below within holds = elim (cases_Bool (nat_lt i j))
 pub below_of_point : (starts : List ℕ) (a n : ℕ) → n ≤ length starts → IsPartitionPoint (λ t. nat_lt t a ≡ true) (λ t. nat_lt t a ≡ false) starts n → IsCountBelow starts a n
 below_of_point starts a n within point = record {
   within = within;
-  below = λ i less. ltb-true (get_or starts i 0) a (point.0 i 0 less (omega (arith, less, within)));
+  below = λ i less. ltb-true (get_or starts i 0) a (point.0 i 0 (omega arith) less);
   above = λ i from inside. ltb-false (get_or starts i 0) a (point.1 i 0 from inside);
+}
+
+-- at a start itself those before it are below it
+pub count_at : (starts : List ℕ) (address near : ℕ) → AreRising starts → near < length starts → get_or starts near 0 ≡ address → IsCountBelow starts address near
+count_at starts address near rising within here = record {
+  within = omega (arith, within);
+  below = λ i less. let r = rising i near 0 less within in omega (arith, r, here);
+  above = λ i from inside. elim (cases_lt near i) [
+    | inl more ↦ let r = rising near i 0 more inside in omega (arith, r, here)
+    | inr not ↦
+        let one : near ≡ i = omega (arith, from, not) in
+        let at : get_or starts i 0 ≡ address = subst (λ n. get_or starts n 0 ≡ address) one here in omega (arith, at)
+  ];
 }

@@ -8,6 +8,10 @@
 //! `frame`, the frame of an entry at a place, and `chain`, those of the entries of an address; `unit_frames`, those of
 //! the addresses of a unit, and `address_frames`, [`frames_of`], those of addresses of an image; `laws`, what the
 //! definitions say of each other.
+//!
+//! For all addresses of a unit at once: `waiting`, indexes that wait, and `rising`, numbers in order; `functions`, those
+//! of a unit with their ranges, and `links`, [`Links`], which of them contain each address, as links that addresses
+//! share; `row_steps`, [`RowSteps`], the row that covers each address.
 #![tactic(auto)]
 
 mod address_frames;

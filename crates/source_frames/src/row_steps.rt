@@ -33,15 +33,24 @@ fn push_addresses(starts: &mut Vec<u64, Heap>, rows: Rows<'_>) -> Result<(), NoM
 }
 
 impl RowSteps {
+    /// Whether a start is an address: then those before it are below that.
+    #[tactic(auto, using(crate::proofs::RisingLemmas::count_at))]
+    fn is_at(&self, near: usize, address: u64) -> bool
+        requires { AreRising self.now.starts.items }
+        ensures { result ≡ true → IsCountBelow self.now.starts.items address near }
+    {
+        near < self.starts.len() && self.starts[near] == address
+    }
+
     /// How many starts are below an address. It is `near`, or the one after it, mostly.
     fn count_below(&self, address: u64, near: usize) -> usize
         requires { AreRising self.now.starts.items }
         ensures { IsCountBelow self.now.starts.items address result }
     {
-        if near < self.starts.len() && self.starts[near] == address {
+        if self.is_at(near, address) {
             return near;
         }
-        if near + 1 < self.starts.len() && self.starts[near + 1] == address {
+        if near < self.starts.len() && self.is_at(near + 1, address) {
             return near + 1;
         }
         count_below(&self.starts, address)
@@ -84,8 +93,7 @@ impl RowSteps {
     /// Each of the rows covers starts that none before it covers.
     fn cover_all(&mut self, waiting: &mut Waiting, rows: Rows<'_>)
         requires rising { AreRising self.old.starts.items }
-        requires known { AreKnown self.old.starts.items waiting.old.next.items self.old.rows.items None rows.entry
-            rows.entry }
+        requires known { AreKnown self.old.starts.items waiting.old.next.items self.old.rows.items None rows rows }
         ensures starts { self.new.starts ≡ self.old.starts }
         ensures known { (before : Option Row) × AreKnown self.new.starts.items waiting.new.next.items
             self.new.rows.items before [] rows.entry }
@@ -121,6 +129,7 @@ impl RowSteps {
     }
 
     /// Those of no rows.
+    #[tactic(auto, using(crate::proofs::RowStepLemmas::no_row_steps))]
     pub fn none(heap: Heap) -> Result<RowSteps, NoMemory>
         ensures { IfOk result (λ steps. AreRowSteps [] steps.starts.items steps.rows.items) }
     {
