@@ -64,9 +64,9 @@ module _ (starts : List ℕ) (last row : Row) (first end : ℕ) (low : IsCountBe
     (known : AreKnown starts old before (Some last) (row ∷ left) all) (is : Covers first end last old new before after) where
 
     waits_out : (i : ℕ) → i < length starts → (i < first) ⊎ (end ≤ i) → covered (get_or starts i 0) (Some last) row ≡ None
-    waits_out i h out = covered_none (get_or starts i 0) last row (λ in. elim out [
-      | inl below ↦ let f = from_first i h in in omega (arith, below, f)
-      | inr behind ↦ let t = to_end i h in in omega (arith, behind, t)
+    waits_out i h out = covered_none (get_or starts i 0) last row (λ has. elim out [
+      | inl below ↦ let f = from_first i h has in omega (arith, below, f)
+      | inr behind ↦ let t = to_end i h has in omega (arith, behind, t)
     ])
 
     side_of : (i : ℕ) → i < length starts → get_or new i 0 ≡ i → (i < first) ⊎ (end ≤ i)
@@ -104,6 +104,25 @@ module _ (starts : List ℕ) (last row : Row) (first end : ℕ) (low : IsCountBe
             | inr was_not ↦ is.done i (let n = known.count in omega (arith, n, h)) was_not ∙ known.found i h was_not
           ];
         }
+
+same_state : (starts old new : List ℕ) (rows after : List (Option Row)) (before : Option Row) (left all : List Row) → after ≡ rows → new ≡ old → AreKnown starts old rows before left all → AreKnown starts new after before left all
+same_state starts old new rows after before left all e f known =
+    subst (λ (r : List (Option Row)). AreKnown starts new r before left all) (sym e) (subst (λ (n : List ℕ). AreKnown starts n rows before left all) (sym f) known)
+
+-- one row more
+pub known_step : (starts now old new : List ℕ) (rows after : List (Option Row)) (last row : Row) (left all : List Row) (first end : ℕ) → now ≡ starts
+    → IsCountBelow starts last.registers.address first → IsCountBelow starts row.registers.address end
+    → (last.end_sequence ≡ false → first ≤ end → Covers first end last old new rows after)
+    → (end < first → after ≡ rows) → (end < first → new ≡ old) → (last.end_sequence ≡ true → after ≡ rows) → (last.end_sequence ≡ true → new ≡ old)
+    → AreKnown starts old rows (Some last) (row ∷ left) all → AreKnown now new after (Some row) left all
+known_step starts now old new rows after last row left all first end e low high covers back still none waits known =
+    subst (λ (s : List ℕ). AreKnown s new after (Some row) left all) (sym e) (elim (cases_Bool last.end_sequence) [
+      | inl t ↦ same_state starts old new rows after (Some row) left all (none t) (waits t) (known_same starts old rows (Some last) row left all (none_ended starts last row t) known)
+      | inr f ↦ elim (cases_lt end first) [
+        | inl b ↦ same_state starts old new rows after (Some row) left all (back b) (still b) (known_same starts old rows (Some last) row left all (none_backwards starts last row first end low high b) known)
+        | inr not ↦ known_next starts last row first end low high old new rows after left all f known (covers f not)
+      ]
+    ])
 
 -- ---- all addresses
 

@@ -80,10 +80,10 @@ impl RowSteps {
         ensures starts { self.new.starts ≡ self.old.starts }
         ensures covers { row.end_sequence ≡ false → first ≤ end → Covers first end row waiting.old.next.items
             waiting.new.next.items self.old.rows.items self.new.rows.items }
-        ensures backwards { end < first → self.new.rows ≡ self.old.rows }
-        ensures still { end < first → waiting.new.next ≡ waiting.old.next }
-        ensures none { row.end_sequence ≡ true → self.new.rows ≡ self.old.rows }
-        ensures waits { row.end_sequence ≡ true → waiting.new.next ≡ waiting.old.next }
+        ensures backwards { end < first → self.new.rows.items ≡ self.old.rows.items }
+        ensures still { end < first → waiting.new.next.items ≡ waiting.old.next.items }
+        ensures none { row.end_sequence ≡ true → self.new.rows.items ≡ self.old.rows.items }
+        ensures waits { row.end_sequence ≡ true → waiting.new.next.items ≡ waiting.old.next.items }
     {
         if !row.end_sequence && first <= end {
             self.cover(waiting, first, end, row);
@@ -129,7 +129,6 @@ impl RowSteps {
     }
 
     /// Those of no rows.
-    #[tactic(auto, using(crate::proofs::RowStepLemmas::no_row_steps))]
     pub fn none(heap: Heap) -> Result<RowSteps, NoMemory>
         ensures { IfOk result (λ steps. AreRowSteps [] steps.starts.items steps.rows.items) }
     {
