@@ -138,7 +138,7 @@ rising_rest : (start : ℕ) (starts : List ℕ) → AreRising (start ∷ starts)
 rising_rest start starts rising = λ i j d less within. rising (suc i) (suc j) d (omega (arith, less)) (omega (arith, within))
 
 -- what is found at the last start that is not above an address
-FoundAtStep : {A : Type 0} → (ℕ → A) → List ℕ → ℕ → A → Type 0
+abbrev pub FoundAtStep : {A : Type 0} → (ℕ → A) → List ℕ → ℕ → A → Type 0
 FoundAtStep f starts a found =
     (i : ℕ) × (i < length starts) × (get_or starts i 0 ≤ a) × ((j : ℕ) → i < j → j < length starts → a < get_or starts j 0) × (found ≡ f (get_or starts i 0))
 
@@ -173,7 +173,7 @@ of_mapped (r ∷ rows) zero row e =
 of_mapped (r ∷ rows) (suc i) row e = let rest = of_mapped rows i row e in (suc rest.0, omega (arith, rest.1), rest.2)
 
 -- no row stands after one address, up to another one
-NoneBetween : ℕ → ℕ → List Row → Type 0
+abbrev pub NoneBetween : ℕ → ℕ → List Row → Type 0
 NoneBetween s a rows = (i : ℕ) (row : Row) → slice_get rows i ≡ Some row → s < address row → address row ≤ a → ⊥
 
 covers_there : (s a : ℕ) (rows : List Row) (i : ℕ) (row : Row) → s ≤ a → NoneBetween s a rows → CoversAt rows s i row → CoversAt rows a i row

@@ -1,6 +1,7 @@
-use Rattle.std.proofs.Common.{ℕ, ◌≡◌, ◌∙◌, ◌++◌, List, [], map, refl, rules, sym, ap, subst}
+use Rattle.std.proofs.Common.{ℕ, ◌≡◌, ◌∙◌, ◌++◌, List, [], Option, None, get_or, map, refl, replicate, rules, sym, ap, subst}
 use Rattle.std.specs.Prelude.{◌↔◌}
 use Rattle.std.specs.List.{Contains}
+use Rattle.std.proofs.lemmas.List.{get_or-replicate}
 use Rattle.line_programs.specs.declared.registers.Row.{Row}
 use Rattle.source_frames.specs.RowCover.{AreKnown}
 use Rattle.source_frames.specs.RowSteps.{AreRising}
@@ -9,10 +10,11 @@ use Rattle.source_frames.proofs.row_steps.RowSteps.of_rows.Goals as goal
 
 pub cover_all-requires-clause-known : goal.cover_all-requires-clause-known
 cover_all-requires-clause-known c =
+    let all_none : c.in_ok-vec.field-0.items ≡ replicate c.len-count.result None = c.in_ok-vec.ensures.items_if_clones_equal (λ y q. search rules) in
     record {
       count = search rules;
       nexts = search rules;
-      blank = λ i h w. search rules;
+      blank = λ i h w. ap (λ (rows : List (Option Row)). get_or rows i None) all_none ∙ get_or-replicate c.len-count.result i None None (search rules);
       waits = λ i h w. refl;
       found = λ i h not. absurd (not (c.in_ok-waiting.ensures.all i (search rules)));
     }
