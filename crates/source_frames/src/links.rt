@@ -112,7 +112,8 @@ impl<'f, 'a> Making<'f, 'a> {
 
     /// A start gets the link of a function in its own link.
     fn extend(&mut self, index: usize, at: usize) -> Result<(), NoMemory> {
-        let number = self.link(index, self.made.numbers[at])?;
+        let caller = self.made.numbers[at];
+        let number = self.link(index, caller)?;
         self.made.numbers[at] = number;
         if self.count_of(number) >= FRAMES_MAX {
             self.waiting.end(at);
