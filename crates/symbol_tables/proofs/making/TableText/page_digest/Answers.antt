@@ -1,4 +1,4 @@
-use Rattle.std.proofs.Common.{rules, ◌≡◌, ◌∙◌, ◌++◌, ◌-◌, ◌*◌, ap, append_assoc, arith, drop, length, length-take, sym, take}
+use Rattle.std.proofs.Common.{rules, ◌≡◌, ◌≤◌, ◌∙◌, ◌++◌, ◌-◌, ◌*◌, ap, append_assoc, arith, drop, length, length-take, sym, take}
 use Rattle.sha2.specs.Sha256.{sha256}
 use Rattle.symbol_tables.proofs.MakingLemmas.{part_of_three, part_short}
 use Rattle.symbol_tables.proofs.making.TableText.page_digest.Goals as goal
@@ -7,7 +7,10 @@ pub overflow_sub-first : goal.overflow_sub-first
 overflow_sub-first c = omega (arith, ap length c.part-first.ensures, length-take 16384 (drop (16384 * c.args.index) c.deref.result.now))
 
 pub overflow_sub-left : goal.overflow_sub-left
-overflow_sub-left c = omega (arith, part_short _ _ _ c.part-first.ensures, part_short _ _ _ c.part-second.ensures)
+overflow_sub-left c =
+    let first : length c.part-first.result.now ≤ 16384 = part_short _ _ _ c.part-first.ensures in
+    let second : length c.part-second.result.now ≤ 16384 - length c.part-first.result.now = part_short _ _ _ c.part-second.ensures in
+    omega (arith, first, second)
 
 pub returns : goal.returns
 returns c =
