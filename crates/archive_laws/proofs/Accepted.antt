@@ -25,7 +25,7 @@ use Rattle.command_ends.proofs.Readers.{by_device}
 use Rattle.archive_laws.proofs.Given.{known}
 
 -- a text of some meaning
-text : {S : Type 0} (kind : TextKind) (left : S → Option (List ℕ)) (failures : S → ℕ) (old new : Result S CannotOpen) (m : Meaning kind) (bytes : List ℕ) (why : Why) → IsMeaning kind m → IsTextOf kind m bytes
+pub text : {S : Type 0} (kind : TextKind) (left : S → Option (List ℕ)) (failures : S → ℕ) (old new : Result S CannotOpen) (m : Meaning kind) (bytes : List ℕ) (why : Why) → IsMeaning kind m → IsTextOf kind m bytes
     → IsGiven (reader left failures old new) bytes → IsTextRefused kind (reader left failures old new) why → IsDeviceFault why
 text kind left failures (Err _) new m bytes why is of given refused = absurd given
 text kind left failures (Ok source) new m bytes why is of given refused =
@@ -44,7 +44,7 @@ at_place R P (f ∷ files) (text ∷ texts) zero file given good at = let same :
 at_place R P (f ∷ files) (text ∷ texts) (suc place) file given good at = at_place R P files texts place file given.1 good.1 at
 
 module _ (memory_alone : (file : List ℕ) (fault : TakeFault) → IsAcceptedFile file → IsTakeFault file fault → fault ≡ TakeOutOfMemory) where
-  file : {S : Type 0} (left : S → Option (List ℕ)) (failures : S → ℕ) (old new : Result S CannotOpen) (bytes : List ℕ) (why : Why) → IsAcceptedFile bytes
+  pub file : {S : Type 0} (left : S → Option (List ℕ)) (failures : S → ℕ) (old new : Result S CannotOpen) (bytes : List ℕ) (why : Why) → IsAcceptedFile bytes
       → IsGiven (reader left failures old new) bytes → IsFileRefused (reader left failures old new) why → IsDeviceFault why
   file left failures (Err _) new bytes why accepted given refused = absurd given
   file left failures (Ok source) new bytes why accepted given refused =

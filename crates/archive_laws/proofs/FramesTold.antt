@@ -145,7 +145,7 @@ module _ (one : (o : Operations) (key : SliceKey) (place : Where) (answer other 
       λ i. head i ∷ tail i
   all_seen lines o _ _ ys a b = absurd a
 
-  one_told : (lines : Bool) (o : Operations) (frames : List Frame) (status other_status : Status) (text other_text : List ℕ) → TellsFrames lines o frames status text → TellsFrames lines o frames other_status other_text
+  pub one_told : (lines : Bool) (o : Operations) (frames : List Frame) (status other_status : Status) (text other_text : List ℕ) → TellsFrames lines o frames status text → TellsFrames lines o frames other_status other_text
       → (status ≡ other_status) × (text ≡ other_text)
   one_told lines o frames status other_status text other_text a b =
       let told = alike_told a.rows b.rows (all_seen lines o frames a.rows b.rows a.answered b.answered) in
@@ -162,7 +162,7 @@ module _ (one : (o : Operations) (key : SliceKey) (place : Where) (answer other 
 
 -- ---- inputs that are accepted
 
-frames_alone : {S : Type 0} (left : S → Option (List ℕ)) (failures : S → ℕ) (old new : Result S CannotOpen) (bytes : List ℕ) (said : List Frame) (why : Why)
+pub frames_alone : {S : Type 0} (left : S → Option (List ℕ)) (failures : S → ℕ) (old new : Result S CannotOpen) (bytes : List ℕ) (said : List Frame) (why : Why)
     → IsGiven (reader left failures old new) bytes → frames_of bytes ≡ Ok said → IsFramesRefused (reader left failures old new) why → IsDeviceFault why
 frames_alone left failures (Ok source) new bytes said NotOpened is says refused = refused
 frames_alone left failures (Err _) new bytes said NotOpened is says refused = absurd is

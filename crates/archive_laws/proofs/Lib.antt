@@ -15,4 +15,6 @@ pub mod Outcomes
 pub mod Joins
 pub mod FramesTold
 pub mod OneRehearsal
+pub mod Refusals
+pub mod OneEnd
 pub mod Crashes

@@ -11,6 +11,8 @@
 //!   of the commands say in the words of their user;
 //! - [`joins_laws`]: of several archives, asked as their join;
 //! - [`outcome_laws`]: what a command makes of accepted inputs is one OUT and one report;
+//! - [`refusal_laws`]: two calls whose inputs hold the same refuse one of them, for one reason, and those that only
+//!   report end alike;
 //! - [`new_laws`]: what `new` makes is the least archive;
 //! - [`out_laws`]: what a crash leaves at OUT's path.
 //!
@@ -62,6 +64,7 @@ pub mod name_laws;
 pub mod new_laws;
 pub mod out_laws;
 pub mod outcome_laws;
+pub mod refusal_laws;
 pub mod rehearse_laws;
 pub mod retire_laws;
 pub mod symbolicate_laws;

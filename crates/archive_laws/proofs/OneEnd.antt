@@ -1,0 +1,239 @@
+-- Queries whose inputs hold the same end alike.
+use Rattle.std.proofs.Common.{◌≡◌, ℕ, List, [], ◌∷◌, Option, Ok, Err, Bool, refl, sym, ap, ◌∙◌, subst, inl, inr}
+use Rattle.std.specs.List.{AllByRecursion, AllZip}
+use Rattle.archive_core.specs.Content.{Operations, IsContent}
+use Rattle.archive_core.specs.Find.{IsFinds}
+use Rattle.archive_core.specs.Lists.{IsList}
+use Rattle.archive_core.specs.Names.{IsNames, NameRecord}
+use Rattle.archive_core.specs.declared.keys.SliceKey.{SliceKey}
+use Rattle.archive_core.specs.declared.find.FindRow.{FindRow}
+use Rattle.archive_records.specs.Text.{IsArchiveOf}
+use Rattle.report_text.specs.Finds.{find_lines, list_lines}
+use Rattle.report_text.specs.Names.{name_lines}
+use Rattle.crash_frames.specs.Frames.{frames_of}
+use Rattle.crash_frames.specs.declared.frame.Frame.{Frame}
+use Rattle.command_ends.specs.declared.faults.CommandFault.TheVariants.{Input, Output, Report, OutOfMemory}
+use Rattle.command_ends.specs.declared.faults.InputName.{InputName}
+use Rattle.command_ends.specs.declared.faults.Status.{Status}
+use Rattle.command_ends.specs.declared.faults.Why.{Why}
+use Rattle.command_ends.specs.Archives.{AreRefused, AreUnfailed, HoldTogether, further_name, merged}
+use Rattle.command_ends.specs.Ends.{Query}
+use Rattle.command_ends.specs.Found.{TellsFound, found_status}
+use Rattle.command_ends.specs.Inputs.{Reader, EachUntouched, HoldsArchive, IsArchive, IsArchiveRefused, IsDeviceFault, IsFirstRefused, IsFrames, IsFramesRefused}
+use Rattle.command_ends.specs.Inputs.{IsGivenArchive, IsRefusedArchive, IsRefusedInOrder, IsRefusedInTurn}
+use Rattle.command_ends.specs.Outputs.{Takes}
+use Rattle.archive_exchange.specs.ModelEvent.{ModelEvent, AreSeen}
+use Rattle.rehearsal.specs.Script.{acts, script_of}
+use Rattle.rehearsal.specs.declared.event.Event.{Event}
+use Rattle.rehearse.specs.Rehearse.{rehearse}
+use Rattle.archive_queries.specs.Find.{find}
+use Rattle.archive_queries.specs.Name.{TellsNamed, name}
+use Rattle.archive_queries.specs.Symbolicate.{TellsAddresses, symbolicate}
+use Rattle.archive_queries.specs.Frames.{MakesFramed, RefusesFrames, TellsFrames, frames}
+use Rattle.archive_queries.specs.List.{list}
+use Rattle.archive_laws.specs.Joins.{IsGivenJoin}
+use Rattle.archive_laws.specs.Refusals.{ArchivesHoldAlike, EachHoldAlike, EndAlike, HoldAlike, RefuseOne}
+use Rattle.archive_laws.proofs.FramesTold.{frames_alone}
+use Rattle.archive_laws.proofs.Given.{is_given, one_given}
+use Rattle.archive_laws.proofs.Joins.{told_of_join}
+use Rattle.archive_laws.proofs.OneRehearsal.{one_text, script_not_refused}
+use Rattle.archive_laws.proofs.Refusals.{all_good, archives_agree, carried, each_swapped, good_in_turn, one_archive, one_first, one_frames, one_in_turn, one_script, swapped}
+
+-- ---- a query
+
+-- what one call tells the other tells
+abbrev pub TellOne : (Status → List ℕ → Type 0) → (Status → List ℕ → Type 0) → Type 0
+TellOne Makes Others = (status other_status : Status) (text other_text : List ℕ) → Makes status text → Others other_status other_text → (status ≡ other_status) × (text ≡ other_text)
+
+-- what one call tells something of, the other refuses for a device alone
+abbrev pub TellsOrFails : (Status → List ℕ → Type 0) → (InputName → Why → Type 0) → Type 0
+TellsOrFails Makes Refuses = (status : Status) (text : List ℕ) (at : InputName) (why : Why) → Makes status text → Refuses at why → IsDeviceFault why
+
+pub ends_alike : (query other : Query) → TellOne query.Makes other.Makes → RefuseOne query.Refuses other.Refuses
+    → TellsOrFails query.Makes other.Refuses → TellsOrFails other.Makes query.Refuses → EndAlike query other
+ends_alike query other made one left right report another (Ok status) (Ok ended) a b going going_too =
+    let same = made a.1.status b.1.status a.1.text b.1.text a.1.makes b.1.makes in
+    (ap Ok (a.1.reported.0 ∙ same.0 ∙ sym b.1.reported.0), (a.1.text, a.1.reported.1, subst (Takes another) (sym same.1) b.1.reported.1))
+ends_alike query other made one left right report another (Ok status) (Err (Input at why)) a b going going_too =
+    absurd (going_too (left a.1.status a.1.text at why a.1.makes b.0))
+ends_alike query other made one left right report another (Err (Input at why)) (Ok ended) a b going going_too =
+    absurd (going (right b.1.status b.1.text at why b.1.makes a.0))
+ends_alike query other made one left right report another (Err (Input at why)) (Err (Input name reason)) a b going going_too =
+    let same = one at name why reason a.0 b.0 going going_too in (λ i. Err (Input (same.0 i) (same.1 i)), ([], a.1, b.1))
+ends_alike query other made one left right report another (Err (Output _)) ended a b going going_too = absurd (going tt)
+ends_alike query other made one left right report another (Err (Report _)) ended a b going going_too = absurd (going tt)
+ends_alike query other made one left right report another (Err OutOfMemory) ended a b going going_too = absurd (going tt)
+ends_alike query other made one left right report another result (Err (Output _)) a b going going_too = absurd (going_too tt)
+ends_alike query other made one left right report another result (Err (Report _)) a b going going_too = absurd (going_too tt)
+ends_alike query other made one left right report another result (Err OutOfMemory) a b going going_too = absurd (going_too tt)
+
+-- ---- archives
+
+in_turn : {S : Type 0} (x : Reader S) (Untouched : Type 0) (Behind : InputName → Why → Type 0) (at : InputName) (why : Why) → IsRefusedInOrder x Untouched Behind at why → IsRefusedInTurn x Behind at why
+in_turn x Untouched Behind at why (inl p) = inl p.0
+in_turn x Untouched Behind at why (inr p) = inr p
+
+given_others : {R S : Type 0} (xs : List (Reader R)) (ys : List (Reader S)) (contents : List Operations) → EachHoldAlike xs ys → AllZip HoldsArchive xs contents → AllZip IsGivenArchive ys contents
+given_others [] [] [] alike holds = tt
+given_others [] [] (o ∷ contents) alike holds = absurd holds
+given_others (x ∷ xs) (y ∷ ys) [] alike holds = absurd holds
+given_others (x ∷ xs) (y ∷ ys) (o ∷ contents) alike holds =
+    let c = carried x y (IsArchiveOf o) alike.0 holds.0 in ((c.0, c.3, c.2), given_others xs ys contents alike.1 holds.1)
+given_others _ _ contents alike holds = absurd alike
+
+are_archives : {R : Type 0} (xs : List (Reader R)) (contents : List Operations) → AllByRecursion IsContent contents → AllZip HoldsArchive xs contents → AllByRecursion IsArchive xs
+are_archives [] [] are holds = tt
+are_archives (x ∷ xs) (o ∷ contents) are holds = ((o, are.0, holds.0), are_archives xs contents are.1 holds.1)
+are_archives _ _ are holds = absurd holds
+
+module _ {Q R S T : Type 0} (archive : Reader Q) (others : List (Reader R)) (also : Reader S) (more : List (Reader T)) (alike : ArchivesHoldAlike archive others also more) where
+  pub one_of_archives : RefuseOne (AreRefused archive others) (AreRefused also more)
+  one_of_archives at other why another a b alone alone_too =
+      let behind = one_first IsArchive IsArchiveRefused IsArchive IsArchiveRefused archives_agree further_name others more alike.1 in
+      one_in_turn archive also alike.0 (IsFirstRefused further_name IsArchive IsArchiveRefused others) (IsFirstRefused further_name IsArchive IsArchiveRefused more) behind at other why another
+      (in_turn archive (EachUntouched others) (IsFirstRefused further_name IsArchive IsArchiveRefused others) at why a)
+      (in_turn also (EachUntouched more) (IsFirstRefused further_name IsArchive IsArchiveRefused more) other another b) alone alone_too
+
+  -- what they hold together the others do
+  pub given_together : (IsTrue : Operations → Type 0) (held : HoldTogether archive others IsTrue) → IsGivenJoin also more (merged held.content held.contents)
+  given_together IsTrue held =
+      let c = carried archive also (IsArchiveOf held.content) alike.0 held.archive_is in
+      record {
+        content = held.content;
+        contents = held.contents;
+        is_content = held.is_content;
+        are_contents = held.are_contents;
+        archive_is = (c.0, c.3, c.2);
+        others_are = given_others others more held.contents alike.1 held.others_are;
+        join_is = refl;
+      }
+
+  pub both_tell : (IsTrue IsSo : Operations → Type 0) → HoldTogether archive others IsTrue → HoldTogether also more IsSo → (o : Operations) × IsTrue o × IsSo o
+  both_tell IsTrue IsSo held also_held =
+      (merged held.content held.contents, held.is_true, told_of_join also more (merged held.content held.contents) (given_together IsTrue held) IsSo also_held)
+
+  pub held_fails : (IsTrue : Operations → Type 0) (at : InputName) (why : Why) → HoldTogether archive others IsTrue → AreRefused also more at why → IsDeviceFault why
+  held_fails IsTrue at why held refused =
+      let good = are_archives others held.contents held.are_contents held.others_are in
+      good_in_turn archive also alike.0 (IsFirstRefused further_name IsArchive IsArchiveRefused others) (IsFirstRefused further_name IsArchive IsArchiveRefused more) at why
+      (held.content, held.is_content, held.archive_is)
+      (λ first. all_good IsArchive IsArchiveRefused IsArchive IsArchiveRefused archives_agree further_name others more at why alike.1 good first)
+      (in_turn also (EachUntouched more) (IsFirstRefused further_name IsArchive IsArchiveRefused more) at why refused)
+
+pub alike_too : {Q R S T : Type 0} (archive : Reader Q) (others : List (Reader R)) (also : Reader S) (more : List (Reader T)) → ArchivesHoldAlike archive others also more → ArchivesHoldAlike also more archive others
+alike_too archive others also more alike = (swapped archive also alike.0, each_swapped others more alike.1)
+
+-- what their join tells
+abbrev pub asking : {R S : Type 0} → Reader R → List (Reader S) → (Operations → Status → List ℕ → Type 0) → Query
+asking archive others Tells = record {
+  Makes = λ status text. HoldTogether archive others (λ o. Tells o status text);
+  Refuses = AreRefused archive others;
+  Unfailed = AreUnfailed archive others;
+}
+
+pub asked_alike : {Q R S T : Type 0} (archive : Reader Q) (others : List (Reader R)) (also : Reader S) (more : List (Reader T)) (Tells : Operations → Status → List ℕ → Type 0)
+    → ((o : Operations) → TellOne (Tells o) (Tells o)) → ArchivesHoldAlike archive others also more → EndAlike (asking archive others Tells) (asking also more Tells)
+asked_alike archive others also more Tells one alike =
+    ends_alike (asking archive others Tells) (asking also more Tells)
+    (λ status other_status text other_text a b.
+    let both = both_tell archive others also more alike (λ o. Tells o status text) (λ o. Tells o other_status other_text) a b in
+    one both.0 status other_status text other_text both.1 both.2)
+    (one_of_archives archive others also more alike)
+    (λ status text at why a b. held_fails archive others also more alike (λ o. Tells o status text) at why a b)
+    (λ status text at why a b. held_fails also more archive others (alike_too archive others also more alike) (λ o. Tells o status text) at why a b)
+
+-- ---- frames
+
+frames_accepted : {R S : Type 0} (x : Reader R) (y : Reader S) (another : Why) → HoldAlike x y → IsFrames x → IsFramesRefused y another → IsDeviceFault another
+frames_accepted x y another alike good refused =
+    let c = carried x y (λ b. frames_of b ≡ Ok good.0) alike good.1 in frames_alone y.left y.failures y.old y.new c.0 good.0 another c.2 c.3 refused
+
+module _ {O P Q R S T : Type 0} (input : Reader O) (archive : Reader Q) (others : List (Reader R)) (also : Reader P) (other : Reader S) (more : List (Reader T))
+    (alike : HoldAlike input also) (archives : ArchivesHoldAlike archive others other more) where
+  pub one_of_frames : RefuseOne (RefusesFrames input archive others) (RefusesFrames also other more)
+  one_of_frames at name why another (inl a) (inl b) alone alone_too = (a.0.0 ∙ sym b.0.0, one_frames input also why another alike a.0.1 b.0.1 alone alone_too)
+  one_of_frames at name why another (inl a) (inr b) alone alone_too = absurd (alone (frames_accepted also input why (swapped input also alike) b.0 a.0.1))
+  one_of_frames at name why another (inr a) (inl b) alone alone_too = absurd (alone_too (frames_accepted input also another alike a.0 b.0.1))
+  one_of_frames at name why another (inr a) (inr b) alone alone_too = one_of_archives archive others other more archives at name why another a.2 b.2 alone alone_too
+
+  pub framed_fails : (lines : Bool) (status : Status) (text : List ℕ) (at : InputName) (why : Why) → MakesFramed lines input archive others status text → RefusesFrames also other more at why → IsDeviceFault why
+  framed_fails lines status text at why makes (inl b) = frames_accepted input also why alike (makes.said, makes.frames_are) b.0.1
+  framed_fails lines status text at why makes (inr b) = held_fails archive others other more archives (λ o. TellsFrames lines o makes.said status text) at why makes.tells b.2
+
+-- ---- one archive alone
+
+archive_good : {R S : Type 0} (x : Reader R) (y : Reader S) (o : Operations) (at : InputName) (why : Why) → HoldAlike x y → IsContent o → HoldsArchive x o → IsRefusedArchive 0 y at why → IsDeviceFault why
+archive_good x y o at why alike content holds refused = archives_agree.left x y why alike (o, content, holds) refused.1
+
+pub listed_alike : {R S : Type 0} (x : Reader R) (y : Reader S) → ((o : Operations) (rows others : List FindRow) → IsList o rows → IsList o others → rows ≡ others) → HoldAlike x y → EndAlike (list x) (list y)
+listed_alike x y one alike =
+    ends_alike (list x) (list y)
+    (λ status other_status text other_text a b.
+    let c = carried x y (IsArchiveOf a.content) alike a.archive_is in
+    let same = one_given y a.content b.content a.is_content b.is_content (c.0, c.3, c.2) b.archive_is in
+    let rows = one a.content a.rows b.rows a.lists (subst (λ (o : Operations). IsList o b.rows) same b.lists) in
+    (a.status_is ∙ ap found_status rows ∙ sym b.status_is, a.text_is ∙ ap list_lines rows ∙ sym b.text_is))
+    (one_archive x y alike)
+    (λ status text at why a b. archive_good x y a.content at why alike a.is_content a.archive_is b)
+    (λ status text at why a b. archive_good y x a.content at why (swapped x y alike) a.is_content a.archive_is b)
+
+-- ---- what each query tells
+
+pub framed_alike : {O P Q R S T : Type 0} (lines : Bool) (input : Reader O) (archive : Reader Q) (others : List (Reader R)) (also : Reader P) (other : Reader S) (more : List (Reader T))
+    → ((o : Operations) (said : List Frame) → TellOne (TellsFrames lines o said) (TellsFrames lines o said))
+    → HoldAlike input also → ArchivesHoldAlike archive others other more → EndAlike (frames lines input archive others) (frames lines also other more)
+framed_alike lines input archive others also other more one alike archives =
+    ends_alike (frames lines input archive others) (frames lines also other more)
+    (λ status other_status text other_text a b.
+    let c = carried input also (λ bytes. frames_of bytes ≡ Ok a.said) alike a.frames_are in
+    let said = is_given also c.0 (λ bytes. frames_of bytes ≡ Ok b.said) c.2 b.frames_are in
+    let same : b.said ≡ a.said = (let both = sym said ∙ c.3 in cc) in
+    let both = both_tell archive others other more archives (λ o. TellsFrames lines o a.said status text) (λ o. TellsFrames lines o b.said other_status other_text) a.tells b.tells in
+    one both.0 a.said status other_status text other_text both.1 (subst (λ (s : List Frame). TellsFrames lines both.0 s other_status other_text) same both.2))
+    (one_of_frames input archive others also other more alike archives)
+    (λ status text at why a b. framed_fails input archive others also other more alike archives lines status text at why a b)
+    (λ status text at why a b.
+    framed_fails also other more input archive others (swapped input also alike) (alike_too archive others other more archives) lines status text at why a b)
+
+pub found_once : ((o : Operations) (uuid : List ℕ) (rows others : List FindRow) → IsFinds o uuid rows → IsFinds o uuid others → rows ≡ others)
+    → (uuid : List ℕ) (o : Operations) → TellOne (TellsFound o uuid) (TellsFound o uuid)
+found_once one uuid o status other_status text other_text a b =
+    let rows = one o uuid a.rows b.rows a.finds b.finds in
+    (a.status_is ∙ ap found_status rows ∙ sym b.status_is, a.text_is ∙ ap find_lines rows ∙ sym b.text_is)
+
+pub named_once : ((o : Operations) (name : List ℕ) (rows others : List NameRecord) → IsNames o name rows → IsNames o name others → rows ≡ others)
+    → (sought : List ℕ) (o : Operations) → TellOne (TellsNamed o sought) (TellsNamed o sought)
+named_once one sought o status other_status text other_text a b =
+    let rows = one o sought a.rows b.rows a.names b.names in
+    (a.status_is ∙ ap found_status rows ∙ sym b.status_is, a.text_is ∙ ap name_lines rows ∙ sym b.text_is)
+
+pub found_alike : {Q R S T : Type 0} (archive : Reader Q) (others : List (Reader R)) (also : Reader S) (more : List (Reader T)) (uuid : List ℕ)
+    → ((o : Operations) (sought : List ℕ) (rows other : List FindRow) → IsFinds o sought rows → IsFinds o sought other → rows ≡ other)
+    → ArchivesHoldAlike archive others also more → EndAlike (find archive others uuid) (find also more uuid)
+found_alike archive others also more uuid one alike = asked_alike archive others also more (λ o status text. TellsFound o uuid status text) (found_once one uuid) alike
+
+pub named_alike : {Q R S T : Type 0} (archive : Reader Q) (others : List (Reader R)) (also : Reader S) (more : List (Reader T)) (sought : List ℕ)
+    → ((o : Operations) (it : List ℕ) (rows other : List NameRecord) → IsNames o it rows → IsNames o it other → rows ≡ other)
+    → ArchivesHoldAlike archive others also more → EndAlike (name archive others sought) (name also more sought)
+named_alike archive others also more sought one alike = asked_alike archive others also more (λ o status text. TellsNamed o sought status text) (named_once one sought) alike
+
+pub answered_alike : {Q R S T : Type 0} (archive : Reader Q) (others : List (Reader R)) (also : Reader S) (more : List (Reader T)) (key : SliceKey) (load : Option ℕ) (lines : Bool) (addresses : List ℕ)
+    → ((o : Operations) → TellOne (TellsAddresses o key load lines addresses) (TellsAddresses o key load lines addresses))
+    → ArchivesHoldAlike archive others also more → EndAlike (symbolicate archive others key load lines addresses) (symbolicate also more key load lines addresses)
+answered_alike archive others also more key load lines addresses one alike =
+    asked_alike archive others also more (λ o status text. TellsAddresses o key load lines addresses status text) one alike
+
+pub rehearsed_alike : ((events : List Event) (seen other : List ModelEvent) → AreSeen events seen → AreSeen events other → seen ≡ other)
+    → {R S : Type 0} (x : Reader R) (y : Reader S) → HoldAlike x y → EndAlike (rehearse x) (rehearse y)
+rehearsed_alike one x y alike =
+    ends_alike (rehearse x) (rehearse y)
+    (λ status other_status text other_text a b.
+    let c = carried x y (λ bytes. script_of bytes ≡ Ok (a.sites, acts a.events)) alike a.script_is in
+    one_text one x y c.0 status other_status text other_text c.1 c.2 a b)
+    (λ at other why another a b alone alone_too. (a.0 ∙ sym b.0, one_script x y why another alike a.1 b.1 alone alone_too))
+    (λ status text at why a b.
+    let c = carried x y (λ bytes. script_of bytes ≡ Ok (a.sites, acts a.events)) alike a.script_is in
+    script_not_refused y c.0 a.sites (acts a.events) at why c.2 c.3 b)
+    (λ status text at why a b.
+    let c = carried y x (λ bytes. script_of bytes ≡ Ok (a.sites, acts a.events)) (swapped x y alike) a.script_is in
+    script_not_refused x c.0 a.sites (acts a.events) at why c.2 c.3 b)
