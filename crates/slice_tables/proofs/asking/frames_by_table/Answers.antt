@@ -25,15 +25,15 @@ returns-in_err-table g c =
     absent image all is.lines (subst (λ claim. AreStored text (claim_view claim) all) (sym c.in_ok-pages.ensures.claim) stored) pages.0 pages.1 is.are_lines)
     (after_ok _ _ _ _ _ _ _ _ opened.keeps opened.counts c.open.ensures.read)
 
-pub returns-in_default : goal.returns-in_default
-returns-in_default g c =
+pub returns-in_default-2 : goal.returns-in_default-2
+returns-in_default-2 g c =
     let opened = c.in_ok-pages.ensures.read in
     let table = after_ok _ _ _ _ _ _ _ _ opened.keeps opened.counts c.in_ok-table.ensures.read in
     record {
       says = λ text known image all is may.
           let pages = opened.says text known image is.lines all is.is_table may in
           without_lines image is.lines is.are_lines
-          (found_none image all is.lines text c.open.new.pages _ c.in_default.is (table.says text known image all is.lines pages.0 pages.1 is.are_lines));
+          (found_none image all is.lines text c.open.new.pages _ c.in_default-2.is (table.says text known image all is.lines pages.0 pages.1 is.are_lines));
       keeps = table.keeps;
       counts = table.counts;
     }
