@@ -10,7 +10,7 @@ use Rattle.slice_tables.proofs.asking.frames_by_table.Goals as goal
 
 pub returns-in_err-pages : goal.returns-in_err-pages
 returns-in_err-pages g c =
-    let p = err_from_is_err_and c.from_residual-in_err-pages.result c.from_residual-in_err-pages.ensures.1 in
+    let p = err_from_is_err_and c.from_residual.result c.from_residual.ensures.1 in
     passed_on _ _ _ _ _ _ _ _ _ _ _ c.in_err-pages.was (p.1 ∙ ap Err p.2)
     (λ text known absent long image all is stored. absent long image is.lines all is.is_table stored)
     c.open_lines.ensures.read
