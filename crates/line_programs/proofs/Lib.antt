@@ -1,5 +1,5 @@
 mod ShorterLemmas
-mod RowLemmas
-mod CoveringLemmas
+pub mod RowLemmas
+pub mod CoveringLemmas
 mod RunLemmas
 mod NameLemmas

@@ -1,9 +1,9 @@
-mod SectionLemmas
-mod NameLemmas
-mod ChainLemmas
-mod ScopeWalk
+pub mod SectionLemmas
+pub mod NameLemmas
+pub mod ChainLemmas
+pub mod ScopeWalk
 mod SettledLemmas
-mod NestedLemmas
+pub mod NestedLemmas
 pub mod UnitAddressLemmas
 mod FoundLemmas
 mod LawLemmas

@@ -93,7 +93,7 @@ impl Place {
 
 impl<'a> UnitLines<'a> {
     /// The path of a file, by the names of the program.
-    fn path_in(&self, file: Option<u64>) -> Option<PathParts<'a>>
+    pub fn path_in(&self, file: Option<u64>) -> Option<PathParts<'a>>
         ensures { option_map path_view result ≡ path_in (lines_view self.now) file }
     {
         let file = file?;
@@ -106,7 +106,7 @@ impl<'a> UnitLines<'a> {
 
 impl<'a> UnitLines<'a> {
     /// The frame of a row alone.
-    pub(crate) fn frame_of_row(&self, row: &Row) -> Frame<'a>
+    pub fn frame_of_row(&self, row: &Row) -> Frame<'a>
         ensures { frame_view result ≡ frame_of_row (lines_view self.now) row.now }
     {
         Frame {

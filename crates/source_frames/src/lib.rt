@@ -30,5 +30,6 @@ pub use debug_info::DebugInfo;
 pub use debug_sections::DebugSections;
 pub use debug_unit::{DebugUnit, UnitEntry};
 pub use frame::{Frame, Place};
+pub use scopes::{is_function, scope_ranges};
 pub use unit_code::range_attributes;
 pub use unit_lines::UnitLines;

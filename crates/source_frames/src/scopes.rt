@@ -11,7 +11,7 @@ use debug_entries::dw::{DW_TAG_INLINED_SUBROUTINE, DW_TAG_SUBPROGRAM};
 use debug_entries::{Entry, UnreadEntry};
 
 /// Whether an entry is of a function.
-pub(crate) fn is_function(entry: &UnreadEntry<'_, '_>) -> bool
+pub fn is_function(entry: &UnreadEntry<'_, '_>) -> bool
     ensures { result ≡ is_function (unread_view entry.now) }
 {
     entry.tag() == DW_TAG_SUBPROGRAM || entry.tag() == DW_TAG_INLINED_SUBROUTINE
@@ -20,11 +20,7 @@ pub(crate) fn is_function(entry: &UnreadEntry<'_, '_>) -> bool
 /// The ranges of an entry of a unit that is of a function. Of its list, `left` entries count at most, and `left` is then
 /// how many more may count.
 #[tactic(auto, unfolding(crate::specs::Scopes::scope_ranges, crate::specs::Scopes::left_after_scope))]
-pub(crate) fn scope_ranges<'a>(
-    unit: &UnitRanges<'a>,
-    entry: &Entry<'a>,
-    left: &mut u128,
-) -> Ranges<'a>
+pub fn scope_ranges<'a>(unit: &UnitRanges<'a>, entry: &Entry<'a>, left: &mut u128) -> Ranges<'a>
     requires { is_function (entry_view entry.now) ≡ true }
     ensures ranges { result ≡ scope_ranges (ranges_view unit.now) left.old (entry_view entry.now) }
     ensures left { left.new ≡ left_after_scope (ranges_view unit.now) left.old (entry_view entry.now) }

@@ -87,6 +87,15 @@ fn program_in(unit: Option<&[u8]>) -> Option<Program<'_>>
     }
 }
 
+impl<'a> DebugUnit<'a> {
+    /// The offset of the program of the unit in `__debug_line`.
+    pub fn program_offset(&self) -> Option<u64>
+        ensures { result ≡ program_offset (unit_view self.now) (unit_view self.now).first.attributes.stmt_list }
+    {
+        program_offset(self, self.first.attributes.stmt_list)
+    }
+}
+
 impl<'a> UnitLines<'a> {
     /// What the frames of a unit need, of which `lines` are the units of `__debug_line`. It takes the time and the
     /// memory of the names of its program.
