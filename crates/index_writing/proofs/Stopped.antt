@@ -15,6 +15,7 @@ use Rattle.byte_device.specs.declared.disks.CannotOpen.{CannotOpen}
 use Rattle.indexed_tables.specs.Making.{Makes}
 use Rattle.indexed_tables.specs.declared.fault.MakingFault.{MakingFault}
 use Rattle.indexed_tables.specs.declared.fault.MakingFault.TheVariants.{Archive as Refused, Write as Wrote}
+use Rattle.indexed_tables.proofs.Contents.{HaveOneTable}
 use Rattle.indexed_tables.proofs.Made.{gained_bytes, stopped}
 use Rattle.command_ends.specs.Ends.{HasTaken}
 use Rattle.command_ends.specs.Inputs.{reader}
@@ -61,10 +62,10 @@ module _ {R D : Type 0} (left : R → Option (List ℕ)) (failures : R → ℕ) 
   unblamed : Blames left failures source source RecordOutOfMemory
   unblamed = (λ device. absurd (cc (device)), λ other. refl, λ cut. absurd (cc (cut)))
 
-  pub wanted_before : IndexesAmidst (reader left failures (Ok source) (Ok source)) (stream held writes draft draft) (Err OutOfMemory)
-  wanted_before =
+  pub wanted_before : HaveOneTable → IndexesAmidst (reader left failures (Ok source) (Ok source)) (stream held writes draft draft) (Err OutOfMemory)
+  wanted_before once =
       stopped_so left failures source source held writes draft draft (Refused (OfArchive wanted)) OutOfMemory
-      (stopped left failures held writes source source draft draft (Refused (OfArchive wanted)) (nothing_read (left source), refl, (0, inl (refl, Appends-none (held draft)))) unblamed (no_version (left source)))
+      (stopped once left failures held writes source source draft draft (Refused (OfArchive wanted)) (nothing_read (left source), refl, (0, inl (refl, Appends-none (held draft)))) unblamed (no_version (left source)))
       refl
 
 -- ---- the archive was not opened

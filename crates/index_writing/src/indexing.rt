@@ -10,6 +10,7 @@ use byte_device::{CannotOpen, Sink, Source};
 use command_ends::{CommandFault, InputName, Why, opened, refusal};
 use indexed_tables::{MakingFault, index_into};
 use memory::Heap;
+use slice_tables::laws::one_slice_table;
 
 /// What is told of an archive that is refused so.
 fn refusal_of(fault: IndexingFault) -> CommandFault
@@ -42,6 +43,7 @@ pub fn index_input<R: Source, W: Sink>(
     ensures { IndexesAmidst (reader R.left R.failures archive.old archive.new)
         (stream W.held W.failures draft.old draft.new) result }
 {
+    one_slice_table();
     let source = opened(archive, InputName::Archive(0))?;
     match index_into(heap.clone()?, source, draft) {
         Ok(sizes) => Ok(sizes),

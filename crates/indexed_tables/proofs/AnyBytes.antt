@@ -9,6 +9,7 @@ use Rattle.join_core.specs.Listing.{listing}
 use Rattle.symbol_tables.specs.Asked.{IsSaid}
 use Rattle.symbol_tables.specs.Steps.{AreBytes}
 use Rattle.symbol_tables.specs.declared.nearest.NearestSymbol.{NearestSymbol}
+use Rattle.slice_tables.proofs.SliceTables.{table_of_symbols}
 use Rattle.archive_core.specs.Content.{IsContent, Operations}
 use Rattle.archive_core.proofs.Records.{same_parts}
 use Rattle.archive_records.specs.Text.{written}
@@ -48,4 +49,4 @@ of_the_content o index text entries is content short fits read alike tell =
 
 pub told_over : (index text r : List ℕ) (entries : List (List ℕ)) (address : ℕ) (found : Option NearestSymbol) (table : HasTable index entries r) → DigestsTell text (claim_in table.e) table.table → AreBytes (drop 33 r) → IsToldBy text table.e address found → IsSaid (drop 33 r) address found
 told_over index text r entries address found table tell bytes says =
-    says (drop 33 r) table.table bytes table.is_table (record { size = table.stored.size; root = table.stored.root; digests = tell.digests; pages = tell.pages })
+    says (drop 33 r) table.table bytes (table_of_symbols (drop 33 r) table.table table.is_table) (record { size = table.stored.size; root = table.stored.root; digests = tell.digests; pages = tell.pages })

@@ -10,9 +10,9 @@ use Rattle.checked_pages.specs.Pages.{AreStored, page_digests, pages_in, stored}
 use Rattle.checked_pages.proofs.PageLemmas.{length-digests, may_be}
 use Rattle.symbol_tables.specs.Asked.{IsSaid}
 use Rattle.symbol_tables.specs.Steps.{AreBytes}
-use Rattle.symbol_tables.specs.Table.{IsTableText, table_bytes}
+use Rattle.symbol_tables.specs.Table.{IsTableText}
 use Rattle.symbol_tables.specs.declared.nearest.NearestSymbol.{NearestSymbol}
-use Rattle.symbol_tables.proofs.OneSteps.{steps_once}
+use Rattle.slice_tables.specs.SliceTable.{IsSliceTable}
 use Rattle.std.specs.FinSet as set
 use Rattle.archive_core.specs.Content.{IsContent, Operations, is_admission}
 use Rattle.archive_records.proofs.Contents.{members_listed}
@@ -31,35 +31,27 @@ use Rattle.table_index.proofs.Entries.{claim_read}
 
 -- ---- a content has one index
 
--- an image has one table
-one_text : (image bytes others : List ℕ) → IsTableText image bytes → IsTableText image others → bytes ≡ others
-one_text image bytes others a b =
-    let rows = steps_once image a.0.rows b.0.rows a.1.rows b.1.rows in
-    let same : a.0 ≡ b.0 = λ i. record {
-      base = (a.1.base ∙ sym b.1.base) i;
-      names = (a.1.names ∙ sym b.1.names) i;
-      rows = rows i;
-      strings = (a.1.strings ∙ sym b.1.strings) i;
-    } in
-    a.3 ∙ ap table_bytes same ∙ sym b.3
+-- a slice has one table
+abbrev pub HaveOneTable : Type 0
+HaveOneTable = (image bytes others : List ℕ) → IsSliceTable image bytes → IsSliceTable image others → bytes ≡ others
 
-pub same_table : (r t u : List ℕ) → IsTableOf r t → IsTableOf r u → t ≡ u
-same_table r t u a b = elim (cases_Bool (is_admission r)) [
-  | inl h ↦ one_text (drop 33 r) t u (a.admitted h) (b.admitted h)
+pub same_table : HaveOneTable → (r t u : List ℕ) → IsTableOf r t → IsTableOf r u → t ≡ u
+same_table once r t u a b = elim (cases_Bool (is_admission r)) [
+  | inl h ↦ once (drop 33 r) t u (a.admitted h) (b.admitted h)
   | inr h ↦ a.retired h ∙ sym (b.retired h)
 ]
 
-pub same_tables : (rs ts us : List (List ℕ)) → AllZip IsTableOf rs ts → AllZip IsTableOf rs us → ts ≡ us
-same_tables [] [] [] a b = refl
-same_tables [] [] (u ∷ us) a b = absurd b
-same_tables [] (t ∷ ts) us a b = absurd a
-same_tables (r ∷ rs) [] us a b = absurd a
-same_tables (r ∷ rs) (t ∷ ts) [] a b = absurd b
-same_tables (r ∷ rs) (t ∷ ts) (u ∷ us) a b = cc (same_table r t u a.0 b.0, same_tables rs ts us a.1 b.1)
+pub same_tables : HaveOneTable → (rs ts us : List (List ℕ)) → AllZip IsTableOf rs ts → AllZip IsTableOf rs us → ts ≡ us
+same_tables once [] [] [] a b = refl
+same_tables once [] [] (u ∷ us) a b = absurd b
+same_tables once [] (t ∷ ts) us a b = absurd a
+same_tables once (r ∷ rs) [] us a b = absurd a
+same_tables once (r ∷ rs) (t ∷ ts) [] a b = absurd b
+same_tables once (r ∷ rs) (t ∷ ts) (u ∷ us) a b = cc (same_table once r t u a.0 b.0, same_tables once rs ts us a.1 b.1)
 
-pub one_of_content : (o : Operations) (text other : List ℕ) → IsIndexOf o text → IsIndexOf o other → text ≡ other
-one_of_content o text other a b =
-    let same = same_tables (listing o) a.tables b.tables a.each b.each in
+pub one_of_content : HaveOneTable → (o : Operations) (text other : List ℕ) → IsIndexOf o text → IsIndexOf o other → text ≡ other
+one_of_content once o text other a b =
+    let same = same_tables once (listing o) a.tables b.tables a.each b.each in
     a.text_is ∙ (λ i. index_text (tables_text (same i)) (entries_of (listing o) (same i))) ∙ sym b.text_is
 
 -- ---- the claim of a table

@@ -19,7 +19,7 @@ use Rattle.archive_index.specs.Text.{index_magic}
 use Rattle.indexed_tables.specs.Content.{IsIndexOf, IsTableOf, entries_of, front_of, tables_text}
 use Rattle.indexed_tables.specs.Making.{IsBegun, IsTooFar}
 use Rattle.table_index.specs.Text.{end_of}
-use Rattle.indexed_tables.proofs.Contents.{same_table}
+use Rattle.indexed_tables.proofs.Contents.{HaveOneTable, same_table}
 use Rattle.table_index.proofs.Texts.{end_long}
 
 -- records that were read of the text of a content begin its records
@@ -36,14 +36,14 @@ records_begin o records rest (Some left) content ordered apart taken =
     (before.more, before.records)
 
 -- their tables begin those of all
-tables_begin : (rs more ts us : List (List ℕ)) → AllZip IsTableOf (rs ++ more) ts → AllZip IsTableOf rs us → (vs : List (List ℕ)) × (ts ≡ us ++ vs)
-tables_begin [] more ts [] a b = (ts, refl)
-tables_begin [] more ts (u ∷ us) a b = absurd b
-tables_begin (r ∷ rs) more [] us a b = absurd a
-tables_begin (r ∷ rs) more (t ∷ ts) [] a b = absurd b
-tables_begin (r ∷ rs) more (t ∷ ts) (u ∷ us) a b =
-    let n = tables_begin rs more ts us a.1 b.1 in
-    (n.0, cc (same_table r t u a.0 b.0, n.1))
+tables_begin : HaveOneTable → (rs more ts us : List (List ℕ)) → AllZip IsTableOf (rs ++ more) ts → AllZip IsTableOf rs us → (vs : List (List ℕ)) × (ts ≡ us ++ vs)
+tables_begin once [] more ts [] a b = (ts, refl)
+tables_begin once [] more ts (u ∷ us) a b = absurd b
+tables_begin once (r ∷ rs) more [] us a b = absurd a
+tables_begin once (r ∷ rs) more (t ∷ ts) [] a b = absurd b
+tables_begin once (r ∷ rs) more (t ∷ ts) (u ∷ us) a b =
+    let n = tables_begin once rs more ts us a.1 b.1 in
+    (n.0, cc (same_table once r t u a.0 b.0, n.1))
 
 -- the front of an index, and some bytes more
 pub record IsFrontOf (front index : List ℕ) : Type 0 where
@@ -51,9 +51,9 @@ pub record IsFrontOf (front index : List ℕ) : Type 0 where
   pub whole : index ≡ front ++ more
   pub some : 0 < length more
 
-front_begins : (o : Operations) (index : List ℕ) (records tables more : List (List ℕ)) → IsIndexOf o index → listing o ≡ records ++ more → AllZip IsTableOf records tables → IsFrontOf (front_of tables) index
-front_begins o index records tables more is begins each =
-    let all = tables_begin records more is.tables tables (subst (λ (rs : List (List ℕ)). AllZip IsTableOf rs is.tables) begins is.each) each in
+front_begins : HaveOneTable → (o : Operations) (index : List ℕ) (records tables more : List (List ℕ)) → IsIndexOf o index → listing o ≡ records ++ more → AllZip IsTableOf records tables → IsFrontOf (front_of tables) index
+front_begins once o index records tables more is begins each =
+    let all = tables_begin once records more is.tables tables (subst (λ (rs : List (List ℕ)). AllZip IsTableOf rs is.tables) begins is.each) each in
     let entries : List (List ℕ) = entries_of (listing o) is.tables in
     let behind : List ℕ = concat entries ++ end_of entries in
     let text : tables_text is.tables ≡ tables_text tables ++ tables_text all.0 = ap tables_text all.1 ∙ flat_map-append stored tables all.0 in
@@ -67,16 +67,16 @@ front_begins o index records tables more is begins each =
     }
 
 -- what was begun
-pub first_of : (a b c d : Option (List ℕ)) (n : ℕ) (o : Operations) (index : List ℕ) → IsBegun a b c d n → IsContent o → a ≡ Some (written o) → IsIndexOf o index → WritesFirst c d index n
-first_of a b c d n o index (inl nothing) content known is =
-    let front = front_begins o index [] [] (listing o) is refl tt in
+pub first_of : HaveOneTable → (a b c d : Option (List ℕ)) (n : ℕ) (o : Operations) (index : List ℕ) → IsBegun a b c d n → IsContent o → a ≡ Some (written o) → IsIndexOf o index → WritesFirst c d index n
+first_of once a b c d n o index (inl nothing) content known is =
+    let front = front_begins once o index [] [] (listing o) is refl tt in
     record {
       within = omega (arith, nothing.0, ap length front.whole, length-append (front_of []) front.more, front.some);
       gained = subst (λ (k : ℕ). Appends c d (take k index)) (sym nothing.0) nothing.1;
     }
-first_of a b c d n o index (inr begun) content known is =
+first_of once a b c d n o index (inr begun) content known is =
     let there = records_begin o begun.records begun.rest b content begun.ordered begun.apart (subst (λ x. Consumes x b (magic ++ (concat begun.records ++ begun.rest))) known begun.taken) in
-    let front = front_begins o index begun.records begun.tables there.0 is there.1 begun.each in
+    let front = front_begins once o index begun.records begun.tables there.0 is there.1 begun.each in
     let same : take n index ≡ take n (front_of begun.tables) = ap (take n) front.whole ∙ take-append-le n (front_of begun.tables) front.more begun.within in
     record {
       within = omega (arith, begun.within, ap length front.whole, length-append (front_of begun.tables) front.more, front.some);
@@ -91,7 +91,7 @@ n_before text (Some left) records next taken n =
     omega (arith, n, ap length taken, length-append (magic ++ (all ++ [])) left, length-append magic (all ++ []), length-append all [], ap length (concat-push records next), length-append (concat records) next, length-append magic (concat records))
 
 -- the records that were taken, and the front that was written, before what stands too far
-module _ (a b c d : Option (List ℕ)) (far : IsTooFar a b c d) (o : Operations) (index : List ℕ) (content : IsContent o) (known : a ≡ Some (written o)) (is : IsIndexOf o index) where
+module _ (once : HaveOneTable) (a b c d : Option (List ℕ)) (far : IsTooFar a b c d) (o : Operations) (index : List ℕ) (content : IsContent o) (known : a ≡ Some (written o)) (is : IsIndexOf o index) where
   taken_far : Consumes (Some (written o)) b (magic ++ (concat (far.records ++ far.next ∷ []) ++ []))
   taken_far =
       let none : concat (far.records ++ far.next ∷ []) ≡ concat (far.records ++ far.next ∷ []) ++ [] = sym (append-nil (concat (far.records ++ far.next ∷ []))) in
@@ -100,7 +100,7 @@ module _ (a b c d : Option (List ℕ)) (far : IsTooFar a b c d) (o : Operations)
   front_far : IsFrontOf (front_of far.tables) index
   front_far =
       let there = records_begin o (far.records ++ far.next ∷ []) [] b content far.ordered far.apart taken_far in
-      front_begins o index far.records far.tables (far.next ∷ there.0) is (there.1 ∙ append_assoc far.records (far.next ∷ []) there.0) far.each
+      front_begins once o index far.records far.tables (far.next ∷ there.0) is (there.1 ∙ append_assoc far.records (far.next ∷ []) there.0) far.each
 
   -- so the archive or its index is too long
   pub long_far : (2 ^ 64 ≤ length (written o)) ⊎ (2 ^ 64 ≤ length index)
@@ -109,8 +109,8 @@ module _ (a b c d : Option (List ℕ)) (far : IsTooFar a b c d) (o : Operations)
     | inr n ↦ inr (let front = front_far in omega (arith, n, ap length front.whole, length-append (front_of far.tables) front.more))
   ]
 
-pub not_far : (o : Operations) (index : List ℕ) (left held_old held_new : Option (List ℕ)) → IsContent o → IsIndexOf o index → length (written o) < 2 ^ 64 → length index < 2 ^ 64 → IsTooFar (Some (written o)) left held_old held_new → ⊥
-not_far o index left held_old held_new content is short fits far = elim (long_far (Some (written o)) left held_old held_new far o index content refl is) [
+pub not_far : HaveOneTable → (o : Operations) (index : List ℕ) (left held_old held_new : Option (List ℕ)) → IsContent o → IsIndexOf o index → length (written o) < 2 ^ 64 → length index < 2 ^ 64 → IsTooFar (Some (written o)) left held_old held_new → ⊥
+not_far once o index left held_old held_new content is short fits far = elim (long_far once (Some (written o)) left held_old held_new far o index content refl is) [
   | inl n ↦ omega (arith, n, short)
   | inr n ↦ omega (arith, n, fits)
 ]

@@ -35,7 +35,7 @@ use Rattle.indexed_tables.specs.Making.{AreNear, IsBegun, IsMade, IsStopped, Mak
 use Rattle.indexed_tables.specs.declared.fault.MakingFault.{MakingFault}
 use Rattle.indexed_tables.specs.declared.fault.MakingFault.TheVariants.{Archive as Refused, Write as Wrote}
 use Rattle.indexed_tables.proofs.Apart.{as_many}
-use Rattle.indexed_tables.proofs.Contents.{one_of_content}
+use Rattle.indexed_tables.proofs.Contents.{HaveOneTable, one_of_content}
 use Rattle.indexed_tables.proofs.First.{first_of}
 
 -- the bytes that were written
@@ -43,7 +43,7 @@ pub gained_bytes : (a b c d : Option (List ℕ)) (n : ℕ) → IsBegun a b c d n
 gained_bytes a b c d n (inl nothing) = ([], nothing.1, nothing.0)
 gained_bytes a b c d n (inr begun) = (take n (front_of begun.tables), begun.gained, sym (length-take-le n (front_of begun.tables) begun.within))
 
-module _ {R W : Type 0} (left : R → Option (List ℕ)) (failures : R → ℕ) (held : W → Option (List ℕ)) (writes : W → ℕ) (old new : R) (start end : W) where
+module _ {R W : Type 0} (once : HaveOneTable) (left : R → Option (List ℕ)) (failures : R → ℕ) (held : W → Option (List ℕ)) (writes : W → ℕ) (old new : R) (start end : W) where
   -- no index was made
   pub stopped : (fault : MakingFault) → HasStoppedMaking (left old) (left new) held writes start end fault → BlamesMaking left failures old new fault → TellsVersionMaking (left old) fault → Makes (stream left failures old new) (stream held writes start end) (Err fault)
   stopped (Refused (Archive_fault fault)) s blames version = record {
@@ -52,7 +52,7 @@ module _ {R W : Type 0} (left : R → Option (List ℕ)) (failures : R → ℕ) 
     unfailed = s.1;
     count = s.2.0;
     begun = s.2.1;
-    first = λ o index content known is. first_of (left old) (left new) (held start) (held end) s.2.0 o index s.2.1 content known is;
+    first = λ o index content known is. first_of once (left old) (left new) (held start) (held end) s.2.0 o index s.2.1 content known is;
   }
   stopped (Refused OldArchive) s blames version = record {
     refused = (s.0, blames);
@@ -60,7 +60,7 @@ module _ {R W : Type 0} (left : R → Option (List ℕ)) (failures : R → ℕ) 
     unfailed = s.1;
     count = s.2.0;
     begun = s.2.1;
-    first = λ o index content known is. first_of (left old) (left new) (held start) (held end) s.2.0 o index s.2.1 content known is;
+    first = λ o index content known is. first_of once (left old) (left new) (held start) (held end) s.2.0 o index s.2.1 content known is;
   }
   stopped (Refused TooLong) s blames version = record {
     refused = (s.0, blames);
@@ -68,7 +68,7 @@ module _ {R W : Type 0} (left : R → Option (List ℕ)) (failures : R → ℕ) 
     unfailed = s.1;
     count = s.2.0;
     begun = s.2.1;
-    first = λ o index content known is. first_of (left old) (left new) (held start) (held end) s.2.0 o index s.2.1 content known is;
+    first = λ o index content known is. first_of once (left old) (left new) (held start) (held end) s.2.0 o index s.2.1 content known is;
   }
   stopped (Wrote fault) s blames version =
       let gained = gained_bytes (left old) (left new) (held start) (held end) fault.written s.1 in
@@ -79,7 +79,7 @@ module _ {R W : Type 0} (left : R → Option (List ℕ)) (failures : R → ℕ) 
         took = gained.1;
         count = gained.2;
         begun = inl s.1;
-        first = λ o index content known is. first_of (left old) (left new) (held start) (held end) fault.written o index s.1 content known is;
+        first = λ o index content known is. first_of once (left old) (left new) (held start) (held end) fault.written o index s.1 content known is;
       }
 
   -- all records were read and their tables written, and these are their entries
@@ -144,7 +144,7 @@ module _ {R W : Type 0} (left : R → Option (List ℕ)) (failures : R → ℕ) 
     same_index o other is_content known is_other =
         let alone = subst (λ (x : Option (List ℕ)). IfSome x (λ t. (p : Operations) → IsContent p → IsArchiveOf p t → content ≡ p)) known whole.alone in
         let same : content ≡ o = alone o is_content (inl refl) in
-        one_of_content content other index (subst (λ (p : Operations). IsIndexOf p other) (sym same) is_other) is_index
+        one_of_content once content other index (subst (λ (p : Operations). IsIndexOf p other) (sym same) is_other) is_index
 
     -- the writer failed in the entries
     pub stopped_behind : (fault : WriteFault) → StopsPut held writes mid end done (concat (map entry_bytes sorted) ++ end_of (map entry_bytes sorted)) fault.written → IsStopped (stream left failures old new) (stream held writes start end) fault

@@ -7,7 +7,7 @@ use Rattle.byte_device.proofs.Known.{Appends-none}
 use Rattle.checked_pages.specs.Pages.{digests_from, stored}
 use Rattle.checked_pages.specs.Views.{claim_view}
 use Rattle.checked_pages.specs.declared.claim.Claim.{Claim as ClaimFields}
-use Rattle.symbol_tables.specs.Table.{IsTableText}
+use Rattle.slice_tables.specs.SliceTable.{IsSliceTable}
 use Rattle.archive_core.specs.Content.{is_admission}
 use Rattle.archive_core.specs.Record.{admission_record, retirement_record}
 use Rattle.archive_core.specs.Valid.{IsValid}
@@ -24,13 +24,13 @@ use Rattle.indexed_tables.proofs.Contents.{claim_admitted, claim_retired}
 
 -- ---- the table of a slice is that of its admission
 
-admitted_table : (slice t : List ℕ) → IsValid slice → IsTableText slice t → IsTableOf (admission_record slice) t
-admitted_table slice t valid is = record { admitted = λ _. subst (λ s. IsTableText s t) (sym (slice_of slice valid)) is; retired = λ h. absurd (cc) }
+admitted_table : (slice t : List ℕ) → IsValid slice → IsSliceTable slice t → IsTableOf (admission_record slice) t
+admitted_table slice t valid is = record { admitted = λ _. subst (λ s. IsSliceTable s t) (sym (slice_of slice valid)) is; retired = λ h. absurd (cc) }
 
 module _ {W : Type 0} (held : W → Option (List ℕ)) (failures : W → ℕ) (old new : W) (done : ℕ) (slice r : List ℕ) (valid : IsValid slice) (is : admission_record slice ≡ r) where
   -- what was written of a slice's table, and of a record's
   abbrev PutsTable : List ℕ → ClaimFields × ℕ → Type 0
-  PutsTable s put = (table : List ℕ) × IsTableText s table × (claim_view put.0 ≡ claim_at done table) × IsPut held failures old new done (stored table) put.1
+  PutsTable s put = (table : List ℕ) × IsSliceTable s table × (claim_view put.0 ≡ claim_at done table) × IsPut held failures old new done (stored table) put.1
 
   abbrev PutsTableOf : List ℕ → ClaimFields × ℕ → Type 0
   PutsTableOf s put = (table : List ℕ) × IsTableOf s table × (claim_view put.0 ≡ claim_of done s table) × IsPut held failures old new done (stored table) put.1
@@ -42,11 +42,11 @@ module _ {W : Type 0} (held : W → Option (List ℕ)) (failures : W → ℕ) (o
   put_admitted (Ok put) p = subst (λ s. PutsTableOf s put) is (puts_of put p)
   put_admitted (Err fault) p = tt
 
-  pub stopped_admitted : (fault : TableFault) → StopsTable held failures old new done (IsTableText slice) fault → StopsTable held failures old new done (IsTableOf r) fault
+  pub stopped_admitted : (fault : TableFault) → StopsTable held failures old new done (IsSliceTable slice) fault → StopsTable held failures old new done (IsTableOf r) fault
   stopped_admitted OutOfMemory p = p
   stopped_admitted (Write fault) p = (p.0, subst (λ s. IsTableOf s p.0) is (admitted_table slice p.0 valid p.1), p.2)
 
-  pub stopped_as : {T : Type 0} (result : Result T TableFault) → IfErr result (StopsTable held failures old new done (IsTableText slice)) → IfErr result (StopsTable held failures old new done (IsTableOf r))
+  pub stopped_as : {T : Type 0} (result : Result T TableFault) → IfErr result (StopsTable held failures old new done (IsSliceTable slice)) → IfErr result (StopsTable held failures old new done (IsTableOf r))
   stopped_as (Ok value) p = tt
   stopped_as (Err fault) p = stopped_admitted fault p
 

@@ -5,7 +5,7 @@ use Rattle.std.specs.List.{AllZip}
 use Rattle.std.specs.FinSet as set
 use Rattle.join_core.specs.Listing.{listing}
 use Rattle.checked_pages.specs.Pages.{AreStored, Claim, stored}
-use Rattle.symbol_tables.specs.Table.{IsTableText}
+use Rattle.slice_tables.specs.SliceTable.{IsSliceTable}
 use Rattle.archive_core.specs.Content.{Operations, is_admission}
 use Rattle.archive_core.specs.Summary.{Entries, entry}
 use Rattle.archive_index.specs.Entry.{placed_entry}
@@ -23,7 +23,7 @@ table_entry offset at r table = placed_entry offset r ++ claim_bytes (claim_of a
 
 -- this is the table of a record: that of its slice, and nothing of a retirement
 pub record IsTableOf (r table : List ℕ) : Type 0 where
-  pub admitted : is_admission r ≡ true → IsTableText (drop 33 r) table
+  pub admitted : is_admission r ≡ true → IsSliceTable (drop 33 r) table
   pub retired : is_admission r ≡ false → table ≡ []
 
 -- the entries of records and tables that stand one after another, from these offsets on
@@ -58,7 +58,7 @@ pub record HasTable (text : List ℕ) (entries : List (List ℕ)) (r : List ℕ)
   pub among : Contains entries e
   pub entry_is : take 57 e ≡ entry r
   pub table : List ℕ
-  pub is_table : IsTableText (drop 33 r) table
+  pub is_table : IsSliceTable (drop 33 r) table
   pub stored : AreStored text (claim_in e) table
 
 -- two texts end with one end record

@@ -18,10 +18,14 @@ ghost use Rattle.indexed_tables.specs.Making.{IsTooFar};
 ghost use Rattle.table_index.specs.Entry.{claim_in};
 ghost use Rattle.table_index.specs.Text.{IsIndexText};
 
+use slice_tables::laws::one_slice_table;
+
 /// A content has one index.
 pub fn one_index()
     ensures { (o : Operations) (text other : List ℕ) → IsIndexOf o text → IsIndexOf o other → text ≡ other }
-{}
+{
+    one_slice_table();
+}
 
 /// The index of a content is read: it is the text of an index, with the entries of that content.
 pub fn accepted()
@@ -35,7 +39,9 @@ pub fn never_too_long()
     ensures { (o : Operations) (index : List ℕ) (left held_old held_new : Option (List ℕ)) → IsContent o
         → IsIndexOf o index → length (written o) < 2 ^ 64 → length index < 2 ^ 64
         → IsTooFar (Some (written o)) left held_old held_new → ⊥ }
-{}
+{
+    one_slice_table();
+}
 
 /// The index of a content has an entry for each of its slices, and the table of the slice stands where the entry says.
 /// What such an entry tells of an address is the nearest symbol of its slice. Nothing is supposed of SHA-256.

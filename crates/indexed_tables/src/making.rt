@@ -14,6 +14,7 @@ use archive_index::{IndexingFault, begin_archive};
 use archive_records::{RecordFault, Sizes};
 use byte_device::{Sink, Source, put};
 use memory::Heap;
+use slice_tables::laws::one_slice_table;
 use table_index::{TableEntry, magic};
 
 /// Reads an archive of version 2 to its end, and writes the magic of its index and the tables of its records. It gives
@@ -51,8 +52,8 @@ fn put_front<R: Source, W: Sink>(
 }
 
 /// Makes the index of an archive of version 2 as it comes: each table is written once its record was read and tested,
-/// and the entries last. It takes the memory of a record and its table, of 57 bytes for each retirement, and of the
-/// entries.
+/// and the entries last. It takes the memory of a record, of its table and of what makes the lines of that
+/// (`line_making::line_table`), of 57 bytes for each retirement, and of the entries.
 ///
 /// # Errors
 ///
@@ -66,6 +67,7 @@ pub fn index_into<R: Source, W: Sink>(
 ) -> Result<Sizes, MakingFault>
     ensures { Makes (stream R.left R.failures r.old r.new) (stream W.held W.failures w.old w.new) result }
 {
+    one_slice_table();
     let (entries, done) = put_front(heap, r, w)?;
     match put_entries(&sorted(entries), w, done) {
         Ok(sizes) => Ok(sizes),

@@ -4,7 +4,7 @@ ghost use Rattle.std.specs.Prelude.{◌≡◌, ◌<◌, ◌^◌, ℕ, List, IfOk
 ghost use Rattle.byte_device.specs.Writes.{IsPut};
 ghost use Rattle.checked_pages.specs.Pages.{page_digests, stored};
 ghost use Rattle.checked_pages.specs.Views.{claim_view};
-ghost use Rattle.symbol_tables.specs.Table.{IsTableText};
+ghost use Rattle.slice_tables.specs.SliceTable.{IsSliceTable};
 ghost use Rattle.archive_core.specs.Record.{IsOperation, lent_bytes, operation_lent};
 ghost use Rattle.archive_core.specs.Valid.{IsValid};
 ghost use Rattle.table_index.specs.Entry.{claim_at};
@@ -15,6 +15,7 @@ use crate::fault::TableFault;
 use archive_core::{CheckedSlice, Record};
 use byte_device::Sink;
 use checked_pages::Claim;
+use line_making::line_table;
 use memory::{Heap, NoMemory};
 use symbol_tables::TableText;
 use table_index::no_claim;
@@ -25,10 +26,12 @@ fn table_of<'a>(
     slice: &CheckedSlice<'a>,
 ) -> Result<(TableText<'a>, Vec<u8, Heap>), NoMemory>
     requires { IsValid slice.now }
-    ensures table { IfOk result (λ made. IsTableText slice.now made.0) }
+    ensures table { IfOk result (λ made. IsSliceTable slice.now made.0) }
     ensures digests { IfOk result (λ made. made.1.items ≡ page_digests made.0) }
 {
-    let table = TableText::new(heap.clone()?, &slice.image())?;
+    let image = slice.image();
+    let lines = line_table(heap.clone()?, &image)?;
+    let table = TableText::new(heap.clone()?, &image, lines)?;
     let digests = table.page_digests(heap.clone()?)?;
     Ok((table, digests))
 }
@@ -43,10 +46,10 @@ fn put_slice_table<W: Sink>(
 ) -> Result<(Claim, u128), TableFault>
     requires { IsValid slice.now }
     ensures short { IfOk result (λ put. put.1 < 2 ^ 80) }
-    ensures put { IfOk result (λ put. (table : List ℕ) × IsTableText slice.now table
+    ensures put { IfOk result (λ put. (table : List ℕ) × IsSliceTable slice.now table
         × (claim_view put.0 ≡ claim_at done table)
         × IsPut W.held W.failures w.old w.new done (stored table) put.1) }
-    ensures stopped { IfErr result (StopsTable W.held W.failures w.old w.new done (IsTableText slice.now)) }
+    ensures stopped { IfErr result (StopsTable W.held W.failures w.old w.new done (IsSliceTable slice.now)) }
 {
     let Ok((table, digests)) = table_of(heap, slice) else {
         return Err(TableFault::OutOfMemory);

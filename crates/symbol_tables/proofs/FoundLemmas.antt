@@ -134,19 +134,19 @@ one_stands (s ∷ names) rest (suc i) fit h =
     ∙ ap (λ (b : List ℕ). take 32 (drop (32 * i) b)) (drop_at (section_bytes s) (flat_map section_bytes names ++ rest) 32 (long_names s here.0 here.1))
     ∙ one_stands names rest i (All-tail (λ (s : SectionNames). (length s.segment ≤ 16) × (length s.section ≤ 16)) s names fit) (omega (arith, h))
 
-in_table : (t : TableParts) (i : ℕ) → FitsTable t → i < length t.names → take 32 (drop (40 + 32 * i) (table_bytes t)) ≡ option_map_or section_bytes (slice_get t.names i) (zeros 32)
+in_table : (t : TableParts) (i : ℕ) → FitsTable t → i < length t.names → take 32 (drop (48 + 32 * i) (table_bytes t)) ≡ option_map_or section_bytes (slice_get t.names i) (zeros 32)
 unfolding table_bytes
 in_table t i fits h =
-    let rest : List ℕ = rows_bytes t.rows ++ t.strings in
-    ap (take 32) (sym (drop-drop (32 * i) 40 (table_bytes t)))
-    ∙ ap (λ (b : List ℕ). take 32 (drop (32 * i) b)) (drop_at (head_bytes t) (flat_map section_bytes t.names ++ rest) 40 (length-head t))
+    let rest : List ℕ = rows_bytes t.rows ++ (t.strings ++ t.lines) in
+    ap (take 32) (sym (drop-drop (32 * i) 48 (table_bytes t)))
+    ∙ ap (λ (b : List ℕ). take 32 (drop (32 * i) b)) (drop_at (head_bytes t) (flat_map section_bytes t.names ++ rest) 48 (length-head t))
     ∙ one_stands t.names rest i fits.names h
 
-pub names_read : (t : TableParts) (sect first n : ℕ) (bytes : List ℕ) → FitsTable t → 0 < sect → sect ≤ length t.names → first ≡ 40 + 32 * (sect - 1) → n ≡ 32
+pub names_read : (t : TableParts) (sect first n : ℕ) (bytes : List ℕ) → FitsTable t → 0 < sect → sect ≤ length t.names → first ≡ 48 + 32 * (sect - 1) → n ≡ 32
     → bytes ≡ take n (drop first (table_bytes t)) → bytes ≡ names_at t.names sect
 names_read t zero first n bytes fits some within at long is = absurd (omega (arith, some))
 names_read t (suc i) first n bytes fits some within at long is =
-    let here : first ≡ 40 + 32 * i = omega (arith, at) in
+    let here : first ≡ 48 + 32 * i = omega (arith, at) in
     is ∙ ap (λ (k : ℕ). take k (drop first (table_bytes t))) long ∙ ap (λ (k : ℕ). take 32 (drop k (table_bytes t))) here ∙ in_table t i fits (omega (arith, within))
 
 -- there is no such section

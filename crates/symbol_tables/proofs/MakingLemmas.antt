@@ -16,11 +16,10 @@ use Rattle.macho_image.specs.declared.section.Section.{Section}
 use Rattle.macho_symbols.specs.Symbols.{strings_of}
 use Rattle.symbol_tables.specs.Rows.{IsRow, rows_bytes}
 use Rattle.symbol_tables.specs.Steps.{AreSteps}
-use Rattle.symbol_tables.specs.Table.{FitsTable, IsTableOf, IsTableText, SectionNames, TableParts, base_flag, base_or_zero, head_bytes, names_of, section_bytes, table_bytes}
+use Rattle.symbol_tables.specs.Table.{FitsTable, IsTableWith, SectionNames, TableParts, base_flag, base_or_zero, head_bytes, names_of, section_bytes, table_bytes}
 use Rattle.symbol_tables.specs.InnerCandidates.{AreSectionsOf}
 use Rattle.symbol_tables.specs.declared.row.Row.{Row}
 use Rattle.symbol_tables.proofs.RowLemmas.{length-rows_bytes}
-use Rattle.symbol_tables.proofs.OneSteps.{steps_once}
 use Rattle.symbol_tables.proofs.TableLemmas.{length-head, length-names}
 
 -- ---- names of sections are short
@@ -63,50 +62,54 @@ names_along : (ss : List Section) → flat_map (λ s. section_bytes (names_of (s
 names_along [] = refl
 names_along (s ∷ ss) = ap (λ rest. section_bytes (names_of (section_view s)) ++ rest) (names_along ss)
 
-head_of_numbers : Option ℕ → ℕ → ℕ → ℕ → List ℕ
-head_of_numbers base n r s = to_be_bytes w64 (base_flag base) ++ (to_be_bytes w64 (base_or_zero base) ++ (to_be_bytes w64 n ++ (to_be_bytes w64 r ++ to_be_bytes w64 s)))
+head_of_numbers : Option ℕ → ℕ → ℕ → ℕ → ℕ → List ℕ
+head_of_numbers base n r s l =
+    to_be_bytes w64 (base_flag base) ++ (to_be_bytes w64 (base_or_zero base) ++ (to_be_bytes w64 n ++ (to_be_bytes w64 r ++ (to_be_bytes w64 s ++ to_be_bytes w64 l))))
 
-head_along : (t : TableParts) (base : Option ℕ) (n r s : ℕ) → base ≡ t.base → n ≡ length t.names → r ≡ length t.rows → s ≡ length t.strings → head_of_numbers base n r s ≡ head_bytes t
+head_along : (t : TableParts) (base : Option ℕ) (n r s l : ℕ) → base ≡ t.base → n ≡ length t.names → r ≡ length t.rows → s ≡ length t.strings → l ≡ length t.lines
+    → head_of_numbers base n r s l ≡ head_bytes t
 unfolding head_bytes head_of_numbers
-head_along t base n r s b p q e = λ i. head_of_numbers (b i) (p i) (q i) (e i)
+head_along t base n r s l b p q e f = λ i. head_of_numbers (b i) (p i) (q i) (e i) (f i)
 
-pub text_is : (image : List ℕ) (ss : List Section) (rows : List Row) (base : Option ℕ) (n r s : ℕ) (none one two front strings : List ℕ) → AreSectionsOf image ss → AreSteps image rows
-    → base ≡ text_base_of image → strings ≡ strings_of image → n ≡ length ss → r ≡ length rows → s ≡ length strings → base_or_zero base < 2 ^ 64 → All IsRow rows
+-- the table of an image, by its rows and lines
+abbrev parts_for : List ℕ → List Row → List ℕ → TableParts
+parts_for image rows lines = record { base = text_base_of image; names = map names_of (take 255 (sections image)); rows = rows; strings = strings_of image; lines = lines }
+
+pub text_is : (image : List ℕ) (ss : List Section) (rows : List Row) (base : Option ℕ) (n r s l : ℕ) (none one two front strings lines : List ℕ) → AreSectionsOf image ss → AreSteps image rows
+    → base ≡ text_base_of image → strings ≡ strings_of image → n ≡ length ss → r ≡ length rows → s ≡ length strings → l ≡ length lines → base_or_zero base < 2 ^ 64 → All IsRow rows
     → none ≡ []
-    → one ≡ none ++ (to_be_bytes w64 (base_flag base) ++ (to_be_bytes w64 (base_or_zero base) ++ (to_be_bytes w64 n ++ (to_be_bytes w64 r ++ to_be_bytes w64 s))))
+    → one ≡ none ++ (to_be_bytes w64 (base_flag base) ++ (to_be_bytes w64 (base_or_zero base) ++ (to_be_bytes w64 n ++ (to_be_bytes w64 r ++ (to_be_bytes w64 s ++ to_be_bytes w64 l)))))
     → two ≡ one ++ flat_map (λ s. section_bytes (names_of (section_view s))) ss
-    → front ≡ two ++ rows_bytes rows → length front + length strings < 2 ^ 64 → IsTableText image (front ++ strings)
+    → front ≡ two ++ rows_bytes rows → length front + length strings + length lines < 2 ^ 64 → IsTableWith image lines (front ++ (strings ++ lines))
 unfolding head_of_numbers table_bytes
-text_is image ss rows base n r s none one two front strings of are b str long_n long_r long_s fits each empty first second third small =
-    (record { base = text_base_of image; names = map names_of (take 255 (sections image)); rows = rows; strings = strings_of image }, is, fitting, same)
+text_is image ss rows base n r s l none one two front strings lines of are b str long_n long_r long_s long_l fits each empty first second third small =
+    (parts_for image rows lines, record { base = refl; names = refl; rows = are; strings = refl }, fitting, same, refl)
   where
-    is : IsTableOf image (record { base = text_base_of image; names = map names_of (take 255 (sections image)); rows = rows; strings = strings_of image })
-    is = record { base = refl; names = refl; rows = are; strings = refl }
+    t : TableParts
+    t = parts_for image rows lines
 
-    names_are : map names_of (map section_view ss) ≡ map names_of (take 255 (sections image))
+    names_are : map names_of (map section_view ss) ≡ t.names
     names_are = ap (map names_of) of
 
-    long_names : length ss ≡ length (map names_of (take 255 (sections image)))
+    long_names : length ss ≡ length t.names
     long_names = omega (arith, ap length names_are, length-map (map section_view ss) names_of, length-map ss section_view)
 
-    front_is : front ≡ (head_bytes (record { base = text_base_of image; names = map names_of (take 255 (sections image)); rows = rows; strings = strings_of image }) ++ flat_map section_bytes (map names_of (take 255 (sections image)))) ++ rows_bytes rows
+    front_is : front ≡ (head_bytes t ++ flat_map section_bytes t.names) ++ rows_bytes rows
     front_is =
-        let head : one ≡ head_bytes (record { base = text_base_of image; names = map names_of (take 255 (sections image)); rows = rows; strings = strings_of image }) =
-        first ∙ ap (λ x. x ++ head_of_numbers base n r s) empty
-        ∙ head_along (record { base = text_base_of image; names = map names_of (take 255 (sections image)); rows = rows; strings = strings_of image }) base n r s b (long_n ∙ long_names) long_r (long_s ∙ ap length str) in
-        let names : flat_map (λ s. section_bytes (names_of (section_view s))) ss ≡ flat_map section_bytes (map names_of (take 255 (sections image))) = names_along ss ∙ ap (flat_map section_bytes) names_are in
+        let head : one ≡ head_bytes t =
+        first ∙ ap (λ x. x ++ head_of_numbers base n r s l) empty ∙ head_along t base n r s l b (long_n ∙ long_names) long_r (long_s ∙ ap length str) long_l in
+        let names : flat_map (λ s. section_bytes (names_of (section_view s))) ss ≡ flat_map section_bytes t.names = names_along ss ∙ ap (flat_map section_bytes) names_are in
         third ∙ (λ i. (second ∙ (λ j. head j ++ names j)) i ++ rows_bytes rows)
 
-    same : front ++ strings ≡ table_bytes (record { base = text_base_of image; names = map names_of (take 255 (sections image)); rows = rows; strings = strings_of image })
+    same : front ++ (strings ++ lines) ≡ table_bytes t
     same =
-        let head : List ℕ = head_bytes (record { base = text_base_of image; names = map names_of (take 255 (sections image)); rows = rows; strings = strings_of image }) in
-        let names : List ℕ = flat_map section_bytes (map names_of (take 255 (sections image))) in
-        (λ i. front_is i ++ str i) ∙ append_assoc (head ++ names) (rows_bytes rows) (strings_of image) ∙ append_assoc head names (rows_bytes rows ++ strings_of image)
+        let names : List ℕ = flat_map section_bytes t.names in
+        (λ i. front_is i ++ (str i ++ lines)) ∙ append_assoc (head_bytes t ++ names) (rows_bytes rows) (strings_of image ++ lines)
+        ∙ append_assoc (head_bytes t) names (rows_bytes rows ++ (strings_of image ++ lines))
 
-    fitting : FitsTable (record { base = text_base_of image; names = map names_of (take 255 (sections image)); rows = rows; strings = strings_of image })
+    fitting : FitsTable t
     fitting =
-        let head : List ℕ = head_bytes (record { base = text_base_of image; names = map names_of (take 255 (sections image)); rows = rows; strings = strings_of image }) in
-        let names : List ℕ = flat_map section_bytes (map names_of (take 255 (sections image))) in
+        let names : List ℕ = flat_map section_bytes t.names in
         record {
           base = subst (λ o. base_or_zero o < 2 ^ 64) b fits;
           names = short_names image;
@@ -117,10 +120,10 @@ text_is image ss rows base n r s none one two front strings of are b str long_n 
                 small,
                 ap length front_is,
                 ap length str,
-                length-append (head ++ names) (rows_bytes rows),
-                length-append head names,
-                length-head (record { base = text_base_of image; names = map names_of (take 255 (sections image)); rows = rows; strings = strings_of image }),
-                length-names (map names_of (take 255 (sections image))) (short_names image),
+                length-append (head_bytes t ++ names) (rows_bytes rows),
+                length-append (head_bytes t) names,
+                length-head t,
+                length-names t.names (short_names image),
                 length-rows_bytes rows,
               );
         }
@@ -139,7 +142,7 @@ take_of_both a b n = elim (cases_lt (length a) n) [
 ]
 
 -- a part of two lists one after the other has a part of each
-pub part_of_both : (a b : List ℕ) (from n : ℕ) → take n (drop from (a ++ b)) ≡ take n (drop from a) ++ take (n - length (take n (drop from a))) (drop (from - length a) b)
+part_of_both : (a b : List ℕ) (from n : ℕ) → take n (drop from (a ++ b)) ≡ take n (drop from a) ++ take (n - length (take n (drop from a))) (drop (from - length a) b)
 part_of_both a b from n = elim (cases_lt (length a) from) [
   | inl l ↦
       let past : drop from a ≡ [] = drop_all from a (omega (arith, l)) in
@@ -153,15 +156,12 @@ part_of_both a b from n = elim (cases_lt (length a) from) [
       ap (take n) (drop-append-le from a b l) ∙ take_of_both (drop from a) b n ∙ ap (λ k. take n (drop from a) ++ take (n - length (take n (drop from a))) (drop k b)) here
 ]
 
--- ---- one table
+pub part_short : (part : List ℕ) (n : ℕ) (all : List ℕ) → part ≡ take n all → length part ≤ n
+part_short part n all is = omega (arith, ap length is, length-take n all)
 
-pub one_text : (image bytes others : List ℕ) → IsTableText image bytes → IsTableText image others → bytes ≡ others
-one_text image bytes others a b =
-    let rows = steps_once image a.0.rows b.0.rows a.1.rows b.1.rows in
-    let same : a.0 ≡ b.0 = λ i. record {
-      base = (a.1.base ∙ sym b.1.base) i;
-      names = (a.1.names ∙ sym b.1.names) i;
-      rows = rows i;
-      strings = (a.1.strings ∙ sym b.1.strings) i;
-    } in
-    a.3 ∙ ap table_bytes same ∙ sym b.3
+-- and so it is of three, where the third has what the second leaves
+pub part_of_three : (a b c : List ℕ) (from n : ℕ) → take n (drop from (a ++ (b ++ c)))
+    ≡ take n (drop from a) ++ (take (n - length (take n (drop from a))) (drop (from - length a) b)
+    ++ take (n - length (take n (drop from a)) - length (take (n - length (take n (drop from a))) (drop (from - length a) b))) (drop (from - length a - length b) c))
+part_of_three a b c from n =
+    part_of_both a (b ++ c) from n ∙ ap (λ rest. take n (drop from a) ++ rest) (part_of_both b c (from - length a) (n - length (take n (drop from a))))

@@ -1,4 +1,4 @@
--- An image has one list of steps.
+-- An image has one list of steps, and one table with some lines.
 use Rattle.std.proofs.Common.{◌≡◌, ℕ, zero, suc, ◌<◌, List, [], ◌∷◌, length, map, get_or, refl, sym, ap, ◌∙◌, subst, inl, inr, arith, Contains, Option, Some, None, ◌⊎◌}
 use Rattle.std.proofs.lemmas.List.{get_or-map, same_lists}
 use Rattle.std.proofs.Math.ListN.{length-map}
@@ -7,6 +7,7 @@ use Rattle.macho_symbols.specs.Nearest.{IsNearest}
 use Rattle.macho_symbols.proofs.Order.{nearest_once}
 use Rattle.symbol_tables.specs.declared.row.Row.{Row}
 use Rattle.symbol_tables.specs.Steps.{AreSteps, SaysNearest, Says, IsLeastIndexOf}
+use Rattle.symbol_tables.specs.Table.{IsTableWith, table_bytes}
 
 -- ---- rising numbers
 
@@ -93,3 +94,17 @@ steps_once image rows others a b =
     let same : (get_or rows k d).start ≡ (get_or others k d).start =
     sym (get_or-map (λ r. r.start) rows k d d.start l) ∙ ap (λ (xs : List ℕ). get_or xs k d.start) starts ∙ get_or-map (λ r. r.start) others k d d.start within in
     same_row image (get_or rows k d) (get_or others k d) same (a.each k d l) (b.each k d within))
+
+-- ---- one table
+
+pub one_text : (image lines bytes others : List ℕ) → IsTableWith image lines bytes → IsTableWith image lines others → bytes ≡ others
+one_text image lines bytes others a b =
+    let rows = steps_once image a.0.rows b.0.rows a.1.rows b.1.rows in
+    let same : a.0 ≡ b.0 = λ i. record {
+      base = (a.1.base ∙ sym b.1.base) i;
+      names = (a.1.names ∙ sym b.1.names) i;
+      rows = rows i;
+      strings = (a.1.strings ∙ sym b.1.strings) i;
+      lines = (a.4 ∙ sym b.4) i;
+    } in
+    a.3 ∙ ap table_bytes same ∙ sym b.3

@@ -7,6 +7,11 @@ pub pushed_four : (old a b c d one two three four : List ℕ) → one ≡ old ++
 pushed_four old a b c d one two three four p q r s =
     s ∙ (λ i. (r ∙ (λ j. (q ∙ (λ k. p k ++ b)) j ++ c)) i ++ d) ∙ simp append_assoc
 
+pub pushed_five : (old a b c d e one two three four five : List ℕ) → one ≡ old ++ a → two ≡ one ++ b → three ≡ two ++ c → four ≡ three ++ d → five ≡ four ++ e
+    → five ≡ old ++ (a ++ (b ++ (c ++ (d ++ e))))
+pushed_five old a b c d e one two three four five p q r s t =
+    t ∙ (λ h. (s ∙ (λ i. (r ∙ (λ j. (q ∙ (λ k. p k ++ b)) j ++ c)) i ++ d)) h ++ e) ∙ simp append_assoc
+
 zeros-drop : (m n : ℕ) → drop n (zeros m) ≡ zeros (m - n)
 unfolding zeros
 zeros-drop m zero = let e : m ≡ m - 0 = omega arith in ap zeros e

@@ -11,6 +11,7 @@ pub record IsHeadOf (head : Head) (t : TableParts) : Type 0 where
   pub sections : head.sections ≡ length t.names
   pub rows : head.rows ≡ length t.rows
   pub strings : head.strings ≡ length t.strings
+  pub lines : head.lines ≡ length t.lines
 
 -- The table stands, as far as digests tell, in the text, and its parts are where its head says.
 pub record IsOpened (table : Table) (text : List ℕ) (t : TableParts) : Type 0 where

@@ -20,16 +20,23 @@ use memory::Heap;
 impl Table {
     /// The offset of the first row in the table.
     fn first_row(&self) -> u64
-        ensures { result ≡ 40 + 32 * self.now.head.sections }
+        ensures { result ≡ 48 + 32 * self.now.head.sections }
     {
         HEAD_LEN as u64 + SECTION_LEN * self.head.sections
     }
 
     /// The offset of the first byte of the strings in the table.
     fn first_string(&self) -> u64
-        ensures { result ≡ 40 + 32 * self.now.head.sections + 21 * self.now.head.rows }
+        ensures { result ≡ 48 + 32 * self.now.head.sections + 21 * self.now.head.rows }
     {
         self.first_row() + ROW_LEN as u64 * self.head.rows
+    }
+
+    /// The offset of the first byte of the lines in the table.
+    pub(crate) fn first_line(&self) -> u64
+        ensures { result ≡ 48 + 32 * self.now.head.sections + 21 * self.now.head.rows + self.now.head.strings }
+    {
+        self.first_string() + self.head.strings
     }
 
     /// The nearest symbol of an address of the file.

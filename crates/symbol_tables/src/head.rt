@@ -7,4 +7,5 @@ pub(crate) struct Head {
     pub sections: u64,
     pub rows: u64,
     pub strings: u64,
+    pub lines: u64,
 }

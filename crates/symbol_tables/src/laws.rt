@@ -4,7 +4,7 @@ ghost use Rattle.std.specs.Prelude.{◌≡◌, ◌<◌, ◌^◌, ℕ, List, Opti
 ghost use Rattle.macho_symbols.specs.Nearest.{IsNearest};
 ghost use Rattle.symbol_tables.specs.Rows.{AreRows, IsRowFor, rows_bytes};
 ghost use Rattle.symbol_tables.specs.Steps.{AreBytes, AreSteps, SaysNearest};
-ghost use Rattle.symbol_tables.specs.Table.{IsTableText};
+ghost use Rattle.symbol_tables.specs.Table.{IsTableWith};
 ghost use Rattle.symbol_tables.specs.declared.row.Row.{Row};
 
 /// An address belongs to one row or to none.
@@ -32,7 +32,8 @@ pub fn one_steps()
     ensures { (image : List ℕ) (rows others : List Row) → AreSteps image rows → AreSteps image others → rows ≡ others }
 {}
 
-/// An image has one table.
+/// An image and lines have one table.
 pub fn one_text()
-    ensures { (image bytes others : List ℕ) → IsTableText image bytes → IsTableText image others → bytes ≡ others }
+    ensures { (image lines bytes others : List ℕ) → IsTableWith image lines bytes → IsTableWith image lines others
+        → bytes ≡ others }
 {}

@@ -21,6 +21,7 @@
 //! - `nearest`: [`NearestSymbol`]; `asking`: [`Table::nearest`], the nearest symbol of an address, and
 //!   [`nearest_by_claim`], of a table that is opened for it;
 //! - `found`: [`OwnedFound`], a symbol with the names of its section; [`Table::found`];
+//! - `lines`: [`open_lines`], where the lines of a table begin;
 //! - `laws`: what the definitions say of each other.
 //!
 //! Decided:
@@ -31,8 +32,9 @@
 //! - Names are compared piece by piece. Where those of candidates of one value have more bytes than the strings, they
 //!   overlap, and are compared by their order, which costs at most 1,023 bytes and two ranks each time.
 //! - The order of candidates goes on with `n_strx`, so the first one has the least place of its name.
-//! - A table is its front (head, sections, rows) in memory and the strings where they lie: a page is hashed in these
-//!   two parts, and no string is copied.
+//! - A table is its front (head, sections, rows) in memory, the strings where they lie, and its lines as another maker
+//!   gave them: a page is hashed in these three parts, and none is copied.
+//! - What the lines of a table are is not told here: what is asked of its symbols holds with any.
 #![tactic(auto)]
 
 mod asking;
@@ -41,6 +43,7 @@ mod compared;
 mod found;
 mod head;
 pub mod laws;
+mod lines;
 mod making;
 mod names;
 mod nearest;
@@ -56,6 +59,7 @@ mod turns;
 
 pub use asking::nearest_by_claim;
 pub use found::OwnedFound;
+pub use lines::open_lines;
 pub use making::TableText;
 pub use names::name_from;
 pub use nearest::NearestSymbol;

@@ -1,11 +1,11 @@
 //! The table of an image, made and written.
 
-ghost use Rattle.std.specs.Prelude.{◌≡◌, ◌<◌, ◌*◌, ◌^◌, IfOk, length, take, drop};
+ghost use Rattle.std.specs.Prelude.{◌≡◌, ◌<◌, ◌+◌, ◌*◌, ◌^◌, ◌↔◌, IfOk, IsTrue, length, take, drop};
 ghost use Rattle.sha2.specs.Sha256.{sha256};
 ghost use Rattle.byte_device.specs.Writes.{Puts};
 ghost use Rattle.checked_pages.specs.Pages.{page_digests, page_of, stored};
 ghost use Rattle.macho_symbols.specs.Fault.{HasSymbols};
-ghost use Rattle.symbol_tables.specs.Table.{IsTableText};
+ghost use Rattle.symbol_tables.specs.Table.{IsTableWith};
 
 use crate::scan::Scan;
 use crate::sweep::steps;
@@ -17,20 +17,30 @@ use memory::{Heap, NoMemory};
 use sha2::{Digest, Sha256};
 use std::marker::Model;
 
-/// The bytes of the table of an image: its head, sections and rows, and its strings, which are borrowed from the image.
-/// A contract sees all of them, one after another.
+/// The bytes of the table of an image: its head, sections and rows, its strings, which are borrowed from the image, and
+/// its lines. A contract sees all of them, one after another.
 #[derive(Drop)]
 pub struct TableText<'a> {
     front: Vec<u8, Heap>,
     strings: &'a [u8],
+    lines: Vec<u8, Heap>,
 }
 
 impl<'a> Model for TableText<'a> {
-    ghost use Rattle.std.specs.Prelude.{ℕ, List, ◌++◌};
+    ghost use Rattle.std.specs.Prelude.{ℕ, List, ◌++◌, ◌+◌, ◌<◌, ◌^◌, length};
 
     ghost Value = { List ℕ };
 
-    ghost view = { λ t. t.front.items ++ t.strings.now };
+    ghost view = { λ t. t.front.items ++ (t.strings.now ++ t.lines.items) };
+
+    ghost invariant = { λ t. length t.front.items + length t.strings.now + length t.lines.items < 2 ^ 64 };
+}
+
+/// Whether parts of these lengths have fewer than 2^64 bytes.
+fn is_counted(front: usize, strings: usize, lines: usize) -> bool
+    ensures { IsTrue result ↔ (front + strings + lines < 2 ^ 64) }
+{
+    front as u128 + strings as u128 + lines as u128 <= u128::from(u64::MAX)
 }
 
 /// So many bytes from an offset on, or as many of them as there are.
@@ -42,12 +52,17 @@ fn part(bytes: &[u8], from: usize, len: usize) -> &[u8]
 }
 
 impl<'a> TableText<'a> {
-    /// The table of an image whose symbols can be read. It takes 24 bytes for each entry that is a candidate and 45 for
-    /// each row, and no copy of the strings; where names that are compared overlap, up to two bytes for each of the
-    /// strings. `NoMemory` where a growth was refused.
-    pub fn new(heap: Heap, image: &Image<'a>) -> Result<TableText<'a>, NoMemory>
+    /// The table of an image whose symbols can be read, with these bytes as its lines. It takes 24 bytes for each entry
+    /// that is a candidate and 45 for each row, and no copy of the strings or the lines; where names that are compared
+    /// overlap, up to two bytes for each of the strings. `NoMemory` where a growth was refused, and for a table of 2^64
+    /// bytes.
+    pub fn new(
+        heap: Heap,
+        image: &Image<'a>,
+        lines: Vec<u8, Heap>,
+    ) -> Result<TableText<'a>, NoMemory>
         requires { HasSymbols image.now }
-        ensures { IfOk result (λ text. IsTableText image.now text) }
+        ensures { IfOk result (λ text. IsTableWith image.now lines.items text) }
     {
         let scan = Scan::new(heap.clone()?, image)?;
         let rows = steps(heap.clone()?, &scan)?;
@@ -59,20 +74,28 @@ impl<'a> TableText<'a> {
             sections.len(),
             rows.len(),
             strings.len(),
+            lines.len(),
         )?;
         push_sections(&mut front, sections)?;
         push_rows(&mut front, &rows)?;
-        Ok(TableText { front, strings })
+        if !is_counted(front.len(), strings.len(), lines.len()) {
+            return Err(NoMemory);
+        }
+        Ok(TableText {
+            front,
+            strings,
+            lines,
+        })
     }
 
     /// How many bytes it has.
     pub fn size(&self) -> u64
         ensures { result ≡ length self.now }
     {
-        self.front.len() as u64 + self.strings.len() as u64
+        self.front.len() as u64 + self.strings.len() as u64 + self.lines.len() as u64
     }
 
-    /// The SHA-256 of a page. What it has of the strings is not copied.
+    /// The SHA-256 of a page. What it has of the strings and the lines is not copied.
     fn page_digest(&self, index: u64) -> [u8; 32]
         requires there { 16384 * index < length self.now }
         requires fits { 16384 * index < 2 ^ 64 }
@@ -82,9 +105,13 @@ impl<'a> TableText<'a> {
         let first = part(&self.front, from, PAGE_LEN as usize);
         let after = from.saturating_sub(self.front.len());
         let second = part(self.strings, after, PAGE_LEN as usize - first.len());
+        let left = PAGE_LEN as usize - first.len() - second.len();
+        let past = after.saturating_sub(self.strings.len());
+        let third = part(&self.lines, past, left);
         let mut hasher = Sha256::new();
         hasher.update(first);
         hasher.update(second);
+        hasher.update(third);
         hasher.finalize()
     }
 
@@ -112,6 +139,7 @@ impl<'a> TableText<'a> {
     {
         let between = put(w, done, digests)?;
         let before = put(w, between, &self.front)?;
-        put(w, before, self.strings)
+        let after = put(w, before, self.strings)?;
+        put(w, after, &self.lines)
     }
 }

@@ -17,7 +17,7 @@ use checked_pages::{CheckFault, Claim, Pages};
 use memory::Heap;
 
 /// How many bytes the head has.
-pub(crate) const HEAD_LEN: usize = 40;
+pub(crate) const HEAD_LEN: usize = 48;
 
 /// How many bytes the names of a section have.
 pub(crate) const SECTION_LEN: u64 = 32;
@@ -31,7 +31,7 @@ fn base_of(flag: u64, value: u64) -> Option<u64>
 
 /// The head that these bytes are.
 fn head_of(bytes: &[u8]) -> Head
-    requires { length bytes.now ≡ 40 }
+    requires { length bytes.now ≡ 48 }
     ensures { (t : TableParts) → FitsTable t → bytes.now ≡ head_bytes t → IsHeadOf result t }
 {
     Head {
@@ -39,16 +39,19 @@ fn head_of(bytes: &[u8]) -> Head
         sections: u64_be_at(bytes, 16),
         rows: u64_be_at(bytes, 24),
         strings: u64_be_at(bytes, 32),
+        lines: u64_be_at(bytes, 40),
     }
 }
 
 /// Whether a table with this head has so many bytes.
 fn has_size(head: &Head, size: u64) -> bool
-    ensures { IsTrue result ↔ (size ≡ 40 + 32 * head.now.sections + 21 * head.now.rows + head.now.strings) }
+    ensures { IsTrue result
+        ↔ (size ≡ 48 + 32 * head.now.sections + 21 * head.now.rows + head.now.strings + head.now.lines) }
 {
     let names = u128::from(SECTION_LEN) * u128::from(head.sections);
     let rows = ROW_LEN as u128 * u128::from(head.rows);
-    u128::from(size) == HEAD_LEN as u128 + names + rows + u128::from(head.strings)
+    let parts = u128::from(head.strings) + u128::from(head.lines);
+    u128::from(size) == HEAD_LEN as u128 + names + rows + parts
 }
 
 impl Table {

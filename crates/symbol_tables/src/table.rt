@@ -10,5 +10,5 @@ use checked_pages::Pages;
 pub struct Table {
     pub(crate) pages: Pages,
     pub(crate) head: Head,
-    ghost size: { 40 + 32 * head.sections + 21 * head.rows + head.strings < 2 ^ 64 },
+    ghost size: { 48 + 32 * head.sections + 21 * head.rows + head.strings + head.lines < 2 ^ 64 },
 }

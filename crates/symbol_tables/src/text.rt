@@ -93,15 +93,18 @@ pub(crate) fn push_head(
     sections: usize,
     rows: usize,
     strings: usize,
+    lines: usize,
 ) -> Result<(), NoMemory>
     ensures base { base_or_zero base < 2 ^ 64 }
     ensures pushed { OnOk result (text.new.items ≡ text.old.items ++ (to_be_bytes w64 (base_flag base)
         ++ (to_be_bytes w64 (base_or_zero base)
-        ++ (to_be_bytes w64 sections ++ (to_be_bytes w64 rows ++ to_be_bytes w64 strings))))) }
+        ++ (to_be_bytes w64 sections ++ (to_be_bytes w64 rows
+        ++ (to_be_bytes w64 strings ++ to_be_bytes w64 lines)))))) }
 {
     push_base(text, base)?;
     push_u64(text, sections as u64)?;
     push_u64(text, rows as u64)?;
     push_u64(text, strings as u64)?;
+    push_u64(text, lines as u64)?;
     Ok(())
 }

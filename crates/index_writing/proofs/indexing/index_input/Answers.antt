@@ -10,7 +10,7 @@ returns-in_err-source g c =
 pub returns-in_err-clone : goal.returns-in_err-clone
 returns-in_err-clone g c =
     let p = err_from_is_err_and c.from_residual-in_err-clone.result c.from_residual-in_err-clone.ensures.1 in
-    rw (p.1, p.2, lent_from c.args.archive.now _ c.in_ok-source.ensures.source) (wanted_before g.R.Source.left g.R.Source.failures _ g.W.Sink.held g.W.Sink.failures _)
+    rw (p.1, p.2, lent_from c.args.archive.now _ c.in_ok-source.ensures.source) (wanted_before g.R.Source.left g.R.Source.failures _ g.W.Sink.held g.W.Sink.failures _ c.one_slice_table.ensures)
 
 pub returns-in-Ok : goal.returns-in-Ok
 returns-in-Ok g c =

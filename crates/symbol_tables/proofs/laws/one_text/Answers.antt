@@ -1,4 +1,4 @@
-use Rattle.symbol_tables.proofs.MakingLemmas.{one_text}
+use Rattle.symbol_tables.proofs.OneSteps.{one_text}
 use Rattle.symbol_tables.proofs.laws.one_text.Goals as goal
 
 pub returns : goal.returns

@@ -1,7 +1,7 @@
 use Rattle.std.proofs.Common.{◌∙◌, ◌++◌, append_assoc}
 use Rattle.std.specs.Int.{w64, to_be_bytes}
 use Rattle.symbol_tables.specs.Table.{base_flag, base_or_zero}
-use Rattle.symbol_tables.proofs.TextLemmas.{pushed_four}
+use Rattle.symbol_tables.proofs.TextLemmas.{pushed_five}
 use Rattle.symbol_tables.proofs.text.push_head.Goals as goal
 
 pub returns-clause-pushed : goal.returns-clause-pushed
@@ -12,5 +12,6 @@ returns-clause-pushed c =
     let sections = to_be_bytes w64 c.args.sections in
     let rows = to_be_bytes w64 c.args.rows in
     let strings = to_be_bytes w64 c.args.strings in
-    pushed_four (old ++ flag) base sections rows strings _ _ _ _ c.in_ok-push_base.ensures c.in_ok-push_u64.ensures c.in_ok-push_u64-2.ensures c.in_ok-push_u64-3.ensures
-    ∙ append_assoc old flag (base ++ (sections ++ (rows ++ strings)))
+    let lines = to_be_bytes w64 c.args.lines in
+    pushed_five (old ++ flag) base sections rows strings lines _ _ _ _ _ c.in_ok-push_base.ensures c.in_ok-push_u64.ensures c.in_ok-push_u64-2.ensures c.in_ok-push_u64-3.ensures c.in_ok-push_u64-4.ensures
+    ∙ append_assoc old flag (base ++ (sections ++ (rows ++ (strings ++ lines))))
