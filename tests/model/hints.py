@@ -166,6 +166,8 @@ def what_is_wrong(place: str, text: str, there: Optional[bytes], obstacle: Optio
         return ", of an archive in which a slice changed since it came in: run `symarch-keep check` first"
     if text.startswith("Damaged at entry"):
         return ", changed since it was written: run `symarch-keep check` if it keeps the archive, else `index`"
+    if text.startswith("NoLines at entry"):
+        return ", without the lines of that slice, which are too many for it: ask without `--index`"
     if place in ("frames", "script"):
         return faulty_line(text, there)
     look = look_of(there)

@@ -18,7 +18,6 @@ use Rattle.join_core.specs.Listing.{listing}
 use Rattle.join_core.proofs.Listing.{listed}
 use Rattle.checked_pages.specs.Pages.{AreStored, stored}
 use Rattle.symbol_tables.specs.Steps.{AreBytes}
-use Rattle.slice_tables.proofs.SliceTables.{table_of_symbols}
 use Rattle.archive_core.specs.Content.{IsContent, Operations, is_admission}
 use Rattle.archive_core.specs.Key.{key_bytes}
 use Rattle.archive_core.specs.Record.{Admits, IsRecord, admission_record}
@@ -197,7 +196,7 @@ module _ (o : Operations) (text : List ℕ) (file : IsIndexFile o text) where
           bytes = subst AreBytes (sym back) (file.slices a.slice has);
           digest_is = digest_of e (key_bytes (key_of a.slice)) (sha256 a.slice) (length-key_of a.slice a.valid) (entry_begins before at r t is_record ∙ admitted_entry r a) ∙ ap sha256 (sym back);
           table = t;
-          is_table = table_of_symbols (drop 33 r) t (is_table.admitted admitted);
+          is_table = is_table.admitted admitted;
           stored = subst (λ c. AreStored text c t) (sym (entry_claim before at r t is_record admitted fits small)) stored_at;
         }
 

@@ -1,5 +1,5 @@
 -- What several indexes tell together is right of the content that their archives make together.
-use Rattle.std.proofs.Common.{◌≡◌, ◌≢◌, ℕ, suc, ◌<◌, ◌≤◌, true, List, [], ◌∷◌, ◌++◌, length, drop, get_or, refl, sym, ap, ◌∙◌, subst, inl, inr, arith, Option, Some, slice_get, ◌^◌}
+use Rattle.std.proofs.Common.{◌≡◌, ◌≢◌, ℕ, suc, ◌<◌, ◌≤◌, Bool, true, false, List, [], ◌∷◌, ◌++◌, length, drop, get_or, refl, sym, ap, ◌∙◌, subst, inl, inr, arith, Option, Some, slice_get, ◌^◌}
 use Rattle.std.specs.List.{AllByRecursion, AllZip, Contains}
 use Rattle.std.specs.List.Sorted.{IsStrictlySortedBy}
 use Rattle.std.specs.Ordering.{nat_cmp, on}
@@ -11,12 +11,14 @@ use Rattle.std.proofs.lemmas.Option.{get_or_from_slice_get, slice_get_within}
 use Rattle.std.proofs.lemmas.Slice.Zip.{AllZip-long}
 use Rattle.sha2.specs.Sha256.{sha256}
 use Rattle.macho_symbols.specs.Found.{FoundRecord}
+use Rattle.source_frames.specs.Frames.{FrameRecord}
+use Rattle.slice_tables.specs.SliceTable.{HasNoLines}
 use Rattle.checked_pages.proofs.PageLemmas.{may_be}
 use Rattle.join_core.specs.Listing.{listing}
 use Rattle.archive_core.specs.Content.{IsAnswering, Operations, is_admission}
 use Rattle.archive_core.specs.Find.{AreAnswering}
 use Rattle.archive_core.specs.Key.{IsKey, key_bytes}
-use Rattle.archive_core.specs.Lookup.{AnswerRecord, IsAnswer, IsAnswerOf, IsOwn, IsOwnRow, OwnRow, Unanswered, Alone, Disputed}
+use Rattle.archive_core.specs.Lookup.{AnswerRecord, IsAnswerOf, IsOwn, IsOwnRow, OwnRow, Unanswered, Alone, Disputed}
 use Rattle.archive_core.specs.Record.{admission_record}
 use Rattle.archive_core.specs.Valid.{key_of}
 use Rattle.archive_core.specs.declared.keys.SliceKey.{SliceKey}
@@ -29,11 +31,12 @@ use Rattle.archive_index.specs.Entry.{offset_in}
 use Rattle.table_index.specs.Entry.{claim_in}
 use Rattle.table_index.specs.Text.{IsIndexText}
 use Rattle.indexed_answers.specs.Among.{AreAnsweringAmong, AreTied, EntryAt, IsAmong, IsRepeatOf, StandsBefore, all_of, answers_among, lives_under}
-use Rattle.indexed_answers.specs.AmongTold.{IsAnswerAmong, IsToldOfAmong, IsToldRowAt}
-use Rattle.indexed_answers.specs.AmongAsked.{HasNoTable, IsDamagedAt}
+use Rattle.archive_queries.specs.Sources.{AreFramesAt, AreShown, IsSourced}
+use Rattle.indexed_answers.specs.AmongTold.{AreFramesToldAt, AreShownAmong, IsAnswerAmong, IsToldOfAmong, IsToldRowAt}
+use Rattle.indexed_answers.specs.AmongAsked.{HasNoTable, IsDamagedAt, IsLinelessAt}
 use Rattle.indexed_answers.specs.Contents.{IsSliceOf}
 use Rattle.indexed_answers.specs.Told.{IsToldBy}
-use Rattle.index_laws.specs.Indexes.{AreIndexes, AreTiedSlices, DigestsTell, IsIndexFile, all_joined}
+use Rattle.index_laws.specs.Indexes.{AreIndexes, AreTiedSlices, DigestsTell, IsHeld, IsIndexFile, all_joined}
 use Rattle.index_laws.proofs.Among.{IsOfSlice, IsRecordOf, answers_if, answers_then, entry_if_live, find, held, slice_of_entry}
 use Rattle.index_laws.proofs.Joined.{joined_alone}
 use Rattle.index_laws.proofs.OfContent.{AreEntriesOf, IsAt, in_turn, one_place}
@@ -189,6 +192,25 @@ module _ (os : List Operations) (texts : List (List ℕ)) (indexes : List (List 
   told_right key asked xs ss (Disputed rows) all is =
       (omega (arith, is.0, AllZip-long (IsAnsweringSlice key) xs ss all), rows_right key asked xs ss rows all is.1)
 
+  -- ---- the frames that are shown of them
+
+  frames_right : (key : SliceKey) (asked : Where) (x : EntryAt) (slice : List ℕ) (frames : List FrameRecord) → IsAnsweringSlice key x slice → AreFramesToldAt texts asked x frames → AreFramesAt asked slice frames
+  frames_right key asked x slice frames is told =
+      let its = is.of.is.is in
+      told is.of.of.text is.of.of.file.text_at slice its.table its.bytes its.is_table (may_be is.of.of.text its.table (claim_in x.entry) its.stored)
+
+  each_right : (key : SliceKey) (asked : Where) (xs : List EntryAt) (ss : List (List ℕ)) (lists : List (List FrameRecord)) → AllZip (IsAnsweringSlice key) xs ss → AllZip (AreFramesToldAt texts asked) xs lists → AllZip (AreFramesAt asked) ss lists
+  each_right key asked [] [] [] all told = tt
+  each_right key asked [] [] (list ∷ lists) all told = absurd told
+  each_right key asked [] (s ∷ ss) lists all told = absurd all
+  each_right key asked (x ∷ xs) [] lists all told = absurd all
+  each_right key asked (x ∷ xs) (s ∷ ss) [] all told = absurd told
+  each_right key asked (x ∷ xs) (s ∷ ss) (list ∷ lists) all told = (frames_right key asked x s list all.0 told.0, each_right key asked xs ss lists all.1 told.1)
+
+  shown_right : (key : SliceKey) (lines : Bool) (asked : Where) (xs : List EntryAt) (ss : List (List ℕ)) (lists : List (List FrameRecord)) → AllZip (IsAnsweringSlice key) xs ss → AreShownAmong texts lines asked xs lists → AreShown lines asked ss lists
+  shown_right key true asked xs ss lists all shown = each_right key asked xs ss lists all shown
+  shown_right key false asked xs ss lists all shown = shown
+
   module _ (all : AreIndexes os texts indexes) where
     -- ---- nothing is damaged
 
@@ -210,6 +232,22 @@ module _ (os : List Operations) (texts : List (List ℕ)) (indexes : List (List 
         let x : EntryAt = record { input = input; number = number; entry = damaged.entry } in
         let answers : answers_among front (all_of indexes) x.entry ≡ true = All-contains (λ y. answers_among front (all_of indexes) y.entry ≡ true) answering x are.each damaged.answers in
         undamaged front damaged.text x (All-contains (IsAmong indexes) answering x are.among damaged.answers) answers damaged.text_is damaged.absent
+
+    -- ---- where there are no lines
+
+    pub lineless : (front : List ℕ) (answering : List EntryAt) (input number : ℕ) → AreAnsweringAmong front indexes answering → IsLinelessAt texts answering input number → (slice : List ℕ) × IsHeld os slice × HasNoLines slice
+    lineless front answering input number are lacking =
+        let x : EntryAt = record { input = input; number = number; entry = lacking.entry } in
+        let answers : answers_among front (all_of indexes) x.entry ≡ true = All-contains (λ y. answers_among front (all_of indexes) y.entry ≡ true) answering x are.each lacking.answers in
+        let r = find os texts indexes all x (All-contains (IsAmong indexes) answering x are.among lacking.answers) in
+        let s = slice_of_entry os texts indexes x r.0 r.1 (tagged front x answers) in
+        let same : s.1.of.text ≡ lacking.text = cc (s.1.of.file.text_at, lacking.text_is) in
+        let is : IsSliceOf lacking.text s.0 x.entry = subst (λ (t : List ℕ). IsSliceOf t s.0 x.entry) same s.1.is.is in
+        let within : input < length os = slice_get_within os input s.1.of.o s.1.of.file.content_at in (
+          s.0,
+          (s.1.of.o, (input, within, get_or_from_slice_get os input s.1.of.o s.1.of.o s.1.of.file.content_at), held os texts indexes x (admission_record s.0) s.1.of),
+          lacking.lacks s.0 is.table is.bytes is.is_table (may_be lacking.text is.table (claim_in x.entry) is.stored),
+        )
 
     module _ (key : SliceKey) (is_key : IsKey key) where
       abbrev every : List (List ℕ)
@@ -289,16 +327,21 @@ module _ (os : List Operations) (texts : List (List ℕ)) (indexes : List (List 
           let ss = slices_at answering (recursion_from_All (IsAmong indexes) answering are.among) (recursion_from_All (λ x. answers_among (key_bytes key) every x.entry ≡ true) answering are.each) in
           (ss.0, ss.1, are_slices tell answering are ss.0 ss.1)
 
-      pub right : (asked : Where) (answer : AnswerRecord) → DigestsTell os → IsAnswerAmong texts indexes (key_bytes key) asked answer → IsAnswer (all_joined os) key asked answer
-      right asked answer tell is =
+      pub right : (lines : Bool) (asked : Where) (answer : AnswerRecord) (frames : List (List FrameRecord)) → DigestsTell os → IsAnswerAmong texts indexes (key_bytes key) lines asked answer frames → IsSourced (all_joined os) key lines asked answer frames
+      right lines asked answer frames tell is =
           let ss = slices_right is.answering tell is.are in
-          record { slices = ss.0; answering = ss.2; answer_is = told_right key asked is.answering ss.0 answer ss.1 is.answer_is }
+          record {
+            slices = ss.0;
+            answering = ss.2;
+            answer_is = told_right key asked is.answering ss.0 answer ss.1 is.answer_is;
+            shown = shown_right key lines asked is.answering ss.0 frames ss.1 is.shown;
+          }
 
 -- ---- one index
 
-pub right_alone : (o : Operations) (text : List ℕ) (entries : List (List ℕ)) (key : SliceKey) (asked : Where) (answer : AnswerRecord) → IsIndexFile o text → IsIndexText text entries → IsKey key
-    → IsAnswerAmong (text ∷ []) (entries ∷ []) (key_bytes key) asked answer → IsAnswer o key asked answer
-right_alone o text entries key asked answer file read is_key is =
+pub right_alone : (o : Operations) (text : List ℕ) (entries : List (List ℕ)) (key : SliceKey) (lines : Bool) (asked : Where) (answer : AnswerRecord) (frames : List (List FrameRecord)) → IsIndexFile o text → IsIndexText text entries → IsKey key
+    → IsAnswerAmong (text ∷ []) (entries ∷ []) (key_bytes key) lines asked answer frames → IsSourced o key lines asked answer frames
+right_alone o text entries key lines asked answer frames file read is_key is =
     let all : AreIndexes (o ∷ []) (text ∷ []) (entries ∷ []) = record { files = (file, tt); read = (read, tt) } in
     let tell : DigestsTell (o ∷ []) = λ several. absurd (omega (arith, several)) in
-    subst (λ made. IsAnswer made key asked answer) (joined_alone o file.content.itself) (right (o ∷ []) (text ∷ []) (entries ∷ []) all key is_key asked answer tell is)
+    subst (λ made. IsSourced made key lines asked answer frames) (joined_alone o file.content.itself) (right (o ∷ []) (text ∷ []) (entries ∷ []) all key is_key lines asked answer frames tell is)

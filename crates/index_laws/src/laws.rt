@@ -1,32 +1,40 @@
 //! What indexes tell together is what the contents tell as one that they were made of. Each law is the contract of a
 //! function that does nothing.
 
-ghost use Rattle.std.specs.Prelude.{◌≡◌, ℕ, List, [], ◌∷◌, Some, slice_get, true};
+ghost use Rattle.std.specs.Prelude.{◌≡◌, ℕ, Bool, List, [], ◌∷◌, Some, slice_get, true};
 ghost use Rattle.archive_core.specs.Content.{Operations};
 ghost use Rattle.archive_core.specs.Key.{IsKey, key_bytes};
-ghost use Rattle.archive_core.specs.Lookup.{AnswerRecord, IsAnswer};
+ghost use Rattle.archive_core.specs.Lookup.{AnswerRecord};
 ghost use Rattle.archive_core.specs.declared.keys.SliceKey.{SliceKey};
 ghost use Rattle.archive_core.specs.declared.lookup.Where.{Where};
+ghost use Rattle.source_frames.specs.Frames.{FrameRecord};
+ghost use Rattle.slice_tables.specs.SliceTable.{HasNoLines};
 ghost use Rattle.table_index.specs.Text.{IsIndexText};
+ghost use Rattle.archive_queries.specs.Sources.{IsSourced};
 ghost use Rattle.indexed_answers.specs.Among.{AreAnsweringAmong, AreTied, EntryAt, IsAmong, all_of, answers_among};
 ghost use Rattle.indexed_answers.specs.AmongTold.{IsAnswerAmong};
 ghost use Rattle.indexed_answers.specs.AmongAsked.{HasNoTable, IsUntoldAmong};
-ghost use Rattle.indexed_answers.specs.declared.fault.AnswerFault.TheVariants.{Damaged};
-ghost use Rattle.index_laws.specs.Indexes.{AreIndexes, AreTiedSlices, DigestsTell, IsIndexFile, all_joined};
+ghost use Rattle.indexed_answers.specs.declared.fault.AnswerFault.TheVariants.{Damaged, NoLines};
+ghost use Rattle.index_laws.specs.Indexes.{AreIndexes, AreTiedSlices, DigestsTell, IsHeld, IsIndexFile, all_joined};
 
-/// The answer of several indexes under a key is that of the content that their contents make together, if no two
-/// different slices of these have one SHA-256. The answer of one index is that of its content, and nothing is supposed of
-/// SHA-256.
+/// The answer of several indexes under a key is that of the content that their contents make together, with the frames
+/// that are shown, if no two different slices of these have one SHA-256. The answer of one index is that of its
+/// content, and nothing is supposed of SHA-256.
 pub fn right_among()
     ensures several { (os : List Operations) (texts : List (List ℕ)) (indexes : List (List (List ℕ))) (key : SliceKey)
-        (asked : Where) (answer : AnswerRecord) → AreIndexes os texts indexes → DigestsTell os → IsKey key
-        → IsAnswerAmong texts indexes (key_bytes key) asked answer → IsAnswer (all_joined os) key asked answer }
-    ensures alone { (o : Operations) (text : List ℕ) (entries : List (List ℕ)) (key : SliceKey) (asked : Where)
-        (answer : AnswerRecord) → IsIndexFile o text → IsIndexText text entries → IsKey key
-        → IsAnswerAmong (text ∷ []) (entries ∷ []) (key_bytes key) asked answer → IsAnswer o key asked answer }
+        (lines : Bool) (asked : Where) (answer : AnswerRecord) (frames : List (List FrameRecord))
+        → AreIndexes os texts indexes → DigestsTell os → IsKey key
+        → IsAnswerAmong texts indexes (key_bytes key) lines asked answer frames
+        → IsSourced (all_joined os) key lines asked answer frames }
+    ensures alone { (o : Operations) (text : List ℕ) (entries : List (List ℕ)) (key : SliceKey) (lines : Bool)
+        (asked : Where) (answer : AnswerRecord) (frames : List (List FrameRecord)) → IsIndexFile o text
+        → IsIndexText text entries → IsKey key
+        → IsAnswerAmong (text ∷ []) (entries ∷ []) (key_bytes key) lines asked answer frames
+        → IsSourced o key lines asked answer frames }
 {}
 
-/// No entry that answers is damaged: its table is stored where it says. Nothing is supposed of SHA-256.
+/// No entry that answers is damaged: its table is stored where it says. One whose table has no lines is that of a slice
+/// that has none. Nothing is supposed of SHA-256.
 pub fn undamaged_among()
     ensures entry { (os : List Operations) (texts : List (List ℕ)) (indexes : List (List (List ℕ)))
         (front text : List ℕ) (x : EntryAt) → AreIndexes os texts indexes → IsAmong indexes x
@@ -35,6 +43,10 @@ pub fn undamaged_among()
     ensures told { (os : List Operations) (texts : List (List ℕ)) (indexes : List (List (List ℕ))) (front : List ℕ)
         (answering : List EntryAt) (input number : ℕ) → AreIndexes os texts indexes
         → AreAnsweringAmong front indexes answering → IsUntoldAmong texts answering (Damaged input number) → ⊥ }
+    ensures lineless { (os : List Operations) (texts : List (List ℕ)) (indexes : List (List (List ℕ)))
+        (front : List ℕ) (answering : List EntryAt) (input number : ℕ) → AreIndexes os texts indexes
+        → AreAnsweringAmong front indexes answering → IsUntoldAmong texts answering (NoLines input number)
+        → (slice : List ℕ) × IsHeld os slice × HasNoLines slice }
 {}
 
 /// Entries that are tied are those of two different slices of one length that answer under the key, of two contents.

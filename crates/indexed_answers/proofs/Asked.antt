@@ -1,5 +1,5 @@
 -- What came of asking one entry after another.
-use Rattle.std.proofs.Common.{◌≡◌, ℕ, zero, suc, ◌+◌, ◌<◌, List, [], ◌∷◌, ◌++◌, length, map, take, set, get_or, slice_get, refl, sym, subst, ap, ◌∙◌, arith}
+use Rattle.std.proofs.Common.{◌≡◌, ℕ, zero, suc, ◌+◌, ◌<◌, Bool, List, [], ◌∷◌, ◌++◌, length, map, take, set, get_or, slice_get, refl, sym, subst, ap, ◌∙◌, arith}
 use Rattle.std.specs.Prelude.{Contains, Option, None, Some, Result, Ok, Err, MatchResult}
 use Rattle.std.specs.List.{AllZip}
 use Rattle.std.specs.Option.{option_map}
@@ -12,11 +12,11 @@ use Rattle.table_index.specs.Entry.{claim_in}
 use Rattle.indexed_answers.specs.Among.{EntryAt}
 use Rattle.indexed_answers.specs.AmongAsked.{AreOpened, AsksAmong, BlamesAmong, HasText, HaveTexts, IsOpenedAt, IsUntoldAmong, each_known, known_of}
 use Rattle.indexed_answers.specs.InnerAnswering.{AsksOne, BlamesOne, IsColumnOf, IsUntoldOne}
-use Rattle.indexed_answers.specs.Told.{IsToldBy}
-use Rattle.indexed_answers.specs.Views.{IsColumnAt, told_view}
+use Rattle.indexed_answers.specs.Told.{AreFramesToldBy, IsToldBy}
+use Rattle.indexed_answers.specs.Views.{IsColumnAt, frame_lists, told_view}
 use Rattle.indexed_answers.specs.declared.answers.EntryAnswers.{EntryAnswers}
 use Rattle.indexed_answers.specs.declared.fault.AnswerFault.{AnswerFault}
-use Rattle.indexed_answers.specs.declared.fault.AnswerFault.TheVariants.{Damaged, Device, OutOfMemory}
+use Rattle.indexed_answers.specs.declared.fault.AnswerFault.TheVariants.{Damaged, Device, NoLines, OutOfMemory}
 use Rattle.indexed_answers.proofs.Columns.{zip_more}
 
 -- ---- what is known of the devices
@@ -77,7 +77,7 @@ opened_here whole old new xs i x same opened lt is = subst (λ z. IsOpenedAt new
 
 -- ---- one entry, of its device
 
-module _ {D : Type 0} (whole : D → Option (List ℕ)) (failures : D → ℕ) (asked : List Where) (answering : List EntryAt) (x : EntryAt) (answers : Contains answering x) (devices : List (Result D CannotOpen)) (before after : D)
+module _ {D : Type 0} (whole : D → Option (List ℕ)) (failures : D → ℕ) (lines : Bool) (asked : List Where) (answering : List EntryAt) (x : EntryAt) (answers : Contains answering x) (devices : List (Result D CannotOpen)) (before after : D)
     (is : slice_get devices x.input ≡ Some (Ok before)) where
   abbrev news : List (Result D CannotOpen)
   news = set devices x.input (Ok after)
@@ -86,10 +86,11 @@ module _ {D : Type 0} (whole : D → Option (List ℕ)) (failures : D → ℕ) (
   named input number a b = subst (Contains answering) (λ i. record { input = sym a i; number = sym b i; entry = x.entry }) answers
 
   says_of : (r : Result EntryAnswers AnswerFault) (texts : List (List ℕ)) (text : List ℕ) → slice_get texts x.input ≡ Some text
-      → MatchResult r (λ column. IsColumnOf text asked x column) (IsUntoldOne text x) → MatchResult r (λ column. IsColumnAt texts asked x column) (IsUntoldAmong texts answering)
+      → MatchResult r (λ column. IsColumnOf text lines asked x column) (IsUntoldOne text x) → MatchResult r (λ column. IsColumnAt texts lines asked x column) (IsUntoldAmong texts answering)
   says_of (Ok column) texts text at h = record {
     digest_is = h.digest_is;
     owns = λ other there. subst (λ t. AllZip (IsToldBy t (claim_in x.entry)) asked (map told_view column.owns.items)) (same_Some text other (sym at ∙ there)) h.owns;
+    frames = λ wanted other there. subst (λ t. AllZip (AreFramesToldBy t (claim_in x.entry)) asked (frame_lists column)) (same_Some text other (sym at ∙ there)) (h.frames wanted);
   }
   says_of (Err (Damaged input number)) texts text at h = record {
     entry = x.entry;
@@ -98,13 +99,21 @@ module _ {D : Type 0} (whole : D → Option (List ℕ)) (failures : D → ℕ) (
     text_is = ap (slice_get texts) h.0 ∙ at;
     absent = h.2;
   }
+  says_of (Err (NoLines input number)) texts text at h = record {
+    entry = x.entry;
+    answers = named input number h.0 h.1;
+    text = text;
+    text_is = ap (slice_get texts) h.0 ∙ at;
+    lacks = h.2;
+  }
   says_of (Err (Device input offset)) texts text at h = tt
   says_of (Err OutOfMemory) texts text at h = tt
 
-  counts_of : (r : Result EntryAnswers AnswerFault) → MatchResult r (λ _. failures after ≡ failures before) (BlamesOne x (failures before) (failures after))
-      → MatchResult r (λ _. each_known failures news ≡ each_known failures devices) (BlamesAmong answering (each_known failures devices) (each_known failures news))
+  counts_of : (r : Result EntryAnswers AnswerFault) → MatchResult r (λ _. failures after ≡ failures before) (BlamesOne lines x (failures before) (failures after))
+      → MatchResult r (λ _. each_known failures news ≡ each_known failures devices) (BlamesAmong lines answering (each_known failures devices) (each_known failures news))
   counts_of (Ok column) h = known_kept failures devices x.input before is after h
   counts_of (Err (Damaged input number)) h = known_kept failures devices x.input before is after h
+  counts_of (Err (NoLines input number)) h = (h.0, known_kept failures devices x.input before is after h.1)
   counts_of (Err OutOfMemory) h = known_kept failures devices x.input before is after h
   counts_of (Err (Device input offset)) h = (
     record { number = x.number; entry = x.entry; answers = named input x.number h.0 refl; offset_is = h.1 },
@@ -117,9 +126,9 @@ module _ {D : Type 0} (whole : D → Option (List ℕ)) (failures : D → ℕ) (
     },
   )
 
-  pub asked_one : (r : Result EntryAnswers AnswerFault) → ((text : List ℕ) → whole before ≡ Some text → MatchResult r (λ column. IsColumnOf text asked x column) (IsUntoldOne text x)) → whole after ≡ whole before
-      → MatchResult r (λ _. failures after ≡ failures before) (BlamesOne x (failures before) (failures after))
-      → AsksAmong whole failures answering devices news r (λ texts column. IsColumnAt texts asked x column)
+  pub asked_one : (r : Result EntryAnswers AnswerFault) → ((text : List ℕ) → whole before ≡ Some text → MatchResult r (λ column. IsColumnOf text lines asked x column) (IsUntoldOne text x)) → whole after ≡ whole before
+      → MatchResult r (λ _. failures after ≡ failures before) (BlamesOne lines x (failures before) (failures after))
+      → AsksAmong whole failures lines answering devices news r (λ texts column. IsColumnAt texts lines asked x column)
   asked_one r says keeps counts = record {
     says = λ texts have. let text = text_at whole devices texts x.input before is have in says_of r texts text.0 text.1 (says text.0 text.2);
     keeps = known_kept whole devices x.input before is after keeps;
@@ -127,19 +136,19 @@ module _ {D : Type 0} (whole : D → Option (List ℕ)) (failures : D → ℕ) (
   }
 
 -- the same of the device as it is read and written
-pub asked_at : {D : Type 0} (whole : D → Option (List ℕ)) (failures : D → ℕ) (asked : List Where) (answering : List EntryAt) (x : EntryAt) (devices : List (Result D CannotOpen)) (old new : Result D CannotOpen) (r : Result EntryAnswers AnswerFault)
-    → Contains answering x → slice_get devices x.input ≡ Some old → AsksOne whole failures x old new r (λ text column. IsColumnOf text asked x column)
-    → AsksAmong whole failures answering devices (set devices x.input new) r (λ texts column. IsColumnAt texts asked x column)
-asked_at whole failures asked answering x devices old new r answers is one =
-    subst (λ n. AsksAmong whole failures answering devices (set devices x.input n) r (λ texts column. IsColumnAt texts asked x column)) (sym one.new_is)
-    (asked_one whole failures asked answering x answers devices one.before one.after (is ∙ ap Some one.old_is) r one.says one.keeps one.counts)
+pub asked_at : {D : Type 0} (whole : D → Option (List ℕ)) (failures : D → ℕ) (lines : Bool) (asked : List Where) (answering : List EntryAt) (x : EntryAt) (devices : List (Result D CannotOpen)) (old new : Result D CannotOpen) (r : Result EntryAnswers AnswerFault)
+    → Contains answering x → slice_get devices x.input ≡ Some old → AsksOne whole failures lines x old new r (λ text column. IsColumnOf text lines asked x column)
+    → AsksAmong whole failures lines answering devices (set devices x.input new) r (λ texts column. IsColumnAt texts lines asked x column)
+asked_at whole failures lines asked answering x devices old new r answers is one =
+    subst (λ n. AsksAmong whole failures lines answering devices (set devices x.input n) r (λ texts column. IsColumnAt texts lines asked x column)) (sym one.new_is)
+    (asked_one whole failures lines asked answering x answers devices one.before one.after (is ∙ ap Some one.old_is) r one.says one.keeps one.counts)
 
 -- ---- one after another
 
-module _ {D : Type 0} (whole : D → Option (List ℕ)) (failures : D → ℕ) (asked : List Where) (answering : List EntryAt) where
+module _ {D : Type 0} (whole : D → Option (List ℕ)) (failures : D → ℕ) (lines : Bool) (asked : List Where) (answering : List EntryAt) where
   -- what the first of the entries tell
   abbrev pub HaveTold : ℕ → List (Result D CannotOpen) → List (Result D CannotOpen) → List EntryAnswers → Type 0
-  HaveTold i old new columns = AsksAmong whole failures answering old new (Ok columns) (λ texts cs. AllZip (IsColumnAt texts asked) (take i answering) cs)
+  HaveTold i old new columns = AsksAmong whole failures lines answering old new (Ok columns) (λ texts cs. AllZip (IsColumnAt texts lines asked) (take i answering) cs)
 
   pub none_told : (devices : List (Result D CannotOpen)) → HaveTold 0 devices devices []
   none_told devices = record { says = λ texts have. tt; keeps = refl; counts = refl }
@@ -148,36 +157,36 @@ module _ {D : Type 0} (whole : D → Option (List ℕ)) (failures : D → ℕ) (
   have_texts old mid texts same have = subst (λ ks. AllZip HasText ks texts) (sym same) have
 
   pub one_told : (i : ℕ) (old mid new : List (Result D CannotOpen)) (columns after : List EntryAnswers) (column : EntryAnswers) (x : EntryAt) → i < length answering → x ≡ get_or answering i x → after ≡ columns ++ column ∷ []
-      → HaveTold i old mid columns → AsksAmong whole failures answering mid new (Ok column) (λ texts c. IsColumnAt texts asked x c) → HaveTold (i + 1) old new after
+      → HaveTold i old mid columns → AsksAmong whole failures lines answering mid new (Ok column) (λ texts c. IsColumnAt texts lines asked x c) → HaveTold (i + 1) old new after
   one_told i old mid new columns after column x lt is grown so_far told = record {
-    says = λ texts have. zip_more (IsColumnAt texts asked) answering i x columns after column lt is grown (so_far.says texts have) (told.says texts (have_texts old mid texts so_far.keeps have));
+    says = λ texts have. zip_more (IsColumnAt texts lines asked) answering i x columns after column lt is grown (so_far.says texts have) (told.says texts (have_texts old mid texts so_far.keeps have));
     keeps = told.keeps ∙ so_far.keeps;
     counts = told.counts ∙ so_far.counts;
   }
 
   -- a refusal is passed on
   pub none_more : {T U : Type 0} (i : ℕ) (old mid new : List (Result D CannotOpen)) (columns : List EntryAnswers) (f : AnswerFault) (r : Result T AnswerFault) (s : Result U AnswerFault) (A : List (List ℕ) → T → Type 0) (B : List (List ℕ) → U → Type 0)
-      → r ≡ Err f → s ≡ Err f → HaveTold i old mid columns → AsksAmong whole failures answering mid new r A → AsksAmong whole failures answering old new s B
+      → r ≡ Err f → s ≡ Err f → HaveTold i old mid columns → AsksAmong whole failures lines answering mid new r A → AsksAmong whole failures lines answering old new s B
   none_more i old mid new columns f r s A B was is so_far told =
-      subst (λ t. AsksAmong whole failures answering old new t B) (sym is) (of_err (subst (λ t. AsksAmong whole failures answering mid new t A) was told))
+      subst (λ t. AsksAmong whole failures lines answering old new t B) (sym is) (of_err (subst (λ t. AsksAmong whole failures lines answering mid new t A) was told))
     where
-      of_err : AsksAmong whole failures answering mid new (Err f) A → AsksAmong whole failures answering old new (Err f) B
+      of_err : AsksAmong whole failures lines answering mid new (Err f) A → AsksAmong whole failures lines answering old new (Err f) B
       of_err h = record {
         says = λ texts have. h.says texts (have_texts old mid texts so_far.keeps have);
         keeps = h.keeps ∙ so_far.keeps;
-        counts = subst (λ ks. BlamesAmong answering ks (each_known failures new) f) so_far.counts h.counts;
+        counts = subst (λ ks. BlamesAmong lines answering ks (each_known failures new) f) so_far.counts h.counts;
       }
 
   -- no memory is left for what was told
   pub no_memory : {T U : Type 0} (i : ℕ) (old mid new : List (Result D CannotOpen)) (columns : List EntryAnswers) (value : T) (A : List (List ℕ) → T → Type 0) (B : List (List ℕ) → U → Type 0)
-      → HaveTold i old mid columns → AsksAmong whole failures answering mid new (Ok value) A → AsksAmong whole failures answering old new (Err OutOfMemory) B
+      → HaveTold i old mid columns → AsksAmong whole failures lines answering mid new (Ok value) A → AsksAmong whole failures lines answering old new (Err OutOfMemory) B
   no_memory i old mid new columns value A B so_far told = record { says = λ texts have. tt; keeps = told.keeps ∙ so_far.keeps; counts = told.counts ∙ so_far.counts }
 
 -- a refusal of the same entries is passed on
-pub passed_on : {D T U : Type 0} (whole : D → Option (List ℕ)) (failures : D → ℕ) (xs ys : List EntryAt) (old new : List (Result D CannotOpen)) (f : AnswerFault) (r : Result T AnswerFault) (s : Result U AnswerFault) (A : List (List ℕ) → T → Type 0) (B : List (List ℕ) → U → Type 0)
-    → xs ≡ ys → r ≡ Err f → s ≡ Err f → AsksAmong whole failures xs old new r A → AsksAmong whole failures ys old new s B
-passed_on whole failures xs ys old new f r s A B same was is h =
-    subst (λ t. AsksAmong whole failures ys old new t B) (sym is) (of_err (subst (λ zs. AsksAmong whole failures zs old new (Err f) A) same (subst (λ t. AsksAmong whole failures xs old new t A) was h)))
+pub passed_on : {D T U : Type 0} (whole : D → Option (List ℕ)) (failures : D → ℕ) (lines : Bool) (xs ys : List EntryAt) (old new : List (Result D CannotOpen)) (f : AnswerFault) (r : Result T AnswerFault) (s : Result U AnswerFault) (A : List (List ℕ) → T → Type 0) (B : List (List ℕ) → U → Type 0)
+    → xs ≡ ys → r ≡ Err f → s ≡ Err f → AsksAmong whole failures lines xs old new r A → AsksAmong whole failures lines ys old new s B
+passed_on whole failures lines xs ys old new f r s A B same was is h =
+    subst (λ t. AsksAmong whole failures lines ys old new t B) (sym is) (of_err (subst (λ zs. AsksAmong whole failures lines zs old new (Err f) A) same (subst (λ t. AsksAmong whole failures lines xs old new t A) was h)))
   where
-    of_err : AsksAmong whole failures ys old new (Err f) A → AsksAmong whole failures ys old new (Err f) B
+    of_err : AsksAmong whole failures lines ys old new (Err f) A → AsksAmong whole failures lines ys old new (Err f) B
     of_err k = record { says = k.says; keeps = k.keeps; counts = k.counts }

@@ -1,15 +1,16 @@
 -- What comes of asking entries of several indexes.
-use Rattle.std.specs.Prelude.{◌≡◌, ◌<◌, ◌^◌, ℕ, List, All, Contains, length, map, slice_get, slice_set}
+use Rattle.std.specs.Prelude.{◌≡◌, ◌<◌, ◌^◌, ℕ, Bool, true, List, All, Contains, length, map, slice_get, slice_set}
 use Rattle.std.specs.Prelude.{Option, Some, Result, Ok, Err, MatchResult}
 use Rattle.std.specs.List.{AllZip}
 use Rattle.byte_device.specs.Devices.{FailedIn}
 use Rattle.byte_device.specs.declared.disks.CannotOpen.{CannotOpen}
 use Rattle.checked_pages.specs.Pages.{AreStored}
-use Rattle.symbol_tables.specs.Table.{IsTableText}
+use Rattle.slice_tables.specs.SliceTable.{IsSliceTable}
 use Rattle.table_index.specs.Entry.{claim_in}
 use Rattle.indexed_answers.specs.Among.{EntryAt}
+use Rattle.indexed_answers.specs.Told.{HasNoLinesBy}
 use Rattle.indexed_answers.specs.declared.fault.AnswerFault.{AnswerFault}
-use Rattle.indexed_answers.specs.declared.fault.AnswerFault.TheVariants.{Damaged, Device, OutOfMemory}
+use Rattle.indexed_answers.specs.declared.fault.AnswerFault.TheVariants.{Damaged, Device, NoLines, OutOfMemory}
 
 -- what is known of a device, if it was opened
 abbrev pub known_of : {D V : Type 0} → (D → V) → Result D CannotOpen → Result V CannotOpen
@@ -39,7 +40,7 @@ AreOpened devices xs = All (λ x. IsOpenedAt devices x.input) xs
 
 -- no table of a slice is stored where the entry says
 abbrev pub HasNoTable : List ℕ → List ℕ → Type 0
-HasNoTable text e = length text < 2 ^ 64 → (slice table : List ℕ) → IsTableText slice table
+HasNoTable text e = length text < 2 ^ 64 → (slice table : List ℕ) → IsSliceTable slice table
     → AreStored text (claim_in e) table → ⊥
 
 -- the entry of these numbers is among those that answer, and no table is stored where it says
@@ -49,6 +50,14 @@ pub record IsDamagedAt (texts : List (List ℕ)) (answering : List EntryAt) (inp
   pub text : List ℕ
   pub text_is : slice_get texts input ≡ Some text
   pub absent : HasNoTable text entry
+
+-- the entry of these numbers is among those that answer, and its table has no lines
+pub record IsLinelessAt (texts : List (List ℕ)) (answering : List EntryAt) (input number : ℕ) : Type 0 where
+  pub entry : List ℕ
+  pub answers : Contains answering (record { input = input; number = number; entry = entry })
+  pub text : List ℕ
+  pub text_is : slice_get texts input ≡ Some text
+  pub lacks : HasNoLinesBy text (claim_in entry)
 
 -- the table of one of the entries that answer is to be read in this index, from this offset on
 pub record IsAskedAt (answering : List EntryAt) (input offset : ℕ) : Type 0 where
@@ -60,6 +69,7 @@ pub record IsAskedAt (answering : List EntryAt) (input offset : ℕ) : Type 0 wh
 -- what a fault says of the texts
 abbrev pub IsUntoldAmong : List (List ℕ) → List EntryAt → AnswerFault → Type 0
 IsUntoldAmong texts answering (Damaged input number) = IsDamagedAt texts answering input number
+IsUntoldAmong texts answering (NoLines input number) = IsLinelessAt texts answering input number
 IsUntoldAmong texts answering (Device input offset) = Unit {0}
 IsUntoldAmong texts answering OutOfMemory = Unit {0}
 
@@ -71,19 +81,22 @@ pub record FailedAt (input : ℕ) (olds news : List (Result ℕ CannotOpen)) : T
   pub failed : FailedIn old new
   pub others : news ≡ slice_set olds input (Ok new)
 
--- what a fault says of the failures of the devices
-abbrev pub BlamesAmong : List EntryAt → List (Result ℕ CannotOpen) → List (Result ℕ CannotOpen) → AnswerFault → Type 0
-BlamesAmong answering olds news (Damaged input number) = news ≡ olds
-BlamesAmong answering olds news (Device input offset) = IsAskedAt answering input offset × FailedAt input olds news
-BlamesAmong answering olds news OutOfMemory = news ≡ olds
+-- what a fault says of the failures of the devices; no table is refused for its lines unless they are wanted
+abbrev pub BlamesAmong : Bool → List EntryAt → List (Result ℕ CannotOpen) → List (Result ℕ CannotOpen) → AnswerFault
+    → Type 0
+BlamesAmong lines answering olds news (Damaged input number) = news ≡ olds
+BlamesAmong lines answering olds news (NoLines input number) = (lines ≡ true) × (news ≡ olds)
+BlamesAmong lines answering olds news (Device input offset) =
+    IsAskedAt answering input offset × FailedAt input olds news
+BlamesAmong lines answering olds news OutOfMemory = news ≡ olds
 
--- What came of asking these entries: what is told is true of the texts that the devices are known to have. Each device
--- stays opened or not, and keeps its bytes.
-pub record AsksAmong {D T : Type 0} (whole : D → Option (List ℕ)) (failures : D → ℕ) (answering : List EntryAt)
-    (old new : List (Result D CannotOpen)) (result : Result T AnswerFault) (IsTrue : List (List ℕ) → T → Type 0)
-    : Type 0 where
+-- What came of asking these entries, for their lines too if these are wanted: what is told is true of the texts that
+-- the devices are known to have. Each device stays opened or not, and keeps its bytes.
+pub record AsksAmong {D T : Type 0} (whole : D → Option (List ℕ)) (failures : D → ℕ) (lines : Bool)
+    (answering : List EntryAt) (old new : List (Result D CannotOpen)) (result : Result T AnswerFault)
+    (IsTrue : List (List ℕ) → T → Type 0) : Type 0 where
   pub says : (texts : List (List ℕ)) → HaveTexts whole old texts
       → MatchResult result (IsTrue texts) (IsUntoldAmong texts answering)
   pub keeps : each_known whole new ≡ each_known whole old
   pub counts : MatchResult result (λ _. each_known failures new ≡ each_known failures old)
-      (BlamesAmong answering (each_known failures old) (each_known failures new))
+      (BlamesAmong lines answering (each_known failures old) (each_known failures new))

@@ -1,11 +1,12 @@
 -- What the tables of entries tell that stand in several indexes.
-use Rattle.std.specs.Prelude.{◌≡◌, ◌≤◌, ℕ, List, [], ◌∷◌, Some, length, take, drop, slice_get}
+use Rattle.std.specs.Prelude.{◌≡◌, ◌≤◌, ℕ, Bool, true, false, List, [], ◌∷◌, Some, length, take, drop, slice_get}
 use Rattle.std.specs.List.{AllZip}
+use Rattle.source_frames.specs.Frames.{FrameRecord}
 use Rattle.archive_core.specs.Lookup.{AnswerRecord, OwnRow, Unanswered, Alone, Disputed}
 use Rattle.archive_core.specs.declared.lookup.Where.{Where}
 use Rattle.table_index.specs.Entry.{claim_in}
 use Rattle.indexed_answers.specs.Among.{AreAnsweringAmong, EntryAt}
-use Rattle.indexed_answers.specs.Told.{IsToldBy}
+use Rattle.indexed_answers.specs.Told.{AreFramesToldBy, IsToldBy}
 
 -- what an entry tells of a place, over these bytes of the indexes: its digest, and what its table tells
 pub record IsToldRowAt (texts : List (List ℕ)) (asked : Where) (x : EntryAt) (row : OwnRow) : Type 0 where
@@ -19,9 +20,20 @@ IsToldOfAmong texts asked xs (Alone own) = (x : EntryAt) × (row : OwnRow) × (x
     × IsToldRowAt texts asked x row
 IsToldOfAmong texts asked xs (Disputed rows) = (2 ≤ length xs) × AllZip (IsToldRowAt texts asked) xs rows
 
--- the answer of several indexes with these bytes and entries under these bytes of a key
-pub record IsAnswerAmong (texts : List (List ℕ)) (indexes : List (List (List ℕ))) (front : List ℕ) (asked : Where)
-    (answer : AnswerRecord) : Type 0 where
+-- the frames that the table of an entry has of a place, over these bytes of the indexes
+abbrev pub AreFramesToldAt : List (List ℕ) → Where → EntryAt → List FrameRecord → Type 0
+AreFramesToldAt texts asked x frames =
+    (text : List ℕ) → slice_get texts x.input ≡ Some text → AreFramesToldBy text (claim_in x.entry) asked frames
+
+-- the frames that are shown of entries: those of each, or none where no lines are wanted
+abbrev pub AreShownAmong : List (List ℕ) → Bool → Where → List EntryAt → List (List FrameRecord) → Type 0
+AreShownAmong texts true asked xs frames = AllZip (AreFramesToldAt texts asked) xs frames
+AreShownAmong texts false asked xs frames = frames ≡ []
+
+-- the answer of several indexes with these bytes and entries under these bytes of a key, with the frames that are shown
+pub record IsAnswerAmong (texts : List (List ℕ)) (indexes : List (List (List ℕ))) (front : List ℕ) (lines : Bool)
+    (asked : Where) (answer : AnswerRecord) (frames : List (List FrameRecord)) : Type 0 where
   pub answering : List EntryAt
   pub are : AreAnsweringAmong front indexes answering
   pub answer_is : IsToldOfAmong texts asked answering answer
+  pub shown : AreShownAmong texts lines asked answering frames

@@ -3,7 +3,7 @@ use Rattle.std.specs.Prelude.{◌≡◌, ℕ, List, take, drop}
 use Rattle.sha2.specs.Sha256.{sha256}
 use Rattle.checked_pages.specs.Pages.{AreStored}
 use Rattle.symbol_tables.specs.Steps.{AreBytes}
-use Rattle.symbol_tables.specs.Table.{IsTableText}
+use Rattle.slice_tables.specs.SliceTable.{IsSliceTable}
 use Rattle.table_index.specs.Entry.{claim_in}
 
 -- the slice of an entry: the entry has its SHA-256, and its table is stored in the text where the entry says
@@ -11,5 +11,5 @@ pub record IsSliceOf (text slice e : List ℕ) : Type 0 where
   pub bytes : AreBytes slice
   pub digest_is : take 32 (drop 25 e) ≡ sha256 slice
   pub table : List ℕ
-  pub is_table : IsTableText slice table
+  pub is_table : IsSliceTable slice table
   pub stored : AreStored text (claim_in e) table

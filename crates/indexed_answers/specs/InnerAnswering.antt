@@ -1,16 +1,24 @@
 -- Entries with their numbers: the words of the inner functions. No contract of a public one has them.
-use Rattle.std.specs.Prelude.{◌≡◌, ◌≢◌, ◌&&◌, ◌==◌, not, ℕ, ◌+◌, Bool, List, [], ◌∷◌}
+use Rattle.std.specs.Prelude.{◌≡◌, ◌≢◌, ◌&&◌, ◌==◌, not, ℕ, ◌+◌, Bool, true, List, [], ◌∷◌}
 use Rattle.std.specs.Prelude.{◌++◌, Contains, filter, map, slice_index, take, drop}
 use Rattle.std.specs.Prelude.{Option, Some, Result, Ok, MatchResult}
 use Rattle.std.specs.List.{AllZip, list_any}
 use Rattle.std.specs.Str.{bytes_eq}
 use Rattle.byte_device.specs.Devices.{FailedIn}
 use Rattle.byte_device.specs.declared.disks.CannotOpen.{CannotOpen}
+use Rattle.checked_pages.specs.Pages.{Claim, MayBeStored}
+use Rattle.checked_pages.specs.declared.pages.Pages.{Pages}
+use Rattle.macho_image.specs.Sections.{text_base_of}
 use Rattle.macho_symbols.specs.Found.{FoundRecord}
+use Rattle.source_frames.specs.Frames.{FrameRecord}
 use Rattle.symbol_tables.specs.Opened.{IsOpened}
 use Rattle.symbol_tables.specs.Steps.{AreBytes}
 use Rattle.symbol_tables.specs.Table.{IsTableOf, TableParts}
 use Rattle.symbol_tables.specs.declared.table.Table.{Table}
+use Rattle.line_tables.specs.Opened.{IsOpened as AreLinesOpened}
+use Rattle.line_tables.specs.Steps.{AreFrameSteps, StepRecord}
+use Rattle.line_tables.specs.declared.table.LineTable.{LineTable}
+use Rattle.slice_tables.specs.SliceTable.{IsSliceTable}
 use Rattle.archive_core.specs.Lookup.{IsOwn}
 use Rattle.archive_core.specs.Part.{is_under}
 use Rattle.archive_core.specs.declared.lookup.Where.{Where}
@@ -18,11 +26,11 @@ use Rattle.archive_index.specs.Entry.{length_in, offset_in}
 use Rattle.table_index.specs.Entry.{claim_in, entry_bytes}
 use Rattle.indexed_answers.specs.Among.{AreOfOneSlice, EntryAt, HaveNoOrder, subject_of}
 use Rattle.indexed_answers.specs.AmongAsked.{HasNoTable}
-use Rattle.indexed_answers.specs.Told.{IsToldBy, admits_under}
-use Rattle.indexed_answers.specs.Views.{told_view}
+use Rattle.indexed_answers.specs.Told.{AreFramesOfPlace, AreFramesToldBy, HasNoLinesBy, IsToldBy, admits_under}
+use Rattle.indexed_answers.specs.Views.{frame_lists, told_view}
 use Rattle.indexed_answers.specs.declared.answers.EntryAnswers.{EntryAnswers}
 use Rattle.indexed_answers.specs.declared.fault.AnswerFault.{AnswerFault}
-use Rattle.indexed_answers.specs.declared.fault.AnswerFault.TheVariants.{Damaged, Device, OutOfMemory}
+use Rattle.indexed_answers.specs.declared.fault.AnswerFault.TheVariants.{Damaged, Device, NoLines, OutOfMemory}
 use Rattle.indexed_answers.specs.declared.numbered.Numbered.{Numbered}
 
 -- an entry as the definitions have it
@@ -81,25 +89,47 @@ abbrev pub IsOwnOpened : Table → List ℕ → Where → Option FoundRecord →
 IsOwnOpened table text asked own = (slice : List ℕ) (t : TableParts) → AreBytes slice → IsTableOf slice t
     → IsOpened table text t → IsOwn slice asked own
 
+-- what a table says of the vmaddr of the first segment named __TEXT, over any bytes of the index
+abbrev pub IsBaseBy : List ℕ → Claim → Option ℕ → Type 0
+IsBaseBy text claim base = (slice table : List ℕ) → AreBytes slice → IsSliceTable slice table
+    → MayBeStored text claim table → base ≡ text_base_of slice
+
+-- the frames that a line table which is opened has of a place, of a slice with this vmaddr
+abbrev pub AreFramesOpened : LineTable → Pages → Option ℕ → List ℕ → Where → List FrameRecord → Type 0
+AreFramesOpened table pages base text asked frames = (slice all : List ℕ) (steps : List StepRecord)
+    → AreFrameSteps slice steps → base ≡ text_base_of slice → AreLinesOpened table pages text all steps
+    → AreFramesOfPlace asked slice frames
+
+-- the frames that a table has of a place, over any bytes of the index, of a slice with this vmaddr
+abbrev pub AreFramesBased : Option ℕ → List ℕ → Claim → Where → List FrameRecord → Type 0
+AreFramesBased base text claim asked frames = (slice table : List ℕ) → AreBytes slice → base ≡ text_base_of slice
+    → IsSliceTable slice table → MayBeStored text claim table → AreFramesOfPlace asked slice frames
+
 -- what an entry tells of places, in their order, over these bytes of its index
-pub record IsColumnOf (text : List ℕ) (asked : List Where) (x : EntryAt) (column : EntryAnswers) : Type 0 where
+pub record IsColumnOf (text : List ℕ) (lines : Bool) (asked : List Where) (x : EntryAt) (column : EntryAnswers)
+    : Type 0 where
   pub digest_is : column.digest.0 ≡ take 32 (drop 25 x.entry)
   pub owns : AllZip (IsToldBy text (claim_in x.entry)) asked (map told_view column.owns.items)
+  pub frames : lines ≡ true → AllZip (AreFramesToldBy text (claim_in x.entry)) asked (frame_lists column)
 
 -- why one entry tells nothing
 abbrev pub IsUntoldOne : List ℕ → EntryAt → AnswerFault → Type 0
 IsUntoldOne text x (Damaged input number) = (input ≡ x.input) × (number ≡ x.number) × HasNoTable text x.entry
+IsUntoldOne text x (NoLines input number) =
+    (input ≡ x.input) × (number ≡ x.number) × HasNoLinesBy text (claim_in x.entry)
 IsUntoldOne text x (Device input offset) = Unit {0}
 IsUntoldOne text x OutOfMemory = Unit {0}
 
 -- what a fault of one entry says of the failures of its device
-abbrev pub BlamesOne : EntryAt → ℕ → ℕ → AnswerFault → Type 0
-BlamesOne x old new (Damaged input number) = new ≡ old
-BlamesOne x old new (Device input offset) = (input ≡ x.input) × (offset ≡ (claim_in x.entry).offset) × FailedIn old new
-BlamesOne x old new OutOfMemory = new ≡ old
+abbrev pub BlamesOne : Bool → EntryAt → ℕ → ℕ → AnswerFault → Type 0
+BlamesOne lines x old new (Damaged input number) = new ≡ old
+BlamesOne lines x old new (NoLines input number) = (lines ≡ true) × (new ≡ old)
+BlamesOne lines x old new (Device input offset) =
+    (input ≡ x.input) × (offset ≡ (claim_in x.entry).offset) × FailedIn old new
+BlamesOne lines x old new OutOfMemory = new ≡ old
 
 -- what came of asking one entry of its device, which was opened
-pub record AsksOne {D T : Type 0} (whole : D → Option (List ℕ)) (failures : D → ℕ) (x : EntryAt)
+pub record AsksOne {D T : Type 0} (whole : D → Option (List ℕ)) (failures : D → ℕ) (lines : Bool) (x : EntryAt)
     (old new : Result D CannotOpen) (result : Result T AnswerFault) (IsTrue : List ℕ → T → Type 0) : Type 0 where
   pub before : D
   pub after : D
@@ -108,4 +138,4 @@ pub record AsksOne {D T : Type 0} (whole : D → Option (List ℕ)) (failures : 
   pub says : (text : List ℕ) → whole before ≡ Some text → MatchResult result (IsTrue text) (IsUntoldOne text x)
   pub keeps : whole after ≡ whole before
   pub counts : MatchResult result (λ _. failures after ≡ failures before)
-      (BlamesOne x (failures before) (failures after))
+      (BlamesOne lines x (failures before) (failures after))

@@ -1,27 +1,47 @@
 -- What is told, as the code has it.
-use Rattle.std.specs.Prelude.{◌≡◌, ℕ, List, [], ◌∷◌, map, take, drop, slice_get, slice_index_or, Option, None, Some}
+use Rattle.std.specs.Prelude.{◌≡◌, ℕ, Bool, true, false, List, [], ◌∷◌, map, take, drop, slice_get, slice_index_or}
+use Rattle.std.specs.Prelude.{Option, None, Some, Vec}
 use Rattle.std.specs.List.{AllZip}
 use Rattle.std.specs.Option.{option_map}
 use Rattle.macho_symbols.specs.Found.{FoundRecord}
+use Rattle.source_frames.specs.Frames.{FrameRecord}
+use Rattle.source_frames.specs.FrameViews.{frame_view}
+use Rattle.source_frames.specs.declared.frame.Frame.{Frame}
 use Rattle.symbol_tables.specs.Found.{owned_view}
 use Rattle.symbol_tables.specs.declared.found.OwnedFound.{OwnedFound}
+use Rattle.line_tables.specs.FrameViews.{owned_frames}
+use Rattle.line_tables.specs.declared.frame.OwnedFrame.{OwnedFrame}
 use Rattle.archive_core.specs.Lookup.{AnswerRecord, OwnRow, Unanswered, Alone, Disputed}
 use Rattle.archive_core.specs.declared.lookup.Where.{Where}
 use Rattle.table_index.specs.Entry.{claim_in}
 use Rattle.indexed_answers.specs.Among.{EntryAt}
-use Rattle.indexed_answers.specs.Told.{IsToldBy}
+use Rattle.indexed_answers.specs.Told.{AreFramesToldBy, IsToldBy}
 use Rattle.indexed_answers.specs.declared.answers.EntryAnswers.{EntryAnswers}
 
 -- what is told of a place
 abbrev pub told_view : Option OwnedFound → Option FoundRecord
 told_view own = option_map owned_view own
 
--- what an entry tells of places, in their order, over these bytes of the indexes
-pub record IsColumnAt (texts : List (List ℕ)) (asked : List Where) (x : EntryAt) (column : EntryAnswers)
-    : Type 0 where
+-- the frames of a place
+abbrev pub list_in : {A : Type 0} → Vec OwnedFrame A → List FrameRecord
+list_in list = owned_frames list.items
+
+-- the same, lent
+abbrev pub lent_in : {A : Type 0} → Vec Frame A → List FrameRecord
+lent_in list = map (λ frame. frame_view frame) list.items
+
+-- the frames of places
+abbrev pub frame_lists : EntryAnswers → List (List FrameRecord)
+frame_lists column = map list_in column.frames.items
+
+-- what an entry tells of places, in their order, over these bytes of the indexes, and if lines are wanted the frames
+pub record IsColumnAt (texts : List (List ℕ)) (lines : Bool) (asked : List Where) (x : EntryAt)
+    (column : EntryAnswers) : Type 0 where
   pub digest_is : column.digest.0 ≡ take 32 (drop 25 x.entry)
   pub owns : (text : List ℕ) → slice_get texts x.input ≡ Some text
       → AllZip (IsToldBy text (claim_in x.entry)) asked (map told_view column.owns.items)
+  pub frames : lines ≡ true → (text : List ℕ) → slice_get texts x.input ≡ Some text
+      → AllZip (AreFramesToldBy text (claim_in x.entry)) asked (frame_lists column)
 
 -- the row of a column
 abbrev pub row_at : ℕ → EntryAnswers → OwnRow
@@ -35,3 +55,12 @@ abbrev pub answer_of : List OwnRow → AnswerRecord
 answer_of [] = Unanswered
 answer_of (row ∷ []) = Alone row.own
 answer_of (row ∷ (other ∷ rows)) = Disputed (row ∷ (other ∷ rows))
+
+-- the frames of a column
+abbrev pub frames_at : ℕ → EntryAnswers → List FrameRecord
+frames_at number column = slice_index_or (frame_lists column) number []
+
+-- those that are shown of columns, if lines are wanted
+abbrev pub shown_of : Bool → ℕ → List EntryAnswers → List (List FrameRecord)
+shown_of true number columns = map (frames_at number) columns
+shown_of false number columns = []

@@ -2,10 +2,13 @@
 
 ghost use Rattle.std.specs.Prelude.{◌≡◌, IfOk, map, slice_index_or, None};
 ghost use Rattle.archive_core.specs.Lookup.{Alone, answer_view, own_row, own_view};
-ghost use Rattle.indexed_answers.specs.Views.{answer_of, row_at, told_view};
+ghost use Rattle.line_tables.specs.FrameViews.{owned_frames};
+ghost use Rattle.indexed_answers.specs.Views.{answer_of, frames_at, lent_in, row_at, shown_of, told_view};
 
 use archive_core::{Answer, Digest, Own};
+use line_tables::OwnedFrame;
 use memory::{Heap, NoMemory};
+use source_frames::Frame;
 use symbol_tables::OwnedFound;
 
 /// What the table of an entry tells.
@@ -15,6 +18,8 @@ pub struct EntryAnswers {
     pub digest: Digest,
     /// What it tells of each place, in the order in which they were asked for.
     pub owns: Vec<Option<OwnedFound>, Heap>,
+    /// The frames of each place in its slice; no list where no lines are wanted.
+    pub frames: Vec<Vec<OwnedFrame, Heap>, Heap>,
 }
 
 /// What an index tells of several places under a key: what each entry tells that answers, in the order of their
@@ -34,6 +39,27 @@ impl EntryAnswers {
             _ => Own::NoSymbol,
         }
     }
+
+    /// The frames of the place of this number, lent.
+    fn frames(&self, heap: Heap, number: usize) -> Result<Vec<Frame<'_>, Heap>, NoMemory>
+        ensures { IfOk result (λ frames. lent_in frames ≡ frames_at number self.now) }
+    {
+        match self.frames.get(number) {
+            Some(frames) => lent_each(heap, frames),
+            None => Ok(Vec::new(heap)),
+        }
+    }
+}
+
+/// Frames, lent.
+fn lent_each(heap: Heap, frames: &[OwnedFrame]) -> Result<Vec<Frame<'_>, Heap>, NoMemory>
+    ensures { IfOk result (λ lent. lent_in lent ≡ owned_frames frames.now) }
+{
+    let mut lent = Vec::with_capacity(heap, frames.len())?;
+    'frames: for frame in frames {
+        lent.push(frame.lent())?;
+    }
+    Ok(lent)
 }
 
 /// The answer where one slice alone answers.
@@ -61,6 +87,23 @@ fn rows_at(
     Ok(rows)
 }
 
+/// The frames of the place of this number in the slice of each entry.
+fn frames_of_each<'c>(
+    heap: &Heap,
+    columns: &'c [EntryAnswers],
+    number: usize,
+) -> Result<Vec<Vec<Frame<'c>, Heap>, Heap>, NoMemory>
+    ensures { IfOk result (λ lists. map lent_in lists.items
+        ≡ map (frames_at number) columns.now) }
+{
+    let mut lists = Vec::new(heap.clone()?);
+    'columns: for column in columns {
+        let frames = column.frames(heap.clone()?, number)?;
+        lists.push(frames)?;
+    }
+    Ok(lists)
+}
+
 impl Answers {
     /// The answer for the place of this number, from 0 on, among those that were asked for. Refused for want of memory
     /// alone, which is asked for only where several entries answer.
@@ -71,6 +114,24 @@ impl Answers {
             [] => Ok(Answer::Unknown),
             [column] => Ok(answer_of_one(column.own(number))),
             columns => Ok(Answer::Conflict(rows_at(heap, columns, number)?)),
+        }
+    }
+
+    /// The frames that are shown of the place of this number: those in the slice of each entry, in the order of the
+    /// answer, or no list where no lines are wanted. Refused for want of memory alone.
+    pub fn frames(
+        &self,
+        heap: &Heap,
+        lines: bool,
+        number: usize,
+    ) -> Result<Vec<Vec<Frame<'_>, Heap>, Heap>, NoMemory>
+        ensures { IfOk result (λ lists. map lent_in lists.items
+            ≡ shown_of lines number self.now.columns.items) }
+    {
+        if lines {
+            frames_of_each(heap, &self.columns, number)
+        } else {
+            Ok(Vec::new(heap.clone()?))
         }
     }
 }

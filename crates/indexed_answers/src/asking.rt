@@ -13,22 +13,25 @@ use archive_core::Where;
 use byte_device::{CannotOpen, Placed};
 use memory::Heap;
 
-/// What the tables of entries that answer tell of several places. The devices are those of the indexes, in their order.
-/// One may be missing if none of these entries stands in its index. One table is open at a time.
+/// What the tables of entries that answer tell of several places, and if lines are wanted the frames of these in each
+/// slice. The devices are those of the indexes, in their order. One may be missing if none of these entries stands in
+/// its index. One table is open at a time.
 ///
 /// # Errors
 ///
-/// `Damaged` at one of the entries, whose table is not what the entry vouches for. They are asked in their order.
+/// `Damaged` at one of the entries, whose table is not what the entry vouches for; `NoLines` at one whose table has no
+/// lines, if they are wanted. The entries are asked in their order, each for its symbols before its lines.
 pub fn answer_among<P: Placed>(
     heap: &Heap,
     devices: &mut [Result<P, CannotOpen>],
     answering: &Answering,
+    lines: bool,
     asked: &[Where],
 ) -> Result<Answers, AnswerFault>
     requires { AreOpened devices.old answering.now }
-    ensures { AsksAmong P.whole P.failures answering.now devices.old devices.new result
-        (λ texts answers. AllZip (IsColumnAt texts asked.now) answering.now answers.columns.items) }
+    ensures { AsksAmong P.whole P.failures lines answering.now devices.old devices.new result
+        (λ texts answers. AllZip (IsColumnAt texts lines asked.now) answering.now answers.columns.items) }
 {
-    let columns = told_by_each(heap, devices, answering.entries(), asked)?;
+    let columns = told_by_each(heap, devices, answering.entries(), lines, asked)?;
     Ok(Answers { columns })
 }

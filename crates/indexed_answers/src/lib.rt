@@ -8,7 +8,8 @@
 //! - `retired`: what the retirements under a key are of; `live`: the entries that none of these covers;
 //! - `order`: the order of their records; `answering`: [`answering_among`], those that answer;
 //! - `named`: [`NamedSlice`], a slice that an entry names, and which of them answer or have a digest;
-//! - `own`: what a table tells of a place; `told`: what those of entries tell of several;
+//! - `own`: what a table tells of a place; `lines`: its frames in the slice; `told`: what those of entries tell of
+//!   several;
 //! - `answers`: [`Answers`], what all of them tell; `asking`: [`answer_among`].
 //! - [`laws`]: what is told of several places is told of each.
 #![tactic(auto)]
@@ -18,6 +19,7 @@ mod answers;
 mod asking;
 mod fault;
 pub mod laws;
+mod lines;
 mod live;
 mod named;
 mod numbered;

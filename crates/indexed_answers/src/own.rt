@@ -29,7 +29,7 @@ fn unslid(base: u64, load: u64, address: u64) -> Option<u64>
 }
 
 /// The address in a slice's file that a place stands for, by the `vmaddr` of its `__TEXT`.
-fn address_of(base: Option<u64>, asked: Where) -> Option<u64>
+pub(crate) fn address_of(base: Option<u64>, asked: Where) -> Option<u64>
     ensures { (slice : List ℕ) → base ≡ text_base_of slice → result ≡ file_address slice asked }
 {
     match asked {

@@ -1,20 +1,22 @@
 //! What the table of an entry tells of several places.
 
-ghost use Rattle.std.specs.Prelude.{◌≡◌, ◌<◌, ◌^◌, ℕ, List, Contains, IsOk, map, length};
+ghost use Rattle.std.specs.Prelude.{◌≡◌, ◌<◌, ◌^◌, ℕ, List, Contains, IfOk, IsOk, MatchOption, None, map, length, true};
 ghost use Rattle.std.specs.List.{AllZip};
 ghost use Rattle.checked_pages.specs.Pages.{AreStored};
 ghost use Rattle.checked_pages.specs.Views.{claim_view};
 ghost use Rattle.checked_pages.specs.Reading.{ReadsStored};
 ghost use Rattle.symbol_tables.specs.Opened.{IsOpened};
-ghost use Rattle.symbol_tables.specs.Table.{IsTableText, TableParts, table_bytes};
+ghost use Rattle.symbol_tables.specs.Table.{TableParts, table_bytes};
+ghost use Rattle.slice_tables.specs.SliceTable.{IsSliceTable};
 ghost use Rattle.indexed_answers.specs.Among.{EntryAt};
-ghost use Rattle.indexed_answers.specs.AmongAsked.{AreOpened, AsksAmong, IsOpenedAt};
-ghost use Rattle.indexed_answers.specs.Told.{IsToldBy};
+ghost use Rattle.indexed_answers.specs.AmongAsked.{AreOpened, AsksAmong, HasNoTable, IsOpenedAt};
+ghost use Rattle.indexed_answers.specs.Told.{HasNoLinesBy, IsToldBy};
 ghost use Rattle.indexed_answers.specs.Views.{IsColumnAt, told_view};
-ghost use Rattle.indexed_answers.specs.InnerAnswering.{AsksOne, IsColumnOf, IsOwnOpened, entry_at};
+ghost use Rattle.indexed_answers.specs.InnerAnswering.{AsksOne, IsBaseBy, IsColumnOf, IsOwnOpened, entry_at};
 
 use crate::AnswerFault;
 use crate::answers::EntryAnswers;
+use crate::lines::frames_if;
 use crate::numbered::Numbered;
 use crate::own::own_of;
 use archive_core::Where;
@@ -52,23 +54,54 @@ fn owns_of<P: Placed>(
     Ok(owns)
 }
 
-/// What the table that a claim names tells of several places.
+/// What the table that a claim names tells of several places, after the `vmaddr` of the first segment named `__TEXT`.
 fn owns_by_claim<P: Placed>(
     heap: &Heap,
     device: &mut P,
     claim: Claim,
     asked: &[Where],
-) -> Result<Vec<Option<OwnedFound>, Heap>, CheckFault>
+) -> Result<(Option<u64>, Vec<Option<OwnedFound>, Heap>), CheckFault>
     ensures { ReadsStored P.whole P.failures device.old device.new result
-        (λ text owns. AllZip (IsToldBy text (claim_view claim)) asked.now (map told_view owns.items))
-        (λ text. length text < 2 ^ 64 → (slice all : List ℕ) → IsTableText slice all
+        (λ text told. IsBaseBy text (claim_view claim) told.0
+        × AllZip (IsToldBy text (claim_view claim)) asked.now (map told_view told.1.items))
+        (λ text. length text < 2 ^ 64 → (slice all : List ℕ) → IsSliceTable slice all
         → AreStored text (claim_view claim) all → ⊥) }
 {
     let Ok(own) = heap.clone() else {
         return Err(CheckFault::OutOfMemory);
     };
     let mut table = Table::open(own, device, claim)?;
-    owns_of(heap, device, &mut table, asked)
+    let base = table.text_base();
+    let owns = owns_of(heap, device, &mut table, asked)?;
+    Ok((base, owns))
+}
+
+/// What the table of an entry tells of several places, and if lines are wanted their frames; none if it has no lines
+/// then. The symbols are asked for before the frames.
+fn column_of<P: Placed>(
+    heap: &Heap,
+    device: &mut P,
+    numbered: &Numbered,
+    lines: bool,
+    asked: &[Where],
+) -> Result<Option<EntryAnswers>, CheckFault>
+    ensures wanted { IfOk result (λ found. found ≡ None → lines ≡ true) }
+    ensures read { ReadsStored P.whole P.failures device.old device.new result
+        (λ text found. MatchOption found (HasNoLinesBy text (claim_view numbered.now.entry.claim))
+        (λ column. IsColumnOf text lines asked.now (entry_at numbered.now) column))
+        (λ text. HasNoTable text (entry_at numbered.now).entry) }
+{
+    let claim = numbered.entry.claim;
+    let (base, owns) = owns_by_claim(heap, device, claim, asked)?;
+    let Some(frames) = frames_if(heap, device, claim, lines, base, asked)? else {
+        return Ok(None);
+    };
+    let digest = digest_in(&numbered.entry.bytes());
+    Ok(Some(EntryAnswers {
+        digest,
+        owns,
+        frames,
+    }))
 }
 
 /// What the table of an entry tells of several places. The device is that of its index.
@@ -76,46 +109,47 @@ fn told_by<P: Placed>(
     heap: &Heap,
     device: &mut Result<P, CannotOpen>,
     numbered: &Numbered,
+    lines: bool,
     asked: &[Where],
 ) -> Result<EntryAnswers, AnswerFault>
     requires { IsOk device.old }
-    ensures { AsksOne P.whole P.failures (entry_at numbered.now) device.old device.new result
-        (λ text column. IsColumnOf text asked.now (entry_at numbered.now) column) }
+    ensures { AsksOne P.whole P.failures lines (entry_at numbered.now) device.old device.new result
+        (λ text column. IsColumnOf text lines asked.now (entry_at numbered.now) column) }
 {
     let Ok(device) = device else { unreachable!() };
     let input = numbered.input;
-    let claim = numbered.entry.claim;
-    match owns_by_claim(heap, device, claim, asked) {
-        Ok(owns) => {
-            let digest = digest_in(&numbered.entry.bytes());
-            Ok(EntryAnswers { digest, owns })
-        }
-        Err(CheckFault::Changed) => Err(AnswerFault::Damaged {
-            input,
-            entry: numbered.number,
-        }),
-        Err(CheckFault::Device) => Err(AnswerFault::Device {
-            input,
-            offset: claim.offset,
-        }),
+    let entry = numbered.number;
+    let offset = numbered.entry.claim.offset;
+    match column_of(heap, device, numbered, lines, asked) {
+        Ok(Some(column)) => Ok(column),
+        Ok(None) => Err(AnswerFault::NoLines { input, entry }),
+        Err(CheckFault::Changed) => Err(AnswerFault::Damaged { input, entry }),
+        Err(CheckFault::Device) => Err(AnswerFault::Device { input, offset }),
         Err(CheckFault::OutOfMemory) => Err(AnswerFault::OutOfMemory),
     }
 }
 
-/// What the table of an entry tells of several places, by the device of its index.
+/// The same, by the device of its index.
 fn told_at<P: Placed>(
     heap: &Heap,
     devices: &mut [Result<P, CannotOpen>],
     numbered: &Numbered,
+    lines: bool,
     asked: &[Where],
 ) -> Result<EntryAnswers, AnswerFault>
     requires within { numbered.now.input < length devices.old }
     requires opened { IsOpenedAt devices.old numbered.now.input }
     ensures { (answering : List EntryAt) → Contains answering (entry_at numbered.now)
-        → AsksAmong P.whole P.failures answering devices.old devices.new result
-        (λ texts column. IsColumnAt texts asked.now (entry_at numbered.now) column) }
+        → AsksAmong P.whole P.failures lines answering devices.old devices.new result
+        (λ texts column. IsColumnAt texts lines asked.now (entry_at numbered.now) column) }
 {
-    told_by(heap, &mut devices[numbered.input as usize], numbered, asked)
+    told_by(
+        heap,
+        &mut devices[numbered.input as usize],
+        numbered,
+        lines,
+        asked,
+    )
 }
 
 /// What the tables of entries tell of several places, each in its column. One table is open at a time.
@@ -123,18 +157,19 @@ pub(crate) fn told_by_each<P: Placed>(
     heap: &Heap,
     devices: &mut [Result<P, CannotOpen>],
     answering: &[Numbered],
+    lines: bool,
     asked: &[Where],
 ) -> Result<Vec<EntryAnswers, Heap>, AnswerFault>
     requires { AreOpened devices.old (map entry_at answering.now) }
-    ensures { AsksAmong P.whole P.failures (map entry_at answering.now) devices.old devices.new result
-        (λ texts columns. AllZip (IsColumnAt texts asked.now) (map entry_at answering.now) columns.items) }
+    ensures { AsksAmong P.whole P.failures lines (map entry_at answering.now) devices.old devices.new result
+        (λ texts columns. AllZip (IsColumnAt texts lines asked.now) (map entry_at answering.now) columns.items) }
 {
     let Ok(own) = heap.clone() else {
         return Err(AnswerFault::OutOfMemory);
     };
     let mut columns = Vec::new(own);
     'answering: for numbered in answering {
-        let column = told_at(heap, devices, numbered, asked)?;
+        let column = told_at(heap, devices, numbered, lines, asked)?;
         if let Err(_) = columns.push(column) {
             return Err(AnswerFault::OutOfMemory);
         }

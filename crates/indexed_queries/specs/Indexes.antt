@@ -14,7 +14,7 @@ use Rattle.command_ends.specs.declared.faults.Why.{Why}
 use Rattle.archive_records.specs.declared.fault.RecordFaultKind.TheVariants.{Device as DeviceFailed}
 use Rattle.command_ends.specs.declared.faults.Why.TheVariants.{CannotOpen as NotOpened, Device as CannotRead, Record}
 use Rattle.command_ends.specs.declared.faults.Why.TheVariants.{Take, Script, BadFrame, OldArchive, TooLong}
-use Rattle.command_ends.specs.declared.faults.Why.TheVariants.{Index as IndexFaulty, Stale, Damaged, NoArchive, NoIndex}
+use Rattle.command_ends.specs.declared.faults.Why.TheVariants.{Index as IndexFaulty, Stale, Damaged, NoArchive, NoIndex, NoLines}
 
 -- The input is an index with these entries, where its bytes are known.
 abbrev pub HoldsTables : {S : Type 0} → Reader S → List (List ℕ) → Type 0
@@ -50,6 +50,7 @@ IsUnreadAt IsRead archive TooLong = ⊥
 IsUnreadAt IsRead archive (IndexFaulty _) = ⊥
 IsUnreadAt IsRead archive (Stale _) = ⊥
 IsUnreadAt IsRead archive (Damaged _) = ⊥
+IsUnreadAt IsRead archive (NoLines _) = ⊥
 IsUnreadAt IsRead archive NoArchive = ⊥
 IsUnreadAt IsRead archive NoIndex = ⊥
 

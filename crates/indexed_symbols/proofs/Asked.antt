@@ -1,5 +1,5 @@
 -- What comes of asking tables, key by key.
-use Rattle.std.proofs.Common.{◌≡◌, ℕ, zero, suc, ◌<◌, Bool, false, List, [], ◌∷◌, length, map, get_or, Option, Result, Ok, Err, refl, sym, ap, ◌∙◌, subst, arith, inr}
+use Rattle.std.proofs.Common.{◌≡◌, ℕ, zero, suc, ◌<◌, Bool, List, [], ◌∷◌, length, map, get_or, Option, Result, Ok, Err, refl, sym, ap, ◌∙◌, subst, arith}
 use Rattle.std.specs.List.{AllZip, Contains}
 use Rattle.std.proofs.lemmas.Option.{get_or_from_slice_get, slice_get_within}
 use Rattle.byte_device.specs.declared.disks.CannotOpen.{CannotOpen}
@@ -14,16 +14,16 @@ use Rattle.command_ends.specs.declared.faults.CommandFault.TheVariants.{Input, O
 use Rattle.indexed_answers.specs.Among.{AreAnsweringAmong, EntryAt}
 use Rattle.indexed_answers.specs.AmongAsked.{AsksAmong, BlamesAmong, HasText, HaveTexts, each_known}
 use Rattle.indexed_answers.specs.AmongTold.{IsAnswerAmong}
-use Rattle.indexed_answers.specs.Views.{IsColumnAt, answer_of, row_at}
+use Rattle.indexed_answers.specs.Views.{IsColumnAt, answer_of, row_at, shown_of}
 use Rattle.indexed_answers.specs.declared.answers.Answers.{Answers}
 use Rattle.indexed_answers.specs.declared.answers.EntryAnswers.{EntryAnswers}
 use Rattle.indexed_answers.specs.declared.fault.AnswerFault.{AnswerFault}
 use Rattle.indexed_answers.specs.declared.fault.AnswerFault.TheVariants as answer
-use Rattle.indexed_symbols.specs.Asking.{AreTiedUnder, WantsSlices}
+use Rattle.indexed_symbols.specs.Asking.{AreTiedUnder}
 use Rattle.indexed_symbols.specs.Frames.{keys_of}
 use Rattle.indexed_symbols.specs.InnerAsking.{IsUntoldBy, NoneFailed, command_fault}
 use Rattle.indexed_symbols.specs.InnerPlaces.{AreAskedOf}
-use Rattle.indexed_symbols.specs.InnerTold.{AreToldOf, IsToldUnder, answer_at}
+use Rattle.indexed_symbols.specs.InnerTold.{AreToldOf, IsToldUnder, answer_at, shown_at}
 use Rattle.indexed_symbols.specs.declared.places.AskedPlace.{AskedPlace}
 use Rattle.indexed_symbols.specs.declared.told.KeyAnswers.{KeyAnswers}
 
@@ -37,35 +37,37 @@ only_key key other (suc n, lt, e) = absurd (omega (arith, lt))
 
 -- ---- under one key
 
-module _ {D : Type 0} (whole : D → Option (List ℕ)) (failures : D → ℕ) (key : SliceKey) (all : List (List (List ℕ))) (answering : List EntryAt) (are : AreAnsweringAmong (key_bytes key) all answering) (old new : List (Result D CannotOpen)) (places : List Where) where
+module _ {D : Type 0} (whole : D → Option (List ℕ)) (failures : D → ℕ) (key : SliceKey) (all : List (List (List ℕ))) (answering : List EntryAt) (are : AreAnsweringAmong (key_bytes key) all answering) (old new : List (Result D CannotOpen)) (lines : Bool) (places : List Where) where
   abbrev AreColumns : List (List ℕ) → Answers → Type 0
-  AreColumns texts answers = AllZip (IsColumnAt texts places) answering answers.columns.items
+  AreColumns texts answers = AllZip (IsColumnAt texts lines places) answering answers.columns.items
 
   -- each column tells of each place
-  pub told_of : (answers : Answers) → AsksAmong whole failures answering old new (Ok answers) AreColumns
-      → ((texts : List (List ℕ)) (indexes : List (List (List ℕ))) (front : List ℕ) (answering : List EntryAt) (asked : List Where) (columns : List EntryAnswers) (number : ℕ) (none : Where)
-      → AreAnsweringAmong front indexes answering → AllZip (IsColumnAt texts asked) answering columns → number < length asked → IsAnswerAmong texts indexes front (get_or asked number none) (answer_of (map (row_at number) columns)))
-      → AreToldOf (HaveTexts whole old) all key places answers
+  pub told_of : (answers : Answers) → AsksAmong whole failures lines answering old new (Ok answers) AreColumns
+      → ((texts : List (List ℕ)) (indexes : List (List (List ℕ))) (front : List ℕ) (answering : List EntryAt) (lines : Bool) (asked : List Where) (columns : List EntryAnswers) (number : ℕ) (none : Where)
+      → AreAnsweringAmong front indexes answering → AllZip (IsColumnAt texts lines asked) answering columns → number < length asked
+      → IsAnswerAmong texts indexes front lines (get_or asked number none) (answer_of (map (row_at number) columns)) (shown_of lines number columns))
+      → AreToldOf (HaveTexts whole old) all key lines places answers
   told_of answers asks law = λ texts have number place at.
       let is : get_or places number place ≡ place = get_or_from_slice_get places number place place at in
-      subst (λ (p : Where). IsAnswerAmong texts all (key_bytes key) p (answer_at answers number)) is
-      (law texts all (key_bytes key) answering places answers.columns.items number place are (asks.says texts have) (slice_get_within places number place at))
+      subst (λ (p : Where). IsAnswerAmong texts all (key_bytes key) lines p (answer_at answers number) (shown_at lines answers number)) is
+      (law texts all (key_bytes key) answering lines places answers.columns.items number place are (asks.says texts have) (slice_get_within places number place at))
 
   -- a fault is told
-  pub fault_told : (fault : AnswerFault) → AsksAmong whole failures answering old new (Err fault) AreColumns → IsRefusal (IsUntoldBy whole failures (key_bytes key ∷ []) all old new) (NoneFailed failures old new) (command_fault fault)
+  pub fault_told : (fault : AnswerFault) → AsksAmong whole failures lines answering old new (Err fault) AreColumns → IsRefusal (IsUntoldBy whole failures lines (key_bytes key ∷ []) all old new) (NoneFailed failures old new) (command_fault fault)
   fault_told (answer.Damaged input number) asks = record { key = key_bytes key; key_is = one_key (key_bytes key); answering = answering; are = are; fault = answer.Damaged input number; told_as = refl; says = asks.says; counts = asks.counts }
+  fault_told (answer.NoLines input number) asks = record { key = key_bytes key; key_is = one_key (key_bytes key); answering = answering; are = are; fault = answer.NoLines input number; told_as = refl; says = asks.says; counts = asks.counts }
   fault_told (answer.Device input offset) asks = record { key = key_bytes key; key_is = one_key (key_bytes key); answering = answering; are = are; fault = answer.Device input offset; told_as = refl; says = asks.says; counts = asks.counts }
   fault_told answer.OutOfMemory asks = asks.counts
 
 -- ---- key by key
 
-module _ {D : Type 0} (whole : D → Option (List ℕ)) (failures : D → ℕ) (all : List (List (List ℕ))) (first mid : List (Result D CannotOpen)) (texts_kept : each_known whole mid ≡ each_known whole first) where
+module _ {D : Type 0} (whole : D → Option (List ℕ)) (failures : D → ℕ) (lines : Bool) (all : List (List (List ℕ))) (first mid : List (Result D CannotOpen)) (texts_kept : each_known whole mid ≡ each_known whole first) where
   -- what is true of later states is true of the first
-  pub true_first : (one : KeyAnswers) → IsToldUnder (HaveTexts whole mid) all one → IsToldUnder (HaveTexts whole first) all one
+  pub true_first : (one : KeyAnswers) → IsToldUnder (HaveTexts whole mid) all lines one → IsToldUnder (HaveTexts whole first) all lines one
   true_first one told = λ texts have. told texts (subst (λ (ds : List (Result (Option (List ℕ)) CannotOpen)). AllZip HasText ds texts) (sym texts_kept) have)
 
   pub untold_first : (counts_kept : each_known failures mid ≡ each_known failures first) (new : List (Result D CannotOpen)) (key : List ℕ) (keys : List (List ℕ)) (fault : CommandFault) → Contains keys key
-      → IsRefusal (IsUntoldBy whole failures (key ∷ []) all mid new) (NoneFailed failures mid new) fault → IsRefusal (IsUntoldBy whole failures keys all first new) (NoneFailed failures first new) fault
+      → IsRefusal (IsUntoldBy whole failures lines (key ∷ []) all mid new) (NoneFailed failures mid new) fault → IsRefusal (IsUntoldBy whole failures lines keys all first new) (NoneFailed failures first new) fault
   untold_first counts_kept new key keys (Input at why) there r = record {
     key = r.key;
     key_is = subst (Contains keys) (only_key key r.key r.key_is) there;
@@ -74,7 +76,7 @@ module _ {D : Type 0} (whole : D → Option (List ℕ)) (failures : D → ℕ) (
     fault = r.fault;
     told_as = r.told_as;
     says = λ texts have. r.says texts (subst (λ (ds : List (Result (Option (List ℕ)) CannotOpen)). AllZip HasText ds texts) (sym texts_kept) have);
-    counts = subst (λ (olds : List (Result ℕ CannotOpen)). BlamesAmong r.answering olds (each_known failures new) r.fault) counts_kept r.counts;
+    counts = subst (λ (olds : List (Result ℕ CannotOpen)). BlamesAmong lines r.answering olds (each_known failures new) r.fault) counts_kept r.counts;
   }
   untold_first counts_kept new key keys (Output n) there r = absurd r
   untold_first counts_kept new key keys (Report n) there r = absurd r
@@ -93,19 +95,12 @@ module _ (frames : List Frame) (asked : List AskedPlace) (of : AreAskedOf frames
       let same : key ≡ key_bytes frame.0.key = one.2 ∙ ap (λ (a : AskedPlace). key_bytes a.key) frame.2 in
       subst (Contains (keys_of frames)) (sym same) (to_map (λ (f : Frame). key_bytes f.key) frames frame.0 frame.1)
 
-  pub tied_of_frames : (lines : Bool) (all : List (List (List ℕ))) → AreTiedUnder (keys_asked asked) all → WantsSlices lines (keys_of frames) all
-  tied_of_frames lines all (key, there, tied) = inr (key, among_frames key there, tied)
+  pub tied_of_frames : (all : List (List (List ℕ))) → AreTiedUnder (keys_asked asked) all → AreTiedUnder (keys_of frames) all
+  tied_of_frames all (key, there, tied) = (key, among_frames key there, tied)
 
-  pub untold_of_frames : {D : Type 0} (whole : D → Option (List ℕ)) (failures : D → ℕ) (lines : Bool) (all : List (List (List ℕ))) (old new : List (Result D CannotOpen)) (fault : CommandFault) → lines ≡ false
-      → IsRefusal (IsUntoldBy whole failures (keys_asked asked) all old new) (NoneFailed failures old new) fault → IsRefusal (λ at why. (lines ≡ false) × IsUntoldBy whole failures (keys_of frames) all old new at why) (NoneFailed failures old new) fault
-  untold_of_frames whole failures lines all old new (Input at why) none r = (none, record { key = r.key; key_is = among_frames r.key r.key_is; answering = r.answering; are = r.are; fault = r.fault; told_as = r.told_as; says = r.says; counts = r.counts })
-  untold_of_frames whole failures lines all old new (Output n) none r = absurd r
-  untold_of_frames whole failures lines all old new (Report n) none r = absurd r
-  untold_of_frames whole failures lines all old new OutOfMemory none r = r
-
-pub untold_of_key : {D : Type 0} (whole : D → Option (List ℕ)) (failures : D → ℕ) (lines : Bool) (keys : List (List ℕ)) (all : List (List (List ℕ))) (old new : List (Result D CannotOpen)) (fault : CommandFault) → lines ≡ false
-    → IsRefusal (IsUntoldBy whole failures keys all old new) (NoneFailed failures old new) fault → IsRefusal (λ at why. (lines ≡ false) × IsUntoldBy whole failures keys all old new at why) (NoneFailed failures old new) fault
-untold_of_key whole failures lines keys all old new (Input at why) none r = (none, r)
-untold_of_key whole failures lines keys all old new (Output n) none r = absurd r
-untold_of_key whole failures lines keys all old new (Report n) none r = absurd r
-untold_of_key whole failures lines keys all old new OutOfMemory none r = r
+  pub untold_of_frames : {D : Type 0} (whole : D → Option (List ℕ)) (failures : D → ℕ) (lines : Bool) (all : List (List (List ℕ))) (old new : List (Result D CannotOpen)) (fault : CommandFault)
+      → IsRefusal (IsUntoldBy whole failures lines (keys_asked asked) all old new) (NoneFailed failures old new) fault → IsRefusal (IsUntoldBy whole failures lines (keys_of frames) all old new) (NoneFailed failures old new) fault
+  untold_of_frames whole failures lines all old new (Input at why) r = record { key = r.key; key_is = among_frames r.key r.key_is; answering = r.answering; are = r.are; fault = r.fault; told_as = r.told_as; says = r.says; counts = r.counts }
+  untold_of_frames whole failures lines all old new (Output n) r = absurd r
+  untold_of_frames whole failures lines all old new (Report n) r = absurd r
+  untold_of_frames whole failures lines all old new OutOfMemory r = r

@@ -1,5 +1,5 @@
 -- How a command ends that asks by tables, or by slices.
-use Rattle.std.proofs.Common.{◌≡◌, ℕ, ◌⊎◌, Bool, false, List, [], length, Option, Result, Ok, Err, sym, ap, ◌∙◌, subst, inl, inr}
+use Rattle.std.proofs.Common.{◌≡◌, ℕ, ◌⊎◌, Bool, List, [], length, Option, Result, Ok, Err, sym, ap, ◌∙◌, subst, inl, inr}
 use Rattle.std.specs.Prelude.{slice_get, slice_set}
 use Rattle.std.specs.List.{AllZip}
 use Rattle.byte_device.specs.declared.disks.CannotOpen.{CannotOpen}
@@ -20,7 +20,7 @@ use Rattle.indexed_answers.specs.declared.fault.AnswerFault.TheVariants as answe
 use Rattle.indexed_queries.specs.Several.{AreRefusedLater, AreUnfailedTogether, MakesTogether}
 use Rattle.indexed_queries.specs.Together.{AreAllKept, AreReadWith, IsFirstRefusedAtPlaces}
 use Rattle.indexed_queries.proofs.Groups.{later_readers, read_earlier, unfailed_through}
-use Rattle.indexed_symbols.specs.Asking.{AreGiven, AreRefusedAsking, AreUntold, IsChanged, IsUntoldUnder, IsUnreadTable, WantsSlices}
+use Rattle.indexed_symbols.specs.Asking.{AreGiven, AreRefusedAsking, AreTiedUnder, AreUntold, IsChanged, IsLineless, IsUntoldUnder, IsUnreadTable}
 use Rattle.indexed_symbols.specs.InnerAsking.{AreHeldUnder, AreRefusedUnder, IsUntoldBy, NoneFailed, command_fault}
 use Rattle.indexed_symbols.proofs.States.{fails_alone, kept_counts, kept_texts, none_failed_of, read_before, texts_of}
 
@@ -31,10 +31,9 @@ refused_ends query report (Output n) r t = absurd r
 refused_ends query report (Report n) r t = absurd r
 refused_ends query report OutOfMemory r t = (r, t)
 
--- slices that are wanted under some keys are wanted under others with the same members
-pub wants_same : (lines : Bool) (keys others : List (List ℕ)) (all : List (List (List ℕ))) → HaveSameMembers others keys → WantsSlices lines keys all → WantsSlices lines others all
-wants_same lines keys others all same (inl wanted) = inl wanted
-wants_same lines keys others all same (inr (key, there, tied)) = inr (key, (same key).1 there, tied)
+-- slices that are tied under some keys are tied under others with the same members
+pub tied_same : (keys others : List (List ℕ)) (all : List (List (List ℕ))) → HaveSameMembers others keys → AreTiedUnder keys all → AreTiedUnder others all
+tied_same keys others all same (key, there, tied) = (key, (same key).1 there, tied)
 
 -- an archive is refused under keys that are such
 pub sought_refused : {P : Type 0} (IsSought : List (List ℕ) → Type 0) (all : List (List (List ℕ))) (archives : List (Reader P)) (keys : List (List ℕ)) (Unfailed : Type 0) (fault : CommandFault) → IsSought keys
@@ -44,23 +43,28 @@ sought_refused IsSought all archives keys Unfailed (Output n) sought r = absurd 
 sought_refused IsSought all archives keys Unfailed (Report n) sought r = absurd r
 sought_refused IsSought all archives keys Unfailed OutOfMemory sought r = r
 
--- slices were asked after tables were not
-pub slices_refused : {D P : Type 0} (lines : Bool) (IsSought : List (List ℕ) → Type 0) (whole : D → Option (List ℕ)) (failures : D → ℕ) (keys : List (List ℕ)) (all : List (List (List ℕ))) (old new : List (Result D CannotOpen)) (archives : List (Reader P)) (fault : CommandFault)
-    → WantsSlices lines keys all → NoneFailed failures old new → IsRefusal (AreRefusedUnder IsSought all archives) (EachUnfailed archives) fault
-    → IsRefusal (λ at why. ((lines ≡ false) × EachUnfailed archives × IsUntoldBy whole failures keys all old new at why) ⊎ (WantsSlices lines keys all × NoneFailed failures old new × AreRefusedUnder IsSought all archives at why)) (NoneFailed failures old new × EachUnfailed archives) fault
-slices_refused lines IsSought whole failures keys all old new archives (Input at why) wants none r = inr (wants, none, r)
-slices_refused lines IsSought whole failures keys all old new archives (Output n) wants none r = absurd r
-slices_refused lines IsSought whole failures keys all old new archives (Report n) wants none r = absurd r
-slices_refused lines IsSought whole failures keys all old new archives OutOfMemory wants none r = (none, r)
+module _ {D P : Type 0} (lines : Bool) (IsSought : List (List ℕ) → Type 0) (whole : D → Option (List ℕ)) (failures : D → ℕ) (keys : List (List ℕ)) (all : List (List (List ℕ))) (old new : List (Result D CannotOpen)) (archives : List (Reader P)) where
+  -- tables are refused, or slices that are read for them
+  abbrev pub IsEitherRefused : InputName → Why → Type 0
+  IsEitherRefused at why =
+      (EachUnfailed archives × IsUntoldBy whole failures lines keys all old new at why)
+      ⊎ (AreTiedUnder keys all × NoneFailed failures old new × AreRefusedUnder IsSought all archives at why)
 
--- tables are refused, before slices were asked
-pub tables_refused : {D P : Type 0} (lines : Bool) (IsSought : List (List ℕ) → Type 0) (whole : D → Option (List ℕ)) (failures : D → ℕ) (keys : List (List ℕ)) (all : List (List (List ℕ))) (old new : List (Result D CannotOpen)) (archives : List (Reader P)) (fault : CommandFault)
-    → EachUnfailed archives → IsRefusal (λ at why. (lines ≡ false) × IsUntoldBy whole failures keys all old new at why) (NoneFailed failures old new) fault
-    → IsRefusal (λ at why. ((lines ≡ false) × EachUnfailed archives × IsUntoldBy whole failures keys all old new at why) ⊎ (WantsSlices lines keys all × NoneFailed failures old new × AreRefusedUnder IsSought all archives at why)) (NoneFailed failures old new × EachUnfailed archives) fault
-tables_refused lines IsSought whole failures keys all old new archives (Input at why) unfailed r = inl (r.0, unfailed, r.1)
-tables_refused lines IsSought whole failures keys all old new archives (Output n) unfailed r = absurd r
-tables_refused lines IsSought whole failures keys all old new archives (Report n) unfailed r = absurd r
-tables_refused lines IsSought whole failures keys all old new archives OutOfMemory unfailed r = (r, unfailed)
+  -- slices were asked after tables were not
+  pub slices_refused : (fault : CommandFault) → AreTiedUnder keys all → NoneFailed failures old new → IsRefusal (AreRefusedUnder IsSought all archives) (EachUnfailed archives) fault
+      → IsRefusal IsEitherRefused (NoneFailed failures old new × EachUnfailed archives) fault
+  slices_refused (Input at why) tied none r = inr (tied, none, r)
+  slices_refused (Output n) tied none r = absurd r
+  slices_refused (Report n) tied none r = absurd r
+  slices_refused OutOfMemory tied none r = (none, r)
+
+  -- tables are refused, before slices were asked
+  pub tables_refused : (fault : CommandFault) → EachUnfailed archives → IsRefusal (IsUntoldBy whole failures lines keys all old new) (NoneFailed failures old new) fault
+      → IsRefusal IsEitherRefused (NoneFailed failures old new × EachUnfailed archives) fault
+  tables_refused (Input at why) unfailed r = inl (unfailed, r)
+  tables_refused (Output n) unfailed r = absurd r
+  tables_refused (Report n) unfailed r = absurd r
+  tables_refused OutOfMemory unfailed r = (r, unfailed)
 
 -- after the indexes were read
 module _ {I P : Type 0} (left : I → Option (List ℕ)) (failures : I → ℕ) (whole : P → Option (List ℕ)) (failures_at : P → ℕ)
@@ -102,9 +106,9 @@ module _ {I P : Type 0} (left : I → Option (List ℕ)) (failures : I → ℕ) 
 
   -- ---- a table is not told
 
-  fault_of : (answering : List EntryAt) (fault : AnswerFault) (at : InputName) (why : Why) → command_fault fault ≡ Input at why → ((texts : List (List ℕ)) → HaveTexts left mid texts → IsUntoldAmong texts answering fault)
-      → BlamesAmong answering (each_known failures mid) (each_known failures new) fault → IsChanged named answering at why ⊎ IsUnreadTable named answering at why
-  fault_of answering (answer.Damaged input number) at why told says counts = inl (record {
+  fault_of : (lines : Bool) (answering : List EntryAt) (fault : AnswerFault) (at : InputName) (why : Why) → command_fault fault ≡ Input at why → ((texts : List (List ℕ)) → HaveTexts left mid texts → IsUntoldAmong texts answering fault)
+      → BlamesAmong lines answering (each_known failures mid) (each_known failures new) fault → IsChanged named answering at why ⊎ (IsLineless lines named answering at why ⊎ IsUnreadTable named answering at why)
+  fault_of lines answering (answer.Damaged input number) at why told says counts = inl (record {
     input = input;
     number = number;
     at_is = cc;
@@ -112,40 +116,49 @@ module _ {I P : Type 0} (left : I → Option (List ℕ)) (failures : I → ℕ) 
     changed = λ texts given. says texts (given_texts texts given);
     unfailed = none_failed_named counts;
   })
-  fault_of answering (answer.Device input offset) at why told says counts =
+  fault_of lines answering (answer.NoLines input number) at why told says counts = inr (inl (record {
+    input = input;
+    number = number;
+    at_is = cc;
+    why_is = cc;
+    wanted = counts.0;
+    lacks = λ texts given. says texts (given_texts texts given);
+    unfailed = none_failed_named counts.1;
+  }))
+  fault_of lines answering (answer.Device input offset) at why told says counts =
       let failed = counts.1 in
-      inr (record {
+      inr (inr (record {
         input = input;
         offset = offset;
         at_is = cc;
         why_is = cc;
         asked = counts.0;
         failed = fails_alone left failures old new input failed.old failed.new (ap (λ (ds : List (Result ℕ CannotOpen)). slice_get ds input) (sym counts_kept) ∙ failed.old_is) failed.failed (failed.others ∙ ap (λ (ds : List (Result ℕ CannotOpen)). slice_set ds input (Ok failed.new)) counts_kept);
-      })
-  fault_of answering answer.OutOfMemory at why told says counts = absurd (cc told)
+      }))
+  fault_of lines answering answer.OutOfMemory at why told says counts = absurd (cc told)
 
-  untold_named : (keys : List (List ℕ)) (at : InputName) (why : Why) → IsUntoldBy left failures keys all mid new at why → IsUntoldUnder keys named all at why
-  untold_named keys at why r = record {
+  untold_named : (lines : Bool) (keys : List (List ℕ)) (at : InputName) (why : Why) → IsUntoldBy left failures lines keys all mid new at why → IsUntoldUnder lines keys named all at why
+  untold_named lines keys at why r = record {
     key = r.key;
     key_is = r.key_is;
     answering = r.answering;
     are = r.are;
-    untold = fault_of r.answering r.fault at why r.told_as r.says r.counts;
+    untold = fault_of lines r.answering r.fault at why r.told_as r.says r.counts;
   }
 
   -- ---- the first that is refused
 
-  module _ (lines : Bool) (keys : List (List ℕ)) (IsSought : List (List ℕ) → Type 0) (own : IsSought keys) (same : (others : List (List ℕ)) → IsSought others → WantsSlices lines keys all → WantsSlices lines others all) where
+  module _ (lines : Bool) (keys : List (List ℕ)) (IsSought : List (List ℕ) → Type 0) (own : IsSought keys) (same : (others : List (List ℕ)) → IsSought others → AreTiedUnder keys all → AreTiedUnder others all) where
     abbrev AreRefusedSought : InputName → Why → Type 0
     AreRefusedSought at why = (others : List (List ℕ)) × IsSought others × AreRefusedAsking lines others named known at why
 
     pub asked_refused : (fault : CommandFault)
-        → IsRefusal (λ at why. ((lines ≡ false) × EachUnfailed later × IsUntoldBy left failures keys all mid new at why) ⊎ (WantsSlices lines keys all × NoneFailed failures mid new × AreRefusedUnder IsSought all later at why)) (NoneFailed failures mid new × EachUnfailed later) fault
+        → IsRefusal (IsEitherRefused lines IsSought left failures keys all mid new later) (NoneFailed failures mid new × EachUnfailed later) fault
         → IsRefusal AreRefusedSought (AreUnfailedTogether named known) fault
-    asked_refused (Input at why) (inl (none, each, untold)) =
-        let told : AreUntold keys named known at why = record { all = all; read = read_all; unfailed = unfailed_known each; untold = untold_named keys at why untold } in
-        (keys, own, inr (inr (none, told)))
-    asked_refused (Input at why) (inr (wants, none, (others, sought, refused))) =
+    asked_refused (Input at why) (inl (each, untold)) =
+        let told : AreUntold lines keys named known at why = record { all = all; read = read_all; unfailed = unfailed_known each; untold = untold_named lines keys at why untold } in
+        (keys, own, inr (inr told))
+    asked_refused (Input at why) (inr (tied, none, (others, sought, refused))) =
         let told : AreRefusedLater others named known at why = record {
           all = all;
           read = read_all;
@@ -154,15 +167,15 @@ module _ {I P : Type 0} (left : I → Option (List ℕ)) (failures : I → ℕ) 
           are_later = later_readers whole failures_at before seen after (more_at ∙ sym long_at) kept.1;
           refused = refused;
         } in
-        (others, sought, inr (inl (told, same others sought wants)))
+        (others, sought, inr (inl (told, same others sought tied)))
     asked_refused (Output n) r = absurd r
     asked_refused (Report n) r = absurd r
     asked_refused OutOfMemory r = unfailed_all r
 
     -- what the slices hold
-    pub slices_make : (Tells : Operations → Status → List ℕ → Type 0) (status : Status) (text : List ℕ) → WantsSlices lines keys all → AreHeldUnder IsSought all later (λ content. Tells content status text)
-        → (others : List (List ℕ)) × IsSought others × ((makes : MakesTogether others named known Tells status text) × WantsSlices lines others makes.held.all)
-    slices_make Tells status text wants h =
+    pub slices_make : (Tells : Operations → Status → List ℕ → Type 0) (status : Status) (text : List ℕ) → AreTiedUnder keys all → AreHeldUnder IsSought all later (λ content. Tells content status text)
+        → (others : List (List ℕ)) × IsSought others × ((makes : MakesTogether others named known Tells status text) × AreTiedUnder others makes.held.all)
+    slices_make Tells status text tied h =
         let makes : MakesTogether h.keys named known Tells status text = record {
           content = h.content;
           held = record {
@@ -174,4 +187,4 @@ module _ {I P : Type 0} (left : I → Option (List ℕ)) (failures : I → ℕ) 
           };
           tells = h.is_true;
         } in
-        (h.keys, h.sought, (makes, same h.keys h.sought wants))
+        (h.keys, h.sought, (makes, same h.keys h.sought tied))

@@ -1,5 +1,5 @@
 -- How `frames` ends, by tables or by slices.
-use Rattle.std.proofs.Common.{◌≡◌, ℕ, ◌⊎◌, Bool, false, List, [], ◌∷◌, length, Option, Result, Ok, Err, inl, inr}
+use Rattle.std.proofs.Common.{◌≡◌, ℕ, ◌⊎◌, Bool, List, [], ◌∷◌, length, Option, Result, Ok, Err, inl, inr}
 use Rattle.std.specs.List.{AllZip}
 use Rattle.byte_device.specs.declared.disks.CannotOpen.{CannotOpen}
 use Rattle.archive_core.specs.Content.{HaveSameMembers}
@@ -16,10 +16,10 @@ use Rattle.command_ends.specs.declared.faults.Status.{Status}
 use Rattle.indexed_answers.specs.AmongAsked.{HaveTexts}
 use Rattle.indexed_queries.specs.Several.{AreUnfailedTogether}
 use Rattle.indexed_queries.specs.Together.{AreAllKept, AreReadWith, IsFirstRefusedByIndex}
-use Rattle.indexed_symbols.specs.Asking.{WantsSlices}
+use Rattle.indexed_symbols.specs.Asking.{AreTiedUnder}
 use Rattle.indexed_symbols.specs.Frames.{AreRefusedAt, AreToldAt, IsFrameByTables, TellTablesOfFrames, frames_at, keys_of}
-use Rattle.indexed_symbols.specs.InnerAsking.{AreHeldUnder, AreRefusedUnder, IsUntoldBy, NoneFailed}
-use Rattle.indexed_symbols.proofs.Ended.{asked_refused, given_texts, read_all, slices_make, wants_same}
+use Rattle.indexed_symbols.specs.InnerAsking.{AreHeldUnder, NoneFailed}
+use Rattle.indexed_symbols.proofs.Ended.{IsEitherRefused, asked_refused, given_texts, read_all, slices_make, tied_same}
 
 -- ---- refused
 
@@ -54,14 +54,14 @@ index_refused_at lines indexes archives said OutOfMemory r = r
 -- ---- told
 
 -- what tables tell whatever bytes these are, they tell whatever bytes those are
-module _ (AreTexts AreOthers : List (List ℕ) → Type 0) (from : (texts : List (List ℕ)) → AreOthers texts → AreTexts texts) (all : List (List (List ℕ))) where
-  each_from : (frames : List Frame) (rows : List Answered) → AllZip (IsFrameByTables AreTexts all) frames rows → AllZip (IsFrameByTables AreOthers all) frames rows
+module _ (AreTexts AreOthers : List (List ℕ) → Type 0) (from : (texts : List (List ℕ)) → AreOthers texts → AreTexts texts) (all : List (List (List ℕ))) (lines : Bool) where
+  each_from : (frames : List Frame) (rows : List Answered) → AllZip (IsFrameByTables AreTexts all lines) frames rows → AllZip (IsFrameByTables AreOthers all lines) frames rows
   each_from [] [] a = tt
   each_from [] (_ ∷ _) a = absurd a
   each_from (_ ∷ _) [] a = absurd a
-  each_from (frame ∷ frames) (row ∷ rows) a = ((a.0.0, record { answer_is = λ texts are. a.0.1.answer_is texts (from texts are); frames_are = a.0.1.frames_are }), each_from frames rows a.1)
+  each_from (frame ∷ frames) (row ∷ rows) a = ((a.0.0, record { answer_is = λ texts are. a.0.1.answer_is texts (from texts are); none_shown = a.0.1.none_shown }), each_from frames rows a.1)
 
-  pub tell_from : (frames : List Frame) (status : Status) (text : List ℕ) → TellTablesOfFrames AreTexts all frames status text → TellTablesOfFrames AreOthers all frames status text
+  pub tell_from : (frames : List Frame) (status : Status) (text : List ℕ) → TellTablesOfFrames AreTexts all lines frames status text → TellTablesOfFrames AreOthers all lines frames status text
   tell_from frames status text told = record {
     rows = told.rows;
     answered = each_from frames told.rows told.answered;
@@ -80,28 +80,27 @@ module _ {I P : Type 0} (left : I → Option (List ℕ)) (failures : I → ℕ) 
   abbrev IsSought : List (List ℕ) → Type 0
   IsSought keys = HaveSameMembers keys (keys_of said)
 
-  still_wants : (others : List (List ℕ)) → IsSought others → WantsSlices lines (keys_of said) all → WantsSlices lines others all
-  still_wants others sought wants = wants_same lines (keys_of said) others all sought wants
+  still_tied : (others : List (List ℕ)) → IsSought others → AreTiedUnder (keys_of said) all → AreTiedUnder others all
+  still_tied others sought tied = tied_same (keys_of said) others all sought tied
 
   pub told_at : (status : Status) (text : List ℕ)
-      → ((lines ≡ false) × TellTablesOfFrames (HaveTexts left mid) all said status text)
-      ⊎ (WantsSlices lines (keys_of said) all × AreHeldUnder IsSought all (readers whole failures_at seen after) (λ content. TellsFrames lines content said status text))
+      → TellTablesOfFrames (HaveTexts left mid) all lines said status text
+      ⊎ (AreTiedUnder (keys_of said) all × AreHeldUnder IsSought all (readers whole failures_at seen after) (λ content. TellsFrames lines content said status text))
       → AreToldAt lines (readers left failures old new) (readers whole failures_at before after) said status text
-  told_at status text (inl (none, told)) = inl (
-    none,
-    record {
-      all = all;
-      read = read_all left failures whole failures_at old mid new before seen after all long more long_at more_at read unfailed kept;
-      tells = tell_from _ _ (given_texts left failures whole failures_at old mid new before seen after all long more long_at more_at read unfailed kept) all said status text told;
-    },
-  )
-  told_at status text (inr (wants, held)) =
-      let made = slices_make left failures whole failures_at old mid new before seen after all long more long_at more_at read unfailed kept lines (keys_of said) IsSought (same_members (keys_of said)) still_wants
-      (λ o s t. TellsFrames lines o said s t) status text wants held in
-      inr (record { keys = made.0; are_keys = made.1; makes = made.2.0; wants = made.2.1 })
+  told_at status text (inl told) = inl (
+      record {
+        all = all;
+        read = read_all left failures whole failures_at old mid new before seen after all long more long_at more_at read unfailed kept;
+        tells = tell_from _ _ (given_texts left failures whole failures_at old mid new before seen after all long more long_at more_at read unfailed kept) all lines said status text told;
+      }
+      )
+  told_at status text (inr (tied, held)) =
+      let made = slices_make left failures whole failures_at old mid new before seen after all long more long_at more_at read unfailed kept lines (keys_of said) IsSought (same_members (keys_of said)) still_tied
+      (λ o s t. TellsFrames lines o said s t) status text tied held in
+      inr (record { keys = made.0; are_keys = made.1; makes = made.2.0; tied = made.2.1 })
 
   pub refused_at : (fault : CommandFault)
-      → IsRefusal (λ at why. ((lines ≡ false) × EachUnfailed (readers whole failures_at seen after) × IsUntoldBy left failures (keys_of said) all mid new at why) ⊎ (WantsSlices lines (keys_of said) all × NoneFailed failures mid new × AreRefusedUnder IsSought all (readers whole failures_at seen after) at why)) (NoneFailed failures mid new × EachUnfailed (readers whole failures_at seen after)) fault
+      → IsRefusal (IsEitherRefused lines IsSought left failures (keys_of said) all mid new (readers whole failures_at seen after)) (NoneFailed failures mid new × EachUnfailed (readers whole failures_at seen after)) fault
       → IsRefusal (AreRefusedAt lines (readers left failures old new) (readers whole failures_at before after) said) (AreUnfailedTogether (readers left failures old new) (readers whole failures_at before after)) fault
   refused_at fault r =
-      asked_refused left failures whole failures_at old mid new before seen after all long more long_at more_at read unfailed kept lines (keys_of said) IsSought (same_members (keys_of said)) still_wants fault r
+      asked_refused left failures whole failures_at old mid new before seen after all long more long_at more_at read unfailed kept lines (keys_of said) IsSought (same_members (keys_of said)) still_tied fault r

@@ -19,7 +19,6 @@ use Rattle.archive_core.proofs.Members.{in_front, in_map, in_rest, to_map}
 use Rattle.indexed_symbols.proofs.Halved.{each_there, found, first_ascend, last_ascend, more_ascend, none_ascend}
 use Rattle.archive_core.specs.Content.{HaveSameMembers}
 use Rattle.archive_core.specs.Key.{key_bytes}
-use Rattle.archive_core.specs.Lookup.{AnswerRecord}
 use Rattle.archive_queries.specs.Symbolicate.{asked_of}
 use Rattle.archive_core.specs.declared.keys.SliceKey.{SliceKey}
 use Rattle.crash_frames.specs.declared.frame.Frame.{Frame}
@@ -28,7 +27,7 @@ use Rattle.archive_core.specs.declared.lookup.Where.TheVariants.{File, Loaded}
 use Rattle.indexed_symbols.specs.declared.places.AskedPlace.{AskedPlace}
 use Rattle.indexed_symbols.specs.declared.told.KeyAnswers.{KeyAnswers}
 use Rattle.indexed_symbols.specs.InnerPlaces.{AreAskedOf, asked_cmp, has_key, key_cmp, numbers_of, place_cmp, place_of}
-use Rattle.indexed_symbols.specs.InnerTold.{answer_at, AreInOrder, HasTold, IsToldIn, IsToldSoFar}
+use Rattle.indexed_symbols.specs.InnerTold.{AreInOrder, HasTold, IsToldSoFar, StandsAt}
 
 -- ---- orders
 
@@ -352,19 +351,16 @@ module _ (told : List KeyAnswers) (key : SliceKey) (place : Where) (order : AreI
       let f = found places_total (λ (p : Where). p) places place place r up there (bytes_itself (numbers_of place)) within by_place in
       (f.0, f.1)
 
--- the answer at that place is what is told of it
-pub told_in : (told : List KeyAnswers) (key : SliceKey) (place : Where) (i n : ℕ) (one other : KeyAnswers) (places : List Where) (answer : AnswerRecord)
+-- what is told of it stands there
+pub told_in : (told : List KeyAnswers) (key : SliceKey) (place : Where) (i n : ℕ) (one other : KeyAnswers) (places : List Where)
     → i < length told → HoldsAt (λ (one : KeyAnswers). key_cmp one.key key ≡ Equal) told i
     → places ≡ (get_or told i one).places.items → n < length places → HoldsAt (λ (p : Where). place_cmp p place ≡ Equal) places n
-    → one ≡ get_or told i one → other ≡ get_or told i other → answer ≡ answer_at other.answers n → IsToldIn told (key_bytes key) place answer
-told_in told key place i n one other places answer lt at are within at_place one_is other_is told_is = record {
-  one = other;
+    → one ≡ get_or told i one → other ≡ get_or told i other → StandsAt told (key_bytes key) place other n
+told_in told key place i n one other places lt at are within at_place one_is other_is = record {
   is_one = (i, lt, sym other_is);
   key_is = ap (λ (k : KeyAnswers). key_bytes k.key) other_is ∙ bytes_same (key_bytes (get_or told i other).key) (key_bytes key) (at other);
-  number = n;
   place_is =
       let same : one ≡ other = one_is ∙ get_or_default told i one other lt ∙ sym other_is in
       let places_are : other.places.items ≡ places = ap (λ (k : KeyAnswers). k.places.items) (sym same ∙ one_is) ∙ sym are in
       ap (λ (l : List Where). slice_get l n) places_are ∙ slice_get-get_or places n place within ∙ ap Some (same_place (get_or places n place) place (at_place place));
-  answer_is = told_is;
 }

@@ -1,11 +1,12 @@
 -- What is shown of places, one after another.
-use Rattle.std.proofs.Common.{◌≡◌, ℕ, zero, suc, ◌+◌, ◌<◌, ◌⊎◌, if◌then◌else◌, List, [], ◌∷◌, ◌++◌, length, take, map, get_or, Option, Some, refl, sym, ap, ◌∙◌, subst, arith, inl, inr}
+use Rattle.std.proofs.Common.{◌≡◌, ℕ, zero, suc, ◌+◌, ◌<◌, ◌⊎◌, if◌then◌else◌, Bool, false, List, [], ◌∷◌, ◌++◌, length, take, map, get_or, Option, Some, refl, sym, ap, ◌∙◌, subst, arith, inl, inr}
 use Rattle.std.specs.Prelude.{slice_get}
 use Rattle.std.specs.List.{All, AllZip}
 use Rattle.std.proofs.Math.ListN.{length-map}
 use Rattle.std.proofs.lemmas.List.{flat_map_more, get_or-map, length-take, map-append, take_more}
 use Rattle.std.proofs.lemmas.List.Elements.{All-contains}
 use Rattle.std.proofs.lemmas.Option.{slice_get-get_or}
+use Rattle.source_frames.specs.Frames.{FrameRecord}
 use Rattle.archive_core.specs.Key.{key_bytes}
 use Rattle.archive_core.specs.Lookup.{AnswerRecord, answer_view}
 use Rattle.archive_core.specs.declared.keys.SliceKey.{SliceKey}
@@ -23,59 +24,68 @@ use Rattle.indexed_answers.specs.declared.answers.Answers.{Answers}
 use Rattle.indexed_symbols.specs.Asking.{TellTables}
 use Rattle.indexed_symbols.specs.Frames.{IsFrameByTables, TellTablesOfFrames}
 use Rattle.indexed_symbols.specs.InnerPlaces.{AreAskedOf}
-use Rattle.indexed_symbols.specs.InnerTold.{AreTold, AreToldOf, HasTold, HaveToldEach, IsFrameTold, IsToldIn, IsToldUnder, ShowsAddresses, ShowsFrames, answer_at}
+use Rattle.indexed_symbols.specs.InnerTold.{AreTold, AreToldOf, HasTold, HaveToldEach, IsFrameTold, IsToldUnder, ShowsAddresses, ShowsFrames, StandsAt, answer_at, shown_at}
 use Rattle.indexed_symbols.specs.declared.places.AskedPlace.{AskedPlace}
 use Rattle.indexed_symbols.specs.declared.told.KeyAnswers.{KeyAnswers}
 
 -- ---- frames
 
-pub no_frames : (told : List KeyAnswers) → ShowsFrames told [] Done []
-no_frames told = record { rows = []; answered = tt; status_is = refl; text_is = refl }
+pub no_frames : (told : List KeyAnswers) (lines : Bool) → ShowsFrames told lines [] Done []
+no_frames told lines = record { rows = []; answered = tt; status_is = refl; text_is = refl }
 
-pub more_frames : (told : List KeyAnswers) (frames : List Frame) (i : ℕ) (frame : Frame) (status next : Status) (text printed : List ℕ) (answer : Answer) → i < length frames → frame ≡ get_or frames i frame
-    → ShowsFrames told (take i frames) status text → IsToldIn told (key_bytes frame.key) (asked_of frame.load frame.address) (answer_view answer)
-    → next ≡ (if is_symbol answer then status else Partial) → printed ≡ text ++ answer_lines frame.address answer [] → ShowsFrames told (take (i + 1) frames) next printed
-more_frames told frames i frame status next text printed answer lt is shown told_is next_is printed_is =
-    let row : Answered = record { address = frame.address; answer = answer; frames = [] } in
+-- no frames are shown if no lines are wanted
+pub none_shown : (lines : Bool) (answers : Answers) (number : ℕ) → lines ≡ false → shown_at lines answers number ≡ []
+none_shown lines answers number none = subst (λ (l : Bool). shown_at l answers number ≡ []) (sym none) refl
+
+pub more_frames : (told : List KeyAnswers) (lines : Bool) (frames : List Frame) (i : ℕ) (frame : Frame) (status next : Status) (text printed : List ℕ) (answer : Answer) (one : KeyAnswers) (number : ℕ) → i < length frames → frame ≡ get_or frames i frame
+    → ShowsFrames told lines (take i frames) status text → StandsAt told (key_bytes frame.key) (asked_of frame.load frame.address) one number → answer_view answer ≡ answer_at one.answers number
+    → next ≡ (if is_symbol answer then status else Partial) → printed ≡ text ++ answer_lines frame.address answer (shown_at lines one.answers number) → ShowsFrames told lines (take (i + 1) frames) next printed
+more_frames told lines frames i frame status next text printed answer one number lt is shown stands told_is next_is printed_is =
+    let its : List (List FrameRecord) = shown_at lines one.answers number in
+    let row : Answered = record { address = frame.address; answer = answer; frames = its } in
     let seen : take (i + 1) frames ≡ take i frames ++ frame ∷ [] = take_more frames i frame lt ∙ ap (λ (f : Frame). take i frames ++ f ∷ []) (sym is) in
     record {
       rows = shown.rows ++ row ∷ [];
-      answered = subst (λ (fs : List Frame). AllZip (IsFrameTold told) fs (shown.rows ++ row ∷ [])) (sym seen) (pairs_more (IsFrameTold told) (take i frames) shown.rows frame row shown.answered (refl, refl, told_is));
+      answered = subst (λ (fs : List Frame). AllZip (IsFrameTold told lines) fs (shown.rows ++ row ∷ [])) (sym seen)
+          (pairs_more (IsFrameTold told lines) (take i frames) shown.rows frame row shown.answered (refl, record { one = one; number = number; stands = stands; answer_is = told_is; frames_are = refl }));
       status_is = next_is ∙ ap (λ (s : Status). if is_symbol answer then s else Partial) shown.status_is ∙ status_more shown.rows row;
-      text_is = printed_is ∙ ap (λ (t : List ℕ). t ++ answer_lines frame.address answer []) shown.text_is ∙ flat_map_more (λ (row : Answered). answer_lines row.address row.answer row.frames) [] shown.rows row;
+      text_is = printed_is ∙ ap (λ (t : List ℕ). t ++ answer_lines frame.address answer its) shown.text_is ∙ flat_map_more (λ (row : Answered). answer_lines row.address row.answer row.frames) [] shown.rows row;
     }
 
 -- something is told of each
-pub told_each : (AreTexts : List (List ℕ) → Type 0) (all : List (List (List ℕ))) (frames : List Frame) (asked : List AskedPlace) (told : List KeyAnswers) → AreTold AreTexts all asked told → AreAskedOf frames asked → HaveToldEach told frames
-told_each AreTexts all frames asked told are of frame there =
+pub told_each : (AreTexts : List (List ℕ) → Type 0) (all : List (List (List ℕ))) (lines : Bool) (frames : List Frame) (asked : List AskedPlace) (told : List KeyAnswers) → AreTold AreTexts all lines asked told → AreAskedOf frames asked → HaveToldEach told frames
+told_each AreTexts all lines frames asked told are of frame there =
     let one = of.whole frame there in
     let has = are.whole one.0 one.1 in
     subst (λ (p : Where). HasTold told (key_bytes frame.key) p) one.3 (subst (λ (b : List ℕ). HasTold told b one.0.place) one.2 has)
 
-module _ (AreTexts : List (List ℕ) → Type 0) (all : List (List (List ℕ))) (told : List KeyAnswers) (are_true : All (IsToldUnder AreTexts all) told) where
-  by_tables : (frame : Frame) (row : Answered) → IsFrameTold told frame row → IsFrameByTables AreTexts all frame row
-  by_tables frame row (address_is, frames_are, is) = (
+module _ (AreTexts : List (List ℕ) → Type 0) (all : List (List (List ℕ))) (lines : Bool) (told : List KeyAnswers) (are_true : All (IsToldUnder AreTexts all lines) told) where
+  by_tables : (frame : Frame) (row : Answered) → IsFrameTold told lines frame row → IsFrameByTables AreTexts all lines frame row
+  by_tables frame row (address_is, is) = (
     address_is,
     record {
       answer_is = λ texts are.
           let place = asked_of frame.load frame.address in
-          let one = All-contains (IsToldUnder AreTexts all) told is.one are_true is.is_one in
-          let here : IsAnswerAmong texts all (key_bytes frame.key) place (answer_view row.answer) =
-          subst (λ (a : AnswerRecord). IsAnswerAmong texts all (key_bytes frame.key) place a) (sym is.answer_is)
-          (subst (λ (b : List ℕ). IsAnswerAmong texts all b place (answer_at is.one.answers is.number)) is.key_is (one texts are is.number place is.place_is)) in
-          subst (λ (a : ℕ). IsAnswerAmong texts all (key_bytes frame.key) (asked_of frame.load a) (answer_view row.answer)) (sym address_is) here;
-      frames_are = frames_are;
+          let one = All-contains (IsToldUnder AreTexts all lines) told is.one are_true is.stands.is_one in
+          let keyed : IsAnswerAmong texts all (key_bytes frame.key) lines place (answer_at is.one.answers is.number) (shown_at lines is.one.answers is.number) =
+          subst (λ (b : List ℕ). IsAnswerAmong texts all b lines place (answer_at is.one.answers is.number) (shown_at lines is.one.answers is.number)) is.stands.key_is (one texts are is.number place is.stands.place_is) in
+          let answered : IsAnswerAmong texts all (key_bytes frame.key) lines place (answer_view row.answer) (shown_at lines is.one.answers is.number) =
+          subst (λ (a : AnswerRecord). IsAnswerAmong texts all (key_bytes frame.key) lines place a (shown_at lines is.one.answers is.number)) (sym is.answer_is) keyed in
+          let here : IsAnswerAmong texts all (key_bytes frame.key) lines place (answer_view row.answer) row.frames =
+          subst (λ (fs : List (List FrameRecord)). IsAnswerAmong texts all (key_bytes frame.key) lines place (answer_view row.answer) fs) (sym is.frames_are) answered in
+          subst (λ (a : ℕ). IsAnswerAmong texts all (key_bytes frame.key) lines (asked_of frame.load a) (answer_view row.answer) row.frames) (sym address_is) here;
+      none_shown = λ none. is.frames_are ∙ none_shown lines is.one.answers is.number none;
     },
   )
 
-  each_by_tables : (frames : List Frame) (rows : List Answered) → AllZip (IsFrameTold told) frames rows → AllZip (IsFrameByTables AreTexts all) frames rows
+  each_by_tables : (frames : List Frame) (rows : List Answered) → AllZip (IsFrameTold told lines) frames rows → AllZip (IsFrameByTables AreTexts all lines) frames rows
   each_by_tables [] [] a = tt
   each_by_tables [] (_ ∷ _) a = absurd a
   each_by_tables (_ ∷ _) [] a = absurd a
   each_by_tables (frame ∷ frames) (row ∷ rows) a = (by_tables frame row a.0, each_by_tables frames rows a.1)
 
   -- what is shown of frames is what tables tell of them
-  pub frames_by_tables : (frames : List Frame) (status : Status) (text : List ℕ) → ShowsFrames told frames status text → TellTablesOfFrames AreTexts all frames status text
+  pub frames_by_tables : (frames : List Frame) (status : Status) (text : List ℕ) → ShowsFrames told lines frames status text → TellTablesOfFrames AreTexts all lines frames status text
   frames_by_tables frames status text shown = record {
     rows = shown.rows;
     answered = each_by_tables frames shown.rows shown.answered;
@@ -85,8 +95,8 @@ module _ (AreTexts : List (List ℕ) → Type 0) (all : List (List (List ℕ))) 
 
 -- ---- addresses
 
-pub no_addresses : (answers : Answers) → ShowsAddresses answers [] Done []
-no_addresses answers = record { rows = []; addresses_are = refl; numbered = λ number row at. absurd (cc at); status_is = refl; text_is = refl }
+pub no_addresses : (answers : Answers) (lines : Bool) → ShowsAddresses answers lines [] Done []
+no_addresses answers lines = record { rows = []; addresses_are = refl; numbered = λ number row at. absurd (cc at); status_is = refl; text_is = refl }
 
 -- what stands in a list with one more
 pushed : (rows : List Answered) (row : Answered) (n : ℕ) (one : Answered) → slice_get (rows ++ row ∷ []) n ≡ Some one → (slice_get rows n ≡ Some one) ⊎ ((n ≡ length rows) × (row ≡ one))
@@ -98,11 +108,12 @@ pushed (r ∷ rows) row (suc n) one at = elim (pushed rows row n one at) [
   | inr (long, same) ↦ inr (ap suc long, same)
 ]
 
-pub more_addresses : (answers : Answers) (addresses : List ℕ) (i address : ℕ) (status next : Status) (text printed : List ℕ) (answer : Answer) → i < length addresses → address ≡ get_or addresses i 0
-    → ShowsAddresses answers (take i addresses) status text → answer_view answer ≡ answer_at answers i
-    → next ≡ (if is_symbol answer then status else Partial) → printed ≡ text ++ answer_lines address answer [] → ShowsAddresses answers (take (i + 1) addresses) next printed
-more_addresses answers addresses i address status next text printed answer lt is shown told_is next_is printed_is =
-    let row : Answered = record { address = address; answer = answer; frames = [] } in
+pub more_addresses : (answers : Answers) (lines : Bool) (addresses : List ℕ) (i address : ℕ) (status next : Status) (text printed : List ℕ) (answer : Answer) → i < length addresses → address ≡ get_or addresses i 0
+    → ShowsAddresses answers lines (take i addresses) status text → answer_view answer ≡ answer_at answers i
+    → next ≡ (if is_symbol answer then status else Partial) → printed ≡ text ++ answer_lines address answer (shown_at lines answers i) → ShowsAddresses answers lines (take (i + 1) addresses) next printed
+more_addresses answers lines addresses i address status next text printed answer lt is shown told_is next_is printed_is =
+    let its : List (List FrameRecord) = shown_at lines answers i in
+    let row : Answered = record { address = address; answer = answer; frames = its } in
     let seen : take (i + 1) addresses ≡ take i addresses ++ address ∷ [] = take_more addresses i 0 lt ∙ ap (λ (a : ℕ). take i addresses ++ a ∷ []) (sym is) in
     let long : length shown.rows ≡ i = omega (arith, length-map shown.rows (λ (r : Answered). r.address), ap length shown.addresses_are, length-take i addresses, lt) in
     record {
@@ -110,16 +121,16 @@ more_addresses answers addresses i address status next text printed answer lt is
       addresses_are = map-append (λ (r : Answered). r.address) shown.rows (row ∷ []) ∙ ap (λ (l : List ℕ). l ++ address ∷ []) shown.addresses_are ∙ sym seen;
       numbered = λ number one at. elim (pushed shown.rows row number one at) [
         | inl before ↦ shown.numbered number one before
-        | inr (last, same) ↦ subst (λ (r : Answered). (r.frames ≡ []) × (answer_view r.answer ≡ answer_at answers number)) same (refl, told_is ∙ ap (answer_at answers) (sym (last ∙ long)))
+        | inr (last, same) ↦ subst (λ (r : Answered). (answer_view r.answer ≡ answer_at answers number) × (r.frames ≡ shown_at lines answers number)) same (told_is ∙ ap (answer_at answers) (sym (last ∙ long)), ap (shown_at lines answers) (sym (last ∙ long)))
       ];
       status_is = next_is ∙ ap (λ (s : Status). if is_symbol answer then s else Partial) shown.status_is ∙ status_more shown.rows row;
-      text_is = printed_is ∙ ap (λ (t : List ℕ). t ++ answer_lines address answer []) shown.text_is ∙ flat_map_more (λ (row : Answered). answer_lines row.address row.answer row.frames) [] shown.rows row;
+      text_is = printed_is ∙ ap (λ (t : List ℕ). t ++ answer_lines address answer its) shown.text_is ∙ flat_map_more (λ (row : Answered). answer_lines row.address row.answer row.frames) [] shown.rows row;
     }
 
 -- what is shown of addresses is what tables tell of them
-pub addresses_by_tables : (AreTexts : List (List ℕ) → Type 0) (all : List (List (List ℕ))) (key : SliceKey) (load : Option ℕ) (addresses : List ℕ) (places : List Where) (answers : Answers) (status : Status) (text : List ℕ) → places ≡ map (asked_of load) addresses
-    → AreToldOf AreTexts all key places answers → ShowsAddresses answers addresses status text → TellTables AreTexts all key load addresses status text
-addresses_by_tables AreTexts all key load addresses places answers status text places_are told shown = record {
+pub addresses_by_tables : (AreTexts : List (List ℕ) → Type 0) (all : List (List (List ℕ))) (key : SliceKey) (load : Option ℕ) (lines : Bool) (addresses : List ℕ) (places : List Where) (answers : Answers) (status : Status) (text : List ℕ) → places ≡ map (asked_of load) addresses
+    → AreToldOf AreTexts all key lines places answers → ShowsAddresses answers lines addresses status text → TellTables AreTexts all key load lines addresses status text
+addresses_by_tables AreTexts all key load lines addresses places answers status text places_are told shown = record {
   rows = shown.rows;
   addresses_are = shown.addresses_are;
   answered = λ k d lt.
@@ -134,8 +145,10 @@ addresses_by_tables AreTexts all key load addresses places answers status text p
       ∙ ap (λ (l : List Where). Some (get_or l k (asked_of load row.address))) places_are
       ∙ ap Some (get_or-map (asked_of load) addresses k d.address (asked_of load row.address) among ∙ ap (asked_of load) address) in
       record {
-        answer_is = λ texts are. subst (λ (a : AnswerRecord). IsAnswerAmong texts all (key_bytes key) (asked_of load row.address) a) (sym is.1) (told texts are k (asked_of load row.address) place);
-        frames_are = is.0;
+        answer_is = λ texts are.
+            subst (λ (fs : List (List FrameRecord)). IsAnswerAmong texts all (key_bytes key) lines (asked_of load row.address) (answer_view row.answer) fs) (sym is.1)
+            (subst (λ (a : AnswerRecord). IsAnswerAmong texts all (key_bytes key) lines (asked_of load row.address) a (shown_at lines answers k)) (sym is.0) (told texts are k (asked_of load row.address) place));
+        none_shown = λ none. is.1 ∙ none_shown lines answers k none;
       };
   status_is = shown.status_is;
   text_is = shown.text_is;

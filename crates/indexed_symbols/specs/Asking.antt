@@ -9,14 +9,14 @@ use Rattle.archive_core.specs.declared.keys.SliceKey.{SliceKey}
 use Rattle.archive_queries.specs.Symbolicate.{Answered, answers_status, answers_text, asked_of}
 use Rattle.index_faults.specs.declared.fault.IndexFaultKind.TheVariants.{Device}
 use Rattle.indexed_answers.specs.Among.{AreAnsweringAmong, AreTied, EntryAt}
-use Rattle.indexed_answers.specs.AmongAsked.{IsAskedAt, IsDamagedAt}
+use Rattle.indexed_answers.specs.AmongAsked.{IsAskedAt, IsDamagedAt, IsLinelessAt}
 use Rattle.indexed_answers.specs.AmongTold.{IsAnswerAmong}
 use Rattle.command_ends.specs.Inputs.{Reader, EachUnfailed, IsGiven, failures_of}
 use Rattle.command_ends.specs.declared.faults.InputName.{InputName}
 use Rattle.command_ends.specs.declared.faults.InputName.TheVariants.{Index}
 use Rattle.command_ends.specs.declared.faults.Status.{Status}
 use Rattle.command_ends.specs.declared.faults.Why.{Why}
-use Rattle.command_ends.specs.declared.faults.Why.TheVariants.{Damaged, Index as IndexFaulty}
+use Rattle.command_ends.specs.declared.faults.Why.TheVariants.{Damaged, Index as IndexFaulty, NoLines}
 use Rattle.indexed_queries.specs.Several.{AreRefusedLater}
 use Rattle.indexed_queries.specs.Together.{AreReadWith, IsFirstRefusedByIndex}
 
@@ -27,31 +27,28 @@ abbrev pub AreGiven : {I : Type 0} → List (Reader I) → List (List ℕ) → T
 AreGiven indexes texts = AllZip IsGiven indexes texts
 
 -- The answer is what the tables of these entries tell under the key, whatever bytes the indexes have of which this is
--- true; no frames are shown.
+-- true, and so are the frames that are shown; none are if no lines are wanted.
 pub record IsAnsweredByTables (AreTexts : List (List ℕ) → Type 0) (all : List (List (List ℕ))) (key : SliceKey)
-    (load : Option ℕ) (row : Answered) : Type 0 where
+    (load : Option ℕ) (lines : Bool) (row : Answered) : Type 0 where
   pub answer_is : (texts : List (List ℕ)) → AreTexts texts
-      → IsAnswerAmong texts all (key_bytes key) (asked_of load row.address) (answer_view row.answer)
-  pub frames_are : row.frames ≡ []
+      → IsAnswerAmong texts all (key_bytes key) lines (asked_of load row.address) (answer_view row.answer) row.frames
+  pub none_shown : lines ≡ false → row.frames ≡ []
 
 -- tables tell this of addresses, one answer an address and in their order
 pub record TellTables (AreTexts : List (List ℕ) → Type 0) (all : List (List (List ℕ))) (key : SliceKey)
-    (load : Option ℕ) (addresses : List ℕ) (status : Status) (text : List ℕ) : Type 0 where
+    (load : Option ℕ) (lines : Bool) (addresses : List ℕ) (status : Status) (text : List ℕ) : Type 0 where
   pub rows : List Answered
   pub addresses_are : map (λ row. row.address) rows ≡ addresses
-  pub answered : All (IsAnsweredByTables AreTexts all key load) rows
+  pub answered : All (IsAnsweredByTables AreTexts all key load lines) rows
   pub status_is : status ≡ answers_status rows
   pub text_is : text ≡ answers_text rows
 
 -- ---- by slices
 
--- of two slices of one length under one of these keys, in two archives, no entry says which comes first
+-- Of two slices of one length under one of these keys, in two archives, no entry says which comes first: so the slices
+-- are read, though tables are there.
 abbrev pub AreTiedUnder : List (List ℕ) → List (List (List ℕ)) → Type 0
 AreTiedUnder keys all = (key : List ℕ) × Contains keys key × AreTied key all
-
--- why the slices under these keys are read, though tables are there: lines are wanted, or two slices are tied
-abbrev pub WantsSlices : Bool → List (List ℕ) → List (List (List ℕ)) → Type 0
-WantsSlices lines keys all = (lines ≡ true) ⊎ AreTiedUnder keys all
 
 -- ---- refused
 
@@ -73,6 +70,18 @@ pub record IsChanged {I : Type 0} (indexes : List (Reader I)) (answering : List 
   pub changed : (texts : List (List ℕ)) → AreGiven indexes texts → IsDamagedAt texts answering input number
   pub unfailed : EachUnfailed indexes
 
+-- The table of one of the entries that answer has no lines, which are wanted, if all bytes are known, and no device
+-- failed.
+pub record IsLineless {I : Type 0} (lines : Bool) (indexes : List (Reader I)) (answering : List EntryAt)
+    (at : InputName) (why : Why) : Type 0 where
+  pub input : ℕ
+  pub number : ℕ
+  pub at_is : at ≡ Index input
+  pub why_is : why ≡ NoLines number
+  pub wanted : lines ≡ true
+  pub lacks : (texts : List (List ℕ)) → AreGiven indexes texts → IsLinelessAt texts answering input number
+  pub unfailed : EachUnfailed indexes
+
 -- The device of an index failed while the table of one of the entries that answer was read in it.
 pub record IsUnreadTable {I : Type 0} (indexes : List (Reader I)) (answering : List EntryAt) (at : InputName)
     (why : Why) : Type 0 where
@@ -84,27 +93,28 @@ pub record IsUnreadTable {I : Type 0} (indexes : List (Reader I)) (answering : L
   pub failed : FailsAlone indexes input
 
 -- Under one of these keys a table is not told.
-pub record IsUntoldUnder {I : Type 0} (keys : List (List ℕ)) (indexes : List (Reader I)) (all : List (List (List ℕ)))
-    (at : InputName) (why : Why) : Type 0 where
+pub record IsUntoldUnder {I : Type 0} (lines : Bool) (keys : List (List ℕ)) (indexes : List (Reader I))
+    (all : List (List (List ℕ))) (at : InputName) (why : Why) : Type 0 where
   pub key : List ℕ
   pub key_is : Contains keys key
   pub answering : List EntryAt
   pub are : AreAnsweringAmong key all answering
-  pub untold : IsChanged indexes answering at why ⊎ IsUnreadTable indexes answering at why
+  pub untold : IsChanged indexes answering at why
+      ⊎ (IsLineless lines indexes answering at why ⊎ IsUnreadTable indexes answering at why)
 
 -- The indexes were read, and then a table is not told.
-pub record AreUntold {I P : Type 0} (keys : List (List ℕ)) (indexes : List (Reader I)) (archives : List (Reader P))
-    (at : InputName) (why : Why) : Type 0 where
+pub record AreUntold {I P : Type 0} (lines : Bool) (keys : List (List ℕ)) (indexes : List (Reader I))
+    (archives : List (Reader P)) (at : InputName) (why : Why) : Type 0 where
   pub all : List (List (List ℕ))
   pub read : AreReadWith indexes archives all
   pub unfailed : EachUnfailed archives
-  pub untold : IsUntoldUnder keys indexes all at why
+  pub untold : IsUntoldUnder lines keys indexes all at why
 
 -- The first that is refused, of commands that ask under these keys: an index, or the length of its archive; after that
--- an archive whose slices are read; or a table.
+-- an archive whose slices are read, since two are tied; or a table.
 abbrev pub AreRefusedAsking : {I P : Type 0} → Bool → List (List ℕ) → List (Reader I) → List (Reader P) → InputName
     → Why → Type 0
 AreRefusedAsking lines keys indexes archives at why =
     IsFirstRefusedByIndex indexes archives at why
-    ⊎ (((refused : AreRefusedLater keys indexes archives at why) × WantsSlices lines keys refused.all)
-    ⊎ ((lines ≡ false) × AreUntold keys indexes archives at why))
+    ⊎ (((refused : AreRefusedLater keys indexes archives at why) × AreTiedUnder keys refused.all)
+    ⊎ AreUntold lines keys indexes archives at why)

@@ -1,5 +1,5 @@
 -- What `frames` tells of archives by their indexes.
-use Rattle.std.specs.Prelude.{◌≡◌, ◌⊎◌, ℕ, List, Bool, false, Ok, map}
+use Rattle.std.specs.Prelude.{◌≡◌, ◌⊎◌, ℕ, List, Bool, Ok, map}
 use Rattle.std.specs.List.{AllZip}
 use Rattle.archive_core.specs.Content.{HaveSameMembers}
 use Rattle.archive_core.specs.Key.{key_bytes}
@@ -14,45 +14,45 @@ use Rattle.command_ends.specs.declared.faults.Status.{Status}
 use Rattle.command_ends.specs.declared.faults.Why.{Why}
 use Rattle.indexed_queries.specs.Several.{AreUnfailedTogether, MakesTogether}
 use Rattle.indexed_queries.specs.Together.{AreReadWith}
-use Rattle.indexed_symbols.specs.Asking.{AreGiven, AreRefusedAsking, IsAnsweredByTables, WantsSlices}
+use Rattle.indexed_symbols.specs.Asking.{AreGiven, AreRefusedAsking, AreTiedUnder, IsAnsweredByTables}
 
 -- the keys of frames
 abbrev pub keys_of : List Frame → List (List ℕ)
 keys_of frames = map (λ frame. key_bytes frame.key) frames
 
 -- the row is that of the frame's address, and tables tell its answer
-abbrev pub IsFrameByTables : (List (List ℕ) → Type 0) → List (List (List ℕ)) → Frame → Answered → Type 0
-IsFrameByTables AreTexts all frame row =
-    (row.address ≡ frame.address) × IsAnsweredByTables AreTexts all frame.key frame.load row
+abbrev pub IsFrameByTables : (List (List ℕ) → Type 0) → List (List (List ℕ)) → Bool → Frame → Answered → Type 0
+IsFrameByTables AreTexts all lines frame row =
+    (row.address ≡ frame.address) × IsAnsweredByTables AreTexts all frame.key frame.load lines row
 
 -- tables tell this of frames, one answer a frame and in their order
-pub record TellTablesOfFrames (AreTexts : List (List ℕ) → Type 0) (all : List (List (List ℕ))) (frames : List Frame)
-    (status : Status) (text : List ℕ) : Type 0 where
+pub record TellTablesOfFrames (AreTexts : List (List ℕ) → Type 0) (all : List (List (List ℕ))) (lines : Bool)
+    (frames : List Frame) (status : Status) (text : List ℕ) : Type 0 where
   pub rows : List Answered
-  pub answered : AllZip (IsFrameByTables AreTexts all) frames rows
+  pub answered : AllZip (IsFrameByTables AreTexts all lines) frames rows
   pub status_is : status ≡ answers_status rows
   pub text_is : text ≡ answers_text rows
 
 -- The indexes were read, and their tables tell this of the frames.
-pub record TellsFramesByTables {I P : Type 0} (indexes : List (Reader I)) (archives : List (Reader P))
+pub record TellsFramesByTables {I P : Type 0} (lines : Bool) (indexes : List (Reader I)) (archives : List (Reader P))
     (frames : List Frame) (status : Status) (text : List ℕ) : Type 0 where
   pub all : List (List (List ℕ))
   pub read : AreReadWith indexes archives all
-  pub tells : TellTablesOfFrames (AreGiven indexes) all frames status text
+  pub tells : TellTablesOfFrames (AreGiven indexes) all lines frames status text
 
--- The slices that the indexes name under the keys of the frames, in some order, tell this of them, and are wanted.
+-- The slices that the indexes name under the keys of the frames, in some order, tell this of them, since two are tied.
 pub record TellsFramesBySlices {I P : Type 0} (lines : Bool) (indexes : List (Reader I)) (archives : List (Reader P))
     (frames : List Frame) (status : Status) (text : List ℕ) : Type 0 where
   pub keys : List (List ℕ)
   pub are_keys : HaveSameMembers keys (keys_of frames)
   pub makes : MakesTogether keys indexes archives (λ o s t. TellsFrames lines o frames s t) status text
-  pub wants : WantsSlices lines keys makes.held.all
+  pub tied : AreTiedUnder keys makes.held.all
 
 -- tables tell this of the frames, or slices do
 abbrev pub AreToldAt : {I P : Type 0} → Bool → List (Reader I) → List (Reader P) → List Frame → Status → List ℕ
     → Type 0
 AreToldAt lines indexes archives frames status text =
-    ((lines ≡ false) × TellsFramesByTables indexes archives frames status text)
+    TellsFramesByTables lines indexes archives frames status text
     ⊎ TellsFramesBySlices lines indexes archives frames status text
 
 -- An index, an archive or a table is refused, as far as the keys of the frames, in some order, tell.

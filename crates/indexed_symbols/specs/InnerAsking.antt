@@ -1,6 +1,6 @@
--- What comes of asking by tables, and of asking by slices if these are wanted: the words of inner functions. No contract
--- of a public one has them.
-use Rattle.std.specs.Prelude.{◌≡◌, ◌⊎◌, ℕ, List, Bool, false, Option, Result, IsOk, Contains, MatchOption}
+-- What comes of asking by tables, and of asking by slices if two are tied: the words of inner functions. No contract of
+-- a public one has them.
+use Rattle.std.specs.Prelude.{◌≡◌, ◌⊎◌, ℕ, List, Bool, Option, Result, IsOk, Contains}
 use Rattle.std.specs.List.{AllByRecursion}
 use Rattle.byte_device.specs.declared.disks.CannotOpen.{CannotOpen}
 use Rattle.archive_core.specs.Content.{Operations}
@@ -8,7 +8,7 @@ use Rattle.index_faults.specs.declared.fault.IndexFaultKind.TheVariants.{Device 
 use Rattle.indexed_answers.specs.Among.{AreAnsweringAmong, EntryAt}
 use Rattle.indexed_answers.specs.AmongAsked.{BlamesAmong, HaveTexts, IsUntoldAmong, each_known}
 use Rattle.indexed_answers.specs.declared.fault.AnswerFault.{AnswerFault}
-use Rattle.indexed_answers.specs.declared.fault.AnswerFault.TheVariants.{Damaged, Device, OutOfMemory}
+use Rattle.indexed_answers.specs.declared.fault.AnswerFault.TheVariants.{Damaged, Device, NoLines, OutOfMemory}
 use Rattle.command_ends.specs.Inputs.{Reader, EachUnfailed, ReadsInputs}
 use Rattle.command_ends.specs.declared.faults.CommandFault.{CommandFault}
 use Rattle.command_ends.specs.declared.faults.CommandFault.TheVariants as command
@@ -17,7 +17,7 @@ use Rattle.command_ends.specs.declared.faults.InputName.TheVariants.{Index}
 use Rattle.command_ends.specs.declared.faults.Why.{Why}
 use Rattle.command_ends.specs.declared.faults.Why.TheVariants as why
 use Rattle.indexed_queries.specs.Together.{HoldNamed, IsFirstRefusedAtPlaces}
-use Rattle.indexed_symbols.specs.Asking.{WantsSlices}
+use Rattle.indexed_symbols.specs.Asking.{AreTiedUnder}
 
 -- each device was opened
 abbrev pub AreAllOpened : {D : Type 0} → List (Result D CannotOpen) → Type 0
@@ -26,12 +26,14 @@ AreAllOpened devices = AllByRecursion IsOk devices
 -- how a command tells a fault of answers
 abbrev pub command_fault : AnswerFault → CommandFault
 command_fault (Damaged input entry) = command.Input (Index input) (why.Damaged entry)
+command_fault (NoLines input entry) = command.Input (Index input) (why.NoLines entry)
 command_fault (Device input offset) = command.Input (Index input) (why.Index (record { kind = DeviceKind; offset = offset }))
 command_fault OutOfMemory = command.OutOfMemory
 
 -- Under one of these keys a table is not told, for a fault that a command tells so.
-pub record IsUntoldBy {D : Type 0} (whole : D → Option (List ℕ)) (failures : D → ℕ) (keys : List (List ℕ))
-    (all : List (List (List ℕ))) (old new : List (Result D CannotOpen)) (at : InputName) (why : Why) : Type 0 where
+pub record IsUntoldBy {D : Type 0} (whole : D → Option (List ℕ)) (failures : D → ℕ) (lines : Bool)
+    (keys : List (List ℕ)) (all : List (List (List ℕ))) (old new : List (Result D CannotOpen)) (at : InputName)
+    (why : Why) : Type 0 where
   pub key : List ℕ
   pub key_is : Contains keys key
   pub answering : List EntryAt
@@ -39,7 +41,7 @@ pub record IsUntoldBy {D : Type 0} (whole : D → Option (List ℕ)) (failures :
   pub fault : AnswerFault
   pub told_as : command_fault fault ≡ command.Input at why
   pub says : (texts : List (List ℕ)) → HaveTexts whole old texts → IsUntoldAmong texts answering fault
-  pub counts : BlamesAmong answering (each_known failures old) (each_known failures new) fault
+  pub counts : BlamesAmong lines answering (each_known failures old) (each_known failures new) fault
 
 -- no device failed
 abbrev pub NoneFailed : {D : Type 0} → (D → ℕ) → List (Result D CannotOpen) → List (Result D CannotOpen) → Type 0
@@ -47,21 +49,12 @@ NoneFailed failures old new = each_known failures new ≡ each_known failures ol
 
 -- What came of asking the tables under these keys: something of which this is true, and each device has its bytes; or a
 -- table is not told.
-abbrev pub AsksTables : {D T : Type 0} → (D → Option (List ℕ)) → (D → ℕ) → List (List ℕ) → List (List (List ℕ))
-    → List (Result D CannotOpen) → List (Result D CannotOpen) → Result T CommandFault → (T → Type 0) → Type 0
-AsksTables whole failures keys all old new result IsTrue =
+abbrev pub AsksTables : {D T : Type 0} → (D → Option (List ℕ)) → (D → ℕ) → Bool → List (List ℕ)
+    → List (List (List ℕ)) → List (Result D CannotOpen) → List (Result D CannotOpen) → Result T CommandFault
+    → (T → Type 0) → Type 0
+AsksTables whole failures lines keys all old new result IsTrue =
     ReadsInputs result (λ value. IsTrue value × (each_known whole new ≡ each_known whole old))
-    (IsUntoldBy whole failures keys all old new) (NoneFailed failures old new)
-
--- What came of asking by tables under these keys, if no lines are wanted: what they tell; or none, since slices are
--- wanted.
-abbrev pub AsksWithout : {D T : Type 0} → Bool → (D → Option (List ℕ)) → (D → ℕ) → List (List ℕ)
-    → List (List (List ℕ)) → List (Result D CannotOpen) → List (Result D CannotOpen)
-    → Result (Option T) CommandFault → (T → Type 0) → Type 0
-AsksWithout lines whole failures keys all old new result IsTrue =
-    ReadsInputs result
-    (λ told. MatchOption told (WantsSlices lines keys all) (λ value. (lines ≡ false) × IsTrue value))
-    (λ at why. (lines ≡ false) × IsUntoldBy whole failures keys all old new at why) (NoneFailed failures old new)
+    (IsUntoldBy whole failures lines keys all old new) (NoneFailed failures old new)
 
 -- What the archives hold under such keys: this is true of it.
 pub record AreHeldUnder {P : Type 0} (IsSought : List (List ℕ) → Type 0) (all : List (List (List ℕ)))
@@ -85,15 +78,14 @@ AsksSlices IsSought all archives result IsTrue =
     ReadsInputs result (λ told. AreHeldUnder IsSought all archives (λ content. IsTrue content told))
     (AreRefusedUnder IsSought all archives) (EachUnfailed archives)
 
--- What came of asking by tables under these keys, if no lines are wanted; or by slices under such keys, if they are, or
--- if two are tied.
+-- What came of asking by tables under these keys; or by slices under such keys, if two are tied.
 abbrev pub AsksEither : {D P T : Type 0} → Bool → (List (List ℕ) → Type 0) → (D → Option (List ℕ)) → (D → ℕ)
     → List (List ℕ) → List (List (List ℕ)) → List (Result D CannotOpen) → List (Result D CannotOpen)
     → List (Reader P) → Result T CommandFault → (T → Type 0) → (Operations → T → Type 0) → Type 0
 AsksEither lines IsSought whole failures keys all old new archives result ByTables BySlices =
     ReadsInputs result
-    (λ told. ((lines ≡ false) × ByTables told)
-    ⊎ (WantsSlices lines keys all × AreHeldUnder IsSought all archives (λ content. BySlices content told)))
-    (λ at why. ((lines ≡ false) × EachUnfailed archives × IsUntoldBy whole failures keys all old new at why)
-    ⊎ (WantsSlices lines keys all × NoneFailed failures old new × AreRefusedUnder IsSought all archives at why))
+    (λ told. ByTables told
+    ⊎ (AreTiedUnder keys all × AreHeldUnder IsSought all archives (λ content. BySlices content told)))
+    (λ at why. (EachUnfailed archives × IsUntoldBy whole failures lines keys all old new at why)
+    ⊎ (AreTiedUnder keys all × NoneFailed failures old new × AreRefusedUnder IsSought all archives at why))
     (NoneFailed failures old new × EachUnfailed archives)

@@ -1,9 +1,10 @@
 -- What is told of places key by key, and where it stands: the words of inner functions. No contract of a public one has
 -- them.
-use Rattle.std.specs.Prelude.{◌≡◌, ◌⊎◌, ℕ, List, [], Contains, All, Some, map, slice_get}
+use Rattle.std.specs.Prelude.{◌≡◌, ◌⊎◌, ℕ, Bool, List, Contains, All, Some, map, slice_get}
 use Rattle.std.specs.List.{AllZip}
 use Rattle.std.specs.List.Sorted.{IsStrictlySortedBy}
 use Rattle.std.specs.declared.cmp.Ordering.TheVariants.{Less}
+use Rattle.source_frames.specs.Frames.{FrameRecord}
 use Rattle.archive_core.specs.Key.{key_bytes}
 use Rattle.archive_core.specs.Lookup.{AnswerRecord, answer_view}
 use Rattle.archive_core.specs.declared.keys.SliceKey.{SliceKey}
@@ -12,7 +13,7 @@ use Rattle.archive_queries.specs.Symbolicate.{Answered, answers_status, answers_
 use Rattle.crash_frames.specs.declared.frame.Frame.{Frame}
 use Rattle.command_ends.specs.declared.faults.Status.{Status}
 use Rattle.indexed_answers.specs.AmongTold.{IsAnswerAmong}
-use Rattle.indexed_answers.specs.Views.{answer_of, row_at}
+use Rattle.indexed_answers.specs.Views.{answer_of, row_at, shown_of}
 use Rattle.indexed_answers.specs.declared.answers.Answers.{Answers}
 use Rattle.indexed_symbols.specs.declared.places.AskedPlace.{AskedPlace}
 use Rattle.indexed_symbols.specs.declared.told.KeyAnswers.{KeyAnswers}
@@ -22,14 +23,19 @@ use Rattle.indexed_symbols.specs.InnerPlaces.{asked_cmp, key_cmp, place_cmp}
 abbrev pub answer_at : Answers → ℕ → AnswerRecord
 answer_at answers number = answer_of (map (row_at number) answers.columns.items)
 
+-- the frames that are shown of it
+abbrev pub shown_at : Bool → Answers → ℕ → List (List FrameRecord)
+shown_at lines answers number = shown_of lines number answers.columns.items
+
 -- the answers are what tables tell under the key of these places, whatever bytes the indexes have of which this is true
-abbrev pub AreToldOf : (List (List ℕ) → Type 0) → List (List (List ℕ)) → SliceKey → List Where → Answers → Type 0
-AreToldOf AreTexts all key places answers = (texts : List (List ℕ)) → AreTexts texts → (number : ℕ) (place : Where)
-    → slice_get places number ≡ Some place → IsAnswerAmong texts all (key_bytes key) place (answer_at answers number)
+abbrev pub AreToldOf : (List (List ℕ) → Type 0) → List (List (List ℕ)) → SliceKey → Bool → List Where → Answers → Type 0
+AreToldOf AreTexts all key lines places answers =
+    (texts : List (List ℕ)) → AreTexts texts → (number : ℕ) (place : Where) → slice_get places number ≡ Some place
+    → IsAnswerAmong texts all (key_bytes key) lines place (answer_at answers number) (shown_at lines answers number)
 
 -- the same of what is told under a key
-abbrev pub IsToldUnder : (List (List ℕ) → Type 0) → List (List (List ℕ)) → KeyAnswers → Type 0
-IsToldUnder AreTexts all one = AreToldOf AreTexts all one.key one.places.items one.answers
+abbrev pub IsToldUnder : (List (List ℕ) → Type 0) → List (List (List ℕ)) → Bool → KeyAnswers → Type 0
+IsToldUnder AreTexts all lines one = AreToldOf AreTexts all one.key lines one.places.items one.answers
 
 -- what is told stands in the order of keys, each once, and under each its places in their order
 pub record AreInOrder (told : List KeyAnswers) : Type 0 where
@@ -55,20 +61,27 @@ pub record IsToldSoFar (asked left : List AskedPlace) (told : List KeyAnswers) :
   pub each : (one : AskedPlace) → Contains asked one → Contains left one ⊎ HasTold told (key_bytes one.key) one.place
 
 -- Of each of these places something is told, and that is what tables tell.
-pub record AreTold (AreTexts : List (List ℕ) → Type 0) (all : List (List (List ℕ))) (asked : List AskedPlace)
-    (told : List KeyAnswers) : Type 0 where
+pub record AreTold (AreTexts : List (List ℕ) → Type 0) (all : List (List (List ℕ))) (lines : Bool)
+    (asked : List AskedPlace) (told : List KeyAnswers) : Type 0 where
   pub order : AreInOrder told
   pub whole : (one : AskedPlace) → Contains asked one → HasTold told (key_bytes one.key) one.place
-  pub are_true : All (IsToldUnder AreTexts all) told
+  pub are_true : All (IsToldUnder AreTexts all lines) told
 
--- What is told of this place under a key with these bytes is this.
-pub record IsToldIn (told : List KeyAnswers) (bytes : List ℕ) (place : Where) (answer : AnswerRecord) : Type 0 where
-  pub one : KeyAnswers
+-- This is told under a key with these bytes, and of this place the answer of this number.
+pub record StandsAt (told : List KeyAnswers) (bytes : List ℕ) (place : Where) (one : KeyAnswers) (number : ℕ)
+    : Type 0 where
   pub is_one : Contains told one
   pub key_is : key_bytes one.key ≡ bytes
-  pub number : ℕ
   pub place_is : slice_get one.places.items number ≡ Some place
+
+-- What is told of this place under a key with these bytes is this, and these frames are shown of it.
+pub record IsToldIn (told : List KeyAnswers) (bytes : List ℕ) (place : Where) (lines : Bool) (answer : AnswerRecord)
+    (frames : List (List FrameRecord)) : Type 0 where
+  pub one : KeyAnswers
+  pub number : ℕ
+  pub stands : StandsAt told bytes place one number
   pub answer_is : answer ≡ answer_at one.answers number
+  pub frames_are : frames ≡ shown_at lines one.answers number
 
 -- of each frame something is told
 abbrev pub HaveToldEach : List KeyAnswers → List Frame → Type 0
@@ -76,24 +89,25 @@ HaveToldEach told frames =
     (frame : Frame) → Contains frames frame → HasTold told (key_bytes frame.key) (asked_of frame.load frame.address)
 
 -- the row is that of the frame's address, and its answer is what is told of it
-abbrev pub IsFrameTold : List KeyAnswers → Frame → Answered → Type 0
-IsFrameTold told frame row =
-    (row.address ≡ frame.address) × (row.frames ≡ [])
-    × IsToldIn told (key_bytes frame.key) (asked_of frame.load frame.address) (answer_view row.answer)
+abbrev pub IsFrameTold : List KeyAnswers → Bool → Frame → Answered → Type 0
+IsFrameTold told lines frame row =
+    (row.address ≡ frame.address)
+    × IsToldIn told (key_bytes frame.key) (asked_of frame.load frame.address) lines (answer_view row.answer) row.frames
 
 -- this is told of frames, one answer a frame and in their order
-pub record ShowsFrames (told : List KeyAnswers) (frames : List Frame) (status : Status) (text : List ℕ)
-    : Type 0 where
+pub record ShowsFrames (told : List KeyAnswers) (lines : Bool) (frames : List Frame) (status : Status)
+    (text : List ℕ) : Type 0 where
   pub rows : List Answered
-  pub answered : AllZip (IsFrameTold told) frames rows
+  pub answered : AllZip (IsFrameTold told lines) frames rows
   pub status_is : status ≡ answers_status rows
   pub text_is : text ≡ answers_text rows
 
--- this is told of addresses: of each the answer of its number
-pub record ShowsAddresses (answers : Answers) (addresses : List ℕ) (status : Status) (text : List ℕ) : Type 0 where
+-- this is told of addresses: of each the answer of its number, with the frames that are shown of it
+pub record ShowsAddresses (answers : Answers) (lines : Bool) (addresses : List ℕ) (status : Status) (text : List ℕ)
+    : Type 0 where
   pub rows : List Answered
   pub addresses_are : map (λ row. row.address) rows ≡ addresses
   pub numbered : (number : ℕ) (row : Answered) → slice_get rows number ≡ Some row
-      → (row.frames ≡ []) × (answer_view row.answer ≡ answer_at answers number)
+      → (answer_view row.answer ≡ answer_at answers number) × (row.frames ≡ shown_at lines answers number)
   pub status_is : status ≡ answers_status rows
   pub text_is : text ≡ answers_text rows

@@ -1,5 +1,5 @@
 -- What `symbolicate` tells of archives by their indexes.
-use Rattle.std.specs.Prelude.{◌≡◌, ◌⊎◌, ℕ, List, [], ◌∷◌, Bool, false, Option}
+use Rattle.std.specs.Prelude.{◌⊎◌, ℕ, List, [], ◌∷◌, Bool, Option}
 use Rattle.archive_core.specs.Key.{key_bytes}
 use Rattle.archive_core.specs.declared.keys.SliceKey.{SliceKey}
 use Rattle.archive_queries.specs.Symbolicate.{TellsAddresses}
@@ -8,27 +8,27 @@ use Rattle.command_ends.specs.Inputs.{Reader}
 use Rattle.command_ends.specs.declared.faults.Status.{Status}
 use Rattle.indexed_queries.specs.Several.{AreUnfailedTogether, MakesTogether}
 use Rattle.indexed_queries.specs.Together.{AreReadWith}
-use Rattle.indexed_symbols.specs.Asking.{AreGiven, AreRefusedAsking, TellTables, WantsSlices}
+use Rattle.indexed_symbols.specs.Asking.{AreGiven, AreRefusedAsking, AreTiedUnder, TellTables}
 
 -- The indexes were read, and their tables tell this of the addresses.
 pub record TellsByTables {I P : Type 0} (indexes : List (Reader I)) (archives : List (Reader P)) (key : SliceKey)
-    (load : Option ℕ) (addresses : List ℕ) (status : Status) (text : List ℕ) : Type 0 where
+    (load : Option ℕ) (lines : Bool) (addresses : List ℕ) (status : Status) (text : List ℕ) : Type 0 where
   pub all : List (List (List ℕ))
   pub read : AreReadWith indexes archives all
-  pub tells : TellTables (AreGiven indexes) all key load addresses status text
+  pub tells : TellTables (AreGiven indexes) all key load lines addresses status text
 
--- The slices that the indexes name under the key tell this of the addresses, and are wanted.
+-- The slices that the indexes name under the key tell this of the addresses, since two are tied.
 pub record TellsBySlices {I P : Type 0} (indexes : List (Reader I)) (archives : List (Reader P)) (key : SliceKey)
     (load : Option ℕ) (lines : Bool) (addresses : List ℕ) (status : Status) (text : List ℕ) : Type 0 where
   pub makes : MakesTogether (key_bytes key ∷ []) indexes archives
       (λ o s t. TellsAddresses o key load lines addresses s t) status text
-  pub wants : WantsSlices lines (key_bytes key ∷ []) makes.held.all
+  pub tied : AreTiedUnder (key_bytes key ∷ []) makes.held.all
 
 -- `symbolicate`, over these archives
 abbrev pub symbolicate_at : {I P : Type 0} → List (Reader I) → List (Reader P) → SliceKey → Option ℕ → Bool → List ℕ
     → Query
 symbolicate_at indexes archives key load lines addresses = record {
-  Makes = λ status text. ((lines ≡ false) × TellsByTables indexes archives key load addresses status text)
+  Makes = λ status text. TellsByTables indexes archives key load lines addresses status text
       ⊎ TellsBySlices indexes archives key load lines addresses status text;
   Refuses = AreRefusedAsking lines (key_bytes key ∷ []) indexes archives;
   Unfailed = AreUnfailedTogether indexes archives;

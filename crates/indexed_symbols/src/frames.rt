@@ -1,5 +1,5 @@
 //! `frames FRAMES [--lines] ARCHIVE... --index INDEX`, over one archive or several.
-ghost use Rattle.std.specs.Prelude.{◌≡◌, IfOk, length, map};
+ghost use Rattle.std.specs.Prelude.{◌≡◌, IfOk, MatchOption, length, map};
 ghost use Rattle.archive_core.specs.Content.{HaveSameMembers};
 ghost use Rattle.archive_core.specs.Key.{key_bytes};
 ghost use Rattle.archive_queries.specs.Frames.{TellsFrames};
@@ -8,8 +8,9 @@ ghost use Rattle.command_ends.specs.Inputs.{reader, readers};
 ghost use Rattle.command_ends.specs.Outputs.{writer};
 ghost use Rattle.indexed_answers.specs.AmongAsked.{HaveTexts};
 ghost use Rattle.indexed_queries.specs.Prefixes.{prefix_bytes};
+ghost use Rattle.indexed_symbols.specs.Asking.{AreTiedUnder};
 ghost use Rattle.indexed_symbols.specs.Frames.{TellTablesOfFrames, frames_at, keys_of};
-ghost use Rattle.indexed_symbols.specs.InnerAsking.{AreAllOpened, AsksEither, AsksSlices, AsksWithout};
+ghost use Rattle.indexed_symbols.specs.InnerAsking.{AreAllOpened, AsksEither, AsksSlices, AsksTables};
 
 use crate::places::asked_places;
 use crate::told::{answer_frames_by_tables, tell_keys};
@@ -50,7 +51,7 @@ fn prefixes_of(heap: &Heap, frames: &[Frame]) -> Result<Vec<KeyPrefix, Heap>, No
 }
 
 /// The lines of the answers to the frames by the tables of the indexes, with how a command ends that prints them; or
-/// none, if slices are wanted.
+/// none, if two slices are tied.
 fn tell_by_tables<I: Placed>(
     heap: &Heap,
     lines: bool,
@@ -60,17 +61,15 @@ fn tell_by_tables<I: Placed>(
 ) -> Result<Option<(Status, Vec<u8, Heap>)>, CommandFault>
     requires same { length read.now ≡ length indexes.old }
     requires opened { AreAllOpened indexes.old }
-    ensures { AsksWithout lines I.whole I.failures (keys_of frames.now) read.now indexes.old indexes.new result
-        (λ told. TellTablesOfFrames (HaveTexts I.whole indexes.old) read.now frames.now told.0 told.1.items) }
+    ensures { AsksTables I.whole I.failures lines (keys_of frames.now) read.now indexes.old indexes.new result
+        (λ found. MatchOption found (AreTiedUnder (keys_of frames.now) read.now)
+        (λ told. TellTablesOfFrames (HaveTexts I.whole indexes.old) read.now lines frames.now told.0 told.1.items)) }
 {
-    if lines {
-        return Ok(None);
-    }
     let asked = asked_places(heap.clone()?, frames)?;
-    let Some(told) = tell_keys(heap, read, indexes, &asked)? else {
+    let Some(told) = tell_keys(heap, read, indexes, lines, &asked)? else {
         return Ok(None);
     };
-    let (status, text) = answer_frames_by_tables(heap.clone()?, &told, frames)?;
+    let (status, text) = answer_frames_by_tables(heap.clone()?, &told, lines, frames)?;
     Ok(Some((status, text.into_bytes())))
 }
 
@@ -109,7 +108,7 @@ fn tell_frames<A: Archive + Drop, I: Placed, P: Placed>(
     ensures { AsksEither lines (λ keys. HaveSameMembers keys (keys_of frames.now)) I.whole I.failures
         (keys_of frames.now) read.now indexes.old indexes.new
         (readers P.whole P.failures archives.old archives.new) result
-        (λ told. TellTablesOfFrames (HaveTexts I.whole indexes.old) read.now frames.now told.0 told.1.items)
+        (λ told. TellTablesOfFrames (HaveTexts I.whole indexes.old) read.now lines frames.now told.0 told.1.items)
         (λ content told. TellsFrames lines content frames.now told.0 told.1.items) }
 {
     match tell_by_tables(heap, lines, frames, read, indexes)? {

@@ -2,16 +2,18 @@
 //!
 //! - `tables`: what the tables of indexes tell under a key;
 //! - `places`: the places that frames mean, each once; `told`: what the tables tell of them;
+//! - `lines`: the lines of what is told of a place;
 //! - `symbolicate`, `frames`: a command each.
 //!
 //! # Why it is so
 //!
-//! - Tables answer, and no slice is read, but where lines are wanted, or of two slices of one key and one length in two
+//! - Tables answer, with lines too, and no slice is read, but where of two slices of one key and one length in two
 //!   archives no entry says which comes first.
 //! - Frames are asked key by key, so that the tables under one key are open at a time.
 #![tactic(auto)]
 
 mod frames;
+mod lines;
 mod places;
 mod symbolicate;
 mod tables;

@@ -1,16 +1,17 @@
 //! `symbolicate ARCHIVE UUID ARCH [--load HEX] [--lines] ADDRESS... --index INDEX`, over one archive or several.
-ghost use Rattle.std.specs.Prelude.{◌≡◌, ◌∷◌, [], IfOk, length, string_bytes};
+ghost use Rattle.std.specs.Prelude.{◌≡◌, ◌∷◌, [], IfOk, MatchOption, length, string_bytes};
 ghost use Rattle.archive_core.specs.Key.{key_bytes};
 ghost use Rattle.archive_queries.specs.Symbolicate.{TellsAddresses};
 ghost use Rattle.command_ends.specs.Ends.{EndsReport};
 ghost use Rattle.command_ends.specs.Inputs.{readers};
 ghost use Rattle.command_ends.specs.Outputs.{writer};
 ghost use Rattle.indexed_answers.specs.AmongAsked.{HaveTexts};
-ghost use Rattle.indexed_symbols.specs.Asking.{TellTables};
-ghost use Rattle.indexed_symbols.specs.InnerAsking.{AreAllOpened, AsksEither, AsksSlices, AsksWithout};
+ghost use Rattle.indexed_symbols.specs.Asking.{AreTiedUnder, TellTables};
+ghost use Rattle.indexed_symbols.specs.InnerAsking.{AreAllOpened, AsksEither, AsksSlices, AsksTables};
 ghost use Rattle.indexed_symbols.specs.InnerTold.{ShowsAddresses};
 ghost use Rattle.indexed_symbols.specs.Symbolicate.{symbolicate_at};
 
+use crate::lines::push_told;
 use crate::tables::tell_key;
 use archive_core::{Archive, SliceKey};
 use archive_queries::{answer_each, places_of, status_behind};
@@ -19,29 +20,29 @@ use command_ends::{CommandFault, Status, publish_report};
 use indexed_answers::Answers;
 use indexed_queries::{KeyPrefix, read_indexes, read_prefixes};
 use memory::{Heap, NoMemory};
-use report_text::push_answer;
 use table_index::TableIndex;
 
 /// The lines of the answers of tables to the addresses, with how a command ends that prints them.
 fn answer_by_tables(
     heap: Heap,
     answers: &Answers,
+    lines: bool,
     addresses: &[u64],
 ) -> Result<(Status, String<Heap>), NoMemory>
-    ensures { IfOk result (λ told. ShowsAddresses answers.now addresses.now told.0 (string_bytes told.1)) }
+    ensures { IfOk result (λ told. ShowsAddresses answers.now lines addresses.now told.0 (string_bytes told.1)) }
 {
     let mut status = Status::Done;
     let mut text = String::new(heap.clone()?);
     'addresses: for (number, address) in addresses.iter().enumerate() {
         let answer = answers.answer(heap.clone()?, number)?;
         status = status_behind(status, &answer);
-        push_answer(&heap, &mut text, *address, &answer, &[])?;
+        push_told(&heap, &mut text, *address, &answer, answers, lines, number)?;
     }
     Ok((status, text))
 }
 
 /// The lines of the answers to the addresses by the tables of the indexes, with how a command ends that prints them; or
-/// none, if slices are wanted.
+/// none, if two slices are tied.
 fn tell_by_tables<I: Placed>(
     heap: &Heap,
     read: &[TableIndex],
@@ -53,18 +54,16 @@ fn tell_by_tables<I: Placed>(
 ) -> Result<Option<(Status, String<Heap>)>, CommandFault>
     requires same { length read.now ≡ length indexes.old }
     requires opened { AreAllOpened indexes.old }
-    ensures { AsksWithout lines I.whole I.failures (key_bytes key.now ∷ []) read.now indexes.old indexes.new result
-        (λ told. TellTables (HaveTexts I.whole indexes.old) read.now key.now load addresses.now told.0
-        (string_bytes told.1)) }
+    ensures { AsksTables I.whole I.failures lines (key_bytes key.now ∷ []) read.now indexes.old indexes.new result
+        (λ found. MatchOption found (AreTiedUnder (key_bytes key.now ∷ []) read.now)
+        (λ told. TellTables (HaveTexts I.whole indexes.old) read.now key.now load lines addresses.now told.0
+        (string_bytes told.1))) }
 {
-    if lines {
-        return Ok(None);
-    }
     let places = places_of(heap.clone()?, load, addresses)?;
-    let Some(answers) = tell_key(heap, read, indexes, key, &places)? else {
+    let Some(answers) = tell_key(heap, read, indexes, key, lines, &places)? else {
         return Ok(None);
     };
-    let told = answer_by_tables(heap.clone()?, &answers, addresses)?;
+    let told = answer_by_tables(heap.clone()?, &answers, lines, addresses)?;
     Ok(Some(told))
 }
 
@@ -106,7 +105,7 @@ fn tell_addresses<A: Archive + Drop, I: Placed, P: Placed>(
     requires opened { AreAllOpened indexes.old }
     ensures { AsksEither lines (λ keys. keys ≡ key_bytes key.now ∷ []) I.whole I.failures (key_bytes key.now ∷ [])
         read.now indexes.old indexes.new (readers P.whole P.failures archives.old archives.new) result
-        (λ told. TellTables (HaveTexts I.whole indexes.old) read.now key.now load addresses.now told.0
+        (λ told. TellTables (HaveTexts I.whole indexes.old) read.now key.now load lines addresses.now told.0
         (string_bytes told.1))
         (λ content told. TellsAddresses content key.now load lines addresses.now told.0 (string_bytes told.1)) }
 {
@@ -118,8 +117,8 @@ fn tell_addresses<A: Archive + Drop, I: Placed, P: Placed>(
 
 /// Writes what the join of the archives answers for each address to the report, as `run_symbolicate` of
 /// `archive_queries` does. The indexes are read, and compared with the lengths of their archives; then their tables
-/// answer, page by page. The slices that the indexes name under the key are read at their places, tested and hashed, if
-/// `lines`, or if two slices of one length answer in two archives.
+/// answer, page by page, and if `lines` tell the source frames. The slices that the indexes name under the key are read
+/// at their places, tested and hashed, if two slices of one length answer in two archives.
 ///
 /// The status is `Done` where each answer is one symbol, and else `Partial`.
 ///

@@ -24,6 +24,9 @@ fn refusal(fault: AnswerFault) -> CommandFault
         AnswerFault::Damaged { input, entry } => {
             CommandFault::Input(InputName::Index(input), Why::Damaged(entry))
         }
+        AnswerFault::NoLines { input, entry } => {
+            CommandFault::Input(InputName::Index(input), Why::NoLines(entry))
+        }
         AnswerFault::Device { input, offset } => {
             let kind = IndexFaultKind::Device;
             CommandFault::Input(
@@ -35,26 +38,27 @@ fn refusal(fault: AnswerFault) -> CommandFault
     }
 }
 
-/// What the tables of indexes that were read tell of places under a key; or none, if of two slices in two archives no
-/// entry says which comes first.
+/// What the tables of indexes that were read tell of places under a key, and if lines are wanted their frames; or none,
+/// if of two slices in two archives no entry says which comes first.
 pub(crate) fn tell_key<I: Placed>(
     heap: &Heap,
     read: &[TableIndex],
     indexes: &mut [Result<I, CannotOpen>],
     key: &SliceKey,
+    lines: bool,
     places: &[Where],
 ) -> Result<Option<Answers>, CommandFault>
     requires same { length read.now ≡ length indexes.old }
     requires opened { AreAllOpened indexes.old }
-    ensures { AsksTables I.whole I.failures (key_bytes key.now ∷ []) read.now indexes.old indexes.new result
+    ensures { AsksTables I.whole I.failures lines (key_bytes key.now ∷ []) read.now indexes.old indexes.new result
         (λ told. MatchOption told (AreTied (key_bytes key.now) read.now)
-        (AreToldOf (HaveTexts I.whole indexes.old) read.now key.now places.now)) }
+        (AreToldOf (HaveTexts I.whole indexes.old) read.now key.now lines places.now)) }
 {
     each_told();
     let Some(answering) = answering_among(heap, key, read)? else {
         return Ok(None);
     };
-    match answer_among(heap, indexes, &answering, places) {
+    match answer_among(heap, indexes, &answering, lines, places) {
         Ok(answers) => Ok(Some(answers)),
         Err(fault) => Err(refusal(fault)),
     }

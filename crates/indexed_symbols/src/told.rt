@@ -4,26 +4,25 @@ ghost use Rattle.std.specs.Prelude.{◌≡◌, ◌∷◌, [], ◌≤◌, IfOk, M
 ghost use Rattle.std.specs.List.{prefix_len};
 ghost use Rattle.std.specs.List.Sorted.{IsStrictlySortedBy};
 ghost use Rattle.archive_core.specs.Key.{key_bytes};
-ghost use Rattle.archive_core.specs.Lookup.{answer_view};
 ghost use Rattle.archive_queries.specs.Symbolicate.{asked_of};
 ghost use Rattle.indexed_answers.specs.Among.{AreTied};
 ghost use Rattle.indexed_answers.specs.AmongAsked.{HaveTexts};
 ghost use Rattle.indexed_symbols.specs.Asking.{AreTiedUnder};
 ghost use Rattle.indexed_symbols.specs.InnerAsking.{AreAllOpened, AsksTables};
 ghost use Rattle.indexed_symbols.specs.InnerPlaces.{asked_cmp, has_key};
-ghost use Rattle.indexed_symbols.specs.InnerTold.{AreInOrder, AreTold, HasTold, HaveToldEach, IsToldIn, IsToldUnder};
-ghost use Rattle.indexed_symbols.specs.InnerTold.{ShowsFrames};
+ghost use Rattle.indexed_symbols.specs.InnerTold.{AreInOrder, AreTold, HasTold, HaveToldEach, IsToldUnder};
+ghost use Rattle.indexed_symbols.specs.InnerTold.{ShowsFrames, StandsAt};
 
+use crate::lines::push_told;
 use crate::places::{AskedPlace, compare_places};
 use crate::tables::tell_key;
-use archive_core::{Answer, SliceKey, Where, compare_keys};
+use archive_core::{SliceKey, Where, compare_keys};
 use archive_queries::status_behind;
 use byte_device::{CannotOpen, Placed};
 use command_ends::{CommandFault, Status};
 use crash_frames::Frame;
 use indexed_answers::Answers;
 use memory::{Heap, NoMemory};
-use report_text::push_answer;
 use table_index::TableIndex;
 
 /// What is told of places under a key. The places ascend.
@@ -59,17 +58,18 @@ fn tell_run<I: Placed>(
     read: &[TableIndex],
     indexes: &mut [Result<I, CannotOpen>],
     key: SliceKey,
+    lines: bool,
     run: &[AskedPlace],
 ) -> Result<Option<KeyAnswers>, CommandFault>
     requires same { length read.now ≡ length indexes.old }
     requires opened { AreAllOpened indexes.old }
-    ensures { AsksTables I.whole I.failures (key_bytes key ∷ []) read.now indexes.old indexes.new result
+    ensures { AsksTables I.whole I.failures lines (key_bytes key ∷ []) read.now indexes.old indexes.new result
         (λ told. MatchOption told (AreTied (key_bytes key) read.now)
         (λ one. (one.key ≡ key) × (one.places.items ≡ map (λ asked. asked.place) run.now)
-        × IsToldUnder (HaveTexts I.whole indexes.old) read.now one)) }
+        × IsToldUnder (HaveTexts I.whole indexes.old) read.now lines one)) }
 {
     let places = places_in(heap.clone()?, run)?;
-    let Some(answers) = tell_key(heap, read, indexes, &key, &places)? else {
+    let Some(answers) = tell_key(heap, read, indexes, &key, lines, &places)? else {
         return Ok(None);
     };
     Ok(Some(KeyAnswers {
@@ -85,22 +85,23 @@ pub(crate) fn tell_keys<I: Placed>(
     heap: &Heap,
     read: &[TableIndex],
     indexes: &mut [Result<I, CannotOpen>],
+    lines: bool,
     asked: &[AskedPlace],
 ) -> Result<Option<Vec<KeyAnswers, Heap>>, CommandFault>
     requires same { length read.now ≡ length indexes.old }
     requires opened { AreAllOpened indexes.old }
     requires sorted { IsStrictlySortedBy asked_cmp asked.now }
     ensures { let keys = map (λ one. key_bytes one.key) asked.now in
-        AsksTables I.whole I.failures keys read.now indexes.old indexes.new result
+        AsksTables I.whole I.failures lines keys read.now indexes.old indexes.new result
         (λ told. MatchOption told (AreTiedUnder keys read.now)
-        (λ each. AreTold (HaveTexts I.whole indexes.old) read.now asked.now each.items)) }
+        (λ each. AreTold (HaveTexts I.whole indexes.old) read.now lines asked.now each.items)) }
 {
     let mut told = Vec::new(heap.clone()?);
     let mut left = asked;
     'keys: while let Some(first) = left.first() {
         let key = first.key;
         let (run, rest) = left.split_at(run_len(left, &key));
-        let Some(one) = tell_run(heap, read, indexes, key, run)? else {
+        let Some(one) = tell_run(heap, read, indexes, key, lines, run)? else {
             return Ok(None);
         };
         told.push(one)?;
@@ -109,12 +110,12 @@ pub(crate) fn tell_keys<I: Placed>(
     Ok(Some(told))
 }
 
-/// The answer to a frame, of which something is told.
-fn answer_of<'t>(heap: Heap, told: &'t [KeyAnswers], frame: &Frame) -> Result<Answer<'t>, NoMemory>
+/// Where what is told of a frame stands: under its key, and the number of its place there.
+fn told_at<'t>(told: &'t [KeyAnswers], frame: &Frame) -> (&'t KeyAnswers, usize)
     requires order { AreInOrder told.now }
     requires there { HasTold told.now (key_bytes frame.now.key) (asked_of frame.now.load frame.now.address) }
-    ensures { IfOk result (λ answer. IsToldIn told.now (key_bytes frame.now.key)
-        (asked_of frame.now.load frame.now.address) (answer_view answer)) }
+    ensures { StandsAt told.now (key_bytes frame.now.key) (asked_of frame.now.load frame.now.address) result.0.now
+        result.1 }
 {
     let asked = AskedPlace::of(frame);
     let Ok(key) = told.binary_search_by(|one| compare_keys(&one.key, &asked.key)) else {
@@ -126,25 +127,35 @@ fn answer_of<'t>(heap: Heap, told: &'t [KeyAnswers], frame: &Frame) -> Result<An
     else {
         unreachable!()
     };
-    told[key].answers.answer(heap, number)
+    (&told[key], number)
 }
 
 /// The lines of the answers of tables to frames, in their order, with how a command ends that prints them.
 pub(crate) fn answer_frames_by_tables(
     heap: Heap,
     told: &[KeyAnswers],
+    lines: bool,
     frames: &[Frame],
 ) -> Result<(Status, String<Heap>), NoMemory>
     requires order { AreInOrder told.now }
     requires there { HaveToldEach told.now frames.now }
-    ensures { IfOk result (λ shown. ShowsFrames told.now frames.now shown.0 (string_bytes shown.1)) }
+    ensures { IfOk result (λ shown. ShowsFrames told.now lines frames.now shown.0 (string_bytes shown.1)) }
 {
     let mut status = Status::Done;
     let mut text = String::new(heap.clone()?);
     'frames: for frame in frames {
-        let answer = answer_of(heap.clone()?, told, frame)?;
+        let (one, number) = told_at(told, frame);
+        let answer = one.answers.answer(heap.clone()?, number)?;
         status = status_behind(status, &answer);
-        push_answer(&heap, &mut text, frame.address, &answer, &[])?;
+        push_told(
+            &heap,
+            &mut text,
+            frame.address,
+            &answer,
+            &one.answers,
+            lines,
+            number,
+        )?;
     }
     Ok((status, text))
 }

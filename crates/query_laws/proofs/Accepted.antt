@@ -31,7 +31,7 @@ use Rattle.command_ends.specs.declared.faults.InputName.{InputName}
 use Rattle.command_ends.specs.declared.faults.Why.{Why}
 use Rattle.command_ends.specs.declared.faults.Why.TheVariants.{CannotOpen as NotOpened, Device as CannotRead, Record, Take}
 use Rattle.command_ends.specs.declared.faults.Why.TheVariants.{Script, BadFrame, OldArchive, TooLong}
-use Rattle.command_ends.specs.declared.faults.Why.TheVariants.{Index as IndexFaulty, Stale, Damaged, NoArchive, NoIndex}
+use Rattle.command_ends.specs.declared.faults.Why.TheVariants.{Index as IndexFaulty, Stale, Damaged, NoArchive, NoIndex, NoLines}
 use Rattle.index_laws.specs.Indexes.{IsIndexFile}
 use Rattle.indexed_queries.specs.Prefixes.{IsReadFor, IsStaleFor, IsStaleUnder, IsUnnamedUnder}
 use Rattle.indexed_queries.specs.Indexes.{HasOtherLength, IsOfOtherLength, IsRefusedByIndex, IsUnreadAt, IsUnreadIndex}
@@ -75,6 +75,7 @@ unread_at_device IsRead archive text TooLong given r = absurd r
 unread_at_device IsRead archive text (IndexFaulty _) given r = absurd r
 unread_at_device IsRead archive text (Stale _) given r = absurd r
 unread_at_device IsRead archive text (Damaged _) given r = absurd r
+unread_at_device IsRead archive text (NoLines _) given r = absurd r
 unread_at_device IsRead archive text NoArchive given r = absurd r
 unread_at_device IsRead archive text NoIndex given r = absurd r
 

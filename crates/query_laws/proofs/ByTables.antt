@@ -1,5 +1,5 @@
 -- What the tables in the indexes of contents tell is what the join of these contents tells.
-use Rattle.std.proofs.Common.{◌≡◌, ℕ, ◌≤◌, false, Bool, List, [], ◌∷◌, length, Contains, Option, refl, sym, subst, inl, inr, arith}
+use Rattle.std.proofs.Common.{◌≡◌, ◌⊎◌, ℕ, ◌≤◌, Bool, List, [], ◌∷◌, length, Contains, Option, refl, sym, subst, inl, inr, arith}
 use Rattle.std.specs.List.{AllZip}
 use Rattle.std.proofs.lemmas.List.Elements.{All-weaker, recursion_from_All}
 use Rattle.archive_core.specs.Content.{Operations}
@@ -25,7 +25,7 @@ use Rattle.indexed_queries.specs.Together.{AreReadWith, IsReadWith}
 use Rattle.indexed_symbols.specs.Asking.{AreGiven, AreRefusedAsking, AreUntold, IsAnsweredByTables, IsUnreadTable}
 use Rattle.indexed_symbols.specs.Frames.{AreToldAt, IsFrameByTables, TellsFramesBySlices, TellsFramesByTables, keys_of}
 use Rattle.indexed_symbols.specs.Symbolicate.{TellsBySlices, TellsByTables, symbolicate_at}
-use Rattle.query_laws.specs.Contents.{AreIndexed, AreIndexesGiven, AreOwnIndexes, IsIndexGiven, IsIndexed, IsOwnIndex}
+use Rattle.query_laws.specs.Contents.{AreIndexed, AreIndexesGiven, AreOwnIndexes, IsForLines, IsIndexGiven, IsIndexed, IsOwnIndex}
 use Rattle.query_laws.proofs.ByIndex.{frames_told, held_alike, short_keys}
 use Rattle.query_laws.proofs.OfIndex.{held_text}
 use Rattle.query_laws.proofs.Refused.{first_by_device, later_by_device}
@@ -57,34 +57,33 @@ module _ {I P : Type 0} (inputs : List (Reader I)) (archives : List (Reader P)) 
   -- ---- answers
 
   module _ (os : List Operations) (are : AreTextsOf inputs os) (tell : DigestsTell os) where
-    row_told : (key : SliceKey) (load : Option ℕ) (row : Answered) → IsKey key → IsAnsweredByTables (AreGiven inputs) all key load row → IsAnswered (all_joined os) key load false row
-    row_told key load row is_key answered =
-        let is = told.right os are.texts all (indexes_are os are.texts are.given are.files) key is_key (asked_of load row.address) (answer_view row.answer) tell (answered.answer_is are.texts are.given) in
-        record { slices = is.slices; answering = is.answering; answer_is = is.answer_is; shown = answered.frames_are }
+    row_told : (key : SliceKey) (load : Option ℕ) (lines : Bool) (row : Answered) → IsKey key → IsAnsweredByTables (AreGiven inputs) all key load lines row → IsAnswered (all_joined os) key load lines row
+    row_told key load lines row is_key answered =
+        told.right os are.texts all (indexes_are os are.texts are.given are.files) key is_key lines (asked_of load row.address) (answer_view row.answer) row.frames tell (answered.answer_is are.texts are.given)
 
-    frames_rows : (frames : List Frame) (rows : List Answered) → ((frame : Frame) → Contains frames frame → IsKey frame.key) → AllZip (IsFrameByTables (AreGiven inputs) all) frames rows → AllZip (IsFrameAnswered false (all_joined os)) frames rows
-    frames_rows [] [] keys zip = tt
-    frames_rows [] (_ ∷ _) keys zip = absurd zip
-    frames_rows (_ ∷ _) [] keys zip = absurd zip
-    frames_rows (frame ∷ frames) (row ∷ rows) keys (one, more) = (
-      (one.0, row_told frame.key frame.load row (keys frame (in_front frame frames)) one.1),
-      frames_rows frames rows (λ f there. keys f (in_rest frame frames f there)) more,
+    frames_rows : (lines : Bool) (frames : List Frame) (rows : List Answered) → ((frame : Frame) → Contains frames frame → IsKey frame.key) → AllZip (IsFrameByTables (AreGiven inputs) all lines) frames rows → AllZip (IsFrameAnswered lines (all_joined os)) frames rows
+    frames_rows lines [] [] keys zip = tt
+    frames_rows lines [] (_ ∷ _) keys zip = absurd zip
+    frames_rows lines (_ ∷ _) [] keys zip = absurd zip
+    frames_rows lines (frame ∷ frames) (row ∷ rows) keys (one, more) = (
+      (one.0, row_told frame.key frame.load lines row (keys frame (in_front frame frames)) one.1),
+      frames_rows lines frames rows (λ f there. keys f (in_rest frame frames f there)) more,
     )
 
 module _ {I P : Type 0} (inputs : List (Reader I)) (archives : List (Reader P)) (os : List Operations) (are : AreIndexesGiven inputs os) (tell : DigestsTell os) where
-  pub told_by_tables : (key : SliceKey) (load : Option ℕ) (addresses : List ℕ) (status : Status) (text : List ℕ) → IsKey key → TellsByTables inputs archives key load addresses status text → TellsAddresses (all_joined os) key load false addresses status text
-  told_by_tables key load addresses status text is_key by = record {
+  pub told_by_tables : (key : SliceKey) (load : Option ℕ) (lines : Bool) (addresses : List ℕ) (status : Status) (text : List ℕ) → IsKey key → TellsByTables inputs archives key load lines addresses status text → TellsAddresses (all_joined os) key load lines addresses status text
+  told_by_tables key load lines addresses status text is_key by = record {
     rows = by.tells.rows;
     addresses_are = by.tells.addresses_are;
-    answered = recursion_from_All _ _ (All-weaker _ _ (λ row answered. row_told inputs archives by.all by.read os (texts_of inputs os are) tell key load row is_key answered) by.tells.rows by.tells.answered);
+    answered = recursion_from_All _ _ (All-weaker _ _ (λ row answered. row_told inputs archives by.all by.read os (texts_of inputs os are) tell key load lines row is_key answered) by.tells.rows by.tells.answered);
     status_is = by.tells.status_is;
     text_is = by.tells.text_is;
   }
 
-  pub framed_by_tables : (said : List Frame) (status : Status) (text : List ℕ) → ((frame : Frame) → Contains said frame → IsKey frame.key) → TellsFramesByTables inputs archives said status text → TellsFrames false (all_joined os) said status text
-  framed_by_tables said status text keys by = record {
+  pub framed_by_tables : (lines : Bool) (said : List Frame) (status : Status) (text : List ℕ) → ((frame : Frame) → Contains said frame → IsKey frame.key) → TellsFramesByTables lines inputs archives said status text → TellsFrames lines (all_joined os) said status text
+  framed_by_tables lines said status text keys by = record {
     rows = by.tells.rows;
-    answered = frames_rows inputs archives by.all by.read os (texts_of inputs os are) tell said by.tells.rows keys by.tells.answered;
+    answered = frames_rows inputs archives by.all by.read os (texts_of inputs os are) tell lines said by.tells.rows keys by.tells.answered;
     status_is = by.tells.status_is;
     text_is = by.tells.text_is;
   }
@@ -98,15 +97,15 @@ module _ {I P : Type 0} (input : Reader I) (archive : Reader P) (o : Operations)
   joined_one : all_joined (o ∷ []) ≡ o
   joined_one = joined_alone o is.2.content.itself
 
-  pub told_alone : (key : SliceKey) (load : Option ℕ) (addresses : List ℕ) (status : Status) (text : List ℕ) → IsKey key → TellsByTables (input ∷ []) (archive ∷ []) key load addresses status text → TellsAddresses o key load false addresses status text
-  told_alone key load addresses status text is_key by =
-      subst (λ (made : Operations). TellsAddresses made key load false addresses status text) joined_one
-      (told_by_tables (input ∷ []) (archive ∷ []) (o ∷ []) (is, tt) tells_alone key load addresses status text is_key by)
+  pub told_alone : (key : SliceKey) (load : Option ℕ) (lines : Bool) (addresses : List ℕ) (status : Status) (text : List ℕ) → IsKey key → TellsByTables (input ∷ []) (archive ∷ []) key load lines addresses status text → TellsAddresses o key load lines addresses status text
+  told_alone key load lines addresses status text is_key by =
+      subst (λ (made : Operations). TellsAddresses made key load lines addresses status text) joined_one
+      (told_by_tables (input ∷ []) (archive ∷ []) (o ∷ []) (is, tt) tells_alone key load lines addresses status text is_key by)
 
-  pub framed_alone : (said : List Frame) (status : Status) (text : List ℕ) → ((frame : Frame) → Contains said frame → IsKey frame.key) → TellsFramesByTables (input ∷ []) (archive ∷ []) said status text → TellsFrames false o said status text
-  framed_alone said status text keys by =
-      subst (λ (made : Operations). TellsFrames false made said status text) joined_one
-      (framed_by_tables (input ∷ []) (archive ∷ []) (o ∷ []) (is, tt) tells_alone said status text keys by)
+  pub framed_alone : (lines : Bool) (said : List Frame) (status : Status) (text : List ℕ) → ((frame : Frame) → Contains said frame → IsKey frame.key) → TellsFramesByTables lines (input ∷ []) (archive ∷ []) said status text → TellsFrames lines o said status text
+  framed_alone lines said status text keys by =
+      subst (λ (made : Operations). TellsFrames lines made said status text) joined_one
+      (framed_by_tables (input ∷ []) (archive ∷ []) (o ∷ []) (is, tt) tells_alone lines said status text keys by)
 
 -- ---- by slices
 
@@ -139,14 +138,12 @@ module _ {I P : Type 0} (inputs : List (Reader I)) (archives : List (Reader P)) 
 
   pub told_either : (key : SliceKey) (load : Option ℕ) (lines : Bool) (addresses : List ℕ) (status : Status) (text : List ℕ) → DigestsTell os → IsKey key → (symbolicate_at inputs archives key load lines addresses).Makes status text
       → TellsAddresses (all_joined os) key load lines addresses status text
-  told_either key load lines addresses status text tell is_key (inl (none, by)) =
-      subst (λ (l : Bool). TellsAddresses (all_joined os) key load l addresses status text) (sym none) (told_by_tables inputs archives os given_indexes tell key load addresses status text is_key by)
+  told_either key load lines addresses status text tell is_key (inl by) = told_by_tables inputs archives os given_indexes tell key load lines addresses status text is_key by
   told_either key load lines addresses status text tell is_key (inr by) = told_by_slices key load lines addresses status text (short_key key is_key) by
 
   pub framed_either : (lines : Bool) (said : List Frame) (status : Status) (text : List ℕ) → DigestsTell os → ((frame : Frame) → Contains said frame → IsKey frame.key) → AreToldAt lines inputs archives said status text
       → TellsFrames lines (all_joined os) said status text
-  framed_either lines said status text tell keys (inl (none, by)) =
-      subst (λ (l : Bool). TellsFrames l (all_joined os) said status text) (sym none) (framed_by_tables inputs archives os given_indexes tell said status text keys by)
+  framed_either lines said status text tell keys (inl by) = framed_by_tables inputs archives os given_indexes tell lines said status text keys by
   framed_either lines said status text tell keys (inr by) = framed_by_slices lines said status text (keys_short said keys) by
 
 -- ---- what is refused
@@ -155,19 +152,22 @@ module _ {I P : Type 0} (keys : List (List ℕ)) (inputs : List (Reader I)) (arc
   untold_table : (indexes : List (Reader I)) (answering : List EntryAt) → IsUnreadTable indexes answering at why → IsDeviceFault why
   untold_table indexes answering u = subst IsDeviceFault (sym u.why_is) refl
 
-  pub untold_by_device : (os : List Operations) → AreIndexesGiven inputs os → AreUntold keys inputs archives at why → IsDeviceFault why
-  untold_by_device os are u =
+  pub untold_by_device : (lines : Bool) (os : List Operations) → AreIndexesGiven inputs os → AreUntold lines keys inputs archives at why → IsDeviceFault why ⊎ IsForLines lines os why
+  untold_by_device lines os are u =
       let t = texts_of inputs os are in
+      let indexes = indexes_are inputs archives u.all u.read os t.texts t.given t.files in
       elim u.untold.untold [
-        | inl changed ↦
-            absurd (told.none_damaged os t.texts u.all (indexes_are inputs archives u.all u.read os t.texts t.given t.files) u.untold.key u.untold.answering changed.input changed.number u.untold.are (changed.changed t.texts t.given))
-        | inr unread ↦ untold_table inputs u.untold.answering unread
+        | inl changed ↦ absurd (told.none_damaged os t.texts u.all indexes u.untold.key u.untold.answering changed.input changed.number u.untold.are (changed.changed t.texts t.given))
+        | inr (inl lacking) ↦
+            let slice = told.lineless os t.texts u.all indexes u.untold.key u.untold.answering lacking.input lacking.number u.untold.are (lacking.lacks t.texts t.given) in
+            inr (record { wanted = lacking.wanted; number = lacking.number; why_is = lacking.why_is; slice = slice.0; is_held = slice.1; lacks = slice.2 })
+        | inr (inr unread) ↦ inl (untold_table inputs u.untold.answering unread)
       ]
 
   own_given : (os : List Operations) → AreOwnIndexes inputs archives os → AreIndexesGiven inputs os
   own_given os are = first_third IsOwnIndex IsIndexGiven inputs archives os (λ x y z is. is.0) are
 
-  pub asked_by_device : (lines : Bool) (os : List Operations) → AreOwnIndexes inputs archives os → AreRefusedAsking lines keys inputs archives at why → IsDeviceFault why
-  asked_by_device lines os are (inl first) = first_by_device keys inputs archives os at why are first
-  asked_by_device lines os are (inr (inl (later, wants))) = later_by_device keys inputs archives os at why are later
-  asked_by_device lines os are (inr (inr (none, untold))) = untold_by_device os (own_given os are) untold
+  pub asked_by_device : (lines : Bool) (os : List Operations) → AreOwnIndexes inputs archives os → AreRefusedAsking lines keys inputs archives at why → IsDeviceFault why ⊎ IsForLines lines os why
+  asked_by_device lines os are (inl first) = inl (first_by_device keys inputs archives os at why are first)
+  asked_by_device lines os are (inr (inl (later, tied))) = inl (later_by_device keys inputs archives os at why are later)
+  asked_by_device lines os are (inr (inr untold)) = untold_by_device lines os (own_given os are) untold

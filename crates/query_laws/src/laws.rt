@@ -1,7 +1,7 @@
 //! What the commands tell by the indexes of contents. Each law is a function with an empty body, and its contract the
 //! law.
 
-ghost use Rattle.std.specs.Prelude.{◌≡◌, ◌≤◌, ◌<◌, ◌^◌, ◌∷◌, [], ℕ, List, Bool, Option, Contains, Ok, false, length};
+ghost use Rattle.std.specs.Prelude.{◌≡◌, ◌≤◌, ◌<◌, ◌^◌, ◌⊎◌, ◌∷◌, [], ℕ, List, Bool, Option, Contains, Ok, length};
 ghost use Rattle.std.specs.Prelude.{Some};
 ghost use Rattle.std.specs.List.{AllByRecursion};
 ghost use Rattle.archive_core.specs.Content.{IsContent, Operations};
@@ -38,7 +38,7 @@ ghost use Rattle.indexed_symbols.specs.Symbolicate.{TellsBySlices, TellsByTables
 ghost use Rattle.slice_extraction.specs.Indexed.{LacksEntry, MakesEntry, extract_at};
 ghost use Rattle.slice_extraction.specs.Wanted.{AreUndecided, IsWanted, slice_line, slices_text};
 ghost use Rattle.query_laws.specs.Contents.{AreIndexed, AreIndexesGiven, AreOwnIndexes, HaveKeys, IsIndexGiven};
-ghost use Rattle.query_laws.specs.Contents.{IsOwnIndex};
+ghost use Rattle.query_laws.specs.Contents.{IsForLines, IsOwnIndex};
 ghost use Rattle.query_laws.specs.Undecided.{TellsUndecided};
 
 use byte_device::Placed;
@@ -102,17 +102,18 @@ pub fn found_by_indexes<I: Placed, P: Placed>()
         → TellsFound (all_joined os) uuid status text }
 {}
 
-/// So does `symbolicate`: by slices; and by tables whatever bytes the archives have, if no two different slices of
-/// several contents have one SHA-256.
+/// So does `symbolicate`, with lines and without: by tables whatever bytes the archives have, if no two different
+/// slices of several contents have one SHA-256; and by slices, where two are tied.
 pub fn answered_by_indexes<I: Placed, P: Placed>()
     ensures tables { (inputs : List (Reader I)) (archives : List (Reader P)) (os : List Operations) (key : SliceKey)
-        (load : Option ℕ) (addresses : List ℕ) (status : Status) (text : List ℕ) → AreIndexesGiven inputs os
-        → DigestsTell os → IsKey key → TellsByTables inputs archives key load addresses status text
-        → TellsAddresses (all_joined os) key load false addresses status text }
+        (load : Option ℕ) (lines : Bool) (addresses : List ℕ) (status : Status) (text : List ℕ)
+        → AreIndexesGiven inputs os → DigestsTell os → IsKey key
+        → TellsByTables inputs archives key load lines addresses status text
+        → TellsAddresses (all_joined os) key load lines addresses status text }
     ensures alone { (input : Reader I) (archive : Reader P) (o : Operations) (key : SliceKey) (load : Option ℕ)
-        (addresses : List ℕ) (status : Status) (text : List ℕ) → IsIndexGiven input o → IsKey key
-        → TellsByTables (input ∷ []) (archive ∷ []) key load addresses status text
-        → TellsAddresses o key load false addresses status text }
+        (lines : Bool) (addresses : List ℕ) (status : Status) (text : List ℕ) → IsIndexGiven input o → IsKey key
+        → TellsByTables (input ∷ []) (archive ∷ []) key load lines addresses status text
+        → TellsAddresses o key load lines addresses status text }
     ensures slices { (inputs : List (Reader I)) (archives : List (Reader P)) (os : List Operations) (key : SliceKey)
         (load : Option ℕ) (lines : Bool) (addresses : List ℕ) (status : Status) (text : List ℕ)
         → length (key_bytes key) ≤ 24 → AreIndexed inputs archives os
@@ -127,13 +128,16 @@ pub fn answered_by_indexes<I: Placed, P: Placed>()
 
 /// So does `frames`. The frames that a text says have such keys as this asks.
 pub fn framed_by_indexes<I: Placed, P: Placed>()
-    ensures tables { (inputs : List (Reader I)) (archives : List (Reader P)) (os : List Operations)
+    ensures tables { (inputs : List (Reader I)) (archives : List (Reader P)) (os : List Operations) (lines : Bool)
         (said : List Frame) (status : Status) (text : List ℕ) → AreIndexesGiven inputs os → DigestsTell os
         → ((frame : Frame) → Contains said frame → IsKey frame.key)
-        → TellsFramesByTables inputs archives said status text → TellsFrames false (all_joined os) said status text }
-    ensures alone { (input : Reader I) (archive : Reader P) (o : Operations) (said : List Frame) (status : Status)
-        (text : List ℕ) → IsIndexGiven input o → ((frame : Frame) → Contains said frame → IsKey frame.key)
-        → TellsFramesByTables (input ∷ []) (archive ∷ []) said status text → TellsFrames false o said status text }
+        → TellsFramesByTables lines inputs archives said status text
+        → TellsFrames lines (all_joined os) said status text }
+    ensures alone { (input : Reader I) (archive : Reader P) (o : Operations) (lines : Bool) (said : List Frame)
+        (status : Status) (text : List ℕ) → IsIndexGiven input o
+        → ((frame : Frame) → Contains said frame → IsKey frame.key)
+        → TellsFramesByTables lines (input ∷ []) (archive ∷ []) said status text
+        → TellsFrames lines o said status text }
     ensures slices { (inputs : List (Reader I)) (archives : List (Reader P)) (os : List Operations) (lines : Bool)
         (said : List Frame) (status : Status) (text : List ℕ)
         → ((key : List ℕ) → Contains (keys_of said) key → length key ≤ 24) → AreIndexed inputs archives os
@@ -189,13 +193,13 @@ pub fn undecided_by_indexes<I: Placed, P: Placed>()
         → ((row : FindRow) → Contains tells.rows row → IsKey row.key) → told ≡ slices_text tells.slices }
 {}
 
-/// By the indexes of contents a table is refused for a device alone, whatever bytes the archives have. By the indexes
-/// of these very archives all that is refused is so.
+/// By the indexes of contents a table is refused for a device alone, or for a slice that has no lines if these are
+/// wanted, whatever bytes the archives have. By the indexes of these very archives all that is refused is so.
 pub fn undamaged_by_indexes<I: Placed, P: Placed>()
-    ensures tables { (keys : List (List ℕ)) (inputs : List (Reader I)) (archives : List (Reader P))
+    ensures tables { (lines : Bool) (keys : List (List ℕ)) (inputs : List (Reader I)) (archives : List (Reader P))
         (os : List Operations) (at : InputName) (why : Why) → AreIndexesGiven inputs os
-        → AreUntold keys inputs archives at why → IsDeviceFault why }
+        → AreUntold lines keys inputs archives at why → IsDeviceFault why ⊎ IsForLines lines os why }
     ensures asked { (lines : Bool) (keys : List (List ℕ)) (inputs : List (Reader I)) (archives : List (Reader P))
         (os : List Operations) (at : InputName) (why : Why) → AreOwnIndexes inputs archives os
-        → AreRefusedAsking lines keys inputs archives at why → IsDeviceFault why }
+        → AreRefusedAsking lines keys inputs archives at why → IsDeviceFault why ⊎ IsForLines lines os why }
 {}

@@ -3,26 +3,40 @@ use Rattle.std.proofs.lemmas.Result.{err_from_is_err_and}
 use Rattle.checked_pages.specs.Pages.{AreStored, MayBeStored}
 use Rattle.checked_pages.specs.Views.{claim_view}
 use Rattle.checked_pages.proofs.PageLemmas.{may_be}
-use Rattle.checked_pages.proofs.ReadLemmas.{after_ok, passed_on, read_as}
+use Rattle.checked_pages.proofs.ReadLemmas.{after_ok, passed_on}
 use Rattle.symbol_tables.specs.Table.{table_bytes}
 use Rattle.indexed_answers.proofs.Columns.{zip_as}
 use Rattle.indexed_answers.proofs.told.owns_by_claim.Goals as goal
 
 pub returns-in_err-table : goal.returns-in_err-table
 returns-in_err-table g c =
-    let p = err_from_is_err_and c.from_residual.result c.from_residual.ensures.1 in
+    let p = err_from_is_err_and c.from_residual-in_err-table.result c.from_residual-in_err-table.ensures.1 in
     passed_on _ _ _ _ _ _ _ _ _ _ _ c.in_err-table.was (p.1 ∙ ap Err p.2)
-    (λ text known absent long slice all is stored. absent long is.0 is.2 (subst (AreStored text (claim_view c.args.claim)) is.3 stored)) c.open.ensures.read
+    (λ text known absent long slice all is stored. absent long is.is_table.0 is.is_table.2 (subst (AreStored text (claim_view c.args.claim)) is.is_table.3 stored)) c.open.ensures.read
+
+pub returns-in_err-owns : goal.returns-in_err-owns
+returns-in_err-owns g c =
+    let p = err_from_is_err_and c.from_residual-in_err-owns.result c.from_residual-in_err-owns.ensures.1 in
+    let opened = c.in_ok-table.ensures.read in
+    passed_on _ _ _ _ _ _ _ _ _ _ _ c.in_err-owns.was (p.1 ∙ ap Err p.2)
+    (λ text known absent long slice all is stored.
+    let here = subst (AreStored text (claim_view c.args.claim)) is.is_table.3 stored in
+    absent is.is_table.0 (opened.says text known is.is_table.0 is.is_table.2 (may_be text (table_bytes is.is_table.0) (claim_view c.args.claim) here))
+    (subst (λ claim. AreStored text (claim_view claim) (table_bytes is.is_table.0)) (sym c.in_ok-table.ensures.claim) here))
+    (after_ok _ _ _ _ _ _ _ _ opened.keeps opened.counts c.owns_of.ensures)
 
 pub returns : goal.returns
 returns g c =
     let opened = c.in_ok-table.ensures.read in
-    let asked = after_ok _ _ _ _ _ _ _ _ opened.keeps opened.counts c.owns_of.ensures in
-    read_as _ _ _ _ _ _ _ _ _
-    (λ text known owns says. zip_as _ _ c.args.asked.now _ (λ place own told slice all bytes is may.
-    told slice is.0 bytes is.1 (opened.says text known is.0 is.2 (subst (MayBeStored text (claim_view c.args.claim)) is.3 may))) says)
-    (λ text known absent long slice all is stored.
-    let here = subst (AreStored text (claim_view c.args.claim)) is.3 stored in
-    absent is.0 (opened.says text known is.0 is.2 (may_be text (table_bytes is.0) (claim_view c.args.claim) here))
-    (subst (λ claim. AreStored text (claim_view claim) (table_bytes is.0)) (sym c.in_ok-table.ensures.claim) here))
-    asked
+    let asked = after_ok _ _ _ _ _ _ _ _ opened.keeps opened.counts c.in_ok-owns.ensures in
+    record {
+      says = λ text known. (
+        λ slice all bytes is may.
+            let here = opened.says text known is.is_table.0 is.is_table.2 (subst (MayBeStored text (claim_view c.args.claim)) is.is_table.3 may) in
+            c.text_base-base.ensures ∙ here.head.base ∙ is.is_table.1.base,
+        zip_as _ _ c.args.asked.now _ (λ place own told slice all bytes is may.
+            told slice is.is_table.0 bytes is.is_table.1 (opened.says text known is.is_table.0 is.is_table.2 (subst (MayBeStored text (claim_view c.args.claim)) is.is_table.3 may))) (asked.says text known),
+      );
+      keeps = asked.keeps;
+      counts = asked.counts;
+    }

@@ -21,7 +21,7 @@ answering-preserved g c =
     let lt : i < length xs = omega (arith, c.answering-test.true, length-map c.args.answering.now entry_at) in
     let here = read_map entry_at c.args.answering.now i n c.answering-test.true c.numbered-item.is in
     let has = subst (Contains xs) (sym here) (Contains-get_or xs i (entry_at n) lt) in
-    one_told g.P.Placed.whole g.P.Placed.failures c.args.asked.now xs i c.args.devices.now c.answering.devices c.told_at.new.devices c.answering.columns.items c.push.new.self.items c.in_ok-column.column (entry_at n) lt here c.in_default-push.ensures.items c.answering.invariant
+    one_told g.P.Placed.whole g.P.Placed.failures c.args.lines c.args.asked.now xs i c.args.devices.now c.answering.devices c.told_at.new.devices c.answering.columns.items c.push.new.self.items c.in_ok-column.column (entry_at n) lt here c.in_default-push.ensures.items c.answering.invariant
     (c.in_ok-column.ensures xs has)
 
 pub told_at-requires-clause-within : goal.told_at-requires-clause-within
@@ -52,7 +52,7 @@ returns-in_err-column g c =
     let here = read_map entry_at c.args.answering.now i n c.answering-test.true c.numbered-item.is in
     let has = subst (Contains xs) (sym here) (Contains-get_or xs i (entry_at n) lt) in
     let p = err_from_is_err_and c.from_residual.result c.from_residual.ensures.1 in
-    none_more g.P.Placed.whole g.P.Placed.failures c.args.asked.now xs i c.args.devices.now c.answering.devices c.told_at.new.devices c.answering.columns.items _ _ _ _ _ c.in_err-column.was (p.1 ∙ ap Err p.2) c.answering.invariant
+    none_more g.P.Placed.whole g.P.Placed.failures c.args.lines c.args.asked.now xs i c.args.devices.now c.answering.devices c.told_at.new.devices c.answering.columns.items _ _ _ _ _ c.in_err-column.was (p.1 ∙ ap Err p.2) c.answering.invariant
     (c.told_at.ensures xs has)
 
 pub returns-in-Err : goal.returns-in-Err
@@ -63,7 +63,7 @@ returns-in-Err g c =
     let lt : i < length xs = omega (arith, c.answering-test.true, length-map c.args.answering.now entry_at) in
     let here = read_map entry_at c.args.answering.now i n c.answering-test.true c.numbered-item.is in
     let has = subst (Contains xs) (sym here) (Contains-get_or xs i (entry_at n) lt) in
-    no_memory g.P.Placed.whole g.P.Placed.failures c.args.asked.now xs i c.args.devices.now c.answering.devices c.told_at.new.devices c.answering.columns.items c.in_ok-column.column _ _ c.answering.invariant (c.in_ok-column.ensures xs has)
+    no_memory g.P.Placed.whole g.P.Placed.failures c.args.lines c.args.asked.now xs i c.args.devices.now c.answering.devices c.told_at.new.devices c.answering.columns.items c.in_ok-column.column _ _ c.answering.invariant (c.in_ok-column.ensures xs has)
 
 pub returns : goal.returns
 returns g c =
@@ -71,7 +71,7 @@ returns g c =
     let told = c.answering.invariant in
     record {
       says = λ texts have.
-          subst (λ (es : List EntryAt). AllZip (IsColumnAt texts c.args.asked.now) es c.answering.columns.items) (take_all c.answering.numbered-index xs (omega (arith, length-map c.args.answering.now entry_at, c.answering-test.false))) (told.says texts have);
+          subst (λ (es : List EntryAt). AllZip (IsColumnAt texts c.args.lines c.args.asked.now) es c.answering.columns.items) (take_all c.answering.numbered-index xs (omega (arith, length-map c.args.answering.now entry_at, c.answering-test.false))) (told.says texts have);
       keeps = told.keeps;
       counts = told.counts;
     }

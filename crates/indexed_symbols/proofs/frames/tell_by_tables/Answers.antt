@@ -18,7 +18,7 @@ returns-in_err-told g c =
     let p = err_from_is_err_and c.from_residual-in_err-told.result c.from_residual-in_err-told.ensures.1 in
     let of = subst (λ (asked : List AskedPlace). AreAskedOf c.args.frames.now asked) (sym c.deref.ensures.value) c.in_ok-asked.ensures.are in
     rw (p.1, p.2)
-    (untold_of_frames c.args.frames.now c.deref.result.now of {D = g.row.I.Denot} g.I.Placed.whole g.I.Placed.failures c.args.lines c.args.read.now c.args.indexes.now c.tell_keys.new.indexes c.in_err-told.field-0.0 c.if-lines.false c.in_err-told.ensures)
+    (untold_of_frames c.args.frames.now c.deref.result.now of {D = g.row.I.Denot} g.I.Placed.whole g.I.Placed.failures c.args.lines c.args.read.now c.args.indexes.now c.tell_keys.new.indexes c.in_err-told.field-0.0 c.in_err-told.ensures)
 
 pub returns-in_default : goal.returns-in_default
 returns-in_default g c =
@@ -27,8 +27,8 @@ returns-in_default g c =
     let keys = map (λ (one : AskedPlace). key_bytes one.key) asked in
     let texts = HaveTexts g.I.Placed.whole c.args.indexes.now in
     let of = subst (λ (asked : List AskedPlace). AreAskedOf c.args.frames.now asked) (sym c.deref.ensures.value) c.in_ok-asked.ensures.are in
-    let tied = subst (λ o. MatchOption o (AreTiedUnder keys all) (λ each. AreTold texts all asked each.items)) c.in_default.is c.in_ok-told.ensures.is.0 in
-    record { is = tied_of_frames c.args.frames.now asked of c.args.lines all tied; unfailed = c.in_ok-told.ensures.unfailed }
+    let tied = subst (λ o. MatchOption o (AreTiedUnder keys all) (λ each. AreTold texts all c.args.lines asked each.items)) c.in_default.is c.in_ok-told.ensures.is.0 in
+    record { is = (tied_of_frames c.args.frames.now asked of all tied, c.in_ok-told.ensures.is.1); unfailed = c.in_ok-told.ensures.unfailed }
 
 pub answer_frames_by_tables-requires-clause-there : goal.answer_frames_by_tables-requires-clause-there
 answer_frames_by_tables-requires-clause-there g c =
@@ -37,8 +37,8 @@ answer_frames_by_tables-requires-clause-there g c =
     let keys = map (λ (one : AskedPlace). key_bytes one.key) asked in
     let texts = HaveTexts g.I.Placed.whole c.args.indexes.now in
     let of = subst (λ (asked : List AskedPlace). AreAskedOf c.args.frames.now asked) (sym c.deref.ensures.value) c.in_ok-asked.ensures.are in
-    let are = subst (λ o. MatchOption o (AreTiedUnder keys all) (λ each. AreTold texts all asked each.items)) c.in-Some.is c.in_ok-told.ensures.is.0 in
-    told_each texts all c.args.frames.now asked c.deref-2.result.now (subst (λ (each : List KeyAnswers). AreTold texts all asked each) (sym c.deref-2.ensures.value) are) of
+    let are = subst (λ o. MatchOption o (AreTiedUnder keys all) (λ each. AreTold texts all c.args.lines asked each.items)) c.in-Some.is c.in_ok-told.ensures.is.0 in
+    told_each texts all c.args.lines c.args.frames.now asked c.deref-2.result.now (subst (λ (each : List KeyAnswers). AreTold texts all c.args.lines asked each) (sym c.deref-2.ensures.value) are) of
 
 pub returns : goal.returns
 returns g c =
@@ -48,14 +48,14 @@ returns g c =
     let texts = HaveTexts g.I.Placed.whole c.args.indexes.now in
     let frames = c.args.frames.now in
     let status = c.in_ok-status.status in
-    let are = subst (λ o. MatchOption o (AreTiedUnder keys all) (λ each. AreTold texts all asked each.items)) c.in-Some.is c.in_ok-told.ensures.is.0 in
-    let told = subst (λ (each : List KeyAnswers). AreTold texts all asked each) (sym c.deref-2.ensures.value) are in
+    let are = subst (λ o. MatchOption o (AreTiedUnder keys all) (λ each. AreTold texts all c.args.lines asked each.items)) c.in-Some.is c.in_ok-told.ensures.is.0 in
+    let told = subst (λ (each : List KeyAnswers). AreTold texts all c.args.lines asked each) (sym c.deref-2.ensures.value) are in
     let bytes : string_bytes c.in_ok-status.text ≡ c.into_bytes.result.items = sym (ap (λ v. v.items) c.into_bytes.ensures.value) in
     record {
       is = (
-        c.if-lines.false,
-        subst (λ (text : List ℕ). TellTablesOfFrames texts all frames status text) bytes
-            (frames_by_tables texts all c.deref-2.result.now told.are_true frames status (string_bytes c.in_ok-status.text) c.in_ok-status.ensures),
+        subst (λ (text : List ℕ). TellTablesOfFrames texts all c.args.lines frames status text) bytes
+            (frames_by_tables texts all c.args.lines c.deref-2.result.now told.are_true frames status (string_bytes c.in_ok-status.text) c.in_ok-status.ensures),
+        c.in_ok-told.ensures.is.1,
       );
       unfailed = c.in_ok-told.ensures.unfailed;
     }

@@ -1,11 +1,11 @@
-use Rattle.std.proofs.Common.{◌≡◌, false, inl, subst}
+use Rattle.std.proofs.Common.{inl, subst}
 use Rattle.std.specs.Prelude.{MatchOption}
 use Rattle.std.proofs.lemmas.Result.{err_from_is_err_and}
 use Rattle.archive_core.specs.Content.{HaveSameMembers}
 use Rattle.command_ends.proofs.Readers.{none_failed}
 use Rattle.command_ends.specs.Inputs.{readers}
 use Rattle.indexed_answers.specs.AmongAsked.{HaveTexts}
-use Rattle.indexed_symbols.specs.Asking.{WantsSlices}
+use Rattle.indexed_symbols.specs.Asking.{AreTiedUnder}
 use Rattle.indexed_symbols.specs.Frames.{TellTablesOfFrames, keys_of}
 use Rattle.indexed_symbols.proofs.Ended.{tables_refused}
 use Rattle.indexed_symbols.proofs.frames.tell_frames.Goals as goal
@@ -25,6 +25,6 @@ returns-in-Some g c =
     let frames = c.args.frames.now in
     let texts = HaveTexts g.I.Placed.whole c.args.indexes.now in
     record {
-      is = inl (subst (λ o. MatchOption o (WantsSlices c.args.lines (keys_of frames) all) (λ told. (c.args.lines ≡ false) × TellTablesOfFrames texts all frames told.0 told.1.items)) c.in-Some.is c.in_ok-told.ensures.is);
+      is = inl (subst (λ o. MatchOption o (AreTiedUnder (keys_of frames) all) (λ told. TellTablesOfFrames texts all c.args.lines frames told.0 told.1.items)) c.in-Some.is c.in_ok-told.ensures.is.0);
       unfailed = (c.in_ok-told.ensures.unfailed, none_failed g.P.Placed.whole g.P.Placed.failures c.args.archives.now);
     }

@@ -1,10 +1,10 @@
-use Rattle.std.proofs.Common.{◌≡◌, ◌∷◌, [], false, MatchOption, inl, subst, string_bytes}
+use Rattle.std.proofs.Common.{◌≡◌, ◌∷◌, [], MatchOption, inl, subst, string_bytes}
 use Rattle.std.proofs.lemmas.Result.{err_from_is_err_and}
 use Rattle.archive_core.specs.Key.{key_bytes}
 use Rattle.command_ends.specs.Inputs.{readers}
 use Rattle.command_ends.proofs.Readers.{none_failed}
 use Rattle.indexed_answers.specs.AmongAsked.{HaveTexts}
-use Rattle.indexed_symbols.specs.Asking.{TellTables, WantsSlices}
+use Rattle.indexed_symbols.specs.Asking.{AreTiedUnder, TellTables}
 use Rattle.indexed_symbols.proofs.Ended.{tables_refused}
 use Rattle.indexed_symbols.proofs.symbolicate.tell_addresses.Goals as goal
 
@@ -23,6 +23,6 @@ returns-in-Some g c =
     let keys = key_bytes c.args.key.now ∷ [] in
     let all = c.args.read.now in
     let archives = c.args.archives.now in
-    let told = subst (λ o. MatchOption o (WantsSlices c.args.lines keys all) (λ value. (c.args.lines ≡ false) × TellTables (HaveTexts g.I.Placed.whole c.args.indexes.now) all c.args.key.now c.args.load c.args.addresses.now value.0 (string_bytes value.1)))
-    c.in-Some.is c.in_ok-told.ensures.is in
+    let told = subst (λ o. MatchOption o (AreTiedUnder keys all) (λ value. TellTables (HaveTexts g.I.Placed.whole c.args.indexes.now) all c.args.key.now c.args.load c.args.lines c.args.addresses.now value.0 (string_bytes value.1)))
+    c.in-Some.is c.in_ok-told.ensures.is.0 in
     record { is = inl told; unfailed = (c.in_ok-told.ensures.unfailed, none_failed g.P.Placed.whole g.P.Placed.failures archives) }

@@ -42,7 +42,7 @@ pub returns-in_err-one : goal.returns-in_err-one
 returns-in_err-one g c =
     let p = err_from_is_err_and c.from_residual-in_err-one.result c.from_residual-in_err-one.ensures.1 in
     let key = there c.args.asked.now c.keys.left.now c.keys.told.items c.in-Some.first.now c.keys.invariant.so c.in-Some.ensures.value in
-    rw (p.1, p.2) (untold_first g.I.Placed.whole g.I.Placed.failures c.args.read.now c.args.indexes.now c.keys.indexes c.keys.invariant.texts c.keys.invariant.counts c.tell_run.new.indexes (key_bytes c.in-Some.first.now.key) _ c.in_err-one.field-0.0 key c.in_err-one.ensures)
+    rw (p.1, p.2) (untold_first g.I.Placed.whole g.I.Placed.failures c.args.lines c.args.read.now c.args.indexes.now c.keys.indexes c.keys.invariant.texts c.keys.invariant.counts c.tell_run.new.indexes (key_bytes c.in-Some.first.now.key) _ c.in_err-one.field-0.0 key c.in_err-one.ensures)
 
 pub returns-in_default-2 : goal.returns-in_default-2
 returns-in_default-2 g c =
@@ -60,8 +60,8 @@ keys-preserved g c =
     let told = of_one _ _ _ c.in_ok-one.ensures.is.0 c.in-Some-2.one c.in-Some-2.is in
     let places = told.1 ∙ ap (map (λ (asked : AskedPlace). asked.place)) c.split_at.ensures.front in
     let so = told_more c.args.asked.now c.keys.left.now c.keys.told.items c.keys.invariant.so c.in-Some.first.now c.in-Some.ensures.value c.run_len.result c.run_len.ensures.len c.in-Some-2.one told.0 places in
-    let one = true_first g.I.Placed.whole g.I.Placed.failures c.args.read.now c.args.indexes.now c.keys.indexes c.keys.invariant.texts c.in-Some-2.one told.2 in
-    let all = All-push (IsToldUnder (HaveTexts g.I.Placed.whole c.args.indexes.now) c.args.read.now) c.keys.told.items c.in-Some-2.one c.keys.invariant.are_true one in
+    let one = true_first g.I.Placed.whole g.I.Placed.failures c.args.lines c.args.read.now c.args.indexes.now c.keys.indexes c.keys.invariant.texts c.in-Some-2.one told.2 in
+    let all = All-push (IsToldUnder (HaveTexts g.I.Placed.whole c.args.indexes.now) c.args.read.now c.args.lines) c.keys.told.items c.in-Some-2.one c.keys.invariant.are_true one in
     record {
       so = rw (c.split_at.ensures.back, c.in_ok-push.ensures.items) so;
       are_true = rw c.in_ok-push.ensures.items all;

@@ -8,7 +8,7 @@ use Rattle.indexed_symbols.proofs.told.tell_keys.Given as goal
 abbrev pub invariant-keys : goal.invariant-keys
 invariant-keys g l = record {
   so : IsToldSoFar l.asked l.left l.told.items;
-  are_true : All (IsToldUnder (HaveTexts g.I.Placed.whole l.fn.indexes) l.read) l.told.items;
+  are_true : All (IsToldUnder (HaveTexts g.I.Placed.whole l.fn.indexes) l.read l.lines) l.told.items;
   texts : each_known g.I.Placed.whole l.indexes ≡ each_known g.I.Placed.whole l.fn.indexes;
   counts : each_known g.I.Placed.failures l.indexes ≡ each_known g.I.Placed.failures l.fn.indexes;
   opened : AreAllOpened l.indexes;

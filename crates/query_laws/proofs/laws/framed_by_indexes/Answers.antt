@@ -3,10 +3,10 @@ use Rattle.query_laws.proofs.FrameKeys.{frame_keys}
 use Rattle.query_laws.proofs.laws.framed_by_indexes.Goals as goal
 
 pub returns-clause-tables : goal.returns-clause-tables
-returns-clause-tables g c = λ inputs archives os said status text are tell keys by. framed_by_tables inputs archives os are tell said status text keys by
+returns-clause-tables g c = λ inputs archives os lines said status text are tell keys by. framed_by_tables inputs archives os are tell lines said status text keys by
 
 pub returns-clause-alone : goal.returns-clause-alone
-returns-clause-alone g c = λ input archive o said status text is keys by. framed_alone input archive o is said status text keys by
+returns-clause-alone g c = λ input archive o lines said status text is keys by. framed_alone input archive o is lines said status text keys by
 
 pub returns-clause-slices : goal.returns-clause-slices
 returns-clause-slices g c = λ inputs archives os lines said status text short are by. framed_by_slices inputs archives os are lines said status text short by

@@ -1,15 +1,13 @@
-use Rattle.std.proofs.Common.{◌≡◌, ◌∙◌, List, ap, get_or, rules, subst, sym}
+use Rattle.std.proofs.Common.{List, rules, subst, sym}
 use Rattle.std.proofs.lemmas.Fn.{always_returns_same}
-use Rattle.std.proofs.lemmas.Result.{IfOk-weaker}
-use Rattle.archive_core.specs.Lookup.{answer_view}
 use Rattle.archive_core.specs.Key.{key_bytes}
 use Rattle.archive_core.specs.declared.lookup.Where.{Where}
 use Rattle.indexed_symbols.specs.declared.places.AskedPlace.{AskedPlace}
 use Rattle.indexed_symbols.specs.declared.told.KeyAnswers.{KeyAnswers}
 use Rattle.indexed_symbols.specs.InnerPlaces.{key_cmp, place_cmp}
-use Rattle.indexed_symbols.specs.InnerTold.{HasTold, IsToldIn, answer_at}
+use Rattle.indexed_symbols.specs.InnerTold.{HasTold, StandsAt}
 use Rattle.indexed_symbols.proofs.Runs.{key_found, place_found, told_in}
-use Rattle.indexed_symbols.proofs.told.answer_of.Goals as goal
+use Rattle.indexed_symbols.proofs.told.told_at.Goals as goal
 
 pub unreachable-requires : goal.unreachable-requires
 unreachable-requires c =
@@ -34,11 +32,6 @@ returns c =
     let told : List KeyAnswers = c.args.told.now in
     let at = c.in-Ok.ensures.position (λ (one : KeyAnswers). key_cmp one.key asked.key) (always_returns_same _ _ _ (λ a r g called. (search rules, search rules))) in
     let at_place = c.in-Ok-binary_search_by.ensures.position (λ (p : Where). place_cmp p asked.place) (always_returns_same _ _ _ (λ a r g called. (search rules, search rules))) in
-    let number = c.in-Ok-binary_search_by.number in
-    let same = ap (λ (k : KeyAnswers). answer_at k.answers number) (sym c.index-told-key-2.is) in
-    IfOk-weaker c.answer.result (λ answer. answer_view answer ≡ answer_at (get_or told c.in-Ok.key c.index-told-key-2.result).answers number) _
-    (λ answer told_is.
-    subst (λ (a : AskedPlace). IsToldIn told (key_bytes a.key) a.place (answer_view answer)) c.of-asked.ensures
-    (told_in told asked.key asked.place c.in-Ok.key c.in-Ok-binary_search_by.number c.index-told-key.result c.index-told-key-2.result c.deref.result.now (answer_view answer)
-    c.in-Ok.ensures.bound at c.deref.ensures.value c.in-Ok-binary_search_by.ensures.bound at_place c.index-told-key.is c.index-told-key-2.is (told_is ∙ same)))
-    c.answer.ensures
+    subst (λ (a : AskedPlace). StandsAt told (key_bytes a.key) a.place c.index-told-key-2.result c.in-Ok-binary_search_by.number) c.of-asked.ensures
+    (told_in told asked.key asked.place c.in-Ok.key c.in-Ok-binary_search_by.number c.index-told-key.result c.index-told-key-2.result c.deref.result.now
+    c.in-Ok.ensures.bound at c.deref.ensures.value c.in-Ok-binary_search_by.ensures.bound at_place c.index-told-key.is c.index-told-key-2.is)

@@ -1,0 +1,49 @@
+use Rattle.std.proofs.Common.{Err, ℕ, List, map, subst, ap, sym, get_or, ◌∙◌, arith}
+use Rattle.std.specs.List.{AllZip}
+use Rattle.std.proofs.lemmas.List.{take_all}
+use Rattle.std.proofs.lemmas.Result.{err_from_is_err_and}
+use Rattle.checked_pages.specs.Pages.{AreStored}
+use Rattle.checked_pages.specs.Views.{ArePagesOf, claim_view}
+use Rattle.checked_pages.specs.declared.pages.Pages.{Pages}
+use Rattle.checked_pages.proofs.ReadLemmas.{after_ok, passed_on}
+use Rattle.line_tables.specs.Opened.{IsOpened}
+use Rattle.line_tables.specs.Steps.{StepRecord}
+use Rattle.line_tables.specs.declared.table.LineTable.{LineTable}
+use Rattle.archive_core.specs.declared.lookup.Where.TheVariants.{File}
+use Rattle.indexed_answers.specs.InnerAnswering.{AreFramesOpened}
+use Rattle.indexed_answers.specs.Views.{list_in}
+use Rattle.indexed_answers.proofs.Columns.{any_default, zip_viewed}
+use Rattle.indexed_answers.proofs.lines.frames_of_each.Goals as goal
+
+-- a table that is opened stays so while its pages are kept
+still : (table : LineTable) (old new : Pages) (text all : List ℕ) (steps : List StepRecord) → (ArePagesOf old text all → ArePagesOf new text all) → IsOpened table old text all steps → IsOpened table new text all steps
+still table old new text all steps keeps opened = record { are_pages = keeps opened.are_pages; stands = opened.stands; widths = opened.widths; head = opened.head }
+
+pub asked-preserved : goal.asked-preserved
+asked-preserved g c =
+    let own = c.in_ok-frames.ensures in
+    record {
+      claim = own.claim ∙ c.asked.invariant.claim;
+      whole = own.read.keeps ∙ c.asked.invariant.whole;
+      unfailed = own.read.counts ∙ c.asked.invariant.unfailed;
+      keeps = λ text all known pages. own.keeps text all (c.asked.invariant.whole ∙ known) (c.asked.invariant.keeps text all known pages);
+      told = λ text known.
+          zip_viewed (AreFramesOpened c.args.table.now c.args.pages.now c.args.base text) list_in c.args.asked.now c.asked.place-index (get_or c.args.asked.now c.asked.place-index (File 0)) c.asked.lists.items c.push.new.self.items c.in_ok-frames.frames c.asked-test.true (any_default c.args.asked.now c.asked.place-index (File 0) _ c.asked-test.true) c.in_default-push.ensures.items
+          (c.asked.invariant.told text known)
+          (λ slice all steps are base opened. own.read.says text (c.asked.invariant.whole ∙ known) slice all steps are base (still c.args.table.now c.args.pages.now c.asked.pages text all steps (c.asked.invariant.keeps text all known) opened));
+    }
+
+pub returns-in_err-frames : goal.returns-in_err-frames
+returns-in_err-frames g c =
+    let p = err_from_is_err_and c.from_residual.result c.from_residual.ensures.1 in
+    passed_on _ _ _ _ _ _ _ _ _ _ _ c.in_err-frames.was (p.1 ∙ ap Err p.2)
+    (λ text known absent slice all steps stored are opened.
+    absent slice all steps (subst (λ claim. AreStored text (claim_view claim) all) (sym c.asked.invariant.claim) stored) are (still c.args.table.now c.args.pages.now c.asked.pages text all steps (c.asked.invariant.keeps text all known) opened))
+    (after_ok _ _ _ _ _ _ _ _ c.asked.invariant.whole c.asked.invariant.unfailed c.frames_of.ensures.read)
+
+pub returns : goal.returns
+returns g c = record {
+  says = λ text known. subst (λ xs. AllZip (AreFramesOpened c.args.table.now c.args.pages.now c.args.base text) xs (map list_in c.asked.lists.items)) (take_all c.asked.place-index c.args.asked.now (omega (arith, c.asked-test.false))) (c.asked.invariant.told text known);
+  keeps = c.asked.invariant.whole;
+  counts = c.asked.invariant.unfailed;
+}

@@ -1,0 +1,56 @@
+use Rattle.std.proofs.Common.{Err, List, ℕ, map, take, drop, ap, sym, subst, ◌∙◌}
+use Rattle.std.specs.List.{AllZip}
+use Rattle.std.proofs.lemmas.Result.{err_from_is_err_and}
+use Rattle.checked_pages.specs.Pages.{AreStored}
+use Rattle.checked_pages.proofs.ReadLemmas.{after_ok, passed_on}
+use Rattle.indexed_answers.specs.Told.{AreFramesToldBy, IsToldBy}
+use Rattle.indexed_answers.specs.Views.{list_in, told_view}
+use Rattle.indexed_answers.proofs.Columns.{zip_as}
+use Rattle.indexed_answers.proofs.Wanted.{found_none, found_one}
+use Rattle.indexed_answers.proofs.told.column_of.Goals as goal
+
+pub returns-in_err-base-clause-read : goal.returns-in_err-base-clause-read
+returns-in_err-base-clause-read g c =
+    let p = err_from_is_err_and c.from_residual-in_err-base.result c.from_residual-in_err-base.ensures.1 in
+    passed_on _ _ _ _ _ _ _ _ _ _ _ c.in_err-base.was (p.1 ∙ ap Err p.2)
+    (λ text known absent long slice all is stored. absent long slice all is (subst (λ claim. AreStored text claim all) c.args.numbered.now.fields.claim_is stored))
+    c.owns_by_claim.ensures
+
+pub returns-in_err-frames-clause-read : goal.returns-in_err-frames-clause-read
+returns-in_err-frames-clause-read g c =
+    let p = err_from_is_err_and c.from_residual-in_err-frames.result c.from_residual-in_err-frames.ensures.1 in
+    let owns = c.in_ok-base.ensures in
+    passed_on _ _ _ _ _ _ _ _ _ _ _ c.in_err-frames.was (p.1 ∙ ap Err p.2)
+    (λ text known absent long slice all is stored. absent long slice all is (subst (λ claim. AreStored text claim all) c.args.numbered.now.fields.claim_is stored))
+    (after_ok _ _ _ _ _ _ _ _ owns.keeps owns.counts c.frames_if.ensures.read)
+
+pub returns-in_default-clause-read : goal.returns-in_default-clause-read
+returns-in_default-clause-read g c =
+    let owns = c.in_ok-base.ensures in
+    let frames = after_ok _ _ _ _ _ _ _ _ owns.keeps owns.counts c.in_ok-frames.ensures.read in
+    record {
+      says = λ text known. found_none _ _ _ (frames.says text known) c.in_default.is;
+      keeps = frames.keeps;
+      counts = frames.counts;
+    }
+
+pub returns-clause-read : goal.returns-clause-read
+returns-clause-read g c =
+    let owns = c.in_ok-base.ensures in
+    let frames = after_ok _ _ _ _ _ _ _ _ owns.keeps owns.counts c.in_ok-frames.ensures.read in
+    record {
+      says = λ text known.
+          let told = owns.says text known in
+          record {
+            digest_is = c.digest_in-digest.ensures ∙ ap (λ (b : List ℕ). take 32 (drop 25 b)) c.bytes.ensures;
+            owns = subst (λ claim. AllZip (IsToldBy text claim) c.args.asked.now (map told_view c.in_ok-base.owns.items)) (sym c.args.numbered.now.fields.claim_is) told.1;
+            frames = λ wanted.
+                subst (λ claim. AllZip (AreFramesToldBy text claim) c.args.asked.now (map list_in c.in-Some.frames.items)) (sym c.args.numbered.now.fields.claim_is)
+                (zip_as _ _ c.args.asked.now _ (λ place list has slice all bytes is may. has slice all bytes (told.0 slice all bytes is may) is may) (found_one _ _ _ (frames.says text known) c.in-Some.frames c.in-Some.is wanted));
+          };
+      keeps = frames.keeps;
+      counts = frames.counts;
+    }
+
+pub returns-in_default-clause-wanted : goal.returns-in_default-clause-wanted
+returns-in_default-clause-wanted g c = λ none. c.in_ok-frames.ensures.wanted c.in_default.is

@@ -1,0 +1,129 @@
+//! The source frames of places, by the line table of an entry.
+
+ghost use Rattle.std.specs.Prelude.{◌≡◌, ◌<◌, ◌^◌, ℕ, List, IfOk, MatchOption, None, Some, length, map, true};
+ghost use Rattle.std.specs.List.{AllZip};
+ghost use Rattle.checked_pages.specs.Pages.{AreStored};
+ghost use Rattle.checked_pages.specs.Views.{ArePagesOf, claim_view};
+ghost use Rattle.checked_pages.specs.Reading.{ReadsStored};
+ghost use Rattle.line_tables.specs.FrameViews.{owned_frames};
+ghost use Rattle.line_tables.specs.Opened.{IsOpened};
+ghost use Rattle.line_tables.specs.Steps.{AreFrameSteps, StepRecord};
+ghost use Rattle.slice_tables.specs.SliceTable.{IsSliceTable};
+ghost use Rattle.indexed_answers.specs.InnerAnswering.{AreFramesBased, AreFramesOpened};
+ghost use Rattle.indexed_answers.specs.Told.{HasNoLinesBy};
+ghost use Rattle.indexed_answers.specs.Views.{list_in};
+
+use crate::own::address_of;
+use archive_core::Where;
+use byte_device::Placed;
+use checked_pages::{CheckFault, Claim, Pages};
+use line_tables::{LineTable, OwnedFrame};
+use memory::Heap;
+use symbol_tables::open_lines;
+
+/// The frames of a place, by a line table that is opened, of a slice whose `__TEXT` has this `vmaddr`.
+fn frames_of<P: Placed>(
+    heap: Heap,
+    device: &mut P,
+    pages: &mut Pages,
+    table: &LineTable,
+    base: Option<u64>,
+    asked: Where,
+) -> Result<Vec<OwnedFrame, Heap>, CheckFault>
+    ensures claim { pages.new.claim ≡ pages.old.claim }
+    ensures keeps { (text all : List ℕ) → P.whole device.old ≡ Some text → ArePagesOf pages.old text all
+        → ArePagesOf pages.new text all }
+    ensures read { ReadsStored P.whole P.failures device.old device.new result
+        (λ text frames. AreFramesOpened table.now pages.old base text asked (owned_frames frames.items))
+        (λ text. (slice all : List ℕ) (steps : List StepRecord) → AreStored text (claim_view pages.old.claim) all
+        → AreFrameSteps slice steps → IsOpened table.now pages.old text all steps → ⊥) }
+{
+    match address_of(base, asked) {
+        Some(address) => table.frames_at(heap, device, pages, address),
+        None => Ok(Vec::new(heap)),
+    }
+}
+
+/// The frames of several places, each list in its turn.
+fn frames_of_each<P: Placed>(
+    heap: &Heap,
+    device: &mut P,
+    pages: &mut Pages,
+    table: &LineTable,
+    base: Option<u64>,
+    asked: &[Where],
+) -> Result<Vec<Vec<OwnedFrame, Heap>, Heap>, CheckFault>
+    ensures { ReadsStored P.whole P.failures device.old device.new result
+        (λ text lists. AllZip (AreFramesOpened table.now pages.old base text) asked.now
+        (map list_in lists.items))
+        (λ text. (slice all : List ℕ) (steps : List StepRecord) → AreStored text (claim_view pages.old.claim) all
+        → AreFrameSteps slice steps → IsOpened table.now pages.old text all steps → ⊥) }
+{
+    let Ok(own) = heap.clone() else {
+        return Err(CheckFault::OutOfMemory);
+    };
+    let mut lists = Vec::new(own);
+    'asked: for place in asked {
+        let Ok(own) = heap.clone() else {
+            return Err(CheckFault::OutOfMemory);
+        };
+        let frames = frames_of(own, device, pages, table, base, *place)?;
+        if let Err(_) = lists.push(frames) {
+            return Err(CheckFault::OutOfMemory);
+        }
+    }
+    Ok(lists)
+}
+
+/// The frames of several places, by the table that a claim names of a slice whose `__TEXT` has this `vmaddr`; none
+/// where the slice has no lines.
+fn frames_by_claim<P: Placed>(
+    heap: &Heap,
+    device: &mut P,
+    claim: Claim,
+    base: Option<u64>,
+    asked: &[Where],
+) -> Result<Option<Vec<Vec<OwnedFrame, Heap>, Heap>>, CheckFault>
+    ensures { ReadsStored P.whole P.failures device.old device.new result
+        (λ text found. MatchOption found (HasNoLinesBy text (claim_view claim))
+        (λ lists. AllZip (AreFramesBased base text (claim_view claim)) asked.now
+        (map list_in lists.items)))
+        (λ text. length text < 2 ^ 64 → (slice all : List ℕ) → IsSliceTable slice all
+        → AreStored text (claim_view claim) all → ⊥) }
+{
+    let Ok(own) = heap.clone() else {
+        return Err(CheckFault::OutOfMemory);
+    };
+    let (mut pages, first) = open_lines(own, device, claim)?;
+    let Some(table) = LineTable::open(device, &mut pages, first)? else {
+        return Ok(None);
+    };
+    let lists = frames_of_each(heap, device, &mut pages, &table, base, asked)?;
+    Ok(Some(lists))
+}
+
+/// The same if lines are wanted, and else no list.
+pub(crate) fn frames_if<P: Placed>(
+    heap: &Heap,
+    device: &mut P,
+    claim: Claim,
+    lines: bool,
+    base: Option<u64>,
+    asked: &[Where],
+) -> Result<Option<Vec<Vec<OwnedFrame, Heap>, Heap>>, CheckFault>
+    ensures wanted { IfOk result (λ found. found ≡ None → lines ≡ true) }
+    ensures read { ReadsStored P.whole P.failures device.old device.new result
+        (λ text found. MatchOption found (HasNoLinesBy text (claim_view claim))
+        (λ lists. lines ≡ true → AllZip (AreFramesBased base text (claim_view claim)) asked.now
+        (map list_in lists.items)))
+        (λ text. length text < 2 ^ 64 → (slice all : List ℕ) → IsSliceTable slice all
+        → AreStored text (claim_view claim) all → ⊥) }
+{
+    if lines {
+        return frames_by_claim(heap, device, claim, base, asked);
+    }
+    let Ok(own) = heap.clone() else {
+        return Err(CheckFault::OutOfMemory);
+    };
+    Ok(Some(Vec::new(own)))
+}
