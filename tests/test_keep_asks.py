@@ -105,6 +105,16 @@ class Asks(AskCase):
             came = self.room.call(*words, stdin=file)
         same("lines", came[0], self.asked(self.words[1]).lines)
 
+    def test_a_slice_with_too_many_lines(self) -> None:
+        """Its names are printed, and that it has no lines is said."""
+        body = 'case "$*" in *--lines*) echo "symarch: index 0: NoLines at entry 0" >&2; exit 2;; esac'
+        lacking = self.room.program(f'{body}\nexec "$symarch" "$@"')
+        uuid, arch, _, digest = call([symarch, "list", today_of(self.room.archive)]).lines[0].split(" ")
+        out, errors = self.room.call(*self.placed(self.words[5], self.room.archive), environment=lacking)
+        same("names", out, self.asked(self.words[1]).lines)
+        told = f"{uuid} {arch} {digest} has too many lines for its table, so none are printed"
+        same("errors", errors, [f"symarch-keep: {told}"])
+
     def test_words_of_another_form(self) -> None:
         for words, told in (
             (["find", "4c4c"], "UUID is `4c4c`: expected 32 hex digits, with or without hyphens"),
@@ -125,15 +135,15 @@ class Unvouched(AskCase):
         same(f"{words}", (came.status, came.out, came.errors.decode()), (2, b"", f"symarch-keep: {told}\n"))
 
     def test_a_slice_that_changed(self) -> None:
-        """Its UUID and ARCH get no name and no digest, and the other slices their lines."""
-        today = today_of(self.room.archive)
+        """Where slices are read, its UUID and ARCH get no name and no digest, and the other slices their lines; a table
+        answers as before."""
+        today, by_tables = today_of(self.room.archive), [self.asked(self.words[at]).lines for at in (1, 5)]
         rows = [it.split(" ") for it in call([symarch, "list", today]).lines]
         digest, other = ([row[3] for row in rows if row[1] == arch][0] for arch in ("arm64", "x86_64"))
         change(today, today.read_bytes().index(b"_copy_body") + 1)
         told = f"changed since it came in: run symarch-keep check {self.room.archive}"
-        for words in (self.words[0], self.words[5]):
-            self.refused(words, f"{UUID} arm64 {digest} {told}")
-        same("a name by its table", self.asked(self.words[1]).lines[0], COPY_BODY)
+        self.refused(self.words[0], f"{UUID} arm64 {digest} {told}")
+        same("names and lines by tables", [self.asked(self.words[at]).lines for at in (1, 5)], by_tables)
         came = self.asked(["name", "_start"])
         same("status, errors", (came.status, came.error_lines), (2, [f"symarch-keep: {UUID} arm64 {told}"]))
         digests = [it.split(" ")[2] for it in came.lines]

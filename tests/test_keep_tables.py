@@ -1,15 +1,17 @@
 """The tables in the indexes that symarch-keep keeps: how they come in, are copied, checked and mended; and sites whose
-indexes had none. What has to be in an index is made by tests.model, from docs/FILES.md."""
+indexes had none, or tables without lines. What has to be in an index is made by tests.model, from docs/FILES.md."""
 import hashlib
 import os
 import pathlib
 import random
+import shutil
 from typing import Dict, List, Tuple
 
 from .model.indexes import entries_in, table_place
 from .support.cases import same
 from .support.kills import Left
-from .support.made_images import EMPTY, archive, image, index_of, index_without_tables, slice_words, slices_in
+from .support.made_images import EMPTY, archive, image, index_before_lines, index_of, index_without_tables
+from .support.made_images import slice_words, slices_in
 from .support.program import TOP
 from .support.rooms import RoomCase, change, kept_index, today_of
 from .support.sites import Site, until_same
@@ -251,11 +253,14 @@ class SiteOfToday(TableCase):
         same("left", self.room.left(), [])
 
     def test_words_that_only_read_change_nothing(self) -> None:
+        """They say that the index is an old one."""
         self.begin()
         before = {path.name: path.read_bytes() for path in self.folder.glob("site.sym*")}
         self.asked()
-        self.room.call("status", self.room.archive)
-        self.room.call("check", self.room.archive)
+        told = "symarch-keep: {}.idx has no tables of today: the next word that writes makes it anew"
+        for word, files in (("status", self.files[::-1]), ("check", self.files[::-1])):
+            _, errors = self.room.call(word, self.room.archive)
+            same(word, sorted(errors[:2]), sorted(told.format(path) for path in files))
         self.room.call("add", "--dry-run", self.room.archive, CRASH / "spool-1")
         same("files", {path.name: path.read_bytes() for path in self.folder.glob("site.sym*")}, before)
 
@@ -321,3 +326,49 @@ class SiteOfToday(TableCase):
         self.room.index()
         self.is_upgraded()
         same("log", pathlib.Path(f"{self.room.archive}.log").read_text(), "2026-11-27T01:02:03Z added it\n")
+
+
+class SiteBeforeLines(SiteOfToday):
+    """A site whose indexes have tables without lines. The next word that writes makes all tables anew."""
+
+    def begin(self) -> None:
+        self.room.begin_anew()
+        for path, text in zip(self.files, self.texts):
+            path.write_bytes(text)
+            self.room.file(f"{path.name}.idx", index_before_lines(text))
+
+    def test_a_damaged_index(self) -> None:
+        """Its entries say whether the archive is as it was, also where its end record does not."""
+        self.begin()
+        change(self.index(), len(kept_index(self.room.archive)) - 1)
+        _, errors = self.room.call("status", "--accept", self.room.archive)
+        told = f"{self.index()} is not as symarch-keep wrote it, and is made anew: {self.room.archive} is as it was"
+        same("errors", errors[0], f"symarch-keep: {told}")
+        self.is_upgraded()
+
+    def test_what_a_killed_word_left_of_today(self) -> None:
+        """A new archive that was in place, whose index was not yet."""
+        self.begin()
+        text = self.texts[1]
+        self.files[1].write_bytes(EMPTY)
+        self.room.file("site.sym.today.idx", index_before_lines(EMPTY))
+        self.room.file("site.sym.today.idx.next", index_before_lines(text))
+        self.room.file("site.sym.log.next", b"2026-11-27T01:02:03Z added it\n")
+        os.replace(self.room.file("new", text), self.files[1])
+        shutil.copystat(self.files[1], f"{self.files[1]}.idx.next")
+        self.room.index()
+        self.is_upgraded()
+        same("log", pathlib.Path(f"{self.room.archive}.log").read_text(), "2026-11-27T01:02:03Z added it\n")
+
+    def test_copied_tables_have_lines(self) -> None:
+        """What comes in joins a file whose tables are made anew before."""
+        self.begin()
+        self.room.file("given", self.new[0])
+        self.room.call("add", self.room.archive, "given")
+        self.is_upgraded()
+        self.room.file("given", image(31))
+        self.room.call("add", self.room.archive, "given")
+        self.is_indexed(*self.files)
+        self.room.call("fold", self.room.archive)
+        self.is_indexed(*self.files)
+        self.room.call("check", self.room.archive)

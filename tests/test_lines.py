@@ -9,12 +9,16 @@ import unittest
 import uuid
 from typing import Dict, List, Optional, Sequence, Tuple
 
-from .model.contents import archive_of
+from .model.contents import Source, archive_of
 from .model.dwarf_frames import debug_of, frames_of
 from .model.dwarf_lines import rows_of
 from .model.dwarf_numbers import units_of
 from .model.images import image_of
+from .model.indexes import Placed, index_of
+from .model.line_tables import NO_LINES, line_table_of
 from .model.lines import answer_lines, frame_line
+from .model.pages import claim_at, stored
+from .model.tables import Table, table_of
 from .support import kept_lines, llvm, made_dsyms
 from .support.cases import FolderCase, ProgramCase, Without, same
 from .support.made_images import EMPTY, WORDS, archive, index
@@ -60,6 +64,15 @@ class Kept(unittest.TestCase):
             self.assertGreater(len(addresses), 200, one.name)
             same(one.name, [lines_by_model(one.content, it) for it in addresses], wanted)
 
+    def test_tables(self) -> None:
+        """The same by their tables."""
+        for one in kept_lines.kept():
+            table = table_of(one.content)
+            lines = Table(Placed(Source(stored(table))).take, claim_at(0, table)).lines()
+            assert lines is not None
+            addresses, wanted = asked_of(one.said)
+            same(one.name, [[frame_line(it) for it in lines.frames(address)] for address in addresses], wanted)
+
 
 def key_words(key: bytes) -> List[str]:
     """A UUID and an architecture."""
@@ -88,7 +101,8 @@ class LinesCase(ProgramCase):
 
 
 class Changed(LinesCase):
-    """Companions whose DWARF has other bytes at some places: what the program prints is what the model says."""
+    """Companions whose DWARF has other bytes at some places: what the program prints is what the model says, with an
+    index and without it."""
 
     is_side_by_side = True
     seconds = 10
@@ -105,6 +119,12 @@ class Changed(LinesCase):
             wanted = [line for it in asked for line in answer_lines(answering, it, None, True)[0]]
             words = ["symbolicate", "--lines", "changed.sym", *key_words(key), *map(hex, asked)]
             same(f"{one.name}, turn {turn}", self.call(*words).lines, wanted)
+            self.file("changed.idx", index_of(text))
+            came = self.call(*words, "--index", "changed.idx")
+            if any(line_table_of(it) == NO_LINES for it in images):
+                self.assertRegex(came.error_lines[0], r"\Asymarch: index 0: NoLines at entry [0-9]+\Z")
+            else:
+                same(f"{one.name}, turn {turn}, by its index", came.lines, wanted)
 
     def test_0_to_4(self) -> None:
         for turn in range(5):
@@ -165,7 +185,7 @@ class Printed(LinesCase):
             self.assertEqual(self.call(*line.split()).out.decode(), wanted)
 
     def test_frames(self) -> None:
-        """Frames of all companions in turn, over their archives."""
+        """Frames of all companions in turn, over their archives, and by their indexes."""
         asked: List[Tuple[str, List[str]]] = []
         archives = []
         for one in kept_lines.kept():
@@ -174,8 +194,14 @@ class Printed(LinesCase):
             asked += [(f"{key} - {address:#x}\n", lines) for address, lines in zip(*asked_of(one.said))]
         asked.sort(key=lambda it: it[0][::-1])
         self.file("crash.frames", "".join(line for line, _ in asked))
+        wanted = [lines for _, lines in asked]
         came = self.call("frames", "--lines", "crash.frames", *archives)
-        same("frames", kept_lines.frames_in(came.lines), [lines for _, lines in asked])
+        same("frames", kept_lines.frames_in(came.lines), wanted)
+        for one in kept_lines.kept():
+            self.file(f"{one.name}.idx", index([one.content]))
+        indexes = [word for one in kept_lines.kept() for word in ("--index", f"{one.name}.idx")]
+        by_indexes = self.call("frames", "--lines", "crash.frames", *archives, *indexes)
+        self.assertEqual((by_indexes.status, by_indexes.lines), (came.status, came.lines))
 
 
 class Built(FolderCase):

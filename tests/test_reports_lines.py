@@ -2,11 +2,13 @@
 to be printed is what llvm-symbolizer says of them; and it stands as in reports that the system symbolicated."""
 import json
 import re
+import uuid
 from pathlib import Path
 from typing import Any, Dict, List, Set
 
+from .model.indexes import entries_in
 from .support import kept_lines
-from .support.reports import CRASHES, FIXTURES, SPOOL, ReportCase, named, program, without_lines
+from .support.reports import CRASHES, DYLD, FIXTURES, SPOOL, ReportCase, named, program, without_lines
 
 FORM = {"crash": ".crash", "ips": ".ips", "sample": ".sample.txt", "spindump": ".spindump.txt",
         "metrickit": ".metrickit.json"}  # fmt: skip
@@ -159,6 +161,47 @@ class Inlined(LinesCase):
         self.assertEqual([line.split()[3:] for line in lines[first + 1 : first + 7]], [
             line.split()[3:] for line in wanted[:6]])  # fmt: skip
         self.assertEqual([line.split()[0] for line in lines[first + 1 : first + 7]], [*"012345"])
+
+
+class TooManyLines(LinesCase):
+    """Slices whose lines are too many for their index."""
+
+    c, cxx = "4c4c441e-5555-3144-a16d-bc6c720cc812", "4c4c44f0-5555-3144-a1ae-bc34a7de5360"
+
+    def setUp(self) -> None:
+        super().setUp()
+        index = Path(f"{self.archive}.idx")
+        program("index", self.archive, index)
+        self.entries = [str(uuid.UUID(bytes=entry[1:17])) for entry in entries_in(index.read_bytes())]
+
+    def lacking(self, *numbers: str) -> Dict[str, str]:
+        """A program that finds no lines in the tables of these UUIDs."""
+        body = f'echo "$*" >>"{self.folder}/calls"\ncase "$*" in *--lines*)\n'
+        for number in numbers:
+            said = f"symarch: index 0: NoLines at entry {self.entries.index(number)}"
+            key = f"{number.replace('-', '')} {'arm64' if number == self.c else 'x86_64'} "
+            body += f'if grep -q "{key}" "$2"; then echo "{said}" >&2; exit 2; fi\n'
+        return {"SYMARCH": self.script("lacking", f'{body};;\nesac\nexec "$symarch" "$@"')}
+
+    def test_its_names_are_printed(self) -> None:
+        came = self.report(fixture("crash"), self.archive, environment=self.lacking(self.c))
+        self.assertEqual((came.status, came.out.decode()), (0, self.printed("--no-lines", fixture("crash"))))
+        counts = "by dSYM: lines {0}; not in the archive: dyld {1}; without lines, too many for the index: lines {0}"
+        self.assertEqual(came.error_lines[-1].partition("; ")[2], counts.format(self.c, DYLD))
+        self.assertEqual(len((self.folder / "calls").read_text().splitlines()), 3)
+
+    def test_other_images_have_lines(self) -> None:
+        """The program is called once more for each slice, and then for those without lines."""
+        frame = "3   x   0x000000020000038a 0x200000000 + 906"
+        text = source_text("crash").replace("\n\nThread 1", f"\n{frame}\n\nThread 1")
+        path = self.file("both.crash", f"{text}       0x200000000 - 0x20000ffff x x86_64 <{self.cxx}> /x\n")
+        of_file = {self.c: "a.c:", self.cxx: "one.cc:"}
+        some: List[List[str]] = [[], [self.c], [self.cxx], [self.c, self.cxx]]
+        for lacking in some:
+            printed = self.printed(path, environment=self.lacking(*lacking))
+            found = set(re.findall(r"\((a\.c:|one\.cc:)", printed))
+            self.assertEqual(found, {of_file[it] for it in of_file if it not in lacking})
+        self.assertEqual(printed, self.printed("--no-lines", path))
 
 
 def source_text(form: str) -> str:

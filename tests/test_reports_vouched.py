@@ -9,7 +9,7 @@ from typing import Any, List, Optional, Union
 
 from .model.indexes import entries_in, table_place
 from .support.cases import powerless_over
-from .support.made_images import index_without_tables, records_in
+from .support.made_images import index_before_lines, index_without_tables, records_in
 from .support.program import TOP, call, symarch
 from .support.reports import CRASHES, DYLD, FIXTURES, KERNEL, SPOOL, SPOOL_2, ReportCase, named, source
 from .support.rooms import change
@@ -64,28 +64,46 @@ class VouchedCase(ReportCase):
         self.is_printed(came, source("crash") if printed is None else printed)
 
 
-class ChangedSlices(VouchedCase):
-    """A slice that has not the SHA-256 that it came in with, and is read for lines of the source."""
+class ChangedTables(VouchedCase):
+    """A slice whose table is not the one that its index has digests of."""
 
     def test_no_name_is_printed(self) -> None:
         self.says(ALL_NAMED, status=0, printed=named("crash"))
-        self.change(self.site)
+        self.change_table(self.site)
         self.says(advice(SPOOL, "site.sym"), f"{NONE_NAMED}; {CHANGED}")
 
-    def test_the_image_beside_its_dsym(self) -> None:
-        """The dSYM would answer without it, and nothing says which of the two is meant."""
-        self.change(self.site, of_dsym=False)
-        self.says(advice(SPOOL, "site.sym"), f"{NONE_NAMED}; {CHANGED}")
+    def test_without_lines(self) -> None:
+        words = ["--no-lines", CRASHES / "arm64.crash", "site.sym"]
+        plain = self.report(*words)
+        self.says(ALL_NAMED, words=words, status=0, printed=plain.out)
+        self.change_table(self.site)
+        self.says(advice(SPOOL, "site.sym"), f"{NONE_NAMED}; {CHANGED}", words=words)
+
+    def test_a_table_that_is_not_asked(self) -> None:
+        """The dSYM answers, so that of its image is not read."""
+        self.change_table(self.site, of_dsym=False)
+        self.says(ALL_NAMED, status=0, printed=named("crash"))
+
+    def test_a_slice_that_changed(self) -> None:
+        """Its table is that of the bytes that came in."""
+        self.change(self.site)
+        self.says(ALL_NAMED, status=0, printed=named("crash"))
+
+    def test_missing(self) -> None:
+        """The slice is there, so its dSYM is not missing."""
+        self.change_table(self.site)
+        words = ["--missing", FIXTURES / "metrickit.json", "site.sym"]
+        self.says(advice(SPOOL, "site.sym"), words=words, printed=f"{DYLD} dyld\n".encode())
 
     def test_the_names_that_the_report_has_stay(self) -> None:
-        self.change(self.site)
+        self.change_table(self.site)
         words = [self.file("named.crash", named("crash")), "site.sym"]
         counts = "0 of 4 frames named, 4 named before, 0 not named"
         self.says(advice(SPOOL, "site.sym"), f"{counts}; {CHANGED}", words=words, printed=named("crash"))
 
     def test_other_images_are_named(self) -> None:
         both = self.archive("both.sym", "both")
-        self.change(both)
+        self.change_table(both)
         came = self.report(FIXTURES / "spool.spindump.txt", "both.sym")
         self.assertEqual((came.status, self.shortened(came)[0]), (2, advice(SPOOL, "both.sym")))
         counts, *origins = came.error_lines[1].split("; ")
@@ -98,14 +116,14 @@ class ChangedSlices(VouchedCase):
 
     def test_another_image_than_those_of_the_report(self) -> None:
         both = self.archive("both.sym", "both")
-        self.change(both, SPOOL_2)
+        self.change_table(both, SPOOL_2)
         self.says(ALL_NAMED, words=[CRASHES / "arm64.crash", "both.sym"], status=0, printed=named("crash"))
 
-    def test_several_slices_at_once(self) -> None:
-        """The program is called once more, however many slices changed."""
+    def test_several_at_once(self) -> None:
+        """The program is called once more, however many tables changed."""
         both = self.archive("both.sym", "both")
-        self.change(both)
-        self.change(both, SPOOL_2)
+        self.change_table(both)
+        self.change_table(both, SPOOL_2)
         program = self.script("counting", f'echo >>"{self.folder}/calls"; exec "$symarch" "$@"')
         came = self.report(FIXTURES / "spool.spindump.txt", "both.sym", environment={"SYMARCH": program})
         self.assertEqual(sorted(came.error_lines[:2]), sorted([advice(SPOOL, "both.sym"), advice(SPOOL_2, "both.sym")]))
@@ -114,16 +132,18 @@ class ChangedSlices(VouchedCase):
     def test_an_architecture_that_is_not_stated(self) -> None:
         """The image for another architecture under its UUID does not answer in its place."""
         two = self.archive("two.sym", "two")
-        self.change(two)
+        self.change_table(two)
         path = self.file("unstated", source("crash").replace(b" arm64 <", b" <"))
         changed = f"changed since it came in: spool {SPOOL}"
         self.says(advice(SPOOL, "two.sym"), f"{NONE_NAMED}; {changed}", words=[path, two], printed=path.read_bytes())
 
     def test_the_same_key_in_another_archive(self) -> None:
-        self.change(self.site)
-        for others in (["shipped", "site.sym"], ["site.sym", "shipped"]):
-            words = [CRASHES / "arm64.crash", *others]
-            self.says(advice(SPOOL, "site.sym"), f"{NONE_NAMED}; {CHANGED}", words=words)
+        """The table of the first one answers for a slice that several have."""
+        self.change_table(self.site)
+        words = [CRASHES / "arm64.crash", "site.sym", "shipped"]
+        self.says(advice(SPOOL, "site.sym"), f"{NONE_NAMED}; {CHANGED}", words=words)
+        words = [CRASHES / "arm64.crash", "shipped", "site.sym"]
+        self.says(ALL_NAMED, words=words, status=0, printed=named("crash"))
 
     def test_what_came_in_lately(self) -> None:
         """The advice names the archive that symarch-keep has it for."""
@@ -131,100 +151,59 @@ class ChangedSlices(VouchedCase):
         shutil.copy(self.site, f"{empty}.today")
         shutil.copy(f"{self.site}.idx", f"{empty}.today.idx")
         self.says(ALL_NAMED, words=[CRASHES / "arm64.crash", "late.sym"], status=0, printed=named("crash"))
-        self.change(Path(f"{empty}.today"))
+        self.change_table(Path(f"{empty}.today"))
         words = [CRASHES / "arm64.crash", "late.sym"]
         self.says(advice(SPOOL, "late.sym"), f"{NONE_NAMED}; {CHANGED}", words=words)
 
     def test_a_link_to_an_archive(self) -> None:
         (self.folder / "other").mkdir()
         (self.folder / "other/link.sym").symlink_to(self.site)
-        self.change(self.site)
+        self.change_table(self.site)
         link = self.folder / "other/link.sym"
         self.says(advice(SPOOL, "other/link.sym"), f"{NONE_NAMED}; {CHANGED}", words=[CRASHES / "arm64.crash", link])
 
     def test_several_reports(self) -> None:
-        self.change(self.site)
+        self.change_table(self.site)
         paths = [self.file("one/crash", source("crash")), self.file("one/ips", source("ips"))]
         made, came = self.written(paths, "site.sym")
         self.assertEqual((came.status, made["crash"], made["ips"]), (2, source("crash"), source("ips")))
         self.assertIn(CHANGED, came.error_lines[1])
 
     def test_an_archive_of_symarch_keep(self) -> None:
-        """From `add` to the word that the advice names, which says the same of the slice."""
-        kept = self.folder / "kept.sym"
-        environment = {"SYMARCH": symarch}
-        self.assertEqual(call([KEEP, "add", kept, CRASHES / "spool-1.dSYM"], environment=environment).status, 0)
-        self.assertEqual(call([KEEP, "fold", kept], environment=environment).status, 0)
-        self.change(kept)
-        words = [CRASHES / "arm64.crash", "kept.sym"]
-        self.says(advice(SPOOL, "kept.sym"), f"{NONE_NAMED}; {CHANGED}", words=words)
-        checked = call([KEEP, "check", kept], environment=environment)
-        self.assertEqual(checked.status, 2)
-        self.assertIn(f"changed {SPOOL} arm64", checked.out.decode())
-        self.says(advice(SPOOL, "kept.sym"), f"{NONE_NAMED}; {CHANGED}", words=words)
-
-    def test_without_an_index_the_archive_alone_answers(self) -> None:
-        plain = self.archive("plain.sym", "shipped", is_indexed=False)
-        self.change(plain)
-        self.says(ALL_NAMED, words=[CRASHES / "arm64.crash", "plain.sym"], status=0, printed=named("crash"))
-
-
-class ChangedTables(VouchedCase):
-    """A slice whose table is not the one that its index has digests of, without lines of the source."""
-
-    words = ["--no-lines", CRASHES / "arm64.crash", "site.sym"]
-
-    def setUp(self) -> None:
-        super().setUp()
-        plain = self.report("--no-lines", CRASHES / "arm64.crash", "shipped")
-        self.assertEqual((plain.status, plain.error_lines), (0, [ALL_NAMED]))
-        self.named = plain.out
-
-    def test_no_name_is_printed(self) -> None:
-        self.says(ALL_NAMED, words=self.words, status=0, printed=self.named)
-        self.change_table(self.site)
-        self.says(advice(SPOOL, "site.sym"), f"{NONE_NAMED}; {CHANGED}", words=self.words)
-
-    def test_a_table_that_is_not_asked(self) -> None:
-        """The dSYM answers, so that of its image is not read."""
-        self.change_table(self.site, of_dsym=False)
-        self.says(ALL_NAMED, words=self.words, status=0, printed=self.named)
-
-    def test_a_slice_that_changed(self) -> None:
-        """Its table is that of the bytes that came in."""
-        self.change(self.site)
-        self.says(ALL_NAMED, words=self.words, status=0, printed=self.named)
-
-    def test_missing(self) -> None:
-        """The slice is there, so its dSYM is not missing."""
-        self.change_table(self.site)
-        words = ["--missing", FIXTURES / "metrickit.json", "site.sym"]
-        self.says(advice(SPOOL, "site.sym"), words=words, printed=f"{DYLD} dyld\n".encode())
-
-    def test_several_at_once(self) -> None:
-        """The program is called once more, however many tables changed."""
-        both = self.archive("both.sym", "both")
-        self.change_table(both)
-        self.change_table(both, SPOOL_2)
-        program = self.script("counting", f'echo >>"{self.folder}/calls"; exec "$symarch" "$@"')
-        words = ["--no-lines", FIXTURES / "spool.spindump.txt", "both.sym"]
-        came = self.report(*words, environment={"SYMARCH": program})
-        self.assertEqual(sorted(came.error_lines[:2]), sorted([advice(SPOOL, "both.sym"), advice(SPOOL_2, "both.sym")]))
-        self.assertEqual((came.status, (self.folder / "calls").read_text().count("\n")), (2, 2))
-
-    def test_an_archive_of_symarch_keep(self) -> None:
-        """From `add` to the word that mends it."""
+        """From `add` to the word that the advice names, which says the same, and the one that mends it."""
         kept, environment = self.folder / "kept.sym", {"SYMARCH": symarch}
         steps: List[List[Union[str, Path]]] = [["add", kept, CRASHES / "spool-1.dSYM"], ["fold", kept]]
         for words in steps:
             self.assertEqual(call([KEEP, *words], environment=environment).status, 0)
         self.change_table(kept)
-        asked = ["--no-lines", CRASHES / "arm64.crash", "kept.sym"]
+        asked = [CRASHES / "arm64.crash", "kept.sym"]
         self.says(advice(SPOOL, "kept.sym"), f"{NONE_NAMED}; {CHANGED}", words=asked)
         checked = call([KEEP, "check", kept], environment=environment)
         self.assertEqual((checked.status, checked.out.decode().split(" arm64 ")[0]), (2, f"changed table {SPOOL}"))
+        self.says(advice(SPOOL, "kept.sym"), f"{NONE_NAMED}; {CHANGED}", words=asked)
         self.assertEqual(call([KEEP, "repair", kept, "shipped"], environment=environment, cwd=self.archives).status, 0)
-        self.says(ALL_NAMED, words=asked, status=0, printed=self.named)
+        self.says(ALL_NAMED, words=asked, status=0, printed=named("crash"))
+
+
+class ReadSlices(VouchedCase):
+    """Slices that are read, and have not the SHA-256 that they came in with."""
+
+    def test_of_one_length_in_two_archives(self) -> None:
+        """Only their bytes say which comes first. The dSYM of one archive has another last byte."""
+        dsym = (CRASHES / "spool-1.dSYM").read_bytes()
+        other = self.file("other.dSYM", dsym[:-1] + bytes([dsym[-1] ^ 1]))
+        for name, path in (("one.sym", CRASHES / "spool-1.dSYM"), ("other.sym", other)):
+            self.assertEqual(self.call("admit", self.archives / "empty", name, path).status, 0)
+            self.assertEqual(self.call("index", name, f"{name}.idx").status, 0)
+        words = [CRASHES / "arm64.crash", "one.sym", "other.sym"]
+        self.says(ALL_NAMED, words=words, status=0, printed=named("crash"))
+        self.change(self.folder / "other.sym")
+        self.says(advice(SPOOL, "other.sym"), f"{NONE_NAMED}; {CHANGED}", words=words)
+
+    def test_without_an_index_the_archive_alone_answers(self) -> None:
+        plain = self.archive("plain.sym", "shipped", is_indexed=False)
+        self.change(plain)
+        self.says(ALL_NAMED, words=[CRASHES / "arm64.crash", "plain.sym"], status=0, printed=named("crash"))
 
 
 class OtherArchives(VouchedCase):
@@ -297,6 +276,14 @@ class OtherArchives(VouchedCase):
         self.says(advice(SPOOL, "site.sym"), f"{NONE_NAMED}; {CHANGED}")
         shutil.copy(self.archives / "both", self.site)
         self.is_refused([CRASHES / "arm64.crash", "site.sym"], f"symbolicate-report: {self.since}")
+
+    def test_an_index_before_lines(self) -> None:
+        """Of tables that have no lines, which the program does not read: the same holds."""
+        index = self.folder / "site.sym.idx"
+        index.write_bytes(index_before_lines(self.site.read_bytes()))
+        self.says(ALL_NAMED, status=0, printed=named("crash"))
+        self.change(self.site)
+        self.says(advice(SPOOL, "site.sym"), f"{NONE_NAMED}; {CHANGED}")
 
     def test_one_of_two_archives_without_an_index(self) -> None:
         """It is made elsewhere, also of one of version 1, and nothing is left beside the archives."""

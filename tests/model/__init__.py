@@ -5,7 +5,9 @@
                     made of them
 - dwarf_frames      the frames of an address
 - contents          the content of archives, and the texts of files
-- tables            the tables of slices, made and asked; indexes, which have them
+- pages             bytes that are stored by pages, and read page by page
+- line_tables       the line tables of slices, made and asked; tables, of which they are the last part; indexes, which
+                    have these
 - lines             the lines that commands print, and the words that they take
 - worlds            scripts of rehearsals, their sites, and frames
 - plans             the words of commands

@@ -11,10 +11,11 @@ from .images import parts_of_file, sha
 from .indexes import EntryAt, Failed, Placed, Stale, answering, claim_in, index_stream, living, parts_at, read_index
 from .indexes import slice_at, test_length
 from .lines import Answer, answer_lines, escaped, find_lines, find_rows, index_rows, key_text, name_lines, row_of
-from .lines import Told, table_text, told_lines
+from .lines import Told, table_frame_lines, table_text, told_lines
+from .pages import Changed
 from .parts import Store
 from .plans import ANY_NUMBER, Plan, takes
-from .tables import Changed, Table
+from .tables import Table
 from .worlds import World, read_frames, read_script
 
 UNLIMITED = 1 << 62
@@ -208,17 +209,26 @@ class Run:
         return self.named(self.indexed(archives, plan.indexes), [front]) if plan.indexes else self.join(archives)
 
     @staticmethod
-    def told_of(it: EntryAt, table: Placed, places: Sequence[Where]) -> List[str]:
-        """What the table of an entry tells of places."""
+    def told_of(it: EntryAt, table: Placed, places: Sequence[Where], with_frames: bool) -> List[Told]:
+        """What the table of an entry tells of places, and then the lines of frames if they are asked for."""
+        claim = claim_in(it.entry)
         try:
-            asked = Table(table.take, claim_in(it.entry))
-            return [table_text(asked, address, load) for address, load in places]
+            symbols = Table(table.take, claim)
+            texts = [table_text(symbols, *where) for where in places]
+            # The pages are read anew for lines.
+            lines = Table(table.take, claim).lines() if with_frames else None
+            if with_frames and lines is None:
+                raise CommandFault(f"index {it.input}", f"NoLines at entry {it.number}")
+            frames = [table_frame_lines(symbols.base, lines, *where) if lines else [] for where in places]
         except Changed:
             raise CommandFault(f"index {it.input}", f"Damaged at entry {it.number}") from None
         except Failed:
-            raise CommandFault(f"index {it.input}", f"Device at {claim_in(it.entry).offset}") from None
+            raise CommandFault(f"index {it.input}", f"Device at {claim.offset}") from None
+        return [(it.entry[25:57], text, own) for text, own in zip(texts, frames)]
 
-    def by_tables(self, indexed: Sequence[Indexed], asked: Sequence[Asked]) -> Optional[List[Answer]]:
+    def by_tables(
+        self, indexed: Sequence[Indexed], asked: Sequence[Asked], with_frames: bool
+    ) -> Optional[List[Answer]]:
         """The answers of tables to places under keys, key by key; None if slices have to be read."""
         told: Dict[Asked, Answer] = {}
         for key in sorted({it.key for it in asked}):
@@ -226,10 +236,9 @@ class Run:
             if those is None:
                 return None
             places = sorted({it.where for it in asked if it.key == key}, key=lambda where: (where[1] or 0, where[0]))
-            columns = [self.told_of(it, indexed[it.input].tables, places) for it in those]
+            columns = [self.told_of(it, indexed[it.input].tables, places, with_frames) for it in those]
             for number, where in enumerate(places):
-                rows: List[Told] = [(it.entry[25:57], column[number], []) for it, column in zip(those, columns)]
-                told[Asked(key, where)] = told_lines(where[0], rows)
+                told[Asked(key, where)] = told_lines(where[0], [column[number] for column in columns])
         return [told[it] for it in asked]
 
     def answers(self, plan: Plan, archives: Sequence[str], asked: Sequence[Asked]) -> List[Answer]:
@@ -237,7 +246,7 @@ class Run:
         keys = sorted({it.key for it in asked})
         if plan.indexes:
             indexed = self.indexed(archives, plan.indexes)
-            told = None if plan.lines else self.by_tables(indexed, asked)
+            told = self.by_tables(indexed, asked, plan.lines)
             if told is not None:
                 return told
             content = self.named(indexed, keys)

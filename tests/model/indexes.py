@@ -2,11 +2,12 @@
 together."""
 import itertools
 import struct
-from typing import Dict, Iterable, List, NamedTuple, Optional, Sequence
+from typing import Callable, Dict, Iterable, List, NamedTuple, Optional, Sequence
 
 from .contents import ADMISSION, END, RETIREMENT, Content, Fault, Reader, Source, Write, entry_of
 from .images import U32_MAX, Image, image_of, sha, slice_of
-from .tables import NO_CLAIM, Claim, claim_at, stored, table_of
+from .pages import NO_CLAIM, Claim, claim_at, stored
+from .tables import table_of
 
 IDX = b"MSYMIDX1"
 PLACED_LEN, ENTRY_LEN, END_LEN = 74, 122, 41
@@ -25,7 +26,7 @@ def end_of(entries: Sequence[bytes]) -> bytes:
     return bytes([END]) + struct.pack(">Q", len(entries)) + sha(b"".join(entries))
 
 
-def index_stream(source: Source, write: Write) -> int:
+def index_stream(source: Source, write: Write, table_for: Callable[[bytes], bytes] = table_of) -> int:
     """Writes the index of an archive of version 2 as it comes, and says how many entries it has."""
     reader = Reader(source, "archive")
     reader.magic()
@@ -39,7 +40,7 @@ def index_stream(source: Source, write: Write) -> int:
             break
         claim = NO_CLAIM
         if record[0] == ADMISSION:
-            table = table_of(record[33:])
+            table = table_for(record[33:])
             claim = claim_at(done, table)
             write(stored(table))
             done = claim.end

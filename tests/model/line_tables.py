@@ -1,19 +1,26 @@
-"""The line tables of slices, told a second time by docs/FILES.md: the frames of each address, step by step."""
+"""The line tables of slices, told a second time by docs/FILES.md: made of an image, the frames of each address, step by
+step; and asked page by page."""
+from __future__ import annotations
+
 import struct
 from functools import lru_cache
 from itertools import accumulate
 from typing import Dict, Hashable, Iterable, List, NamedTuple, Optional, Set, Tuple, TypeVar
 
-from .dwarf_frames import Debug, DebugUnit, Frame, debug_of
+from .dwarf_frames import MOST_FRAMES, Debug, DebugUnit, Frame, debug_of
 from .dwarf_lines import PathParts, rows_of
 from .dwarf_ranges import aranges_of
+from .pages import MOST_ADDRESSES, Changed, Pages
 
-HEAD, MOST_ADDRESSES, MOST_NUMBER = 48, 1 << 64, 1 << 32
+HEAD, STEP, LOCATION, FILE, TEXT = 48, 12, 20, 12, 8
 NO_LINES = bytes(HEAD)
 T = TypeVar("T", bound=Hashable)
 
 # The frames of an address, the innermost first.
 Chain = Tuple[Frame, ...]
+
+
+# ---- made
 
 
 class Step(NamedTuple):
@@ -112,3 +119,69 @@ def fitting(room: int, steps: List[Step]) -> Optional[bytes]:
 def line_table_of(slice_bytes: bytes) -> bytes:
     """The line table of a slice."""
     return fitting(max(HEAD, 4 * len(slice_bytes)), frame_steps(debug_of(slice_bytes))) or NO_LINES
+
+
+# ---- asked
+
+
+class LineTable:
+    """A line table that has lines: where it stands among stored bytes, which it ends, and how many it has of each
+    part."""
+
+    def __init__(self, pages: Pages, offset: int, counts: Tuple[int, ...]) -> None:
+        self.pages = pages
+        self.steps, self.locations, self.files, self.texts, self.bytes = counts
+        self.first_step = offset + HEAD
+        self.first_location = self.first_step + STEP * self.steps
+        self.first_file = self.first_location + LOCATION * self.locations
+        self.first_text = self.first_file + FILE * self.files
+        self.first_byte = self.first_text + TEXT * self.texts
+        if pages.claim.size != self.first_byte + self.bytes:
+            raise Changed
+
+    @staticmethod
+    def opened(pages: Pages, offset: int) -> Optional[LineTable]:
+        """The line table that stands there; None where it has no lines."""
+        has_lines, *counts = struct.unpack(">6Q", pages.read(offset, HEAD))
+        return LineTable(pages, offset, tuple(counts)) if has_lines else None
+
+    def row(self, form: str, first: int, number: int, count: int) -> Tuple[int, ...]:
+        """The row of a number among so many that stand from an offset on, which are numbered from 1 on."""
+        if not 1 <= number <= count:
+            raise Changed
+        size = struct.calcsize(form)
+        return struct.unpack(form, self.pages.read(first + size * (number - 1), size))
+
+    def text(self, number: int) -> bytes:
+        place, size = self.row(">2I", self.first_text, number, self.texts)
+        if place + size > self.bytes:
+            raise Changed
+        return self.pages.read(self.first_byte + place, size)
+
+    def path(self, number: int) -> PathParts:
+        return PathParts(*map(self.text, self.row(">3I", self.first_file, number, self.files)))
+
+    def location_for(self, address: int) -> int:
+        """The number of the location of the last step that starts at an address or below it, found by halving."""
+        low, high, found = 0, self.steps, 0
+        while low < high:
+            middle = (low + high) // 2
+            start, location = self.row(">QI", self.first_step, middle + 1, self.steps)
+            if start <= address:
+                found, low = location, middle + 1
+            else:
+                high = middle
+        return found
+
+    def frames(self, address: int) -> List[Frame]:
+        """The frames of an address, the innermost first: of each location and of its callers, whose numbers fall."""
+        frames: List[Frame] = []
+        number = self.location_for(address)
+        while number:
+            name, file, line, column, caller = self.row(">5I", self.first_location, number, self.locations)
+            if caller >= number or len(frames) == MOST_FRAMES:
+                raise Changed
+            parts = self.path(file) if file else None
+            frames.append(Frame(self.text(name) if name else None, parts, line, column))
+            number = caller
+        return frames

@@ -7,6 +7,7 @@ from typing import List, Optional, Sequence, Set, Tuple
 from .contents import RETIREMENT, Content
 from .dwarf_frames import Frame, frames_of
 from .images import Image, image_of, sha
+from .line_tables import LineTable
 from .tables import Table
 
 ARCHS = {(0x01000007, 3): "x86_64", (0x01000007, 8): "x86_64h", (0x0100000C, 0): "arm64", (0x0100000C, 2): "arm64e"}
@@ -129,6 +130,12 @@ def frame_line(frame: Frame) -> str:
 def frame_lines(image: Image, address: int, load: Optional[int]) -> List[str]:
     place = moved(image.base, address, load)
     return [] if place is None else [frame_line(it) for it in frames_of(image.bytes, place)]
+
+
+def table_frame_lines(base: Optional[int], lines: LineTable, address: int, load: Optional[int]) -> List[str]:
+    """The same by a line table, beside the address of __TEXT."""
+    place = moved(base, address, load)
+    return [] if place is None else [frame_line(it) for it in lines.frames(place)]
 
 
 def answer_lines(

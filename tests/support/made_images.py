@@ -5,7 +5,9 @@ import struct
 import uuid
 from typing import Dict, Iterable, Iterator, List, Optional, Sequence, Tuple
 
-from ..model.indexes import entries_in, index_of
+from ..model.contents import Source
+from ..model.indexes import entries_in, index_of, index_stream
+from ..model.tables import table_of
 
 Arch = Tuple[int, int]
 X86_64, X86_64H = (0x01000007, 3), (0x01000007, 8)
@@ -148,6 +150,20 @@ def index(images: Iterable[bytes]) -> bytes:
 def index_without_tables(text: bytes) -> bytes:
     """The index of an archive as it was before it had tables: the first 74 bytes of each entry, and a number."""
     return b"".join(pieces_of_archive((entry[:74] for entry in entries_in(index_of(text))), b"MSYMIDX1"))
+
+
+def table_before_lines(made: bytes) -> bytes:
+    """The table of a slice as it was before it had lines: its head had no sixth number, and strings were the last."""
+    table = table_of(made)
+    _, _, sections, rows, strings, _ = struct.unpack_from(">6Q", table)
+    return table[:40] + table[48 : 48 + 32 * sections + 21 * rows + strings]
+
+
+def index_before_lines(text: bytes) -> bytes:
+    """The index of an archive as it was before tables had lines."""
+    found = bytearray()
+    index_stream(Source(text), found.extend, table_before_lines)
+    return bytes(found)
 
 
 def digest_of(made: bytes) -> str:

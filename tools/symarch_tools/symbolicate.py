@@ -63,6 +63,8 @@ it, its architecture:
 - `under another architecture`: nothing, since the archive has its UUID under others, which are named;
 - `not in the archive`: nothing;
 - `with or without dSYM`: an archive that is no file, as a pipe, which cannot be read twice to find that out.
+- `without lines, too many for the index`, after one of these: no files and lines of the source are printed for it,
+  since the table of its slice has no room for them.
 
 Inlined functions do not count as frames. With --out each report has such a line after its path, and the last line is
 for all reports.
@@ -105,12 +107,13 @@ too, and have to be archives.
 If an index stands beside an archive, as ARCHIVE.idx, the archive is asked by it, and each name that is printed is one
 that the index vouches for:
 
-- a slice whose table in the index changed answers nothing, and where lines of the source are printed one that has
+- a slice whose table in the index changed answers nothing, and of two of one length in two archives one that has
   another SHA-256 than the index says. Standard error says
   `UUID ARCH changed since it came in: run symarch-keep check ARCHIVE`, the other images are named, and the status is 2;
 - an archive that was written since, so that it has another length than the index says, is refused, and so is an index
   that is damaged: nothing is printed, and the status is 2. An index that `symarch-keep` is about to put in place is
-  waited for.
+  waited for. One that an earlier `symarch-keep` made, without tables of today, says what changed, and the archive
+  answers.
 
 Of an archive without an index beside others that have one an index is made in a folder for temporary files. If none has
 one, they answer by themselves, and nothing vouches for their bytes.

@@ -68,14 +68,15 @@ class ArchiveFile:
     def kept_index(self, ending: bytes) -> Optional[Index]:
         """The index that a file beside it is; None where it is not there, or is none."""
         with contextlib.suppress(FileNotFoundError, Malformed):
-            return index_at(self.beside(ending))
+            return upgrading.with_its_tables(index_at(self.beside(ending)))
         return upgrading.old_index(self, ending)
 
     def following(self) -> Optional[Index]:
         """The index that FILE.idx.next is, where the file is the one of which that was made; else None."""
         with contextlib.suppress(FileNotFoundError, Malformed):
             index = index_at(self.beside(NEXT_INDEX))
-            return index if self.is_stamped(index) and index.size() == self.size() else None
+            is_its = self.is_stamped(index) and index.size() == self.size()
+            return upgrading.with_its_tables(index) if is_its else None
         return upgrading.old_following(self)
 
     def known(self) -> Tuple[Optional[Index], bool]:
@@ -111,8 +112,13 @@ class ArchiveFile:
         return self.is_known and self.content.heads() == self.heads()
 
     def has_index(self) -> bool:
-        """Whether its index is one with tables."""
+        """Whether its index is one with tables of today."""
         return self.index is not None and bool(self.index.path)
+
+    def say_old_index(self, screen: Screen) -> None:
+        """Says that an earlier symarch-keep made its index, which has no tables of today, if it did."""
+        if self.index and not self.has_index() and os.path.exists(self.beside(INDEX)):
+            screen.line(f"{shown(self.beside(INDEX))} has no tables of today: the next word that writes makes it anew")
 
     def fault_of_index(self) -> Optional[str]:
         """What is wrong with FILE.idx, which says nothing; None if nobody made one."""

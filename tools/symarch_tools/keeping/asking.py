@@ -19,7 +19,15 @@ from .screen import Failed, Screen, shown, system_text
 
 # How often a file is looked at again that a word of symarch-keep may just be replacing, and after how many seconds.
 TRIES, PAUSE = 10, 0.05
-AT_ENTRY = re.compile("symarch: index ([0-9]+): (?:Stale|Damaged) at entry ([0-9]+)")
+AT_ENTRY = re.compile("symarch: index ([0-9]+): (Stale|Damaged|NoLines) at entry ([0-9]+)")
+
+
+class NoLines(Exception):
+    """The table of a slice has no lines."""
+
+    def __init__(self, words: str) -> None:
+        super().__init__(words)
+        self.words = words
 
 
 class Opened(NamedTuple):
@@ -130,7 +138,8 @@ class Asked:
             found = AT_ENTRY.fullmatch(failed.text)
             index = self.files[int(found[1])].its_index if found else None
             if found and index:
-                raise self.changed(index.row(int(found[2])).words()) from None
+                slice_words = index.row(int(found[3])).words()
+                raise (NoLines if found[2] == "NoLines" else self.changed)(slice_words) from None
             raise
         return printed.decode().splitlines(), status
 

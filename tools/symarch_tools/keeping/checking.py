@@ -17,9 +17,10 @@ read-only. What changed it keeps in ARCHIVE.changed, if it may, so that `repair`
 FILE is ARCHIVE, a level, ARCHIVE.today or a file beside them, and OFFSET where in it the record or the table stands, in
 bytes from the first. Something is lost if ARCHIVE was replaced, as by an older one. `symarch-keep repair` mends what
 changed, and `symarch-keep exchange` brings back what is lost. An index that is damaged is made anew by the next word
-that writes, if the file is as it was. Of names of builds it drops those that are damaged; `exchange` and `add` bring
-them back. A file is unknown before the first word that writes, if its index is lost, or if that is damaged and the file
-is another one. While it reads, other words may write; it reads on in the files that were there.
+that writes, if the file is as it was; so is one that an earlier symarch-keep made, without tables of today, as a line
+on standard error says. Of names of builds it drops those that are damaged; `exchange` and `add` bring them back. A file
+is unknown before the first word that writes, if its index is lost, or if that is damaged and the file is another one.
+While it reads, other words may write; it reads on in the files that were there.
 
 Status:
   0    all is as it was
@@ -119,6 +120,7 @@ def told_apart(archive: Archive, program: Program, screen: Screen) -> Tuple[List
     same, others = [], []
     for file in archive.files:
         file.recall(screen)
+        file.say_old_index(screen)
         if not file.index and file.is_known and file.exists() and not file.is_of_version_1():
             # By the sums that an earlier symarch-keep kept.
             file.index = index_by(file.content, file.path)

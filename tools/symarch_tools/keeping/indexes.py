@@ -111,10 +111,14 @@ class Index:
         return END + self.count().to_bytes(LENGTH, "big") + self.digest()
 
     def is_in(self, file: BinaryIO) -> bool:
-        """Whether a file that is no index, or another one, has its end record or its entries all the same."""
+        """Whether a file that is no index, or another one, has its end record or its entries all the same, but for what
+        these say of tables."""
         size, end = file.seek(0, os.SEEK_END), self.end()
-        return last_of(file, size, len(end)) == end or self.entries == last_of(
-            file, max(size - len(end), 0), len(self.entries)
+        if last_of(file, size, len(end)) == end:
+            return True
+        entries = last_of(file, max(size - len(end), 0), len(self.entries))
+        return len(entries) == len(self.entries) and all(
+            one[:4] == other[:4] for one, other in zip(ROW.iter_unpack(entries), ROW.iter_unpack(self.entries))
         )
 
 

@@ -28,7 +28,9 @@ Status:
        another one when the tables were made; or some line could not be printed or kept
   3    the words have another form
   4    ARCHIVE, a level or ARCHIVE.today could not be read, or ARCHIVE.lost not be written
-  126  there is no program"""
+  126  there is no program
+
+If an earlier symarch-keep made an index, so that it has no tables of today, a line on standard error says so."""
 import argparse
 import collections
 import os
@@ -152,6 +154,7 @@ def see(file: ArchiveFile, screen: Screen) -> Seen:
     is_same, index = file.recall(), file.index
     if file.doubt:
         screen.fail(f"{file.doubt}; `symarch-keep check` says more")
+    file.say_old_index(screen)
     lacking = len(index.without_table()) if index and file.has_index() else 0
     if index and lacking:
         screen.fail(f"{shown(index.path)}: slices without a table: {lacking}; `symarch-keep check` says more")

@@ -17,9 +17,9 @@ With --lines the answer of a slice has the source lines below it, as `symarch sy
 A number is hexadecimal, with 0x or without. Where - stands in the place of ADDRESS, the addresses are those of standard
 input, between which white space stands.
 
-All are asked by the tables in their indexes, and with --lines the slices of UUID and ARCH are read. A table or a slice
-that is read and changed since it came in gives no name. If an archive has no index, all are read whole. No lock is
-taken, and nothing is written.
+All are asked by the tables in their indexes, which have source lines too. A table that changed gives no name. If a
+slice has too many lines for its table, none are printed, and a line on standard error says so. If an archive has no
+index, all are read whole. No lock is taken, and nothing is written.
 
 Status:
   0    each address has one symbol
@@ -33,7 +33,7 @@ import sys
 from typing import List
 
 from . import asking
-from .asking import opened_archive, show
+from .asking import NoLines, opened_archive, show
 from .contents import arch_in
 from .forms import arch_of, hex_of, uuid_of
 from .screen import Failed, screen_of
@@ -63,7 +63,12 @@ def carry_out(words: argparse.Namespace) -> int:
     key = [str(uuid_of(words.uuid)), arch_in(arch_of(words.arch))]
     options = [] if words.load is None else [f"--load={hex_of('HEX', words.load)}"]
     options += ["--lines"] if words.lines else []
-    addresses = addresses_of(words.addresses)
+    addresses, screen = addresses_of(words.addresses), screen_of(words)
     with opened_archive(os.fsencode(words.archive)) as asked:
-        lines, status = asked.answer("symbolicate", [*key, *addresses], options)
-    return show(lines, screen_of(words), status)
+        try:
+            lines, status = asked.answer("symbolicate", [*key, *addresses], options)
+        except NoLines as fault:
+            screen.line(f"{fault.words} has too many lines for its table, so none are printed")
+            options.remove("--lines")
+            lines, status = asked.answer("symbolicate", [*key, *addresses], options)
+    return show(lines, screen, status)

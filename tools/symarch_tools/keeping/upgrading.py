@@ -1,16 +1,17 @@
-"""What an earlier symarch-keep left beside an archive file: FILE.idx without tables, of entries of 74 bytes, and
-FILE.idx.sum with its SHA-256; or FILE.sum, with the SHA-256 of each slice as it came in. The next word that writes
-makes the index with tables by them, and removes them."""
+"""What an earlier symarch-keep left beside an archive file: FILE.idx with tables that have no lines; FILE.idx without
+tables, of entries of 74 bytes, and FILE.idx.sum with its SHA-256; or FILE.sum, with the SHA-256 of each slice as it
+came in. The next word that writes makes the index by them, with tables of today, and removes them."""
 import contextlib
 import hashlib
+import itertools
 import os
 import struct
-from typing import TYPE_CHECKING, List, Optional
+from typing import TYPE_CHECKING, Callable, Iterable, List, Optional
 
-from .contents import ADMISSION, END, ENTRY, LENGTH, MAGIC, Content, Kept, Malformed
+from .contents import ADMISSION, DIGEST, END, ENTRY, LENGTH, MAGIC, Content, Kept, Malformed
 from .file_names import INDEX, INDEX_SUM, NEXT_INDEX
 from .indexes import INDEX as INDEX_MAGIC
-from .indexes import TAIL, Index, Row, index_at, index_of
+from .indexes import TAIL, Index, Row, index_at, index_of, pages_in
 from .screen import Screen, shown
 
 if TYPE_CHECKING:
@@ -19,6 +20,12 @@ if TYPE_CHECKING:
 SUM, NEXT_SUM = b".sum", b".sum.next"
 # An entry of an index without tables, as it stands there.
 PLACED = struct.Struct(f">{len(ADMISSION) + ENTRY}sBQQ")
+# The head of a table that has no lines: two numbers of its base, and how many sections, rows and bytes of strings it
+# has; and how many bytes a section and a row have.
+HEAD_BEFORE_LINES = struct.Struct(">5Q")
+SECTION, TABLE_ROW = 32, 21
+# No file is longer; and of how many tables it is asked whether they have lines.
+MOST_PLACES, MOST_ASKED = 1 << 60, 4
 
 
 def kept_beside(file: "ArchiveFile", ending: bytes, screen: Optional[Screen] = None) -> Optional[Kept]:
@@ -32,6 +39,38 @@ def kept_beside(file: "ArchiveFile", ending: bytes, screen: Optional[Screen] = N
         if screen:
             screen.line(f"{shown(file.beside(ending))}: {fault}, and is passed over")
         return None
+
+
+# ---- indexes with tables that have no lines
+
+
+def is_before_lines(rows: Iterable[Row], read: Callable[[int, int], bytes]) -> bool:
+    """Whether an index, of which these are the rows of slices and these bytes are read, has tables without lines. All
+    are of one kind, so some of them say it; several are asked, since one may be damaged."""
+    some = itertools.islice((row for row in rows if row.size), MOST_ASKED)
+    return any(is_table_before_lines(row, read) for row in some)
+
+
+def is_table_before_lines(row: Row, read: Callable[[int, int], bytes]) -> bool:
+    """Whether the table of a row has no lines: by the size that its head says, which no table of today has."""
+    if row.table > MOST_PLACES:
+        return False
+    head = read(row.table + pages_in(row.size) * DIGEST, HEAD_BEFORE_LINES.size)
+    if len(head) < HEAD_BEFORE_LINES.size:
+        return False
+    _, _, sections, rows, strings = HEAD_BEFORE_LINES.unpack(head)
+    return row.size == HEAD_BEFORE_LINES.size + SECTION * sections + TABLE_ROW * rows + strings
+
+
+def with_its_tables(index: Index) -> Index:
+    """An index; without its tables, and in no file, if these have no lines."""
+    with open(index.path, "rb") as file:
+        descriptor = file.fileno()
+        last_first = (index.row(number) for number in reversed(range(index.count())))
+        slices = itertools.takewhile(Row.is_slice, last_first)
+        if not is_before_lines(slices, lambda at, size: os.pread(descriptor, size, at)):
+            return index
+    return index_of(Row(*row[:4]) for row in index.rows())
 
 
 # ---- indexes without tables

@@ -22,6 +22,12 @@ WORDS = {
 }
 
 
+# What is said before the images whose lines are too many for their index.
+TOO_MANY_LINES = "without lines, too many for the index"
+# The labels of images, by what is said of them.
+Labels = Dict[str, Dict[str, None]]
+
+
 class Account:
     """The counts of all reports that are read, and of each if they are written to files."""
 
@@ -36,11 +42,11 @@ class Account:
                 note(f"{report.label}: {text}")
             count, its = report.count(), labels_of([report])
             self.every.add_count(count)
-            for origin, some in its.items():
-                labels[origin].update(some)
+            for said, some in its.items():
+                labels[said].update(some)
             if self.is_each:
-                say(f"{report.label}: {count.text()}{by_origin(its)}\n")
-        say(f"{self.every.text()}{by_origin(labels)}\n")
+                say(f"{report.label}: {count.text()}{said_of_images(its)}\n")
+        say(f"{self.every.text()}{said_of_images(labels)}\n")
 
     def objects(self) -> Iterable[Members]:
         for report in self.reports:
@@ -65,14 +71,16 @@ def members_of(image: Image) -> Members:
     return {**said, "answered_by": WORDS[image.origin()], "others": image.others}
 
 
-def labels_of(reports: Iterable[Report]) -> Dict[Origin, Dict[str, None]]:
-    """The images of reports, each of them once, by what answered for them."""
-    labels: Dict[Origin, Dict[str, None]] = {origin: {} for origin in Origin}
+def labels_of(reports: Iterable[Report]) -> Labels:
+    """The images of reports, each of them once, by what answered for them, and those whose lines are too many."""
+    labels: Labels = {said: {} for said in (*(origin.value for origin in Origin), TOO_MANY_LINES)}
     for report in reports:
         for image in report.images.with_frames():
-            labels[image.origin()][image.label()] = None
+            labels[image.origin().value][image.label()] = None
+            if image.has_too_many_lines():
+                labels[TOO_MANY_LINES][image.label()] = None
     return labels
 
 
-def by_origin(labels: Dict[Origin, Dict[str, None]]) -> str:
-    return "".join(f"; {origin.value}: {', '.join(some)}" for origin, some in labels.items() if some)
+def said_of_images(labels: Labels) -> str:
+    return "".join(f"; {said}: {', '.join(some)}" for said, some in labels.items() if some)

@@ -63,6 +63,12 @@ class Answers:
 
     def __init__(self, key: Key, offsets: array[int], names: Names, chains: Chains) -> None:
         self.key, self.offsets, self.names, self.chains = key, offsets, names, chains
+        # Whether a slice that answers has more lines of the source than its index has room for.
+        self.has_too_many_lines = False
+        self.begin()
+
+    def begin(self) -> None:
+        """Drops what was taken."""
         self.places, self.symbol_offsets, self.chain_places = array("i"), array("Q"), array("I")
         self.several: Dict[int, Dict[str, Places]] = {}
         self.origin = Origin.ABSENT
@@ -94,6 +100,7 @@ class Answers:
     def take(self, lines: Said) -> None:
         """Takes the answer to each question. Those of a key that no slice has are not kept. ValueError if a line is no
         answer."""
+        self.begin()
         for offset in self.offsets:
             line = lines.line()
             if line == NOT_THERE % offset and not self.places:

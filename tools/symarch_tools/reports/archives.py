@@ -166,7 +166,7 @@ class Archives:
         answers = self.without_old_changes(answers)
         while True:
             self.make_indexes(folder)
-            reply = self.program.frames([(file.path, file.index) for file in self.files], answers)
+            reply = self.program.reply([(file.path, file.index) for file in self.files], answers)
             if places is not None and places != self.places():
                 return False
             fault = reply.fault_of_index()
@@ -198,18 +198,30 @@ class Archives:
         return self.without(changed, answers) if changed else answers
 
     def without_changed(self, file: ArchiveFile, fault: IndexFault, answers: List[Answers]) -> List[Answers]:
-        """What is asked again after a fault of an index: all, by another index, or all but the slices that changed, or
-        whose tables did."""
+        """What is asked again after a fault of an index: all, by another index, or without lines of a slice that has
+        too many; or all but the slices that changed, or whose tables did."""
         if fault.is_of_another():
             file.take_other_index()
             return answers
         if fault.entry is None:
             file.refuse(f"{file.index} is not read: {fault.text}")
+        if fault.is_of_lines():
+            return self.without_lines(file, file.key_of(fault.entry or 0), answers)
         changed = self.changed(answers, fault.is_of_table()) or {file.key_of(fault.entry or 0): file}
         left = self.without(changed, answers)
         if len(left) == len(answers):
             file.refuse(f"{file.path} is not that of {file.index}")
         return left
+
+    @staticmethod
+    def without_lines(file: ArchiveFile, key: Key, answers: List[Answers]) -> List[Answers]:
+        """The same, of which those of a key are asked for without lines."""
+        its = [one for one in answers if one.key == key and not one.has_too_many_lines]
+        if not its:
+            file.refuse(f"{file.path} is not that of {file.index}")
+        for one in its:
+            one.has_too_many_lines = True
+        return answers
 
     def without(self, changed: Dict[Key, ArchiveFile], answers: List[Answers]) -> List[Answers]:
         """The answers but for those of slices that changed, which are said."""

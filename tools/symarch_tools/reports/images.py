@@ -68,6 +68,10 @@ class Image:
         absent = Origin.OTHERS if self.others else Origin.ABSENT
         return self.answers.origin if self.answers else absent
 
+    def has_too_many_lines(self) -> bool:
+        """Whether it was asked for without lines of the source, since its index has no room for them."""
+        return self.answers is not None and self.answers.has_too_many_lines
+
     def label(self) -> str:
         others = f"(the archive has {', '.join(self.others)})" if self.others else None
         return " ".join(filter(None, [self.name, str(self.uuid), self.arch, others]))

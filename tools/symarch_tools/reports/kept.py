@@ -3,6 +3,7 @@ are companions. Of an archive with an index that is looked up, of another one th
 from __future__ import annotations
 
 import collections
+import itertools
 import os
 import stat
 import uuid
@@ -13,7 +14,7 @@ from ..keeping.contents import record_size, records_in
 from ..keeping.indexes import FILETYPE, HEAD, INDEX_TAIL, MH_DSYM, ROW, TAIL, Row
 from ..keeping.screen import about
 from ..keeping.tables import is_good
-from ..keeping.upgrading import PLACED, has_old_end
+from ..keeping.upgrading import PLACED, has_old_end, is_before_lines
 from .answers import Key
 
 
@@ -38,20 +39,17 @@ class Slice(NamedTuple):
 
 
 class IndexFile:
-    """The index of an archive, of which the rows under a key are found by halving. `has_tables` says whether it is one
-    of those that the program reads."""
+    """The index of an archive, of which the rows under a key are found by halving."""
 
     def __init__(self, path: str) -> None:
         self.path, self.descriptor = os.fsencode(path), os.open(path, os.O_RDONLY)
         size = os.fstat(self.descriptor).st_size
-        self.has_tables = not has_old_end(self.descriptor)
-        if self.has_tables:
-            self.form = ROW
-            end = self.read(max(size - INDEX_TAIL, 0), TAIL)
-            self.count = int.from_bytes(end[len(END) :], "big")
-        else:
-            self.form, self.count = PLACED, (size - MAGIC - TAIL) // PLACED.size
-        self.begin = size - INDEX_TAIL - self.count * ROW.size if self.has_tables else MAGIC
+        if has_old_end(self.descriptor):
+            self.form, self.count, self.begin = PLACED, (size - MAGIC - TAIL) // PLACED.size, MAGIC
+            return
+        end = self.read(max(size - INDEX_TAIL, 0), TAIL)
+        self.form, self.count = ROW, int.from_bytes(end[len(END) :], "big")
+        self.begin = size - INDEX_TAIL - self.count * ROW.size
 
     def __enter__(self) -> IndexFile:
         return self
@@ -86,6 +84,11 @@ class IndexFile:
         """How long its archive is."""
         return MAGIC + sum(self.row(number).length for number in range(self.count)) + TAIL
 
+    def has_tables(self) -> bool:
+        """Whether it is one of those that the program reads: with tables that may have lines."""
+        slices = itertools.takewhile(Row.is_slice, map(self.row, reversed(range(self.count))))
+        return self.form is ROW and not is_before_lines(slices, lambda at, size: self.read(at, size))
+
 
 def is_of(index: str, archive: str) -> bool:
     """Whether an index is there that an archive of this length has."""
@@ -100,7 +103,7 @@ def has_tables(index: str) -> bool:
     """Whether a file is no index that an earlier symarch-keep left. What it is the program says."""
     try:
         with IndexFile(index) as rows:
-            return rows.has_tables
+            return rows.has_tables()
     except (OSError, Malformed):
         return True
 

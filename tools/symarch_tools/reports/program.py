@@ -19,10 +19,10 @@ MOST_LINES = 10_000
 # The program begins its first line on standard error so; more than this of all is not read.
 OWN_WORDS = b"symarch: "
 MOST_SAID = 100_000
-# What it says of an index; and of an entry of one, whose table is damaged or at whose place the archive has something
-# else.
+# What it says of an index; and of an entry of one, whose table is damaged or has no lines, or at whose place the
+# archive has something else.
 OF_AN_INDEX = re.compile(rb"symarch: index ([0-9]{1,9}): ([^\n]*)")
-AT_ENTRY = re.compile("(?:Stale|Damaged) at entry ([0-9]{1,18})")
+AT_ENTRY = re.compile("(?:Stale|Damaged|NoLines) at entry ([0-9]{1,18})")
 
 
 class IndexFault(NamedTuple):
@@ -38,6 +38,10 @@ class IndexFault(NamedTuple):
 
     def is_of_table(self) -> bool:
         return self.text.startswith("Damaged ")
+
+    def is_of_lines(self) -> bool:
+        """Whether the table of a slice has no lines."""
+        return self.text.startswith("NoLines ")
 
 
 class Reply(NamedTuple):
@@ -56,18 +60,33 @@ class Reply(NamedTuple):
         entry = AT_ENTRY.fullmatch(text)
         return IndexFault(int(found[1]), text, int(entry[1]) if entry else None)
 
+    def is_good(self) -> bool:
+        """Whether it is all answers."""
+        return bool(self.is_answered) and 0 <= self.status <= Status.NONE_NAMED
+
 
 class Program:
     """The program, which is asked for lines of the source too, or not."""
 
     def __init__(self, has_lines: bool) -> None:
         self.path, self.named = found_program(), named()
-        self.options = ["--lines"] if has_lines else []
+        self.has_lines = has_lines
 
-    def frames(self, files: Sequence[Tuple[str, str]], answers: Sequence[Answers]) -> Reply:
-        """Asks archives, with their indexes if they have such. The questions are in a file of their own: a standard
-        input has no path where /proc is not mounted."""
-        options = [*self.options, *(word for _, index in files if index for word in ("--index", index))]
+    def reply(self, files: Sequence[Tuple[str, str]], answers: Sequence[Answers]) -> Reply:
+        """Asks archives, with their indexes if they have such: without lines of the source, in a call of its own, for
+        what has too many."""
+        lacking = [one for one in answers if one.has_too_many_lines]
+        others = [one for one in answers if not one.has_too_many_lines]
+        if others or not lacking:
+            reply = self.frames(files, others, self.has_lines)
+            if not lacking or not reply.is_good():
+                return reply
+        return self.frames(files, lacking, has_lines=False)
+
+    def frames(self, files: Sequence[Tuple[str, str]], answers: Sequence[Answers], has_lines: bool) -> Reply:
+        """The questions are in a file of their own: a standard input has no path where /proc is not mounted."""
+        options = ["--lines"] if has_lines else []
+        options += [word for _, index in files if index for word in ("--index", index)]
         archives = [path for path, _ in files]
         with tempfile.NamedTemporaryFile(prefix="symbolicate-report.") as asked, tempfile.TemporaryFile() as errors:
             with about(asked.name.encode()):
@@ -104,7 +123,7 @@ class Program:
 
     def judge(self, reply: Reply) -> None:
         """Refuses what is not all answers, after what the program said on standard error."""
-        if reply.is_answered and 0 <= reply.status <= Status.NONE_NAMED:
+        if reply.is_good():
             return
         if reply.status > Status.NONE_NAMED and reply.said.startswith(OWN_WORDS):
             raise Failure("", reply.status)
