@@ -10,7 +10,7 @@ use Rattle.command_ends.specs.declared.faults.InputName.TheVariants.{Frames, Ind
 use Rattle.command_ends.specs.declared.faults.Why.{Why}
 use Rattle.command_ends.specs.declared.faults.Why.TheVariants.{CannotOpen, Device, Record, Take, Script, BadFrame}
 use Rattle.command_ends.specs.declared.faults.Why.TheVariants.{OldArchive, TooLong, Index as IndexFaulty, NoArchive}
-use Rattle.command_ends.specs.declared.faults.Why.TheVariants.{Stale, Damaged, NoIndex}
+use Rattle.command_ends.specs.declared.faults.Why.TheVariants.{Stale, Damaged, NoIndex, NoLines}
 use Rattle.command_ends.specs.declared.faults.CommandFault.{CommandFault}
 use Rattle.command_ends.specs.declared.faults.CommandFault.TheVariants.{Input, Output, Report, OutOfMemory}
 
@@ -38,6 +38,7 @@ why_text (IndexFaulty fault) = fault_text fault
 why_text (Stale None) = codes "Stale"
 why_text (Stale (Some entry)) = codes "Stale at entry " ++ decimal entry
 why_text (Damaged entry) = codes "Damaged at entry " ++ decimal entry
+why_text (NoLines entry) = codes "NoLines at entry " ++ decimal entry
 why_text NoArchive = codes "NoArchive"
 why_text NoIndex = codes "NoIndex"
 

@@ -32,7 +32,8 @@ use Rattle.command_ends.specs.declared.faults.InputName.TheVariants.{Frames}
 use Rattle.command_ends.specs.declared.faults.Why.{Why}
 use Rattle.command_ends.specs.declared.faults.Why.TheVariants.{Device as CannotRead, Record, Take, Script as Faulty}
 use Rattle.command_ends.specs.declared.faults.Why.TheVariants.{CannotOpen as NotOpened, BadFrame, OldArchive, TooLong}
-use Rattle.command_ends.specs.declared.faults.Why.TheVariants.{Index as IndexFaulty, Damaged, NoArchive, NoIndex, Stale}
+use Rattle.command_ends.specs.declared.faults.Why.TheVariants.{Index as IndexFaulty, Damaged, NoArchive, NoIndex}
+use Rattle.command_ends.specs.declared.faults.Why.TheVariants.{NoLines, Stale}
 
 -- An input in a call, before it and after it: a reader, or that none was opened. The functions tell what a reader has
 -- left, where that is known, and how often it has failed.
@@ -130,6 +131,7 @@ IsUnread input TooLong = ⊥
 IsUnread input (IndexFaulty _) = ⊥
 IsUnread input (Stale _) = ⊥
 IsUnread input (Damaged _) = ⊥
+IsUnread input (NoLines _) = ⊥
 IsUnread input NoArchive = ⊥
 IsUnread input NoIndex = ⊥
 
@@ -148,6 +150,7 @@ IsScriptRefused input TooLong = ⊥
 IsScriptRefused input (IndexFaulty _) = ⊥
 IsScriptRefused input (Stale _) = ⊥
 IsScriptRefused input (Damaged _) = ⊥
+IsScriptRefused input (NoLines _) = ⊥
 IsScriptRefused input NoArchive = ⊥
 IsScriptRefused input NoIndex = ⊥
 
@@ -166,6 +169,7 @@ IsFramesRefused input TooLong = ⊥
 IsFramesRefused input (IndexFaulty _) = ⊥
 IsFramesRefused input (Stale _) = ⊥
 IsFramesRefused input (Damaged _) = ⊥
+IsFramesRefused input (NoLines _) = ⊥
 IsFramesRefused input NoArchive = ⊥
 IsFramesRefused input NoIndex = ⊥
 
@@ -316,6 +320,7 @@ IsDeviceFault TooLong = ⊥
 IsDeviceFault (IndexFaulty fault) = fault.kind ≡ IndexDevice
 IsDeviceFault (Stale _) = ⊥
 IsDeviceFault (Damaged _) = ⊥
+IsDeviceFault (NoLines _) = ⊥
 IsDeviceFault NoArchive = ⊥
 IsDeviceFault NoIndex = ⊥
 

@@ -72,6 +72,8 @@ pub enum Why {
     Stale(Option<u64>),
     /// It is an index whose table for this entry, from 0 on, was changed.
     Damaged(u64),
+    /// It is an index whose table for this entry, from 0 on, has no lines, though lines are wanted.
+    NoLines(u64),
     /// It is an index with a number that no archive has.
     NoArchive,
     /// It is an archive with a number that no index has, though there are indexes.
@@ -165,6 +167,7 @@ impl fmt::Display for Why {
             Why::Stale(None) => f.write_str("Stale"),
             Why::Stale(Some(entry)) => write!(f, "Stale at entry {entry}"),
             Why::Damaged(entry) => write!(f, "Damaged at entry {entry}"),
+            Why::NoLines(entry) => write!(f, "NoLines at entry {entry}"),
             Why::NoArchive => f.write_str("NoArchive"),
             Why::NoIndex => f.write_str("NoIndex"),
         }

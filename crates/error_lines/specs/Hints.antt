@@ -12,7 +12,7 @@ use Rattle.command_ends.specs.declared.faults.Status.{Status}
 use Rattle.command_ends.specs.declared.faults.Why.{Why}
 use Rattle.command_ends.specs.declared.faults.Why.TheVariants.{CannotOpen, Device, Record, Take}
 use Rattle.command_ends.specs.declared.faults.Why.TheVariants.{Script as ScriptFaulty, BadFrame, OldArchive, TooLong}
-use Rattle.command_ends.specs.declared.faults.Why.TheVariants.{Index as IndexFaulty, Damaged, NoArchive, NoIndex, Stale}
+use Rattle.command_ends.specs.declared.faults.Why.TheVariants.{Index as IndexFaulty, Damaged, NoArchive, NoIndex, NoLines, Stale}
 use Rattle.command_ends.specs.FaultTexts.{name_text}
 use Rattle.command_line.specs.Lines.{Line, inputs_of_kind, out_of}
 use Rattle.command_line.specs.declared.commands.Kind.TheVariants as kinds
@@ -77,6 +77,7 @@ faulty_line TooLong = None
 faulty_line (IndexFaulty _) = None
 faulty_line (Stale _) = None
 faulty_line (Damaged _) = None
+faulty_line (NoLines _) = None
 faulty_line NoArchive = None
 faulty_line NoIndex = None
 

@@ -5,10 +5,10 @@ ghost use Rattle.std.specs.Prelude.{◌≡◌, ℕ, codes, IfSome, None, Option,
 ghost use Rattle.command_ends.specs.declared.failures.Failure.TheVariants.{Command};
 ghost use Rattle.command_ends.specs.declared.faults.CommandFault.TheVariants.{Input};
 ghost use Rattle.command_ends.specs.declared.faults.InputName.{InputName};
-ghost use Rattle.command_ends.specs.declared.faults.Why.TheVariants.{Damaged, Stale};
+ghost use Rattle.command_ends.specs.declared.faults.Why.TheVariants.{Damaged, NoLines, Stale};
 ghost use Rattle.command_line.specs.LineView.{line_view};
 ghost use Rattle.command_line.specs.Lines.{out_of};
-ghost use Rattle.error_lines.specs.declared.hints.Hint.TheVariants.{Torn};
+ghost use Rattle.error_lines.specs.declared.hints.Hint.TheVariants.{Lineless, Torn};
 ghost use Rattle.error_lines.specs.Hints.{IsOfInput, IsOfNoFile, IsOfOut, faulty_line_of, file_of};
 ghost use Rattle.error_lines.specs.Hints.{stale_hint, subject_of, subject_text};
 
@@ -132,6 +132,7 @@ enum Hint {
     OldVersion,
     Stale,
     Torn,
+    Lineless,
     Changed,
 }
 
@@ -156,6 +157,9 @@ impl Display for Hint {
             Hint::Stale => f.write_str("not of this archive, of which `index` writes a new one"),
             Hint::Torn => f.write_str(
                 "changed since it was written: run `symarch-keep check` if it keeps the archive, else `index`",
+            ),
+            Hint::Lineless => f.write_str(
+                "without the lines of that slice, which are too many for it: ask without `--index`",
             ),
             Hint::Changed => f.write_str(
                 "of an archive in which a slice changed since it came in: run `symarch-keep check` first",
@@ -201,12 +205,14 @@ fn kind_of(why: Why, kind: Option<FileKind>) -> Option<FileKind> {
 fn hint_of(why: Why) -> Option<Hint>
     ensures stale { (entry : Option ℕ) → why ≡ Stale entry → result ≡ Some (stale_hint entry) }
     ensures torn { (entry : ℕ) → why ≡ Damaged entry → result ≡ Some Torn }
+    ensures lineless { (entry : ℕ) → why ≡ NoLines entry → result ≡ Some Lineless }
 {
     match why {
         Why::OldArchive => Some(Hint::OldVersion),
         Why::Stale(None) => Some(Hint::Stale),
         Why::Stale(Some(_)) => Some(Hint::Changed),
         Why::Damaged(_) => Some(Hint::Torn),
+        Why::NoLines(_) => Some(Hint::Lineless),
         _ => None,
     }
 }
@@ -220,6 +226,8 @@ pub fn help_with<'p>(line: &'p Line, failure: &Failure, seen: Seen) -> Option<He
         → IfSome result (λ help. help.hint ≡ Some (stale_hint entry)) }
     ensures torn { (name : InputName) (entry : ℕ) → failure.now ≡ Command (Input name (Damaged entry))
         → IfSome result (λ help. help.hint ≡ Some Torn) }
+    ensures lineless { (name : InputName) (entry : ℕ) → failure.now ≡ Command (Input name (NoLines entry))
+        → IfSome result (λ help. help.hint ≡ Some Lineless) }
 {
     match failure {
         Failure::Command(CommandFault::Input(name, why)) => {
