@@ -10,7 +10,7 @@ use Rattle.indexed_symbols.proofs.lines.lent_lists.Goals as goal
 pub lists-preserved : goal.lists-preserved
 lists-preserved c =
     rows_more lent_in (λ (frames : Bor (List Frame)). list_view frames.now) c.args.lists.now c.lists.list-index c.list-item.result c.lists.lent.items c.push.new.self.items c.as_slice.result c.lists-test.true c.list-item.is c.in_ok-push.ensures.items
-    (ap (λ (frames : List Frame). list_view frames) c.as_slice.ensures) c.lists.invariant
+    (ap (λ (frames : List Frame). list_view frames) c.as_slice.ensures.value) c.lists.invariant
 
 pub returns : goal.returns
 returns c = c.lists.invariant ∙ ap (map lent_in) (take_all c.lists.list-index c.args.lists.now (omega (arith, c.lists-test.false)))
