@@ -21,14 +21,14 @@ def record_of(number, asked):
     return admission(number, image(number) if number in asked else plain_image(number))
 
 
-def write_hollow_archive(path, count, asked):
-    """Writes an archive of so many images, of which those that are asked for have symbols. Behind their headers the
-    others are holes of the file, so they take no room on the disk."""
+def write_hollow_archive(path, count, asked, made=image):
+    """Writes an archive of so many images, of which those that are asked for, by their numbers, are made. Behind their
+    headers the others are holes of the file, so they take no room on the disk."""
     with path.open("wb") as file:
         file.write(b"MSYMARC2")
         for number in range(count):
             if number in asked:
-                file.write(admission(number, image(number)))
+                file.write(admission(number, made(number)))
                 continue
             front = HEADER + LC_UUID + number.to_bytes(16, "big")
             file.write(admission_front(number, IMAGE_SIZE) + front)

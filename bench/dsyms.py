@@ -1,6 +1,7 @@
-"""A large companion with DWARF, for the benchmark that asks for lines. Clang compiles six units of C++ with containers
-of libstdc++, whose objects are linked seven times, each time under other names of symbols. The companion has the
-sections that dsymutil would write, packed from an ELF file, and its symbols."""
+"""Companions with DWARF, for the benchmarks that ask for lines. Clang compiles units of C++ with containers of
+libstdc++, whose objects are copied, each time under other names of symbols. A companion has the sections that dsymutil
+would write, packed from an ELF file, and its symbols: the large one of seven copies of six units, small ones of one
+copy each."""
 import struct
 import subprocess
 from concurrent.futures import ThreadPoolExecutor
@@ -63,13 +64,13 @@ def source(unit):
     return "".join(f"#include <{it}>\n" for it in INCLUDES) + "".join(kinds)
 
 
-def objects(unit):
-    """The object of a unit, under seven names of its symbols."""
+def objects(unit, count=COPIES):
+    """The object of a unit, so many times, each time under other names of its symbols."""
     place, made = folder / f"unit{unit}.cc", folder / f"unit{unit}.o"
     place.write_text(source(unit))
     words = ["-target", "x86_64-linux-gnu", "-std=c++17", "-g", "-gdwarf-4", "-gdwarf-aranges", "-O2", "-fPIC"]
     output(tool("clang++"), *words, f"-fdebug-prefix-map={folder}=/src", "-c", place, "-o", made)
-    copies = [folder / f"unit{unit}-{number}.o" for number in range(COPIES)]
+    copies = [folder / f"unit{unit}-{number}.o" for number in range(count)]
     for number, copy in enumerate(copies):
         output(tool("llvm-objcopy"), f"--prefix-symbols=c{number}_", made, copy)
     for path in (place, made):
@@ -77,21 +78,35 @@ def objects(unit):
     return copies
 
 
+def linked(copies, number):
+    """The companion of some objects, which are removed."""
+    image = folder / "lines.so"
+    subprocess.run([tool("ld.lld"), "-shared", f"--image-base={LOWEST:#x}", "-o", image, *copies], check=True)
+    elf = Elf(image)
+    for file in (*copies, image):
+        file.unlink()
+    # The names as they were before `c0_` and the like came before them.
+    elf.functions = [(name[:1] + name[len("_c0_") :], value) for name, value in elf.functions]
+    return elf.companion("x86_64", number, with_symbols=True)
+
+
 def large_companion():
-    """The path of the companion, which is made if it is not there: that takes some minutes."""
+    """The path of the large companion, which is made if it is not there: that takes some minutes."""
     path = folder / "lines-large.dsym"
     if not path.exists():
         with ThreadPoolExecutor(4) as threads:
             copies = sum(threads.map(objects, range(UNITS)), [])
-        image = folder / "lines.so"
-        subprocess.run([tool("ld.lld"), "-shared", f"--image-base={LOWEST:#x}", "-o", image, *copies], check=True)
-        elf = Elf(image)
-        for file in (*copies, image):
-            file.unlink()
-        # The names as they were before `c0_` and the like came before them.
-        elf.functions = [(name[:1] + name[len("_c0_") :], value) for name, value in elf.functions]
-        path.write_bytes(elf.companion("x86_64", 0, with_symbols=True))
+        path.write_bytes(linked(copies, 0))
     return path
+
+
+def small_companions(count):
+    """The paths of so many small companions, at most ten, which are made if they are not there."""
+    paths = [folder / f"lines-small-{number}.dsym" for number in range(count)]
+    if not all(path.exists() for path in paths):
+        for number, copy in enumerate(objects(0, count), 1):
+            paths[number - 1].write_bytes(linked([copy], number))
+    return paths
 
 
 def code_of(companion):

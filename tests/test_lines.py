@@ -1,6 +1,7 @@
-"""Source lines and inlined frames beside those of LLVM's tools: of the companions that tests/fixtures/lines keeps, by
-the model and by the program, and of others that clang, lld and dsymutil build, by the model; these are left out without
-clang, lld and llvm; and what the program prints of companions with changed bytes beside the model."""
+"""Source lines and inlined frames beside those of LLVM's tools, by the model and by the program, with an index and
+without: of the companions that tests/fixtures/lines keeps, and of others that clang, lld and dsymutil build; these are
+left out without clang, lld and llvm. What the program prints of companions with changed bytes, and the indexes that it
+makes of them, beside the model."""
 import pathlib
 import random
 import re
@@ -20,7 +21,7 @@ from .model.lines import answer_lines, frame_line
 from .model.pages import claim_at, stored
 from .model.tables import Table, table_of
 from .support import kept_lines, llvm, made_dsyms
-from .support.cases import FolderCase, ProgramCase, Without, same
+from .support.cases import ProgramCase, Without, same
 from .support.made_images import EMPTY, WORDS, archive, index
 from .support.program import TOP, call, symarch
 
@@ -119,7 +120,8 @@ class Changed(LinesCase):
             wanted = [line for it in asked for line in answer_lines(answering, it, None, True)[0]]
             words = ["symbolicate", "--lines", "changed.sym", *key_words(key), *map(hex, asked)]
             same(f"{one.name}, turn {turn}", self.call(*words).lines, wanted)
-            self.file("changed.idx", index_of(text))
+            self.expect(["index", "changed.sym", "changed.idx"], prints=None)
+            self.has_bytes("changed.idx", index_of(text))
             came = self.call(*words, "--index", "changed.idx")
             if any(line_table_of(it) == NO_LINES for it in images):
                 self.assertRegex(came.error_lines[0], r"\Asymarch: index 0: NoLines at entry [0-9]+\Z")
@@ -204,11 +206,12 @@ class Printed(LinesCase):
         self.assertEqual((by_indexes.status, by_indexes.lines), (came.status, came.lines))
 
 
-class Built(FolderCase):
-    """Companions that are built here."""
+class Built(LinesCase):
+    """Companions that are built here: at each byte of their code and beside it the model, the program without an index
+    and with one, and LLVM say the same."""
 
     is_side_by_side = True
-    seconds = 15
+    seconds = 20
 
     def symbols(self, path: pathlib.Path) -> Dict[int, List[str]]:
         """The names of the symbols at each address, as the table of symbols has them."""
@@ -232,12 +235,24 @@ class Built(FolderCase):
         said = kept_lines.said_by_llvm(path)
         same(str(path), rows_by_model(content), said.rows)
         names = [name for its in self.symbols(path).values() for name in its] if "tables" in str(path) else None
-        frames = 0
-        for address, lines in zip(*asked_of(said)):
-            ours = lines_by_model(content, address)
-            same(f"{path} {address:#x}", ours, self.as_here(lines, ours, names))
-            frames += len(ours)
-        self.assertGreater(frames, 200, path)
+        addresses, wanted = asked_of(said)
+        ours = [lines_by_model(content, address) for address in addresses]
+        for address, own, lines in zip(addresses, ours, wanted):
+            same(f"{path} {address:#x}", own, self.as_here(lines, own, names))
+        self.assertGreater(sum(map(len, ours)), 200, path)
+        self.compare_program(str(path), content, addresses, ours)
+
+    def compare_program(self, name: str, content: bytes, addresses: Sequence[int], wanted: List[List[str]]) -> None:
+        """What the program prints without an index and with the one that it makes, and the bytes of this."""
+        key = " ".join(key_words(image_of(content).key))
+        self.file("built.sym", archive([content]))
+        self.file("built.frames", "".join(f"{key} - {address:#x}\n" for address in addresses))
+        self.expect(["index", "built.sym", "built.idx"], prints=None)
+        self.has_bytes("built.idx", index([content]))
+        words = ["frames", "--lines", "built.frames", "built.sym"]
+        same(name, kept_lines.frames_in(self.call(*words).lines), wanted)
+        by_index = self.call(*words, "--index", "built.idx")
+        same(f"{name}, by its index", kept_lines.frames_in(by_index.lines), wanted)
 
     def compare_all(self, arch: str, linker: str) -> None:
         for recipe in made_dsyms.all_recipes():

@@ -94,11 +94,21 @@ class Inlined(LinesCase):
         """`FUNCTION  (in IMAGE) + OFFSET  [ADDRESS]  FILE:LINE`, as `sample` prints it of a binary with debug info. How
         it shows inlined functions is not known from a published report: here they are nodes of the tree."""
         self.assertEqual(self.printed(fixture("sample")), named("inlined-sample").decode())
+        self.has_nodes_of_the_system("sample")
 
     def test_spindump(self) -> None:
         """`FUNCTION + OFFSET (FILE:LINE in IMAGE + OFFSET) [ADDRESS]`, as spindump prints it. Of inlined functions the
         same holds as of `sample`."""
         self.assertEqual(self.printed(fixture("spindump")), named("inlined-spindump").decode())
+        self.has_nodes_of_the_system("spindump")
+
+    def has_nodes_of_the_system(self, form: str) -> None:
+        """But for inlined functions, each line has what the system has there."""
+        system = FIXTURES / f"system{FORM[form]}"
+        bare = lambda said: [line.lstrip(" +!:|") for line in said.splitlines() if not line.endswith(" [inlined]")]
+        self.assertEqual(bare(self.printed(fixture(form))), bare(system.read_text()))
+        self.assertEqual(self.printed(system), self.printed(fixture(form)))
+        self.assertEqual(self.printed("--no-lines", system), system.read_text())
 
     def test_metrickit(self) -> None:
         """No payload is symbolicated by the system: the members are those of an .ips, in a list `inlined`."""
@@ -144,9 +154,12 @@ class Inlined(LinesCase):
             self.assertEqual(self.printed(path), path.read_text(), form)
 
     def test_of_the_system(self) -> None:
-        """Reports that the system symbolicated keep its inlined functions."""
+        """Reports that the system symbolicated keep its inlined functions, and without an answer all that they say."""
         for name in ("system.crash", "system.ips"):
             self.assertEqual(self.printed(FIXTURES / name), (FIXTURES / name).read_text())
+        for path in FIXTURES.glob("system.*"):
+            came = self.report(path, "empty")
+            self.assertEqual((came.status, came.out), (1, path.read_bytes()), path.name)
 
     def test_by_an_index(self) -> None:
         program("index", self.archive, f"{self.archive}.idx")
