@@ -21,8 +21,7 @@ frames_from s lines unit links number place (e ∷ es) [] are told = no_link lin
 frames_from s lines unit links number place (e ∷ es) (f ∷ fs) are told =
     let same : told.0 ≡ are.0 = same_Some told.0 are.0 (sym told.1 ∙ are.1) in
     let is : f ≡ frame_at_place lines are.0.name place = subst (λ (l : LinkRecord). f ≡ frame_at_place lines l.name place) same told.3 in
-    let more : AreFramesOfLink lines links are.0.call are.0.caller fs = subst (λ (l : LinkRecord). AreFramesOfLink lines links l.call l.caller fs) same told.4 in
-    (
+    let more : AreFramesOfLink lines links are.0.call are.0.caller fs = subst (λ (l : LinkRecord). AreFramesOfLink lines links l.call l.caller fs) same told.4 in (
       record {
         name = subst (λ n. IsName s (record { unit = unit; entry = e }) n) (sym (ap (λ (r : FrameRecord). r.name) is)) are.3;
         path = ap (λ (r : FrameRecord). r.path) is;

@@ -6,11 +6,11 @@ ghost use Rattle.function_links.specs.LinkViews.{links_view};
 ghost use Rattle.source_frames.specs.SectionsViews.{sections_view};
 ghost use Rattle.source_frames.specs.UnitViews.{unit_view};
 
-use source_frames::{DebugInfo, DebugUnit, Place};
-use unit_functions::{Function, Functions};
-use waiting_indexes::{Waiting, count_below, rising};
 use code_ranges::CodeRange;
 use memory::{Heap, NoMemory};
+use source_frames::{DebugInfo, DebugUnit, Place};
+use unit_functions::{Function, Functions};
+use waiting_indexes::{Waiting, count_below, sorted_once};
 
 /// How many frames an address has at most.
 const FRAMES_MAX: usize = 256;
@@ -57,7 +57,7 @@ fn starts_of(heap: Heap, ranges: &[CodeRange]) -> Result<Vec<u64, Heap>, NoMemor
         starts.push(range.low)?;
         starts.push(range.high)?;
     }
-    Ok(rising(starts))
+    Ok(sorted_once(starts))
 }
 
 impl<'f, 'a> Making<'f, 'a> {

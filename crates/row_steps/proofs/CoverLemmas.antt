@@ -23,8 +23,8 @@ pub record CoversUpTo (first end at : ℕ) (row : Row) (old next : List ℕ) (be
   pub done : (i : ℕ) → i < length before → get_or old i 0 ≢ i → get_or rows i None ≡ get_or before i None
 
 module _ (first end at further : ℕ) (row : Row) (old next ended last : List ℕ) (before rows : List (Option Row))
-  (is : CoversUpTo first end at row old next before rows) (less : at < end) (inside : end ≤ length before) (longer : length old ≡ length before + 1)
-  (without : WaitWithout at next ended) (found : IsFirstWaiting ended (at + 1) further) (same : WaitTheSame ended last) where
+    (is : CoversUpTo first end at row old next before rows) (less : at < end) (inside : end ≤ length before) (longer : length old ≡ length before + 1)
+    (without : WaitWithout at next ended) (found : IsFirstWaiting ended (at + 1) further) (same : WaitTheSame ended last) where
   at_row : at < length rows
   at_row = let n = is.count in omega (arith, n, less, inside)
 

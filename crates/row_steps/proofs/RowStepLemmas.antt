@@ -63,8 +63,7 @@ module _ (starts : List ℕ) (last row : Row) (first end : ℕ) (low : IsCountBe
       (λ is. let f = from_first i h is in let t = to_end i h is in omega (arith, back, f, t))
 
   module _ (old new : List ℕ) (before after : List (Option Row)) (left all : List Row) (inside : last.end_sequence ≡ false)
-    (known : AreKnown starts old before (Some last) (row ∷ left) all) (is : Covers first end last old new before after) where
-
+      (known : AreKnown starts old before (Some last) (row ∷ left) all) (is : Covers first end last old new before after) where
     waits_out : (i : ℕ) → i < length starts → (i < first) ⊎ (end ≤ i) → covered (get_or starts i 0) (Some last) row ≡ None
     waits_out i h out = covered_none (get_or starts i 0) last row (λ has. elim out [
       | inl below ↦ let f = from_first i h has in omega (arith, below, f)
@@ -196,7 +195,7 @@ covering_stays s a rows (Some row) upto none is =
     (is.0, covers_there s a rows is.0 row upto none is.1, λ before other l covers. is.2 before other l (covers_back s a rows before other upto none covers))
 
 module _ (all : List Row) (starts next : List ℕ) (rows : List (Option Row)) (before : Option Row) (rising : AreRising starts)
-  (same : (a : ℕ) → Contains starts a ↔ Contains (map address all) a) (known : AreKnown starts next rows before [] all) where
+    (same : (a : ℕ) → Contains starts a ↔ Contains (map address all) a) (known : AreKnown starts next rows before [] all) where
   row_there : (i : ℕ) → i < length starts → get_or rows i None ≡ covering_with (get_or starts i 0) None all
   row_there i h = elim (cases_eq (get_or next i 0) i) [
     | inl w ↦ known.blank i h w ∙ (sym (step_end (get_or starts i 0) before) ∙ known.waits i h w)

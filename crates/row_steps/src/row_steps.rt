@@ -10,11 +10,10 @@ ghost use Rattle.waiting_indexes.specs.Rising.{IsCountBelow};
 ghost use Rattle.row_steps.specs.RowSteps.{AreRowSteps};
 ghost use Rattle.waiting_indexes.specs.Rising.{AreRising};
 
-use waiting_indexes::{count_below, rising};
-use source_frames::UnitLines;
-use waiting_indexes::Waiting;
 use line_programs::{Row, Rows};
 use memory::{Heap, NoMemory};
+use source_frames::UnitLines;
+use waiting_indexes::{Waiting, count_below, sorted_once};
 
 /// From each start on, up to the next one, addresses have a row, or none.
 #[derive(Drop)]
@@ -119,7 +118,7 @@ impl RowSteps {
     {
         let mut starts = Vec::new(heap.clone()?);
         push_addresses(&mut starts, rows)?;
-        let starts = rising(starts);
+        let starts = sorted_once(starts);
         let count = starts.len();
         let mut waiting = Waiting::new(heap.clone()?, count)?;
         let mut steps = RowSteps {

@@ -8,10 +8,10 @@ ghost use Rattle.source_frames.specs.SectionsViews.{sections_view};
 ghost use Rattle.unit_functions.specs.UnitFunctions.{AreFunctions};
 ghost use Rattle.source_frames.specs.UnitViews.{unit_view};
 
-use source_frames::{DebugInfo, DebugUnit, Place, UnitEntry, is_function, scope_ranges};
 use code_ranges::{CodeRange, Ranges, UnitRanges};
 use debug_entries::{Entries, Entry, UnreadEntry};
 use memory::{Heap, NoMemory};
+use source_frames::{DebugInfo, DebugUnit, Place, UnitEntry, is_function, scope_ranges};
 
 /// A function of a unit.
 #[derive(Clone, Copy)]

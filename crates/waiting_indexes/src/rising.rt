@@ -8,7 +8,7 @@ ghost use Rattle.waiting_indexes.specs.Rising.{AreRising};
 use memory::Heap;
 
 /// Some numbers, each once, so that they rise.
-pub fn rising(mut all: Vec<u64, Heap>) -> Vec<u64, Heap>
+pub fn sorted_once(mut all: Vec<u64, Heap>) -> Vec<u64, Heap>
     ensures rising { AreRising result.items }
     ensures same { (a : ℕ) → Contains result.items a ↔ Contains all.items a }
 {

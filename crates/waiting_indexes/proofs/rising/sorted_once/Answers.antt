@@ -1,6 +1,6 @@
 use Rattle.std.proofs.lemmas.List.Filters.{dedup_is}
 use Rattle.waiting_indexes.proofs.RisingLemmas.{rises, same}
-use Rattle.waiting_indexes.proofs.rising.rising.Goals as goal
+use Rattle.waiting_indexes.proofs.rising.sorted_once.Goals as goal
 
 pub returns-clause-rising : goal.returns-clause-rising
 returns-clause-rising c =
