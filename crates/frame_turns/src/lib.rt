@@ -8,16 +8,16 @@
 //!
 //! The modules in reading order: `ascending`, numbers in order; `unit_turns`, the turns of a unit; `unit_boundaries`,
 //! those of units; `unit_steps`, [`UnitSteps`], the unit of each address; `by_unit`, the boundaries under their units;
-//! `own_turns`, the turns of a unit whose unit it is; `taker`, [`FrameTaker`], what takes turns with their frames, and
-//! `giving`, how it gets them; `unit_by_unit`, [`give_turns`], all turns of an image; `laws`, that the frames stay the
-//! same between two turns.
+//! `taker`, [`FrameTaker`], what takes turns with their frames, told by number; `numbers`, those of the paths and links
+//! of a unit; `merging`, the turns of a unit from one boundary to the next; `unit_by_unit`, [`give_turns`], all turns of
+//! an image; `laws`, that the frames stay the same between two turns.
 #![tactic(auto)]
 
 mod ascending;
 mod by_unit;
-mod giving;
 pub mod laws;
-mod own_turns;
+mod merging;
+mod numbers;
 mod taker;
 mod unit_boundaries;
 mod unit_by_unit;

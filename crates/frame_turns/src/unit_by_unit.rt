@@ -1,23 +1,73 @@
 //! The frames at the turns of an image, unit by unit.
 
-ghost use Rattle.std.specs.Prelude.{◌≡◌, ◌↔◌, ℕ, List, OnOk, Some};
+ghost use Rattle.std.specs.Prelude.{◌≡◌, ◌↔◌, ◌<◌, ℕ, All, IfOk, IfSome, List, OnOk, Some, map};
 ghost use Rattle.std.specs.List.{Contains};
 ghost use Rattle.std.specs.BTreeMap as tree_map;
+ghost use Rattle.frame_turns.specs.Between.{rows_at};
 ghost use Rattle.frame_turns.specs.ByUnit.{addresses_under};
-ghost use Rattle.frame_turns.specs.Given.{AreTurnsIn, AreTurnsOf, AreTurnsWithUnits, Takes, TurnRecord};
+ghost use Rattle.frame_turns.specs.Given.{AreTurnsIn, AreTurnsOf, AreTurnsWithUnits, Takes, TurnRecord, without_frames};
 ghost use Rattle.frame_turns.specs.UnitSteps.{AreUnitSteps, IsStep};
+ghost use Rattle.source_frames.specs.FrameViews.{lines_view};
+ghost use Rattle.source_frames.specs.AddressFrames.{rows_of};
+ghost use Rattle.row_steps.specs.RowSteps.{AreRowSteps};
 ghost use Rattle.source_frames.specs.SectionsViews.{sections_view};
 
 use crate::ascending::ascending;
 use crate::by_unit::{ByUnit, by_unit, take_unit};
-use crate::giving::{give_frames, give_without};
-use crate::own_turns::own_turns;
+use crate::merging::UnitParts;
 use crate::taker::FrameTaker;
 use crate::unit_steps::UnitSteps;
 use dwarf_numbers::Units;
 use macho_image::Image;
 use memory::{Heap, NoMemory};
+use row_steps::RowSteps;
 use source_frames::{DebugInfo, UnitLines};
+
+/// A unit: where its program stands, its offset, and its boundaries.
+#[derive(Drop)]
+struct UnitBoundaries {
+    program: u64,
+    place: u64,
+    boundaries: Vec<u64, Heap>,
+}
+
+/// The rows of the program that was run last.
+#[derive(Drop)]
+struct LastRows {
+    program: Option<u64>,
+    rows: RowSteps,
+}
+
+/// Gives addresses without frames.
+fn give_without<'a, T: FrameTaker<'a>>(taker: &mut T, addresses: &[u64]) -> Result<(), NoMemory>
+    ensures { OnOk result (Takes (T.has_taken taker.old) (T.has_taken taker.new)
+        (map (λ a. without_frames a) addresses.now)) }
+{
+    let none = taker.no_frames();
+    for address in addresses {
+        taker.take(*address, none)?;
+    }
+    Ok(())
+}
+
+impl LastRows {
+    /// Those of the program at an offset, which a unit has.
+    fn run(
+        &mut self,
+        heap: Heap,
+        lines: &UnitLines<'_>,
+        program: Option<u64>,
+    ) -> Result<(), NoMemory>
+        requires { IfSome lines.now.program (λ p. 0 < p.header.line_range) }
+    {
+        if self.program.is_some() && self.program == program {
+            return Ok(());
+        }
+        self.rows = RowSteps::of(heap, lines)?;
+        self.program = program;
+        Ok(())
+    }
+}
 
 /// Gives the turns whose unit is the one at an offset, with their frames. Its boundaries are given.
 fn give_unit<'a, T: FrameTaker<'a>>(
@@ -25,28 +75,55 @@ fn give_unit<'a, T: FrameTaker<'a>>(
     info: &DebugInfo<'a>,
     line_units: &Units<'a>,
     steps: &UnitSteps,
-    place: u64,
-    boundaries: Vec<u64, Heap>,
+    of: &UnitBoundaries,
+    last: &mut LastRows,
     taker: &mut T,
 ) -> Result<(), NoMemory>
     requires lines { line_units.now ≡ info.now.sections.debug_line.now }
     requires steps { AreUnitSteps (sections_view info.now.sections) steps.now.starts.items steps.now.places.items }
-    requires boundaries { (a : ℕ) → Contains boundaries.items a
-        ↔ IsStep steps.now.starts.items steps.now.places.items a (Some place) }
-    ensures { OnOk result ((given : List TurnRecord)
+    requires boundaries { (a : ℕ) → Contains of.now.boundaries.items a
+        ↔ IsStep steps.now.starts.items steps.now.places.items a (Some of.now.place) }
+    requires last { AreRowSteps (rows_at (sections_view info.now.sections) last.old.program) last.old.rows.starts.items
+        last.old.rows.rows.items }
+    ensures given { OnOk result ((given : List TurnRecord)
         × Takes (T.has_taken taker.old) (T.has_taken taker.new) given
-        × AreTurnsIn (sections_view info.now.sections) (Some place) given) }
+        × AreTurnsIn (sections_view info.now.sections) (Some of.now.place) given) }
+    ensures last { OnOk result (AreRowSteps (rows_at (sections_view info.now.sections) last.new.program)
+        last.new.rows.starts.items last.new.rows.rows.items) }
 {
-    let Some(unit) = info.unit_at(place) else {
-        let turns = ascending(boundaries);
-        give_without(taker, &turns)?;
-        return Ok(());
+    let Some(unit) = info.unit_at(of.place) else {
+        return give_without(taker, &of.boundaries);
     };
     let lines = UnitLines::read(heap.clone()?, &info.sections, line_units, &unit)?;
-    let turns = own_turns(heap.clone()?, info, steps, place, &unit, &lines, boundaries)?;
-    let frames = info.frames_in_unit(heap, &lines, &unit, &turns)?;
-    give_frames(taker, &frames, &turns)?;
-    Ok(())
+    last.run(heap.clone()?, &lines, unit.program_offset())?;
+    let mut parts = UnitParts::read(heap, info, &unit, &lines, taker)?;
+    parts.give_all(&lines, &last.rows, steps, &of.boundaries, taker)
+}
+
+/// The offset of the program of the unit at an offset; units without one come last.
+fn program_at(info: &DebugInfo<'_>, place: u64) -> u64 {
+    match info.unit_at(place) {
+        Some(unit) => unit.program_offset().unwrap_or(u64::MAX),
+        None => u64::MAX,
+    }
+}
+
+/// The units, in the order of their programs, each with its boundaries, which ascend.
+fn by_program(
+    heap: Heap,
+    info: &DebugInfo<'_>,
+    mut by_unit: ByUnit,
+) -> Result<Vec<UnitBoundaries, Heap>, NoMemory> {
+    let mut all = Vec::new(heap);
+    'units: while let Some((place, list)) = take_unit(&mut by_unit) {
+        all.push(UnitBoundaries {
+            program: program_at(info, place),
+            place,
+            boundaries: ascending(list.addresses),
+        })?;
+    }
+    all.sort_unstable_by_key(|unit| unit.program);
+    Ok(all)
 }
 
 /// Gives the turns that have a unit, one unit after another, with their frames. The boundaries are given.
@@ -55,7 +132,7 @@ fn give_units<'a, T: FrameTaker<'a>>(
     info: &DebugInfo<'a>,
     line_units: &Units<'a>,
     steps: &UnitSteps,
-    mut by_unit: ByUnit,
+    by_unit: ByUnit,
     taker: &mut T,
 ) -> Result<(), NoMemory>
     requires lines { line_units.now ≡ info.now.sections.debug_line.now }
@@ -66,14 +143,19 @@ fn give_units<'a, T: FrameTaker<'a>>(
         × Takes (T.has_taken taker.old) (T.has_taken taker.new) given
         × AreTurnsWithUnits (sections_view info.now.sections) given) }
 {
-    'units: while let Some((place, list)) = take_unit(&mut by_unit) {
+    let all = by_program(heap.clone()?, info, by_unit)?;
+    let mut last = LastRows {
+        program: None,
+        rows: RowSteps::none(heap.clone()?)?,
+    };
+    for unit in all.iter() {
         give_unit(
             heap.clone()?,
             info,
             line_units,
             steps,
-            place,
-            list.addresses,
+            unit,
+            &mut last,
             taker,
         )?;
     }
@@ -82,8 +164,9 @@ fn give_units<'a, T: FrameTaker<'a>>(
 
 /// Gives each turn of an image, once, with its frames: first those that have no unit, and so no frames, then those of
 /// one unit after another. `__debug_aranges`, the declarations and the first entries of units are read for all
-/// together. Each unit that has a turn is read twice, and its program is run twice, also where several units have one
-/// program. It takes the memory of the boundaries of units, and of the turns and frames of one unit.
+/// together. Each unit that has a turn is read once. Units come in the order of their programs, and each program is run
+/// twice, however many units have it. It takes the memory of the boundaries of units, of the links of one unit, and of
+/// the rows of one program.
 pub fn give_turns<'a, T: FrameTaker<'a>>(
     heap: Heap,
     image: &Image<'a>,

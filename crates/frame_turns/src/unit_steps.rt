@@ -2,6 +2,7 @@
 
 ghost use Rattle.std.specs.Prelude.{◌≡◌, ◌≤◌, IfOk, false, length, nat_le, true};
 ghost use Rattle.std.specs.List.Sorted.{IsPartitionPoint};
+ghost use Rattle.frame_turns.specs.Between.{IsNextAbove};
 ghost use Rattle.frame_turns.specs.Turns.{AreAscending};
 ghost use Rattle.frame_turns.specs.UnitSteps.{AreUnitSteps};
 ghost use Rattle.source_frames.specs.DebugSections.{DebugSectionsRecord};
@@ -54,5 +55,12 @@ impl UnitSteps {
             return None;
         }
         self.places[count - 1]
+    }
+
+    /// The first boundary after an address.
+    pub fn after(&self, address: u64) -> Option<u64>
+        ensures { AreAscending self.now.starts.items → IsNextAbove self.now.starts.items address result }
+    {
+        self.starts.get(count_to(&self.starts, address)).copied()
     }
 }

@@ -5,6 +5,11 @@ use Rattle.line_writing.specs.Kept.{KeptRecord}
 use Rattle.line_writing.specs.StepViews.{step_of}
 use Rattle.line_writing.specs.declared.step.Step.{Step}
 
+-- a store: the frames of addresses as they came, unless one is too wide, and what frames have, told by number
+pub record StoreRecord : Type 0 where
+  pub taken : Option (List StepRecord)
+  pub kept : KeptRecord
+
 -- the steps that were taken, unless one is too wide
 abbrev pub taken : Bool → KeptRecord → List Step → Option (List StepRecord)
 taken true k steps = None

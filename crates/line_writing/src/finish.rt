@@ -104,7 +104,7 @@ impl<'a> LineStore<'a> {
     /// that has no lines. It takes the time of a sort of the addresses, and the memory of the table, of the steps and
     /// of 8 bytes for each thing that is kept.
     pub fn finish(self, heap: Heap, room: u64) -> Result<Vec<u8, Heap>, NoMemory>
-        ensures { IfOk result (λ bytes. IsWritten room self.entry bytes.items) }
+        ensures { IfOk result (λ bytes. IsWritten room self.entry.taken bytes.items) }
     {
         let LineStore {
             kept,

@@ -46,7 +46,7 @@ impl<'a> Kept<'a> {
     }
 
     /// The number of a name, or 0.
-    fn name(&mut self, name: Option<&'a [u8]>) -> Result<u32, NoMemory>
+    pub fn name(&mut self, name: Option<&'a [u8]>) -> Result<u32, NoMemory>
         ensures grows { Grows (kept_view self.old) (kept_view self.new) }
         ensures is { IfOk result (λ number. IsName (kept_view self.new) number (option_map (λ n. n.now) name.entry)) }
     {
@@ -72,7 +72,7 @@ impl<'a> Kept<'a> {
     }
 
     /// The number of a file, or 0.
-    fn file(&mut self, path: Option<PathParts<'a>>) -> Result<u32, NoMemory>
+    pub fn file(&mut self, path: Option<PathParts<'a>>) -> Result<u32, NoMemory>
         ensures grows { Grows (kept_view self.old) (kept_view self.new) }
         ensures is { IfOk result (λ number. IsFile (kept_view self.new) number (option_map path_view path.entry)) }
     {

@@ -1,15 +1,17 @@
 //! The frames of addresses, taken in any order.
 
-ghost use Rattle.std.specs.Prelude.{◌≡◌, IfOk, OnErr, OnOk, Some, [], map};
+ghost use Rattle.std.specs.Prelude.{◌≡◌, ◌∷◌, ℕ, IfOk, List, OnErr, OnOk, Option, Some, [], map};
 
 use crate::kept::Kept;
+use crate::keys::LocationKey;
 use crate::step::Step;
+use line_programs::PathParts;
 use memory::{Heap, NoMemory};
 use source_frames::Frame;
 use std::marker::Model;
 
-/// The frames of addresses. A contract sees those of each, as they came; none if a line or a column of one has more
-/// than four bytes.
+/// The frames of addresses. A contract sees those of each, as they came, or none if a line or a column of one has more
+/// than four bytes; and what frames have, which is told by number.
 #[derive(Drop)]
 pub struct LineStore<'a> {
     pub(crate) kept: Kept<'a>,
@@ -18,26 +20,36 @@ pub struct LineStore<'a> {
 }
 
 impl<'a> Model for LineStore<'a> {
-    ghost use Rattle.std.specs.Prelude.{List, Option};
-    ghost use Rattle.line_tables.specs.Steps.{StepRecord};
     ghost use Rattle.line_writing.specs.KeptViews.{kept_view};
     ghost use Rattle.line_writing.specs.StepViews.{HaveLocations};
-    ghost use Rattle.line_writing.specs.StoreViews.{taken};
+    ghost use Rattle.line_writing.specs.StoreViews.{StoreRecord, taken};
 
-    ghost Value = { Option (List StepRecord) };
+    ghost Value = { StoreRecord };
 
-    ghost view = { λ s. taken s.too_wide (kept_view s.kept) s.steps.items };
+    ghost view = { λ s. record {
+        taken = taken s.too_wide (kept_view s.kept) s.steps.items;
+        kept = kept_view s.kept;
+    } };
 
     ghost invariant = { λ s. HaveLocations (kept_view s.kept) s.steps.items };
 }
 
 impl<'a> LineStore<'a> {
+    ghost use Rattle.std.specs.Option.{option_map};
+    ghost use Rattle.line_programs.specs.Paths.{PathRecord};
+    ghost use Rattle.line_programs.specs.PathViews.{path_view};
+    ghost use Rattle.source_frames.specs.Frames.{FrameRecord};
     ghost use Rattle.source_frames.specs.FrameViews.{frame_view};
+    ghost use Rattle.line_writing.specs.Kept.{Grows, IsFile, IsName};
     ghost use Rattle.line_writing.specs.Lines.{after_step};
+    ghost use Rattle.line_writing.specs.Located.{IsLocated};
 
     /// No address.
     pub fn new(heap: Heap) -> Result<LineStore<'a>, NoMemory>
-        ensures { IfOk result (λ store. store ≡ Some []) }
+        ensures { IfOk result (λ store. store ≡ record {
+            taken = Some [];
+            kept = record { texts = []; files = []; locations = [] };
+        }) }
     {
         Ok(LineStore {
             kept: Kept::new(heap.clone()?)?,
@@ -53,9 +65,10 @@ impl<'a> LineStore<'a> {
     ///
     /// `NoMemory` if a growth was refused, or there are 2^32 texts, files or locations. Nothing is taken then.
     pub fn add(&mut self, address: u64, frames: &[Frame<'a>]) -> Result<(), NoMemory>
-        ensures added { OnOk result (self.new ≡ after_step self.old
+        ensures added { OnOk result (self.new.taken ≡ after_step self.old.taken
             (record { start = address; frames = map (λ f. frame_view f) frames.now })) }
-        ensures unchanged { OnErr result (self.new ≡ self.old) }
+        ensures unchanged { OnErr result (self.new.taken ≡ self.old.taken) }
+        ensures grows { Grows self.old.kept self.new.kept }
     {
         if self.too_wide {
             return Ok(());
@@ -67,6 +80,81 @@ impl<'a> LineStore<'a> {
             })?,
             None => self.too_wide = true,
         }
+        Ok(())
+    }
+
+    /// The number of a name, or of none (0). It takes the time of a search, and the memory of a name that has not come
+    /// before.
+    pub fn name(&mut self, name: Option<&'a [u8]>) -> Result<u32, NoMemory>
+        ensures is { IfOk result (λ number. IsName self.new.kept number (option_map (λ n. n.now) name.entry)) }
+        ensures grows { Grows self.old.kept self.new.kept }
+        ensures taken { self.new.taken ≡ self.old.taken }
+    {
+        self.kept.name(name)
+    }
+
+    /// The number of a path, or of none (0). It takes the time of four searches, and the memory of what has not come
+    /// before.
+    pub fn path(&mut self, path: Option<PathParts<'a>>) -> Result<u32, NoMemory>
+        ensures is { IfOk result (λ number. IsFile self.new.kept number (option_map path_view path.entry)) }
+        ensures grows { Grows self.old.kept self.new.kept }
+        ensures taken { self.new.taken ≡ self.old.taken }
+    {
+        self.kept.file(path)
+    }
+
+    /// The number of a frame and of those that it is inlined into; `None` if a line or a column has more than four
+    /// bytes. It takes the time of a search, and the memory of a location that has not come before.
+    pub fn frames(
+        &mut self,
+        name: u32,
+        path: u32,
+        line: u64,
+        column: u64,
+        callers: Option<u32>,
+    ) -> Result<Option<u32>, NoMemory>
+        requires name { (n : Option (List ℕ)) × IsName self.old.kept name n }
+        requires path { (p : Option PathRecord) × IsFile self.old.kept path p }
+        requires callers { (outer : List FrameRecord) × IsLocated self.old.kept outer callers }
+        ensures is { IfOk result (λ number.
+            (n : Option (List ℕ)) (p : Option PathRecord) (outer : List FrameRecord) → IsName self.old.kept name n
+            → IsFile self.old.kept path p → IsLocated self.old.kept outer callers
+            → IsLocated self.new.kept (record { name = n; path = p; line = line; column = column } ∷ outer) number) }
+        ensures grows { Grows self.old.kept self.new.kept }
+        ensures taken { self.new.taken ≡ self.old.taken }
+    {
+        let (Ok(line), Ok(column)) = (u32::try_from(line), u32::try_from(column)) else {
+            return Ok(None);
+        };
+        let Some(caller) = callers else {
+            return Ok(None);
+        };
+        let number = self.kept.locations.number(LocationKey {
+            name,
+            file: path,
+            line,
+            column,
+            caller,
+        })?;
+        Ok(Some(number))
+    }
+
+    /// Takes an address and the number of its frames; an address is to come once. It takes the memory of 16 bytes.
+    pub fn add_frames(&mut self, address: u64, number: Option<u32>) -> Result<(), NoMemory>
+        requires { (frames : List FrameRecord) × IsLocated self.old.kept frames number }
+        ensures added { OnOk result ((frames : List FrameRecord) → IsLocated self.old.kept frames number
+            → self.new.taken ≡ after_step self.old.taken (record { start = address; frames = frames })) }
+        ensures kept { self.new.kept ≡ self.old.kept }
+        ensures unchanged { OnErr result (self.new ≡ self.old) }
+    {
+        let Some(location) = number else {
+            self.too_wide = true;
+            return Ok(());
+        };
+        self.steps.push(Step {
+            start: address,
+            location,
+        })?;
         Ok(())
     }
 }

@@ -1,0 +1,6 @@
+pub mod LinkFrameLemmas
+pub mod AfterLemmas
+pub mod ChainLemmas
+pub mod MakingLemmas
+pub mod TakingLemmas
+pub mod StartLemmas

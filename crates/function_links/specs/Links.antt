@@ -1,0 +1,81 @@
+-- The functions of the chains of addresses, as links that addresses share.
+use Rattle.std.specs.Prelude.{ℕ, zero, suc, Bool, List, [], ◌∷◌, ◌++◌, ◌≡◌, ◌<◌, ◌+◌, ◌↔◌, length, flat_map, nat_le, slice_get}
+use Rattle.std.specs.Prelude.{reverse, if◌then◌else◌, Option, Some, None, ◌==◌}
+use Rattle.std.specs.List.{Contains}
+use Rattle.std.specs.Option.{option_map}
+use Rattle.code_ranges.specs.declared.range.CodeRange.{CodeRange}
+use Rattle.debug_entries.specs.Entries.{EntryRecord}
+use Rattle.row_steps.specs.AddressSteps.{at_step}
+use Rattle.source_frames.specs.DebugSections.{DebugSectionsRecord}
+use Rattle.source_frames.specs.DebugUnits.{UnitRecord}
+use Rattle.source_frames.specs.Frames.{FrameRecord, path_in, place_of_call, place_of_row}
+use Rattle.source_frames.specs.Names.{IsName}
+use Rattle.waiting_indexes.specs.Rising.{AreRising}
+use Rattle.source_frames.specs.Scopes.{IsChain, ScopeRecord, scopes_of}
+use Rattle.source_frames.specs.UnitLines.{LinesRecord}
+use Rattle.source_frames.specs.declared.frame.Place.{Place}
+use Rattle.line_programs.specs.declared.registers.Row.{Row}
+
+-- a link: the name of a function, the place of the call that it is, and the number of the link that it stands in, from
+-- 1 on, or 0
+pub record LinkRecord : Type 0 where
+  pub name : Option (List ℕ)
+  pub call : Place
+  pub caller : ℕ
+
+-- the link of a number, from 1 on
+abbrev pub link_at : List LinkRecord → ℕ → Option LinkRecord
+link_at links zero = None
+link_at links (suc index) = slice_get links index
+
+-- the number is that of entries, the innermost first, each in the next one; 0 has none
+abbrev pub AreEntriesOfLink :
+    DebugSectionsRecord → UnitRecord → List LinkRecord → ℕ → List EntryRecord → Type 0
+AreEntriesOfLink sections unit links number [] = number ≡ 0
+AreEntriesOfLink sections unit links number (e ∷ es) =
+    (link : LinkRecord) × (link_at links number ≡ Some link) × (link.caller < number)
+    × IsName sections (record { unit = unit; entry = e }) link.name × (link.call ≡ place_of_call e)
+    × AreEntriesOfLink sections unit links link.caller es
+
+-- the link of a number has the chain of an address
+pub record IsLinkOf (sections : DebugSectionsRecord) (unit : UnitRecord) (links : List LinkRecord) (address number : ℕ)
+    : Type 0 where
+  pub chain : List EntryRecord
+  pub contain : IsChain address (scopes_of sections unit) chain
+  pub are_entries : AreEntriesOfLink sections unit links number (reverse chain)
+
+-- where ranges begin and end
+abbrev pub ends_of_ranges : List CodeRange → List ℕ
+ends_of_ranges ranges = flat_map (λ range. range.low ∷ range.high ∷ []) ranges
+
+-- a step at exactly the addresses at which the ranges of functions begin or end, ascending, each with the number of the
+-- link of the addresses from there on up to the next one
+pub record AreLinkSteps (sections : DebugSectionsRecord) (unit : UnitRecord) (links : List LinkRecord)
+    (starts numbers : List ℕ) : Type 0 where
+  pub rising : AreRising starts
+  pub same : (a : ℕ) → Contains starts a
+      ↔ Contains (flat_map (λ scope. ends_of_ranges scope.ranges) (scopes_of sections unit)) a
+  pub count : length numbers ≡ length starts
+  pub each : (a : ℕ) → IsLinkOf sections unit links a (at_step 0 starts numbers a)
+
+-- the frame of a name at a place
+abbrev pub frame_at_place : LinesRecord → Option (List ℕ) → Place → FrameRecord
+frame_at_place lines name place =
+    record { name = name; path = path_in lines place.file; line = place.line; column = place.column }
+
+-- the frames of the link of a number, the innermost first, which is at a place; each further one is at the call that
+-- the one before it is
+abbrev pub AreFramesOfLink : LinesRecord → List LinkRecord → Place → ℕ → List FrameRecord → Type 0
+AreFramesOfLink lines links place number [] = number ≡ 0
+AreFramesOfLink lines links place number (f ∷ fs) =
+    (link : LinkRecord) × (link_at links number ≡ Some link) × (link.caller < number)
+    × (f ≡ frame_at_place lines link.name place)
+    × AreFramesOfLink lines links link.call link.caller fs
+
+-- the frames of a row and of the link of a number: without a link there is one without a name, if there is a row
+abbrev pub AreFramesOfRowAndLink : LinesRecord → List LinkRecord → Option Row → ℕ → List FrameRecord → Type 0
+AreFramesOfRowAndLink lines links None zero frames = frames ≡ []
+AreFramesOfRowAndLink lines links (Some row) zero frames =
+    frames ≡ frame_at_place lines None (place_of_row (Some row)) ∷ []
+AreFramesOfRowAndLink lines links row (suc index) frames =
+    AreFramesOfLink lines links (place_of_row row) (suc index) frames

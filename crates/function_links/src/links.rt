@@ -1,0 +1,107 @@
+//! The functions that contain each address of a unit, as links that addresses share.
+
+ghost use Rattle.std.specs.Prelude.{◌≡◌, ◌≤◌, ◌<◌, ◌+◌, ◌^◌, ◌↔◌, ℕ, IfOk, OnOk, length};
+ghost use Rattle.std.specs.List.{Contains};
+ghost use Rattle.function_links.specs.Links.{AreLinkSteps, ends_of_ranges};
+ghost use Rattle.function_links.specs.LinkViews.{links_view};
+ghost use Rattle.function_links.specs.Taking.{AreParts};
+ghost use Rattle.source_frames.specs.DebugSections.{DebugSectionsRecord};
+ghost use Rattle.source_frames.specs.DebugUnits.{UnitRecord};
+ghost use Rattle.source_frames.specs.SectionsViews.{sections_view};
+ghost use Rattle.source_frames.specs.UnitViews.{unit_view};
+ghost use Rattle.unit_functions.specs.UnitFunctions.{AreFunctions};
+ghost use Rattle.waiting_indexes.specs.Rising.{AreRising};
+
+use crate::making::Making;
+use crate::taking::Taking;
+use code_ranges::CodeRange;
+use memory::{Heap, NoMemory};
+use source_frames::{DebugInfo, DebugUnit, Place};
+use unit_functions::Functions;
+use waiting_indexes::{Waiting, sorted_once};
+
+/// A function in the link of the one that it stands in.
+#[derive(Clone, Copy)]
+pub struct Link<'a> {
+    /// The name of the function.
+    pub name: Option<&'a [u8]>,
+    /// The place of the call that it is.
+    pub call: Place,
+    /// The number of the link that it stands in, from 1 on, or 0.
+    pub caller: usize,
+    /// The index of the function.
+    pub(crate) function: usize,
+    /// The number of the last link that stands in it, or 0.
+    pub(crate) child: usize,
+    /// How many links there are from it on to the outermost.
+    pub(crate) count: usize,
+}
+
+/// The links of a unit: from each start on, up to the next one, addresses have the link of a number, from 1 on, or none
+/// (0).
+#[derive(Drop)]
+pub struct Links<'a> {
+    pub links: Vec<Link<'a>, Heap>,
+    pub starts: Vec<u64, Heap>,
+    pub numbers: Vec<usize, Heap>,
+}
+
+/// Where ranges begin and end, ascending, each once.
+fn starts_of(heap: Heap, ranges: &[CodeRange]) -> Result<Vec<u64, Heap>, NoMemory>
+    ensures rising { IfOk result (λ starts. AreRising starts.items) }
+    ensures same { IfOk result (λ starts. (a : ℕ) → Contains starts.items a ↔ Contains (ends_of_ranges ranges.now) a) }
+{
+    let mut starts = Vec::new(heap);
+    for range in ranges {
+        starts.push(range.low)?;
+        starts.push(range.high)?;
+    }
+    Ok(sorted_once(starts))
+}
+
+impl<'a> Links<'a> {
+    /// The links of some functions.
+    fn of(heap: Heap, all: &Functions<'a>) -> Result<Links<'a>, NoMemory>
+        requires { AreParts all.now.functions.items all.now.ranges.items }
+        ensures { IfOk result (λ links. (sections : DebugSectionsRecord) (unit : UnitRecord)
+            → AreFunctions sections unit all.now.functions.items all.now.ranges.items
+            → AreLinkSteps sections unit (links_view links.links.items) links.starts.items links.numbers.items) }
+    {
+        let starts = starts_of(heap.clone()?, &all.ranges)?;
+        let count = starts.len();
+        let waiting = Waiting::new(heap.clone()?, count)?;
+        let making = Making {
+            all,
+            links: Vec::new(heap.clone()?),
+            last: 0,
+        };
+        let mut taking = Taking {
+            making,
+            starts,
+            numbers: vec![in heap; 0; count]?,
+            waiting,
+        };
+        taking.take_all()?;
+        Ok(Links {
+            links: taking.making.links,
+            starts: taking.starts,
+            numbers: taking.numbers,
+        })
+    }
+
+    /// The links of a unit, of whose functions and ranges it takes the memory. An address that lies in ranges of
+    /// functions that stand in each other costs its link once: it takes the time of the unit, which is read once, of a
+    /// sort of where ranges begin and end, and of up to 256 functions for each of these addresses.
+    pub fn read(
+        heap: Heap,
+        info: &DebugInfo<'a>,
+        unit: &DebugUnit<'a>,
+    ) -> Result<Links<'a>, NoMemory>
+        requires { unit.now.header.entries_offset ≤ length unit.now.bytes.now }
+        ensures { IfOk result (λ links. AreLinkSteps (sections_view info.now.sections) (unit_view unit.now)
+            (links_view links.links.items) links.starts.items links.numbers.items) }
+    {
+        let functions = Functions::read(heap.clone()?, info, unit)?;
+        Links::of(heap, &functions)
+    }
+}

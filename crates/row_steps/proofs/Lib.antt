@@ -1,0 +1,2 @@
+pub mod CoverLemmas
+pub mod RowStepLemmas

@@ -1,0 +1,9 @@
+-- What is at each address, told at the addresses from which on it may be another.
+use Rattle.std.specs.Prelude.{ℕ, List, [], ◌∷◌, nat_lt, if◌then◌else◌}
+
+-- what is at an address by steps: that of the last start that is not above it, and this before the first
+unfoldable pub at_step : {A : Type 0} → A → List ℕ → List A → ℕ → A
+at_step before [] values address = before
+at_step before (start ∷ starts) [] address = before
+at_step before (start ∷ starts) (value ∷ values) address =
+    if nat_lt address start then before else at_step value starts values address

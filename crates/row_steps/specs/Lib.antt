@@ -1,0 +1,3 @@
+pub mod AddressSteps
+pub mod RowSteps
+pub mod RowCover

@@ -1,0 +1,149 @@
+//! The functions of a unit, and the ranges of their code.
+
+ghost use Rattle.std.specs.Prelude.{◌≡◌, ◌≤◌, ◌++◌, IfOk, OnOk, length, true};
+ghost use Rattle.code_ranges.specs.UnitViews.{unit_view as ranges_view};
+ghost use Rattle.debug_entries.specs.EntryViews.{unread_view};
+ghost use Rattle.source_frames.specs.Scopes.{left_after_scope};
+ghost use Rattle.source_frames.specs.SectionsViews.{sections_view};
+ghost use Rattle.unit_functions.specs.UnitFunctions.{AreFunctions};
+ghost use Rattle.source_frames.specs.UnitViews.{unit_view};
+
+use code_ranges::{CodeRange, Ranges, UnitRanges};
+use debug_entries::{Entries, Entry, UnreadEntry};
+use memory::{Heap, NoMemory};
+use source_frames::{DebugInfo, DebugUnit, Place, UnitEntry, is_function, scope_ranges};
+
+/// A function of a unit.
+#[derive(Clone, Copy)]
+pub struct Function<'a> {
+    /// Its name.
+    pub name: Option<&'a [u8]>,
+    /// The place of the call that it is.
+    pub call: Place,
+    /// How many functions there are up to the last that stands in it.
+    pub end: usize,
+    /// How many ranges there are up to its last.
+    pub ranges_end: usize,
+}
+
+/// A function in which further ones may stand: its depth and its index.
+#[derive(Clone, Copy)]
+pub struct Open {
+    pub depth: usize,
+    pub index: usize,
+}
+
+/// The functions of a unit that have ranges, in the order of their entries.
+#[derive(Drop)]
+pub struct Functions<'a> {
+    pub functions: Vec<Function<'a>, Heap>,
+    pub ranges: Vec<CodeRange, Heap>,
+}
+
+/// Adds ranges.
+fn push_ranges(all: &mut Vec<CodeRange, Heap>, ranges: Ranges<'_>) -> Result<(), NoMemory>
+    ensures { OnOk result (all.new.items ≡ all.old.items ++ ranges.entry) }
+{
+    for range in ranges {
+        all.push(range)?;
+    }
+    Ok(())
+}
+
+impl<'a> Functions<'a> {
+    /// Closes the functions in which an entry of a depth does not stand.
+    fn close(&mut self, open: &mut Vec<Open, Heap>, depth: usize) {
+        let count = self.functions.len();
+        let mut left = open.len();
+        'open: while left > 0 && open[left - 1].depth >= depth {
+            self.functions[open[left - 1].index].end = count;
+            left -= 1;
+        }
+        open.truncate(left);
+    }
+
+    /// Adds an entry that is of a function, if it has ranges.
+    fn push_entry(
+        &mut self,
+        info: &DebugInfo<'a>,
+        unit: &DebugUnit<'a>,
+        open: &mut Vec<Open, Heap>,
+        depth: usize,
+        entry: Entry<'a>,
+        ranges: Ranges<'a>,
+    ) -> Result<(), NoMemory> {
+        let before = self.ranges.len();
+        push_ranges(&mut self.ranges, ranges)?;
+        if self.ranges.len() == before {
+            return Ok(());
+        }
+        let index = self.functions.len();
+        let call = Place::of_call(&entry);
+        let of = UnitEntry { unit: *unit, entry };
+        self.functions.push(Function {
+            name: info.name_of(&of),
+            call,
+            end: index + 1,
+            ranges_end: self.ranges.len(),
+        })?;
+        open.push(Open { depth, index })?;
+        Ok(())
+    }
+
+    /// Adds an entry of a depth, if it is of a function and has ranges. Of its list, `left` entries count at most, and
+    /// `left` is then how many more may count.
+    fn take(
+        &mut self,
+        info: &DebugInfo<'a>,
+        unit: &DebugUnit<'a>,
+        ranges: &UnitRanges<'a>,
+        left: &mut u128,
+        open: &mut Vec<Open, Heap>,
+        depth: usize,
+        entry: &UnreadEntry<'_, 'a>,
+    ) -> Result<(), NoMemory>
+        ensures { OnOk result (left.new
+            ≡ left_after_scope (ranges_view ranges.now) left.old (unread_view entry.now)) }
+    {
+        self.close(open, depth);
+        if !is_function(entry) {
+            return Ok(());
+        }
+        let entry = entry.read();
+        let own = scope_ranges(ranges, &entry, left);
+        self.push_entry(info, unit, open, depth, entry, own)
+    }
+
+    /// The functions of a unit. It takes the time of the unit, which is read once, and of their names, and the memory
+    /// of 100 bytes for each and of 16 for each of their ranges.
+    pub fn read(
+        heap: Heap,
+        info: &DebugInfo<'a>,
+        unit: &DebugUnit<'a>,
+    ) -> Result<Functions<'a>, NoMemory>
+        requires { unit.now.header.entries_offset ≤ length unit.now.bytes.now }
+        ensures { IfOk result (λ all. AreFunctions (sections_view info.now.sections) (unit_view unit.now)
+            all.functions.items all.ranges.items) }
+    {
+        let ranges = unit.unit_ranges(&info.sections);
+        let mut left = unit.entries_of_lists();
+        let mut all = Functions {
+            functions: Vec::new(heap.clone()?),
+            ranges: Vec::new(heap.clone()?),
+        };
+        let mut open = Vec::new(heap);
+        for placed in Entries::of(&info.abbreviations, unit.header, unit.bytes) {
+            all.take(
+                info,
+                unit,
+                &ranges,
+                &mut left,
+                &mut open,
+                placed.depth,
+                &placed.entry,
+            )?;
+        }
+        all.close(&mut open, 0);
+        Ok(all)
+    }
+}

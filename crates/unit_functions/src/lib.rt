@@ -1,0 +1,6 @@
+//! The functions of a unit that have ranges of code: [`Functions`], in the order of their entries.
+#![tactic(auto)]
+
+mod functions;
+
+pub use functions::{Function, Functions};
