@@ -1,9 +1,9 @@
 //! A store of lines as a taker of turns.
 
 use frame_turns::FrameTaker;
+use line_programs::PathParts;
 use line_writing::LineStore;
 use memory::NoMemory;
-use line_programs::PathParts;
 
 /// A store that takes turns.
 #[derive(Drop)]
@@ -20,7 +20,9 @@ impl<'a> FrameTaker<'a> for StoreTaker<'a> {
 
     // The store tells of names, paths and frames.
     ghost tells_name = { λ taker number name. IsName taker.store.kept number name };
+
     ghost tells_path = { λ taker number path. IsFile taker.store.kept number path };
+
     ghost tells_frames = { λ taker number frames. IsLocated taker.store.kept frames number };
 
     // The store has taken the frames of each of the turns.
@@ -35,7 +37,7 @@ impl<'a> FrameTaker<'a> for StoreTaker<'a> {
     }
 
     fn no_frames(&self) -> Option<u32> {
-        Some(0)
+        self.store.no_frames()
     }
 
     fn frames(

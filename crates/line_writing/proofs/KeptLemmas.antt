@@ -1,5 +1,5 @@
 -- What is kept of frames: each thing once, told by number.
-use Rattle.std.proofs.Common.{◌≡◌, ℕ, zero, suc, ◌<◌, ◌≤◌, ◌^◌, true, false, List, [], ◌∷◌, ◌++◌, map, length, slice_get, get_or, Some, refl, sym, ap, ◌∙◌, inl, inr, arith, ◌⊎◌, subst}
+use Rattle.std.proofs.Common.{◌≡◌, ℕ, zero, suc, ◌<◌, ◌≤◌, ◌^◌, true, false, List, [], ◌∷◌, ◌++◌, map, length, slice_get, get_or, Option, Some, refl, sym, ap, ◌∙◌, inl, inr, arith, ◌⊎◌, subst}
 use Rattle.std.specs.Ordering.{is_eq}
 use Rattle.std.specs.declared.cmp.Ordering.{Ordering}
 use Rattle.std.proofs.lemmas.Bool.{cases_eq}
@@ -314,47 +314,54 @@ is_file k new key n path h is = record {
   is = at_some (file_at (record k { files = new })) n h.is_number.some ∙ ap (λ f. Some (path_of_key k f)) h.is ∙ ap Some is.is;
 }
 
--- the location of a frame
-module _ (zero_k one_k two_k : KeptRecord) (kept : IsKept zero_k) (kept_two : IsKept two_k) (first : Grows zero_k one_k) (second : Grows one_k two_k) (name file line column caller : ℕ) (frame : FrameRecord)
-    (is_name : IsName one_k name frame.name) (is_path : IsFile two_k file frame.path) (is_line : line ≡ frame.line) (is_column : column ≡ frame.column) (line_fits : line < 2 ^ 32) (column_fits : column < 2 ^ 32)
-    (is_caller : caller ≤ length zero_k.locations) (new : List LocationKey) (n : ℕ)
-    (h : IsNumberedIn (record { name = 0; file = 0; line = 0; column = 0; caller = 0 }) two_k.locations (record { name = name; file = file; line = line; column = column; caller = caller }) n new) where
-  key_of : IsLocationKey two_k (suc (length two_k.locations)) (record { name = name; file = file; line = line; column = column; caller = caller })
-  key_of = record {
-    name = omega (arith, is_name.within, longer_on one_k.texts two_k.texts second.texts);
-    file = is_path.within;
-    caller = omega (arith, is_caller, longer_on zero_k.locations one_k.locations first.locations, longer_on one_k.locations two_k.locations second.locations);
-    line = line_fits;
-    column = column_fits;
+-- a location more
+module _ (k : KeptRecord) (kept : IsKept k) (key : LocationKey) (name : key.name ≤ length k.texts) (file : key.file ≤ length k.files) (caller : key.caller ≤ length k.locations) (line : key.line < 2 ^ 32) (column : key.column < 2 ^ 32)
+    (new : List LocationKey) (n : ℕ) (h : IsNumberedIn (record { name = 0; file = 0; line = 0; column = 0; caller = 0 }) k.locations key n new) where
+  pub located_kept : IsKept (record k { locations = new })
+  located_kept = location_kept k kept new key n h (record { name = name; file = file; caller = omega (arith, caller); line = line; column = column })
+
+  pub located_grows : Grows k (record k { locations = new })
+  located_grows = record {
+    texts = stays k.texts k.texts refl;
+    files = stays k.files k.files refl;
+    locations = goes_on (record { name = 0; file = 0; line = 0; column = 0; caller = 0 }) k.locations key n new h;
   }
 
-  pub located_kept : IsKept (record two_k { locations = new })
-  located_kept = location_kept two_k kept_two new (record { name = name; file = file; line = line; column = column; caller = caller }) n h key_of
-
-  pub located_grows : Grows zero_k (record two_k { locations = new })
-  located_grows = grows_on zero_k two_k (record two_k { locations = new }) (grows_on zero_k one_k two_k first second)
-      (record {
-        texts = stays two_k.texts two_k.texts refl;
-        files = stays two_k.files two_k.files refl;
-        locations = goes_on (record { name = 0; file = 0; line = 0; column = 0; caller = 0 }) two_k.locations (record { name = name; file = file; line = line; column = column; caller = caller }) n new h;
-      })
-
-  frame_is : frame_of_key two_k (record { name = name; file = file; line = line; column = column; caller = caller }) ≡ frame
-  frame_is = λ i. record {
-    name = (at_same (text_at two_k) (text_at one_k) name (λ some. text_same one_k two_k second name is_name.within) ∙ is_name.is) i;
-    path = is_path.is i;
-    line = is_line i;
-    column = is_column i;
-  }
-
-  step_at : (m : ℕ) → n ≡ m → IsNumber (length new) m → chain_at (record two_k { locations = new }) m ≡ frame ∷ chain_at zero_k caller
+  step_at : (m : ℕ) → n ≡ m → IsNumber (length new) m → chain_at (record k { locations = new }) m ≡ frame_of_key k key ∷ chain_at k key.caller
   step_at zero e is = absurd (omega (arith, is.some))
   step_at (suc i) e is =
-      let key : location_key_at (record two_k { locations = new }) (suc i) ≡ record { name = name; file = file; line = line; column = column; caller = caller } =
-      ap (numbered_or new (record { name = 0; file = 0; line = 0; column = 0; caller = 0 })) (sym e) ∙ h.is in
-      chain_step (record two_k { locations = new }) located_kept i is.within
-      ∙ ap (λ (q : LocationKey). frame_of_key two_k q ∷ chain_at (record two_k { locations = new }) q.caller) key
-      ∙ (λ j. frame_is j ∷ chain_same zero_k (record two_k { locations = new }) located_grows kept caller is_caller j)
+      let here : location_key_at (record k { locations = new }) (suc i) ≡ key = ap (numbered_or new (record { name = 0; file = 0; line = 0; column = 0; caller = 0 })) (sym e) ∙ h.is in
+      chain_step (record k { locations = new }) located_kept i is.within
+      ∙ ap (λ (q : LocationKey). frame_of_key k q ∷ chain_at (record k { locations = new }) q.caller) here
+      ∙ ap (λ fs. frame_of_key k key ∷ fs) (chain_same k (record k { locations = new }) located_grows kept key.caller caller)
 
-  pub located : IsLocation (record two_k { locations = new }) n (frame ∷ chain_at zero_k caller)
+  pub located : IsLocation (record k { locations = new }) n (frame_of_key k key ∷ chain_at k key.caller)
   located = record { within = h.is_number.within; is = step_at n refl h.is_number }
+
+-- the frames of a location, by those of its key
+pub location_of : (k new : KeptRecord) (key : LocationKey) (frame : FrameRecord) (outer : List FrameRecord) (n : ℕ) → at_number (text_at k) key.name ≡ frame.name → at_number (file_at k) key.file ≡ frame.path
+    → key.line ≡ frame.line → key.column ≡ frame.column → chain_at k key.caller ≡ outer → IsLocation new n (frame_of_key k key ∷ chain_at k key.caller) → IsLocation new n (frame ∷ outer)
+location_of k new key frame outer n name path line column callers is =
+    let here : frame_of_key k key ≡ frame = λ i. record { name = name i; path = path i; line = line i; column = column i } in
+    record { within = is.within; is = is.is ∙ (λ i. here i ∷ callers i) }
+
+-- ---- what numbers told of they still tell of
+
+module _ (old new : KeptRecord) (kept : IsKept old) (grows : Grows old new) where
+  pub name_stays : (number : ℕ) (name : Option (List ℕ)) → IsName old number name → IsName new number name
+  name_stays number name is = record {
+    within = omega (arith, is.within, longer_on old.texts new.texts grows.texts);
+    is = at_same (text_at new) (text_at old) number (λ some. text_same old new grows number is.within) ∙ is.is;
+  }
+
+  pub path_stays : (number : ℕ) (path : Option PathRecord) → IsFile old number path → IsFile new number path
+  path_stays number path is = record {
+    within = omega (arith, is.within, longer_on old.files new.files grows.files);
+    is = at_same (file_at new) (file_at old) number (λ some. file_same old new grows kept number (record { some = some; within = is.within })) ∙ is.is;
+  }
+
+  pub location_stays : (number : ℕ) (frames : List FrameRecord) → IsLocation old number frames → IsLocation new number frames
+  location_stays number frames is = record {
+    within = omega (arith, is.within, longer_on old.locations new.locations grows.locations);
+    is = chain_same old new grows kept number is.within ∙ is.is;
+  }

@@ -12,10 +12,11 @@ use Rattle.line_tables.specs.Steps.{StepRecord}
 use Rattle.line_tables.proofs.SameLemmas.{chain_decides}
 use Rattle.line_writing.specs.Kept.{Grows, IsKept, IsLocation, KeptRecord, chain_at}
 use Rattle.line_writing.specs.Lines.{AreLeastSteps, IsWritten, after_step, changes_after, have_few_lines}
+use Rattle.line_writing.specs.Located.{IsLocated, StillTells}
 use Rattle.line_writing.specs.StepViews.{HaveLocations, changed_after, step_of}
-use Rattle.line_writing.specs.StoreViews.{taken}
+use Rattle.line_writing.specs.StoreViews.{taken_steps}
 use Rattle.line_writing.specs.declared.step.Step.{Step}
-use Rattle.line_writing.proofs.KeptLemmas.{chain_none, chain_same, longer_on}
+use Rattle.line_writing.proofs.KeptLemmas.{chain_none, chain_same, location_stays, longer_on, name_stays, path_stays}
 use Rattle.line_writing.proofs.NumberedLemmas.{told_same}
 use Rattle.line_writing.proofs.ApartLemmas.{chain_apart}
 
@@ -33,13 +34,23 @@ module _ (old new : KeptRecord) (kept : IsKept old) (grows : Grows old new) wher
   locations_stay steps h =
       All-weaker (λ (t : Step). t.location ≤ length old.locations) (λ (t : Step). t.location ≤ length new.locations) (λ t within. omega (arith, within, longer_on old.locations new.locations grows.locations)) steps h
 
-  pub taken_same : (wide : Bool) (steps : List Step) (value : Option (List StepRecord)) → HaveLocations old steps → taken wide old steps ≡ value → taken wide new steps ≡ value
+  pub still_tells : StillTells old new
+  still_tells = record { names = name_stays old new kept grows; paths = path_stays old new kept grows; frames = frames_stay }
+    where
+      frames_stay : (number : Option ℕ) (frames : List FrameRecord) → IsLocated old frames number → IsLocated new frames number
+      frames_stay None frames is = is
+      frames_stay (Some number) frames is = (location_stays old new kept grows number frames is.0, is.1)
+
+  pub told_before : (value : KeptRecord) → old ≡ value → StillTells value new
+  told_before value e = subst (λ k. StillTells k new) e still_tells
+
+  pub taken_same : (wide : Bool) (steps : List Step) (value : Option (List StepRecord)) → HaveLocations old steps → taken_steps wide old steps ≡ value → taken_steps wide new steps ≡ value
   taken_same true steps value h e = e
   taken_same false steps value h e = ap Some (steps_same steps h) ∙ e
 
   -- one more
-  pub taken_more : (wide : Bool) (steps now : List Step) (value : Option (List StepRecord)) (start location : ℕ) (frames : List FrameRecord) → HaveLocations old steps → wide ≡ false → taken wide old steps ≡ value
-      → now ≡ steps ++ (record { start = start; location = location }) ∷ [] → IsLocation new location frames → have_few_lines frames ≡ true → taken wide new now ≡ after_step value (record { start = start; frames = frames })
+  pub taken_more : (wide : Bool) (steps now : List Step) (value : Option (List StepRecord)) (start location : ℕ) (frames : List FrameRecord) → HaveLocations old steps → wide ≡ false → taken_steps wide old steps ≡ value
+      → now ≡ steps ++ (record { start = start; location = location }) ∷ [] → IsLocation new location frames → have_few_lines frames ≡ true → taken_steps wide new now ≡ after_step value (record { start = start; frames = frames })
   taken_more true steps now value start location frames h not_wide e push is few = cc not_wide
   taken_more false steps now value start location frames h not_wide e push is few =
       let one : ◌≡◌ {A = StepRecord} (record { start = start; frames = chain_at new location }) (record { start = start; frames = frames }) = λ i. record { start = start; frames = is.is i } in
@@ -48,6 +59,9 @@ module _ (old new : KeptRecord) (kept : IsKept old) (grows : Grows old new) wher
       ap Some all
       ∙ ap (λ b. cond b (Some (map (step_of old) steps ++ (record { start = start; frames = frames }) ∷ [])) None) (sym few)
       ∙ ap (λ v. after_step v (record { start = start; frames = frames })) e
+
+pub no_frames_located : (k : KeptRecord) → IsLocated k [] (Some 0)
+no_frames_located k = (record { within = omega arith; is = chain_none k }, refl)
 
 -- ---- the least steps
 
@@ -100,11 +114,11 @@ module _ (k : KeptRecord) (kept : IsKept k) where
 
   -- ---- what is written
 
-  pub written : (room : ℕ) (wide : Bool) (steps changed : List Step) (value : Option (List StepRecord)) (bytes : List ℕ) → wide ≡ false → taken wide k steps ≡ value → AreLeastSteps (map (step_of k) steps) (map (step_of k) changed)
+  pub written : (room : ℕ) (wide : Bool) (steps changed : List Step) (value : Option (List StepRecord)) (bytes : List ℕ) → wide ≡ false → taken_steps wide k steps ≡ value → AreLeastSteps (map (step_of k) steps) (map (step_of k) changed)
       → IsLineTextWithin room (map (step_of k) changed) bytes → IsWritten room value bytes
   written room true steps changed value bytes not_wide e least text = cc not_wide
   written room false steps changed value bytes not_wide e least text = subst (λ v. IsWritten room v bytes) e (map (step_of k) changed, least, text)
 
-  pub written_none : (room : ℕ) (wide : Bool) (steps : List Step) (value : Option (List StepRecord)) (bytes : List ℕ) → wide ≡ true → taken wide k steps ≡ value → bytes ≡ no_lines → IsWritten room value bytes
+  pub written_none : (room : ℕ) (wide : Bool) (steps : List Step) (value : Option (List StepRecord)) (bytes : List ℕ) → wide ≡ true → taken_steps wide k steps ≡ value → bytes ≡ no_lines → IsWritten room value bytes
   written_none room true steps value bytes is e text = subst (λ v. IsWritten room v bytes) e text
   written_none room false steps value bytes is e text = cc is

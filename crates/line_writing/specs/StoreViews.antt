@@ -11,6 +11,6 @@ pub record StoreRecord : Type 0 where
   pub kept : KeptRecord
 
 -- the steps that were taken, unless one is too wide
-abbrev pub taken : Bool → KeptRecord → List Step → Option (List StepRecord)
-taken true k steps = None
-taken false k steps = Some (map (step_of k) steps)
+abbrev pub taken_steps : Bool → KeptRecord → List Step → Option (List StepRecord)
+taken_steps true k steps = None
+taken_steps false k steps = Some (map (step_of k) steps)

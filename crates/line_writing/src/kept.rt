@@ -24,6 +24,7 @@ impl<'a> Kept<'a> {
     ghost use Rattle.line_programs.specs.PathViews.{path_view};
     ghost use Rattle.source_frames.specs.FrameViews.{frame_view};
     ghost use Rattle.line_writing.specs.Kept.{Grows, IsFile, IsKeyOf, IsLocation, IsName, IsText, chain_at};
+    ghost use Rattle.line_writing.specs.Kept.{frame_of_key};
     ghost use Rattle.line_writing.specs.KeptViews.{kept_view};
 
     /// Nothing.
@@ -83,6 +84,18 @@ impl<'a> Kept<'a> {
         self.files.number(key)
     }
 
+    /// The number of a location, by what is kept of it.
+    pub fn location_number(&mut self, key: LocationKey) -> Result<u32, NoMemory>
+        requires name { key.name ≤ length (kept_view self.old).texts }
+        requires file { key.file ≤ length (kept_view self.old).files }
+        requires caller { key.caller ≤ length (kept_view self.old).locations }
+        ensures grows { Grows (kept_view self.old) (kept_view self.new) }
+        ensures is { IfOk result (λ number. IsLocation (kept_view self.new) number
+            (frame_of_key (kept_view self.old) key ∷ chain_at (kept_view self.old) key.caller)) }
+    {
+        self.locations.number(key)
+    }
+
     /// The number of the location of a frame that is inlined into another location, or into none (0).
     pub fn location(
         &mut self,
@@ -100,7 +113,7 @@ impl<'a> Kept<'a> {
     {
         let name = self.name(frame.name)?;
         let file = self.file(frame.path)?;
-        self.locations.number(LocationKey {
+        self.location_number(LocationKey {
             name,
             file,
             line,

@@ -22,13 +22,13 @@ pub struct LineStore<'a> {
 impl<'a> Model for LineStore<'a> {
     ghost use Rattle.line_writing.specs.KeptViews.{kept_view};
     ghost use Rattle.line_writing.specs.StepViews.{HaveLocations};
-    ghost use Rattle.line_writing.specs.StoreViews.{StoreRecord, taken};
+    ghost use Rattle.line_writing.specs.StoreViews.{StoreRecord, taken_steps};
 
     ghost Value = { StoreRecord };
 
     ghost view = { λ s. record {
-        taken = taken s.too_wide (kept_view s.kept) s.steps.items;
-        kept = kept_view s.kept;
+      taken = taken_steps s.too_wide (kept_view s.kept) s.steps.items;
+      kept = kept_view s.kept;
     } };
 
     ghost invariant = { λ s. HaveLocations (kept_view s.kept) s.steps.items };
@@ -40,15 +40,15 @@ impl<'a> LineStore<'a> {
     ghost use Rattle.line_programs.specs.PathViews.{path_view};
     ghost use Rattle.source_frames.specs.Frames.{FrameRecord};
     ghost use Rattle.source_frames.specs.FrameViews.{frame_view};
-    ghost use Rattle.line_writing.specs.Kept.{Grows, IsFile, IsName};
+    ghost use Rattle.line_writing.specs.Kept.{IsFile, IsName};
     ghost use Rattle.line_writing.specs.Lines.{after_step};
-    ghost use Rattle.line_writing.specs.Located.{IsLocated};
+    ghost use Rattle.line_writing.specs.Located.{IsLocated, StillTells};
 
     /// No address.
     pub fn new(heap: Heap) -> Result<LineStore<'a>, NoMemory>
         ensures { IfOk result (λ store. store ≡ record {
-            taken = Some [];
-            kept = record { texts = []; files = []; locations = [] };
+          taken = Some [];
+          kept = record { texts = []; files = []; locations = [] };
         }) }
     {
         Ok(LineStore {
@@ -68,7 +68,7 @@ impl<'a> LineStore<'a> {
         ensures added { OnOk result (self.new.taken ≡ after_step self.old.taken
             (record { start = address; frames = map (λ f. frame_view f) frames.now })) }
         ensures unchanged { OnErr result (self.new.taken ≡ self.old.taken) }
-        ensures grows { Grows self.old.kept self.new.kept }
+        ensures tells { StillTells self.old.kept self.new.kept }
     {
         if self.too_wide {
             return Ok(());
@@ -87,7 +87,7 @@ impl<'a> LineStore<'a> {
     /// before.
     pub fn name(&mut self, name: Option<&'a [u8]>) -> Result<u32, NoMemory>
         ensures is { IfOk result (λ number. IsName self.new.kept number (option_map (λ n. n.now) name.entry)) }
-        ensures grows { Grows self.old.kept self.new.kept }
+        ensures tells { StillTells self.old.kept self.new.kept }
         ensures taken { self.new.taken ≡ self.old.taken }
     {
         self.kept.name(name)
@@ -97,10 +97,17 @@ impl<'a> LineStore<'a> {
     /// before.
     pub fn path(&mut self, path: Option<PathParts<'a>>) -> Result<u32, NoMemory>
         ensures is { IfOk result (λ number. IsFile self.new.kept number (option_map path_view path.entry)) }
-        ensures grows { Grows self.old.kept self.new.kept }
+        ensures tells { StillTells self.old.kept self.new.kept }
         ensures taken { self.new.taken ≡ self.old.taken }
     {
         self.kept.file(path)
+    }
+
+    /// The number of no frames.
+    pub fn no_frames(&self) -> Option<u32>
+        ensures { IsLocated self.now.kept [] result }
+    {
+        Some(0)
     }
 
     /// The number of a frame and of those that it is inlined into; `None` if a line or a column has more than four
@@ -120,7 +127,7 @@ impl<'a> LineStore<'a> {
             (n : Option (List ℕ)) (p : Option PathRecord) (outer : List FrameRecord) → IsName self.old.kept name n
             → IsFile self.old.kept path p → IsLocated self.old.kept outer callers
             → IsLocated self.new.kept (record { name = n; path = p; line = line; column = column } ∷ outer) number) }
-        ensures grows { Grows self.old.kept self.new.kept }
+        ensures tells { StillTells self.old.kept self.new.kept }
         ensures taken { self.new.taken ≡ self.old.taken }
     {
         let (Ok(line), Ok(column)) = (u32::try_from(line), u32::try_from(column)) else {
@@ -129,7 +136,7 @@ impl<'a> LineStore<'a> {
         let Some(caller) = callers else {
             return Ok(None);
         };
-        let number = self.kept.locations.number(LocationKey {
+        let number = self.kept.location_number(LocationKey {
             name,
             file: path,
             line,

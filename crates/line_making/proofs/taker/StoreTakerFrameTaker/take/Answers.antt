@@ -1,7 +1,6 @@
-use Rattle.std.proofs.Common.{map}
-use Rattle.source_frames.specs.FrameViews.{frame_view}
 use Rattle.line_making.proofs.TakerLemmas.{takes_turn}
 use Rattle.line_making.proofs.taker.StoreTakerFrameTaker.take.Goals as goal
 
-pub returns : goal.returns
-returns c = takes_turn c.args.self.now.store c.add.new.self (record { address = c.args.address; frames = map (λ f. frame_view f) c.args.frames.now }) c.in_ok-add.ensures.added
+pub returns-clause-taken : goal.returns-clause-taken
+returns-clause-taken c = λ frames is.
+    takes_turn c.args.self.now.store.taken c.add_frames.new.self.taken (record { address = c.args.address; frames = frames }) (c.in_ok-add_frames.ensures.added frames is)
