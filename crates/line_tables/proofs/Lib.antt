@@ -1,4 +1,5 @@
 pub mod StepLemmas
+pub mod RunLemmas
 pub mod NumberingLemmas
 pub mod SameLemmas
 pub mod ChainLemmas

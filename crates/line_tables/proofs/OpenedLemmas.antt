@@ -1,26 +1,29 @@
 -- What is read of a line table that was opened.
 use Rattle.std.proofs.Common.{◌≡◌, ℕ, ◌+◌, ◌*◌, ◌<◌, ◌≤◌, ◌^◌, Bool, List, [], ◌∷◌, length, take, drop, get_or, refl, sym, ap, ◌∙◌, subst, arith, length-drop, Option, Some, None, slice_get}
-use Rattle.std.specs.Int.{w32, w64, from_be_bytes}
+use Rattle.std.specs.Int.{w32, from_be_bytes}
 use Rattle.std.proofs.lemmas.List.{drop-drop}
 use Rattle.std.proofs.lemmas.Option.{slice_get-get_or, slice_get_within, get_or_from_slice_get}
 use Rattle.checked_pages.specs.Views.{ArePagesOf}
 use Rattle.checked_pages.specs.declared.pages.Pages.{Pages}
 use Rattle.line_programs.specs.Paths.{PathRecord}
 use Rattle.source_frames.specs.Frames.{FrameRecord}
-use Rattle.line_tables.specs.Inner.{IsChainNumber, IsFileNumber, IsFileRow, IsLocation, IsMaybeChain, IsMaybeFile, IsMaybeText, IsStepRow, IsTextNumber, IsTextRow}
+use Rattle.line_tables.specs.Inner.{IsChainNumber, IsFileNumber, IsFileRow, IsLocation, IsMaybeChain, IsMaybeFile, IsMaybeText, IsRunRow, IsStepRow, IsTextNumber, IsTextRow}
 use Rattle.line_tables.specs.LineText.{LineParts, file_bytes, line_text, location_bytes, parts_of}
 use Rattle.line_tables.specs.Numbering.{number_in, number_or_zero, same_chain, same_path, same_text}
 use Rattle.line_tables.specs.Opened.{IsOpened}
+use Rattle.line_tables.specs.Runs.{runs_of}
 use Rattle.line_tables.specs.Steps.{StepRecord}
 use Rattle.line_tables.specs.declared.row.File.{File}
 use Rattle.line_tables.specs.declared.row.Location.{Location}
+use Rattle.line_tables.specs.declared.row.Run.{Run}
 use Rattle.line_tables.specs.declared.row.Step.{Step}
 use Rattle.line_tables.specs.declared.row.Text.{Text}
 use Rattle.line_tables.specs.declared.table.LineTable.{LineTable}
 use Rattle.line_tables.proofs.ChainLemmas.{HasNumber, chain_fits, chains_are, name_has, path_has, step_has, text_has}
 use Rattle.line_tables.proofs.NumberingLemmas.{IsExact, number_within, numbered_at}
+use Rattle.line_tables.proofs.RunLemmas.{lower_fits, run_steps_at, run_upper_fits}
 use Rattle.line_tables.proofs.SameLemmas.{chain_decides, path_decides, text_decides}
-use Rattle.line_tables.proofs.TextLemmas.{base_in, caller_in, column_in, directory_in, file_in, file_name_in, file_there, first_byte, first_file, first_location, first_text, length-line_text, length_in, line_in, location_in, location_there, name_in, place_in, place_of, start_in, step_there, text_there, text_within}
+use Rattle.line_tables.proofs.TextLemmas.{base_in, caller_in, column_in, count_in, directory_in, file_in, file_name_in, file_there, first_byte, first_file, first_location, first_step, first_text, length-line_text, length_in, line_in, location_in, location_there, lower_in, name_in, place_in, place_of, run_there, step_there, text_there, text_within, upper_in}
 
 -- what is numbered stands at its index
 pub stands_at : {A : Type 0} (same : A → A → Bool) (decides : IsExact same) (xs : List A) (x : A) (number index : ℕ) → number ≡ number_in same xs x → 0 < number → index + 1 ≡ number → slice_get xs index ≡ Some x
@@ -37,7 +40,7 @@ kept table pages more text all steps opened are = record { are_pages = are; stan
 
 module _ (table : LineTable) (pages : Pages) (text all : List ℕ) (steps : List StepRecord) (opened : IsOpened table pages text all steps) where
   -- how many bytes there are
-  pub opened_long : length all ≡ table.offset + 48 + 12 * table.steps + 20 * table.locations + 12 * table.files + 8 * table.texts + table.bytes
+  pub opened_long : length all ≡ table.offset + 56 + 8 * table.runs + 8 * table.steps + 20 * table.locations + 12 * table.files + 8 * table.texts + table.bytes
   opened_long =
       omega (
         arith,
@@ -45,6 +48,7 @@ module _ (table : LineTable) (pages : Pages) (text all : List ℕ) (steps : List
         ap length opened.stands.1,
         length-drop table.offset all,
         length-line_text steps,
+        opened.head.runs,
         opened.head.steps,
         opened.head.locations,
         opened.head.files,
@@ -61,17 +65,29 @@ module _ (table : LineTable) (pages : Pages) (text all : List ℕ) (steps : List
   maybe_chain [] number is has = is ∙ (chains_are steps).none
   maybe_chain (f ∷ fs) number is has = record { is = is; some = omega (arith, is, has) }
 
-  pub step_read : (bytes : List ℕ) (index n offset : ℕ) (row : Step) → index < table.steps → n ≡ 12 → offset ≡ table.offset + 48 + 12 * index → bytes ≡ take n (drop offset all)
-      → row.start ≡ from_be_bytes w64 (take 8 (drop 0 bytes)) → row.location ≡ from_be_bytes w32 (take 4 (drop 8 bytes)) → IsStepRow steps index row
-  step_read bytes index n offset row inside long at came start location =
-      let within : index < length steps = omega (arith, inside, opened.head.steps) in
-      let here : bytes ≡ take 12 (drop (48 + 12 * index) (line_text steps)) = came_as bytes n offset 12 (48 + 12 * index) long (omega (arith, at)) came in
+  pub run_read : (bytes : List ℕ) (index n offset : ℕ) (row : Run) → index < table.runs → n ≡ 8 → offset ≡ table.offset + 56 + 8 * index → bytes ≡ take n (drop offset all)
+      → row.upper ≡ from_be_bytes w32 (take 4 (drop 0 bytes)) → row.steps ≡ from_be_bytes w32 (take 4 (drop 4 bytes)) → IsRunRow steps index row
+  run_read bytes index n offset row inside long at came upper count =
+      let within : index < length (runs_of steps) = omega (arith, inside, opened.head.runs) in
+      let here : bytes ≡ take 8 (drop (56 + 8 * index) (line_text steps)) = came_as bytes n offset 8 (56 + 8 * index) long (omega (arith, at)) came in
       record {
-        start = λ d. start ∙ ap (λ b. from_be_bytes w64 (take 8 (drop 0 b))) (here ∙ step_there steps index d within) ∙ start_in (parts_of steps) (get_or steps index d) (opened.widths.starts index d within);
+        upper = λ d. upper ∙ ap (λ b. from_be_bytes w32 (take 4 (drop 0 b))) (here ∙ run_there steps index d within) ∙ upper_in (get_or (runs_of steps) index d) (run_upper_fits steps opened.widths.starts index d within);
+        count = λ d.
+            count ∙ ap (λ b. from_be_bytes w32 (take 4 (drop 4 b))) (here ∙ run_there steps index d within)
+            ∙ count_in (get_or (runs_of steps) index d) (omega (arith, run_steps_at steps index d within, opened.widths.few.steps));
+      }
+
+  pub step_read : (bytes : List ℕ) (index n offset : ℕ) (row : Step) → index < table.steps → n ≡ 8 → offset ≡ table.offset + 56 + 8 * table.runs + 8 * index → bytes ≡ take n (drop offset all)
+      → row.lower ≡ from_be_bytes w32 (take 4 (drop 0 bytes)) → row.location ≡ from_be_bytes w32 (take 4 (drop 4 bytes)) → IsStepRow steps index row
+  step_read bytes index n offset row inside long at came lower location =
+      let within : index < length steps = omega (arith, inside, opened.head.steps) in
+      let here : bytes ≡ take 8 (drop (first_step (parts_of steps) + 8 * index) (line_text steps)) = came_as bytes n offset 8 (first_step (parts_of steps) + 8 * index) long (omega (arith, at, opened.head.runs)) came in
+      record {
+        lower = λ d. lower ∙ ap (λ b. from_be_bytes w32 (take 4 (drop 0 b))) (here ∙ step_there steps index d within) ∙ lower_in (parts_of steps) (get_or steps index d) (lower_fits (get_or steps index d).start);
         location = λ d.
             let s : StepRecord = get_or steps index d in
             let fits : number_in same_chain (parts_of steps).chains s.frames < 2 ^ 32 = omega (arith, number_within same_chain chain_decides (parts_of steps).chains s.frames, opened.widths.few.chains) in
-            maybe_chain s.frames row.location (location ∙ ap (λ b. from_be_bytes w32 (take 4 (drop 8 b))) (here ∙ step_there steps index d within) ∙ location_in (parts_of steps) s fits)
+            maybe_chain s.frames row.location (location ∙ ap (λ b. from_be_bytes w32 (take 4 (drop 4 b))) (here ∙ step_there steps index d within) ∙ location_in (parts_of steps) s fits)
             (step_has steps index s (slice_get-get_or steps index d within));
       }
 
@@ -116,7 +132,7 @@ module _ (table : LineTable) (pages : Pages) (text all : List ℕ) (steps : List
         )
 
   pub location_read : (bytes : List ℕ) (number index n offset : ℕ) (row : Location) (f : FrameRecord) (fs : List FrameRecord) → IsChainNumber (parts_of steps) number (f ∷ fs) → index + 1 ≡ number
-      → n ≡ 20 → offset ≡ table.offset + 48 + 12 * table.steps + 20 * index → bytes ≡ take n (drop offset all)
+      → n ≡ 20 → offset ≡ table.offset + 56 + 8 * table.runs + 8 * table.steps + 20 * index → bytes ≡ take n (drop offset all)
       → row.name ≡ from_be_bytes w32 (take 4 (drop 0 bytes)) → row.file ≡ from_be_bytes w32 (take 4 (drop 4 bytes)) → row.line ≡ from_be_bytes w32 (take 4 (drop 8 bytes))
       → row.column ≡ from_be_bytes w32 (take 4 (drop 12 bytes)) → row.caller ≡ from_be_bytes w32 (take 4 (drop 16 bytes)) → IsLocation (parts_of steps) row f fs × (row.caller < number)
   location_read bytes number index n offset row f fs is next long at came =
@@ -124,12 +140,12 @@ module _ (table : LineTable) (pages : Pages) (text all : List ℕ) (steps : List
       let stands : slice_get parts.chains index ≡ Some (f ∷ fs) = stands_at same_chain chain_decides parts.chains (f ∷ fs) number index is.is is.some next in
       let within : index < length parts.chains = slice_get_within parts.chains index (f ∷ fs) stands in
       let here : bytes ≡ location_bytes parts (f ∷ fs) =
-      came_as bytes n offset 20 (first_location parts + 20 * index) long (omega (arith, at, opened.head.steps)) came
+      came_as bytes n offset 20 (first_location parts + 20 * index) long (omega (arith, at, opened.head.runs, opened.head.steps)) came
       ∙ location_there steps index [] within ∙ ap (location_bytes parts) (get_or_from_slice_get parts.chains index (f ∷ fs) [] stands) in
       location_of f fs index stands bytes number row is here
 
   pub file_read : (bytes : List ℕ) (number index n offset : ℕ) (row : File) (path : PathRecord) → IsFileNumber (parts_of steps) number path → index + 1 ≡ number
-      → n ≡ 12 → offset ≡ table.offset + 48 + 12 * table.steps + 20 * table.locations + 12 * index → bytes ≡ take n (drop offset all)
+      → n ≡ 12 → offset ≡ table.offset + 56 + 8 * table.runs + 8 * table.steps + 20 * table.locations + 12 * index → bytes ≡ take n (drop offset all)
       → row.base ≡ from_be_bytes w32 (take 4 (drop 0 bytes)) → row.directory ≡ from_be_bytes w32 (take 4 (drop 4 bytes)) → row.name ≡ from_be_bytes w32 (take 4 (drop 8 bytes))
       → IsFileRow (parts_of steps) row path
   file_read bytes number index n offset row path is next long at came base directory name =
@@ -137,7 +153,7 @@ module _ (table : LineTable) (pages : Pages) (text all : List ℕ) (steps : List
       let stands : slice_get parts.files index ≡ Some path = stands_at same_path path_decides parts.files path number index is.is is.some next in
       let within : index < length parts.files = slice_get_within parts.files index path stands in
       let here : bytes ≡ file_bytes parts path =
-      came_as bytes n offset 12 (first_file parts + 12 * index) long (omega (arith, at, opened.head.steps, opened.head.locations)) came
+      came_as bytes n offset 12 (first_file parts + 12 * index) long (omega (arith, at, opened.head.runs, opened.head.steps, opened.head.locations)) came
       ∙ file_there steps index path within ∙ ap (file_bytes parts) (get_or_from_slice_get parts.files index path path stands) in
       let base_is : row.base ≡ number_in same_text parts.texts path.base = base ∙ ap (λ b. from_be_bytes w32 (take 4 (drop 0 b))) here ∙ base_in parts path (omega (arith, number_within same_text text_decides parts.texts path.base, opened.widths.few.texts)) in
       let directory_is : row.directory ≡ number_in same_text parts.texts path.directory = directory ∙ ap (λ b. from_be_bytes w32 (take 4 (drop 4 b))) here ∙ directory_in parts path (omega (arith, number_within same_text text_decides parts.texts path.directory, opened.widths.few.texts)) in
@@ -148,13 +164,13 @@ module _ (table : LineTable) (pages : Pages) (text all : List ℕ) (steps : List
         name = record { is = name_is; some = omega (arith, name_is, text_has parts.chains parts.files index path path.name stands (2, refl)) };
       }
 
-  pub text_row_read : (bytes : List ℕ) (index n offset : ℕ) (row : Text) → index < table.texts → n ≡ 8 → offset ≡ table.offset + 48 + 12 * table.steps + 20 * table.locations + 12 * table.files + 8 * index
+  pub text_row_read : (bytes : List ℕ) (index n offset : ℕ) (row : Text) → index < table.texts → n ≡ 8 → offset ≡ table.offset + 56 + 8 * table.runs + 8 * table.steps + 20 * table.locations + 12 * table.files + 8 * index
       → bytes ≡ take n (drop offset all) → row.place ≡ from_be_bytes w32 (take 4 (drop 0 bytes)) → row.length ≡ from_be_bytes w32 (take 4 (drop 4 bytes)) → IsTextRow (parts_of steps) index row
   text_row_read bytes index n offset row inside long at came place len =
       let parts : LineParts = parts_of steps in
       let within : index < length parts.texts = omega (arith, inside, opened.head.texts) in
       let here : bytes ≡ take 8 (drop (first_text parts + 8 * index) (line_text steps)) =
-      came_as bytes n offset 8 (first_text parts + 8 * index) long (omega (arith, at, opened.head.steps, opened.head.locations, opened.head.files)) came in
+      came_as bytes n offset 8 (first_text parts + 8 * index) long (omega (arith, at, opened.head.runs, opened.head.steps, opened.head.locations, opened.head.files)) came in
       let ends = text_within parts.texts index [] within in
       record {
         place = place ∙ ap (λ b. from_be_bytes w32 (take 4 (drop 0 b))) here ∙ place_in steps index [] within (omega (arith, ends, opened.widths.few.bytes));
@@ -166,13 +182,13 @@ module _ (table : LineTable) (pages : Pages) (text all : List ℕ) (steps : List
   text_ends index row within is = omega (arith, text_within (parts_of steps).texts index [] within, is.place, is.long, opened.head.bytes)
 
   pub text_read : (bytes : List ℕ) (index n offset : ℕ) (row : Text) → index < length (parts_of steps).texts → IsTextRow (parts_of steps) index row → n ≡ row.length
-      → offset ≡ table.offset + 48 + 12 * table.steps + 20 * table.locations + 12 * table.files + 8 * table.texts + row.place → bytes ≡ take n (drop offset all)
+      → offset ≡ table.offset + 56 + 8 * table.runs + 8 * table.steps + 20 * table.locations + 12 * table.files + 8 * table.texts + row.place → bytes ≡ take n (drop offset all)
       → slice_get (parts_of steps).texts index ≡ Some bytes
   text_read bytes index n offset row within is long at came =
       let parts : LineParts = parts_of steps in
       let here : bytes ≡ get_or parts.texts index [] =
       came_as bytes n offset (length (get_or parts.texts index [])) (first_byte parts + place_of parts.texts index) (long ∙ is.long)
-      (omega (arith, at, is.place, opened.head.steps, opened.head.locations, opened.head.files, opened.head.texts)) came ∙ text_there steps index [] within in
+      (omega (arith, at, is.place, opened.head.runs, opened.head.steps, opened.head.locations, opened.head.files, opened.head.texts)) came ∙ text_there steps index [] within in
       slice_get-get_or parts.texts index [] within ∙ ap Some (sym here)
 
 -- ---- what may be there

@@ -10,44 +10,47 @@ use Rattle.checked_pages.specs.declared.pages.Pages.{Pages}
 use Rattle.line_tables.specs.LineTable.{AreFew, IsLineTable, IsLineTextWithin, no_lines, room_of}
 use Rattle.line_tables.specs.LineText.{LineParts, head_bytes, line_text, parts_of}
 use Rattle.line_tables.specs.Opened.{IsOpened, StandsAt}
+use Rattle.line_tables.specs.Runs.{runs_of}
 use Rattle.line_tables.specs.Steps.{AreFrameSteps, StepRecord}
 use Rattle.line_tables.specs.declared.opening.Head.{Head}
 use Rattle.line_tables.specs.declared.table.LineTable.{LineTable}
+use Rattle.line_tables.proofs.RunLemmas.{few_runs}
 use Rattle.line_tables.proofs.TextLemmas.{head_there, length-line_text}
 
-length-no_lines : length no_lines ≡ 48
+length-no_lines : length no_lines ≡ 56
 unfolding no_lines
 length-no_lines = refl
 
-pub table_long : (image bytes : List ℕ) → IsLineTable image bytes → 48 ≤ length bytes
+pub table_long : (image bytes : List ℕ) → IsLineTable image bytes → 56 ≤ length bytes
 table_long image bytes is = by_text is.is_text
   where
-    by_text : IsLineTextWithin (room_of image) is.steps bytes → 48 ≤ length bytes
+    by_text : IsLineTextWithin (room_of image) is.steps bytes → 56 ≤ length bytes
     by_text (inl h) = omega (arith, ap length h.1, length-line_text is.steps)
     by_text (inr h) = omega (arith, ap length h.1, length-no_lines)
 
 -- the numbers that some bytes begin with, as a head is read
 pub record IsHead (head : Head) (bytes : List ℕ) : Type 0 where
   pub lines : head.lines ≡ from_be_bytes w64 (take 8 (drop 0 bytes))
-  pub steps : head.steps ≡ from_be_bytes w64 (take 8 (drop 8 bytes))
-  pub locations : head.locations ≡ from_be_bytes w64 (take 8 (drop 16 bytes))
-  pub files : head.files ≡ from_be_bytes w64 (take 8 (drop 24 bytes))
-  pub texts : head.texts ≡ from_be_bytes w64 (take 8 (drop 32 bytes))
-  pub bytes_of : head.bytes ≡ from_be_bytes w64 (take 8 (drop 40 bytes))
+  pub runs : head.runs ≡ from_be_bytes w64 (take 8 (drop 8 bytes))
+  pub steps : head.steps ≡ from_be_bytes w64 (take 8 (drop 16 bytes))
+  pub locations : head.locations ≡ from_be_bytes w64 (take 8 (drop 24 bytes))
+  pub files : head.files ≡ from_be_bytes w64 (take 8 (drop 32 bytes))
+  pub texts : head.texts ≡ from_be_bytes w64 (take 8 (drop 40 bytes))
+  pub bytes_of : head.bytes ≡ from_be_bytes w64 (take 8 (drop 48 bytes))
 
 -- what was read from where a table stands is its head
-pub head_read : (all bytes buf : List ℕ) (n offset : ℕ) (head : Head) → StandsAt all offset bytes → n ≡ 48 → buf ≡ take n (drop offset all) → IsHead head buf → IsHead head (take 48 bytes)
+pub head_read : (all bytes buf : List ℕ) (n offset : ℕ) (head : Head) → StandsAt all offset bytes → n ≡ 56 → buf ≡ take n (drop offset all) → IsHead head buf → IsHead head (take 56 bytes)
 head_read all bytes buf n offset head stands long came is =
-    subst (IsHead head) (came ∙ ap (λ k. take k (drop offset all)) long ∙ ap (take 48) stands.1) is
+    subst (IsHead head) (came ∙ ap (λ k. take k (drop offset all)) long ∙ ap (take 56) stands.1) is
 
 -- ---- the head of a table that has no lines
 
-lines_of_none : from_be_bytes w64 (take 8 (drop 0 (take 48 no_lines))) ≡ 0
+lines_of_none : from_be_bytes w64 (take 8 (drop 0 (take 56 no_lines))) ≡ 0
 unfolding no_lines
 lines_of_none = from_be_bytes-to_be_bytes_8 0 (lit< tt)
 
-no_lines_read : (head : Head) (bytes : List ℕ) → bytes ≡ no_lines → IsHead head (take 48 bytes) → head.lines ≡ 0
-no_lines_read head bytes e is = is.lines ∙ ap (λ b. from_be_bytes w64 (take 8 (drop 0 (take 48 b)))) e ∙ lines_of_none
+no_lines_read : (head : Head) (bytes : List ℕ) → bytes ≡ no_lines → IsHead head (take 56 bytes) → head.lines ≡ 0
+no_lines_read head bytes e is = is.lines ∙ ap (λ b. from_be_bytes w64 (take 8 (drop 0 (take 56 b)))) e ∙ lines_of_none
 
 -- ---- the head of one that has
 
@@ -56,46 +59,52 @@ module _ (parts : LineParts) (few : AreFew parts) where
   unfolding head_bytes
   lines_in = from_be_bytes-to_be_bytes_8 1 (lit< tt)
 
-  steps_in : from_be_bytes w64 (take 8 (drop 8 (head_bytes parts))) ≡ length parts.steps
+  runs_in : from_be_bytes w64 (take 8 (drop 8 (head_bytes parts))) ≡ length (runs_of parts.steps)
+  unfolding head_bytes
+  runs_in = from_be_bytes-to_be_bytes_8 (length (runs_of parts.steps)) (omega (arith, few_runs parts.steps, few.steps))
+
+  steps_in : from_be_bytes w64 (take 8 (drop 16 (head_bytes parts))) ≡ length parts.steps
   unfolding head_bytes
   steps_in = from_be_bytes-to_be_bytes_8 (length parts.steps) (omega (arith, few.steps))
 
-  locations_in : from_be_bytes w64 (take 8 (drop 16 (head_bytes parts))) ≡ length parts.chains
+  locations_in : from_be_bytes w64 (take 8 (drop 24 (head_bytes parts))) ≡ length parts.chains
   unfolding head_bytes
   locations_in = from_be_bytes-to_be_bytes_8 (length parts.chains) (omega (arith, few.chains))
 
-  files_in : from_be_bytes w64 (take 8 (drop 24 (head_bytes parts))) ≡ length parts.files
+  files_in : from_be_bytes w64 (take 8 (drop 32 (head_bytes parts))) ≡ length parts.files
   unfolding head_bytes
   files_in = from_be_bytes-to_be_bytes_8 (length parts.files) (omega (arith, few.files))
 
-  texts_in : from_be_bytes w64 (take 8 (drop 32 (head_bytes parts))) ≡ length parts.texts
+  texts_in : from_be_bytes w64 (take 8 (drop 40 (head_bytes parts))) ≡ length parts.texts
   unfolding head_bytes
   texts_in = from_be_bytes-to_be_bytes_8 (length parts.texts) (omega (arith, few.texts))
 
-  bytes_in : from_be_bytes w64 (take 8 (drop 40 (head_bytes parts))) ≡ length (concat parts.texts)
+  bytes_in : from_be_bytes w64 (take 8 (drop 48 (head_bytes parts))) ≡ length (concat parts.texts)
   unfolding head_bytes
   bytes_in = from_be_bytes-to_be_bytes_8 (length (concat parts.texts)) (omega (arith, few.bytes))
 
 -- what a head says of the table of some steps
 record SaysParts (head : Head) (parts : LineParts) : Type 0 where
   lines : head.lines ≡ 1
+  runs : head.runs ≡ length (runs_of parts.steps)
   steps : head.steps ≡ length parts.steps
   locations : head.locations ≡ length parts.chains
   files : head.files ≡ length parts.files
   texts : head.texts ≡ length parts.texts
   bytes : head.bytes ≡ length (concat parts.texts)
 
-says_parts : (head : Head) (steps : List StepRecord) (bytes : List ℕ) → AreFew (parts_of steps) → bytes ≡ line_text steps → IsHead head (take 48 bytes) → SaysParts head (parts_of steps)
+says_parts : (head : Head) (steps : List StepRecord) (bytes : List ℕ) → AreFew (parts_of steps) → bytes ≡ line_text steps → IsHead head (take 56 bytes) → SaysParts head (parts_of steps)
 says_parts head steps bytes few e is =
     let parts : LineParts = parts_of steps in
-    let there : take 48 bytes ≡ head_bytes parts = ap (take 48) e ∙ head_there steps in
+    let there : take 56 bytes ≡ head_bytes parts = ap (take 56) e ∙ head_there steps in
     record {
       lines = is.lines ∙ ap (λ b. from_be_bytes w64 (take 8 (drop 0 b))) there ∙ lines_in parts few;
-      steps = is.steps ∙ ap (λ b. from_be_bytes w64 (take 8 (drop 8 b))) there ∙ steps_in parts few;
-      locations = is.locations ∙ ap (λ b. from_be_bytes w64 (take 8 (drop 16 b))) there ∙ locations_in parts few;
-      files = is.files ∙ ap (λ b. from_be_bytes w64 (take 8 (drop 24 b))) there ∙ files_in parts few;
-      texts = is.texts ∙ ap (λ b. from_be_bytes w64 (take 8 (drop 32 b))) there ∙ texts_in parts few;
-      bytes = is.bytes_of ∙ ap (λ b. from_be_bytes w64 (take 8 (drop 40 b))) there ∙ bytes_in parts few;
+      runs = is.runs ∙ ap (λ b. from_be_bytes w64 (take 8 (drop 8 b))) there ∙ runs_in parts few;
+      steps = is.steps ∙ ap (λ b. from_be_bytes w64 (take 8 (drop 16 b))) there ∙ steps_in parts few;
+      locations = is.locations ∙ ap (λ b. from_be_bytes w64 (take 8 (drop 24 b))) there ∙ locations_in parts few;
+      files = is.files ∙ ap (λ b. from_be_bytes w64 (take 8 (drop 32 b))) there ∙ files_in parts few;
+      texts = is.texts ∙ ap (λ b. from_be_bytes w64 (take 8 (drop 40 b))) there ∙ texts_in parts few;
+      bytes = is.bytes_of ∙ ap (λ b. from_be_bytes w64 (take 8 (drop 48 b))) there ∙ bytes_in parts few;
     }
 
 -- ---- what is opened
@@ -103,20 +112,21 @@ says_parts head steps bytes few e is =
 -- the table with the numbers of a head
 pub record HasHead (table : LineTable) (offset : ℕ) (head : Head) : Type 0 where
   pub offset_is : table.offset ≡ offset
+  pub runs : table.runs ≡ head.runs
   pub steps : table.steps ≡ head.steps
   pub locations : table.locations ≡ head.locations
   pub files : table.files ≡ head.files
   pub texts : table.texts ≡ head.texts
   pub bytes : table.bytes ≡ head.bytes
 
-pub opens_none : (image bytes : List ℕ) (head : Head) → IsLineTable image bytes → IsHead head (take 48 bytes) → head.lines ≡ 0 → bytes ≡ no_lines
+pub opens_none : (image bytes : List ℕ) (head : Head) → IsLineTable image bytes → IsHead head (take 56 bytes) → head.lines ≡ 0 → bytes ≡ no_lines
 opens_none image bytes head is has none = by_text is.is_text
   where
     by_text : IsLineTextWithin (room_of image) is.steps bytes → bytes ≡ no_lines
     by_text (inl h) = absurd (omega (arith, none, (says_parts head is.steps bytes h.0.few h.1 has).lines))
     by_text (inr h) = h.1
 
-pub opens_some : (image all bytes text : List ℕ) (pages : Pages) (offset : ℕ) (head : Head) (table : LineTable) → ArePagesOf pages text all → StandsAt all offset bytes → IsLineTable image bytes → IsHead head (take 48 bytes)
+pub opens_some : (image all bytes text : List ℕ) (pages : Pages) (offset : ℕ) (head : Head) (table : LineTable) → ArePagesOf pages text all → StandsAt all offset bytes → IsLineTable image bytes → IsHead head (take 56 bytes)
     → (head.lines ≡ 0 → ⊥) → HasHead table offset head → (steps : List StepRecord) × AreFrameSteps image steps × IsOpened table pages text all steps
 opens_some image all bytes text pages offset head table are stands is has some made = by_text is.is_text
   where
@@ -130,6 +140,7 @@ opens_some image all bytes text pages offset head table are stands is has some m
             stands = subst (λ n. StandsAt all n (line_text is.steps)) (sym made.offset_is) (stands.0, stands.1 ∙ h.1);
             widths = record { starts = is.are_steps.below; lines = h.0.lines; few = h.0.few };
             head = record {
+              runs = made.runs ∙ says.runs;
               steps = made.steps ∙ says.steps;
               locations = made.locations ∙ says.locations;
               files = made.files ∙ says.files;
@@ -140,15 +151,15 @@ opens_some image all bytes text pages offset head table are stands is has some m
         )
     by_text (inr h) = absurd (some (no_lines_read head bytes h.1 has))
 
-pub opens_not : (image all bytes : List ℕ) (offset size : ℕ) (head : Head) → StandsAt all offset bytes → IsLineTable image bytes → IsHead head (take 48 bytes)
+pub opens_not : (image all bytes : List ℕ) (offset size : ℕ) (head : Head) → StandsAt all offset bytes → IsLineTable image bytes → IsHead head (take 56 bytes)
     → (head.lines ≡ 0 → ⊥) → length all ≡ size
-    → (offset + 48 + 12 * head.steps + 20 * head.locations + 12 * head.files + 8 * head.texts + head.bytes ≡ size → ⊥) → ⊥
+    → (offset + 56 + 8 * head.runs + 8 * head.steps + 20 * head.locations + 12 * head.files + 8 * head.texts + head.bytes ≡ size → ⊥) → ⊥
 opens_not image all bytes offset size head stands is has some long none = by_text is.is_text
   where
     by_text : IsLineTextWithin (room_of image) is.steps bytes → ⊥
     by_text (inl h) =
         let says = says_parts head is.steps bytes h.0.few h.1 has in
-        none (omega (arith, stands.0, ap length stands.1, length-drop offset all, ap length h.1, length-line_text is.steps, long, says.steps, says.locations, says.files, says.texts, says.bytes))
+        none (omega (arith, stands.0, ap length stands.1, length-drop offset all, ap length h.1, length-line_text is.steps, long, says.runs, says.steps, says.locations, says.files, says.texts, says.bytes))
     by_text (inr h) = some (no_lines_read head bytes h.1 has)
 
 -- ---- what was opened

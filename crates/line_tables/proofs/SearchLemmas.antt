@@ -1,67 +1,133 @@
--- The halving over the steps of a table.
-use Rattle.std.proofs.Common.{◌≡◌, ℕ, zero, suc, ◌+◌, ◌<◌, ◌≤◌, List, [], ◌∷◌, ◌++◌, length, get_or, refl, sym, ap, ◌∙◌, subst, inl, inr, arith, length-append, Option, Some, None}
+-- The halvings over the runs and steps of a table.
+use Rattle.std.proofs.Common.{◌≡◌, ℕ, ◌+◌, ◌<◌, ◌≤◌, List, [], ◌∷◌, ◌++◌, length, get_or, refl, sym, ap, ◌∙◌, subst, inl, inr, arith, length-append, Option, Some, None}
 use Rattle.std.proofs.lemmas.Bool.{cases_lt}
 use Rattle.std.proofs.lemmas.List.{append-nil, append_assoc, map-append}
 use Rattle.std.proofs.Math.ListN.{length-map}
 use Rattle.source_frames.specs.Frames.{FrameRecord}
 use Rattle.line_tables.specs.FrameViews.{owned_frame_view, owned_frames}
-use Rattle.line_tables.specs.Inner.{IsChainNumber, IsMaybeChain, IsStepRow}
+use Rattle.line_tables.specs.Inner.{AreBelow, IsChainNumber, IsMaybeChain, IsRunRow, IsStepRow, run_halves, step_halves}
 use Rattle.line_tables.specs.LineText.{LineParts, parts_of}
+use Rattle.line_tables.specs.Runs.{lower_half, runs_of, upper_half}
 use Rattle.line_tables.specs.Steps.{AreAscending, IsStepFor, StepRecord, frames_at, starts_of}
 use Rattle.line_tables.specs.declared.frame.OwnedFrame.{OwnedFrame}
+use Rattle.line_tables.specs.declared.row.Run.{Run}
 use Rattle.line_tables.specs.declared.row.Step.{Step}
+use Rattle.line_tables.proofs.RunLemmas.{below_by_lower, below_by_upper, half_at, no_run, upper_at, within_by_lower}
 use Rattle.line_tables.proofs.StepLemmas.{frames_there, no_step, start_at, starts_long}
 
--- the starts from an index on are above an address
-abbrev pub AreAboveFrom : List ℕ → ℕ → ℕ → Type 0
-AreAboveFrom starts address high = (j : ℕ) → high ≤ j → j < length starts → address < get_or starts j 0
+-- so many of some numbers are below a limit
+abbrev pub AreBelowTo : List ℕ → ℕ → ℕ → Type 0
+AreBelowTo all limit low = (j : ℕ) → j < low → get_or all j 0 < limit
 
--- this is the number of the location of the last of so many steps, and that is not above an address
-pub record IsBest (steps : List StepRecord) (address low number : ℕ) : Type 0 where
-  pub none : low ≡ 0 → number ≡ 0
-  pub some : (k : ℕ) → k + 1 ≡ low → (k < length steps) × (get_or (starts_of steps) k 0 ≤ address) × IsMaybeChain (parts_of steps) number (frames_at steps (Some k))
+-- from an index on none is
+abbrev pub AreOthersFrom : List ℕ → ℕ → ℕ → Type 0
+AreOthersFrom all limit high = (j : ℕ) → high ≤ j → j < length all → limit ≤ get_or all j 0
 
-pub no_best : (steps : List StepRecord) (address : ℕ) → IsBest steps address 0 0
-no_best steps address = record { none = λ e. refl; some = λ k e. absurd (omega (arith, e)) }
+pub below_to : (all : List ℕ) (limit middle : ℕ) → AreAscending all → middle < length all → get_or all middle 0 < limit → AreBelowTo all limit (middle + 1)
+below_to all limit middle rising within below j l = elim (cases_lt j middle) [
+  | inl less ↦ omega (arith, below, rising j middle less within)
+  | inr more ↦
+      let same : middle ≡ j = omega (arith, l, more) in
+      subst (λ n. get_or all n 0 < limit) same below
+]
 
-pub best_here : (steps : List StepRecord) (address middle : ℕ) (row : Step) → IsStepRow steps middle row → middle < length steps → row.start ≤ address → IsBest steps address (middle + 1) row.location
-best_here steps address middle row is within not_above = record {
-  none = λ e. absurd (omega (arith, e));
-  some = λ k e. subst (λ n. (n < length steps) × (get_or (starts_of steps) n 0 ≤ address) × IsMaybeChain (parts_of steps) row.location (frames_at steps (Some n))) (omega (arith, e)) here;
-}
-  where
-    here : (middle < length steps) × (get_or (starts_of steps) middle 0 ≤ address) × IsMaybeChain (parts_of steps) row.location (frames_at steps (Some middle))
-    here = (
-      within,
-      omega (arith, not_above, is.start no_step, start_at steps middle no_step 0 within),
-      subst (IsMaybeChain (parts_of steps) row.location) (sym (frames_there steps middle no_step within)) (is.location no_step),
-    )
+pub others_from : (all : List ℕ) (limit middle : ℕ) → AreAscending all → (get_or all middle 0 < limit → ⊥) → AreOthersFrom all limit middle
+others_from all limit middle rising other j low l = elim (cases_lt middle j) [
+  | inl less ↦ omega (arith, other, rising middle j less l)
+  | inr more ↦
+      let same : middle ≡ j = omega (arith, low, more) in
+      let here : limit ≤ get_or all middle 0 = omega (arith, other) in
+      subst (λ n. limit ≤ get_or all n 0) same here
+]
 
-pub above_from : (steps : List StepRecord) (address middle : ℕ) (row : Step) → AreAscending (starts_of steps) → IsStepRow steps middle row → middle < length steps → address < row.start
-    → AreAboveFrom (starts_of steps) address middle
-above_from steps address middle row rising is within above j low l =
-    let here : get_or (starts_of steps) middle 0 ≡ row.start = start_at steps middle no_step 0 within ∙ sym (is.start no_step) in
-    elim (cases_lt middle j) [
-      | inl k ↦ omega (arith, here, above, rising middle j k l)
-      | inr k ↦
-          let same : middle ≡ j = omega (arith, low, k) in
-          let first : address < get_or (starts_of steps) middle 0 = omega (arith, here, above) in
-          subst (λ n. address < get_or (starts_of steps) n 0) same first
-    ]
+-- the two parts that are left when a halving ends
+pub halved : (all : List ℕ) (limit low high : ℕ) → low ≤ high → high ≤ low → low ≤ length all → AreBelowTo all limit low → AreOthersFrom all limit high → AreBelow all limit low
+halved all limit low high within ends most below others = record { within = most; below = below; others = λ j l m. others j (omega (arith, l, ends)) m }
 
--- the step that is left when the halving ends
-pub found_of : (steps : List StepRecord) (address low high number : ℕ) → low ≤ high → high ≤ low → AreAboveFrom (starts_of steps) address high → IsBest steps address low number
-    → (found : Option ℕ) × IsStepFor (starts_of steps) address found × IsMaybeChain (parts_of steps) number (frames_at steps found)
-found_of steps address zero high number within ends above best = (None, λ j l. above j (omega (arith, ends)) l, best.none refl)
-found_of steps address (suc k) high number within ends above best =
-    let here = best.some k (omega arith) in (
-      Some k,
+-- ---- runs
+
+pub runs_long : (steps : List StepRecord) → length (run_halves steps) ≡ length (runs_of steps)
+runs_long steps = length-map (runs_of steps) (λ r. r.upper)
+
+-- the upper half of the run of an index, by its row
+pub upper_of_row : (steps : List StepRecord) (index : ℕ) (row : Run) → IsRunRow steps index row → index < length (runs_of steps) → row.upper ≡ get_or (run_halves steps) index 0
+upper_of_row steps index row is within = is.upper no_run ∙ sym (upper_at steps index within)
+
+-- ---- the steps of the upper half of an address
+
+-- in these bounds are the steps whose starts have the upper half of an address
+pub record AreBounds (steps : List StepRecord) (address low high : ℕ) : Type 0 where
+  pub lower : AreBelow (step_halves steps) (upper_half address) low
+  pub higher : AreBelow (step_halves steps) (upper_half address + 1) high
+
+pub bounds_are : (steps : List StepRecord) (address upper low high : ℕ) → upper ≡ upper_half address → AreBelow (step_halves steps) upper low → AreBelow (step_halves steps) (upper + 1) high → AreBounds steps address low high
+bounds_are steps address upper low high is lower higher = record { lower = subst (λ n. AreBelow (step_halves steps) n low) is lower; higher = subst (λ n. AreBelow (step_halves steps) (n + 1) high) is higher }
+
+module _ (steps : List StepRecord) (address first end : ℕ) (bounds : AreBounds steps address first end) where
+  half : (j : ℕ) → j < length (starts_of steps) → get_or (step_halves steps) j 0 ≡ upper_half (get_or (starts_of steps) j 0)
+  half j l = half_at steps j (omega (arith, l, starts_long steps))
+
+  long : length (step_halves steps) ≡ length (starts_of steps)
+  long = length-map (starts_of steps) upper_half
+
+  pub bounds_rise : first ≤ end
+  bounds_rise = elim (cases_lt end first) [
+    | inl less ↦
+        let low = bounds.lower.below end less in
+        let high = bounds.higher.others end (omega arith) (omega (arith, less, bounds.lower.within)) in
+        absurd (omega (arith, low, high))
+    | inr more ↦ omega (arith, more)
+  ]
+
+  pub bounds_within : end ≤ length (starts_of steps)
+  bounds_within = omega (arith, bounds.higher.within, long)
+
+  pub bounds_below : AreBelowTo (starts_of steps) (address + 1) first
+  bounds_below j l =
+      let there : j < length (starts_of steps) = omega (arith, l, bounds.lower.within, long) in
+      omega (arith, below_by_upper (get_or (starts_of steps) j 0) address (omega (arith, bounds.lower.below j l, half j there)))
+
+  pub bounds_others : AreOthersFrom (starts_of steps) (address + 1) end
+  bounds_others j low l =
+      omega (arith, below_by_upper address (get_or (starts_of steps) j 0) (omega (arith, bounds.higher.others j low (omega (arith, l, long)), half j l)))
+
+  -- a step in the bounds has the upper half
+  same_half : (j : ℕ) → first ≤ j → j < end → upper_half (get_or (starts_of steps) j 0) ≡ upper_half address
+  same_half j from to =
+      let there : j < length (starts_of steps) = omega (arith, to, bounds_within) in
+      omega (arith, half j there, bounds.lower.others j from (omega (arith, there, long)), bounds.higher.below j to)
+
+  pub row_below : (middle : ℕ) (row : Step) → IsStepRow steps middle row → first ≤ middle → middle < end → row.lower ≤ lower_half address → get_or (starts_of steps) middle 0 < address + 1
+  row_below middle row is from to not_above =
+      let within : middle < length steps = omega (arith, to, bounds_within, starts_long steps) in
+      let start : get_or (starts_of steps) middle 0 ≡ (get_or steps middle no_step).start = start_at steps middle no_step 0 within in
+      let lower : lower_half (get_or (starts_of steps) middle 0) ≤ lower_half address = omega (arith, not_above, is.lower no_step, ap lower_half start) in
+      omega (arith, within_by_lower (get_or (starts_of steps) middle 0) address (same_half middle from to) lower)
+
+  pub row_other : (middle : ℕ) (row : Step) → IsStepRow steps middle row → first ≤ middle → middle < end → lower_half address < row.lower → get_or (starts_of steps) middle 0 < address + 1 → ⊥
+  row_other middle row is from to above less =
+      let within : middle < length steps = omega (arith, to, bounds_within, starts_long steps) in
+      let start : get_or (starts_of steps) middle 0 ≡ (get_or steps middle no_step).start = start_at steps middle no_step 0 within in
+      let lower : lower_half address < lower_half (get_or (starts_of steps) middle 0) = omega (arith, above, is.lower no_step, ap lower_half start) in
+      omega (arith, less, below_by_lower address (get_or (starts_of steps) middle 0) (sym (same_half middle from to)) lower)
+
+-- ---- the step of an address
+
+pub no_step_for : (steps : List StepRecord) (address count : ℕ) → count ≡ 0 → AreBelow (starts_of steps) (address + 1) count
+    → (found : Option ℕ) × IsStepFor (starts_of steps) address found × IsMaybeChain (parts_of steps) 0 (frames_at steps found)
+no_step_for steps address count none are = (None, λ j l. omega (arith, are.others j (omega (arith, none)) l), refl)
+
+pub last_step_for : (steps : List StepRecord) (address count index : ℕ) (row : Step) → index + 1 ≡ count → AreBelow (starts_of steps) (address + 1) count → IsStepRow steps index row
+    → (found : Option ℕ) × IsStepFor (starts_of steps) address found × IsMaybeChain (parts_of steps) row.location (frames_at steps found)
+last_step_for steps address count index row next are is =
+    let within : index < length steps = omega (arith, are.within, next, starts_long steps) in (
+      Some index,
       record {
-        stands = omega (arith, here.0, starts_long steps);
-        not_above = here.1;
-        others = λ j l m. above j (omega (arith, ends, within, l)) m;
+        stands = omega (arith, within, starts_long steps);
+        not_above = omega (arith, are.below index (omega (arith, next)));
+        others = λ j l m. omega (arith, are.others j (omega (arith, l, next)) m);
       },
-      here.2,
+      subst (IsMaybeChain (parts_of steps) row.location) (sym (frames_there steps index no_step within)) (is.location no_step),
     )
 
 -- ---- the chain of a location

@@ -12,7 +12,7 @@ use Rattle.line_tables.specs.Steps.{StepRecord, starts_of, AreAscending, AreFram
 
 -- ---- numbers that ascend
 
-rising_rest : (x : ℕ) (xs : List ℕ) → AreAscending (x ∷ xs) → AreAscending xs
+pub rising_rest : (x : ℕ) (xs : List ℕ) → AreAscending (x ∷ xs) → AreAscending xs
 rising_rest x xs rising i j l m = rising (suc i) (suc j) (omega arith) (omega arith)
 
 -- a member is the first one, or behind it

@@ -1,16 +1,17 @@
 -- Where the parts of a table stand among its bytes.
 use Rattle.std.proofs.Common.{◌≡◌, ℕ, zero, suc, ◌+◌, ◌*◌, ◌<◌, ◌≤◌, ◌^◌, List, [], ◌∷◌, ◌++◌, length, take, drop, get_or, refl, sym, ap, ◌∙◌, arith, length-append, Some}
 use Rattle.std.specs.Prelude.{flat_map}
-use Rattle.std.specs.Int.{w32, w64, from_be_bytes, to_be_bytes}
+use Rattle.std.specs.Int.{w32, from_be_bytes, to_be_bytes}
 use Rattle.std.specs.List.{concat}
 use Rattle.std.proofs.lemmas.List.{append_assoc, take_at, drop_at, drop-drop}
-use Rattle.std.proofs.lemmas.Nat.{from_be_bytes-to_be_bytes_4, from_be_bytes-to_be_bytes_8}
+use Rattle.std.proofs.lemmas.Nat.{from_be_bytes-to_be_bytes_4}
 use Rattle.std.proofs.lemmas.Option.{slice_get-get_or}
 use Rattle.std.proofs.Math.Nat.{mul-suc}
 use Rattle.line_programs.specs.Paths.{PathRecord}
 use Rattle.source_frames.specs.Frames.{FrameRecord}
-use Rattle.line_tables.specs.LineText.{LineParts, chains_in, file_bytes, head_bytes, line_text, location_bytes, parts_of, step_bytes, table_bytes, text_rows}
+use Rattle.line_tables.specs.LineText.{LineParts, chains_in, file_bytes, head_bytes, line_text, location_bytes, parts_of, run_bytes, step_bytes, table_bytes, text_rows}
 use Rattle.line_tables.specs.Numbering.{number_in, number_or_zero, same_chain, same_path, same_text}
+use Rattle.line_tables.specs.Runs.{RunRecord, lower_half, runs_of}
 use Rattle.line_tables.specs.Steps.{StepRecord}
 use Rattle.line_tables.proofs.ChainLemmas.{chains_are}
 use Rattle.line_tables.proofs.NumberingLemmas.{number_of_member}
@@ -104,7 +105,11 @@ text_within (t ∷ texts) (suc i) d l = omega (arith, length-append t (concat te
 
 -- ---- the widths of rows
 
-length-step : (parts : LineParts) (s : StepRecord) → length (step_bytes parts s) ≡ 12
+length-run : (run : RunRecord) → length (run_bytes run) ≡ 8
+unfolding run_bytes
+length-run run = refl
+
+length-step : (parts : LineParts) (s : StepRecord) → length (step_bytes parts s) ≡ 8
 unfolding step_bytes
 length-step parts s = refl
 
@@ -116,7 +121,7 @@ length-file : (parts : LineParts) (path : PathRecord) → length (file_bytes par
 unfolding file_bytes
 length-file parts path = refl
 
-pub length-head : (parts : LineParts) → length (head_bytes parts) ≡ 48
+pub length-head : (parts : LineParts) → length (head_bytes parts) ≡ 56
 unfolding head_bytes
 length-head parts = refl
 
@@ -134,7 +139,10 @@ length-some : (parts : LineParts) (chain : List FrameRecord) → 0 < length chai
 length-some parts [] some = absurd (omega (arith, some))
 length-some parts (f ∷ fs) some = length-location parts f fs
 
-steps_wide : (parts : LineParts) → HaveWidth (step_bytes parts) 12 parts.steps
+runs_wide : (runs : List RunRecord) → HaveWidth run_bytes 8 runs
+runs_wide runs k d l = length-run (get_or runs k d)
+
+steps_wide : (parts : LineParts) → HaveWidth (step_bytes parts) 8 parts.steps
 steps_wide parts k d l = length-step parts (get_or parts.steps k d)
 
 files_wide : (parts : LineParts) → HaveWidth (file_bytes parts) 12 parts.files
@@ -158,12 +166,18 @@ chains_on parts = flat_map (location_bytes parts) parts.chains ++ files_on parts
 abbrev steps_on : LineParts → List ℕ
 steps_on parts = flat_map (step_bytes parts) parts.steps ++ chains_on parts
 
-table_is : (parts : LineParts) → table_bytes parts ≡ head_bytes parts ++ steps_on parts
+abbrev runs_on : LineParts → List ℕ
+runs_on parts = flat_map run_bytes (runs_of parts.steps) ++ steps_on parts
+
+table_is : (parts : LineParts) → table_bytes parts ≡ head_bytes parts ++ runs_on parts
 unfolding table_bytes
 table_is parts = refl
 
+abbrev pub first_step : LineParts → ℕ
+first_step parts = 56 + 8 * length (runs_of parts.steps)
+
 abbrev pub first_location : LineParts → ℕ
-first_location parts = 48 + 12 * length parts.steps
+first_location parts = first_step parts + 8 * length parts.steps
 
 abbrev pub first_file : LineParts → ℕ
 first_file parts = first_location parts + 20 * length parts.chains
@@ -174,17 +188,24 @@ first_text parts = first_file parts + 12 * length parts.files
 abbrev pub first_byte : LineParts → ℕ
 first_byte parts = first_text parts + 8 * length parts.texts
 
-steps_at : (steps : List StepRecord) (m : ℕ) → drop (48 + m) (line_text steps) ≡ drop m (steps_on (parts_of steps))
+runs_at : (steps : List StepRecord) (m : ℕ) → drop (56 + m) (line_text steps) ≡ drop m (runs_on (parts_of steps))
+runs_at steps m =
+    let parts : LineParts = parts_of steps in
+    ap (drop (56 + m)) (table_is parts) ∙ drop_past (head_bytes parts) (runs_on parts) 56 m (length-head parts)
+
+steps_at : (steps : List StepRecord) (m : ℕ) → drop (first_step (parts_of steps) + m) (line_text steps) ≡ drop m (steps_on (parts_of steps))
 steps_at steps m =
     let parts : LineParts = parts_of steps in
-    ap (drop (48 + m)) (table_is parts) ∙ drop_past (head_bytes parts) (steps_on parts) 48 m (length-head parts)
+    let far : first_step parts + m ≡ 56 + (8 * length (runs_of steps) + m) = omega arith in
+    ap (λ n. drop n (line_text steps)) far ∙ runs_at steps (8 * length (runs_of steps) + m)
+    ∙ drop_past (flat_map run_bytes (runs_of steps)) (steps_on parts) (8 * length (runs_of steps)) m (length_rows run_bytes 8 (runs_of steps) (runs_wide (runs_of steps)))
 
 chains_at : (steps : List StepRecord) (m : ℕ) → drop (first_location (parts_of steps) + m) (line_text steps) ≡ drop m (chains_on (parts_of steps))
 chains_at steps m =
     let parts : LineParts = parts_of steps in
-    let far : first_location parts + m ≡ 48 + (12 * length parts.steps + m) = omega arith in
-    ap (λ n. drop n (line_text steps)) far ∙ steps_at steps (12 * length parts.steps + m)
-    ∙ drop_past (flat_map (step_bytes parts) parts.steps) (chains_on parts) (12 * length parts.steps) m (length_rows (step_bytes parts) 12 parts.steps (steps_wide parts))
+    let far : first_location parts + m ≡ first_step parts + (8 * length parts.steps + m) = omega arith in
+    ap (λ n. drop n (line_text steps)) far ∙ steps_at steps (8 * length parts.steps + m)
+    ∙ drop_past (flat_map (step_bytes parts) parts.steps) (chains_on parts) (8 * length parts.steps) m (length_rows (step_bytes parts) 8 parts.steps (steps_wide parts))
 
 files_at : (steps : List StepRecord) (m : ℕ) → drop (first_file (parts_of steps) + m) (line_text steps) ≡ drop m (files_on (parts_of steps))
 files_at steps m =
@@ -213,10 +234,12 @@ length-line_text steps =
     omega (
       arith,
       ap length (table_is parts),
-      length-append (head_bytes parts) (steps_on parts),
+      length-append (head_bytes parts) (runs_on parts),
       length-head parts,
+      length-append (flat_map run_bytes (runs_of steps)) (steps_on parts),
+      length_rows run_bytes 8 (runs_of steps) (runs_wide (runs_of steps)),
       length-append (flat_map (step_bytes parts) parts.steps) (chains_on parts),
-      length_rows (step_bytes parts) 12 parts.steps (steps_wide parts),
+      length_rows (step_bytes parts) 8 parts.steps (steps_wide parts),
       length-append (flat_map (location_bytes parts) parts.chains) (files_on parts),
       length_rows (location_bytes parts) 20 parts.chains (chains_wide steps),
       length-append (flat_map (file_bytes parts) parts.files) (texts_on parts),
@@ -225,15 +248,18 @@ length-line_text steps =
       length-text_rows 0 parts.texts,
     )
 
-pub head_there : (steps : List StepRecord) → take 48 (line_text steps) ≡ head_bytes (parts_of steps)
+pub head_there : (steps : List StepRecord) → take 56 (line_text steps) ≡ head_bytes (parts_of steps)
 head_there steps =
     let parts : LineParts = parts_of steps in
-    ap (take 48) (table_is parts) ∙ take_at (head_bytes parts) (steps_on parts) 48 (length-head parts)
+    ap (take 56) (table_is parts) ∙ take_at (head_bytes parts) (runs_on parts) 56 (length-head parts)
 
-pub step_there : (steps : List StepRecord) (i : ℕ) (d : StepRecord) → i < length steps → take 12 (drop (48 + 12 * i) (line_text steps)) ≡ step_bytes (parts_of steps) (get_or steps i d)
+pub run_there : (steps : List StepRecord) (i : ℕ) (d : RunRecord) → i < length (runs_of steps) → take 8 (drop (56 + 8 * i) (line_text steps)) ≡ run_bytes (get_or (runs_of steps) i d)
+run_there steps i d l = ap (take 8) (runs_at steps (8 * i)) ∙ row_here run_bytes 8 (runs_of steps) (steps_on (parts_of steps)) i d (runs_wide (runs_of steps)) l
+
+pub step_there : (steps : List StepRecord) (i : ℕ) (d : StepRecord) → i < length steps → take 8 (drop (first_step (parts_of steps) + 8 * i) (line_text steps)) ≡ step_bytes (parts_of steps) (get_or steps i d)
 step_there steps i d l =
     let parts : LineParts = parts_of steps in
-    ap (take 12) (steps_at steps (12 * i)) ∙ row_here (step_bytes parts) 12 steps (chains_on parts) i d (steps_wide parts) l
+    ap (take 8) (steps_at steps (8 * i)) ∙ row_here (step_bytes parts) 8 steps (chains_on parts) i d (steps_wide parts) l
 
 pub location_there : (steps : List StepRecord) (i : ℕ) (d : List FrameRecord) → i < length (chains_in steps)
     → take 20 (drop (first_location (parts_of steps) + 20 * i) (line_text steps)) ≡ location_bytes (parts_of steps) (get_or (chains_in steps) i d)
@@ -261,11 +287,19 @@ text_there steps i d l =
 
 -- ---- the numbers of a row
 
-pub start_in : (parts : LineParts) (s : StepRecord) → s.start < 2 ^ 64 → from_be_bytes w64 (take 8 (drop 0 (step_bytes parts s))) ≡ s.start
-unfolding step_bytes
-start_in parts s fits = from_be_bytes-to_be_bytes_8 s.start fits
+pub upper_in : (run : RunRecord) → run.upper < 2 ^ 32 → from_be_bytes w32 (take 4 (drop 0 (run_bytes run))) ≡ run.upper
+unfolding run_bytes
+upper_in run fits = from_be_bytes-to_be_bytes_4 run.upper fits
 
-pub location_in : (parts : LineParts) (s : StepRecord) → number_in same_chain parts.chains s.frames < 2 ^ 32 → from_be_bytes w32 (take 4 (drop 8 (step_bytes parts s))) ≡ number_in same_chain parts.chains s.frames
+pub count_in : (run : RunRecord) → run.steps < 2 ^ 32 → from_be_bytes w32 (take 4 (drop 4 (run_bytes run))) ≡ run.steps
+unfolding run_bytes
+count_in run fits = from_be_bytes-to_be_bytes_4 run.steps fits
+
+pub lower_in : (parts : LineParts) (s : StepRecord) → lower_half s.start < 2 ^ 32 → from_be_bytes w32 (take 4 (drop 0 (step_bytes parts s))) ≡ lower_half s.start
+unfolding step_bytes
+lower_in parts s fits = from_be_bytes-to_be_bytes_4 (lower_half s.start) fits
+
+pub location_in : (parts : LineParts) (s : StepRecord) → number_in same_chain parts.chains s.frames < 2 ^ 32 → from_be_bytes w32 (take 4 (drop 4 (step_bytes parts s))) ≡ number_in same_chain parts.chains s.frames
 unfolding step_bytes
 location_in parts s fits = from_be_bytes-to_be_bytes_4 (number_in same_chain parts.chains s.frames) fits
 

@@ -1,13 +1,16 @@
 -- What single rows say: the words of inner functions. No contract of a public one has them.
-use Rattle.std.specs.Prelude.{◌≡◌, ◌<◌, ℕ, List, [], ◌∷◌, Option, Some, None, length, slice_index_or, take}
+use Rattle.std.specs.Prelude.{◌≡◌, ◌<◌, ◌≤◌, ℕ, List, [], ◌∷◌, Option, Some, None, length, map, slice_index}
+use Rattle.std.specs.Prelude.{slice_index_or, take}
 use Rattle.std.specs.List.{concat}
 use Rattle.line_programs.specs.Paths.{PathRecord}
 use Rattle.source_frames.specs.Frames.{FrameRecord}
 use Rattle.line_tables.specs.LineText.{LineParts, parts_of}
 use Rattle.line_tables.specs.Numbering.{number_in, same_chain, same_path, same_text}
-use Rattle.line_tables.specs.Steps.{StepRecord}
+use Rattle.line_tables.specs.Runs.{RunRecord, lower_half, runs_of, upper_half}
+use Rattle.line_tables.specs.Steps.{StepRecord, starts_of}
 use Rattle.line_tables.specs.declared.row.File.{File}
 use Rattle.line_tables.specs.declared.row.Location.{Location}
+use Rattle.line_tables.specs.declared.row.Run.{Run}
 use Rattle.line_tables.specs.declared.row.Step.{Step}
 use Rattle.line_tables.specs.declared.row.Text.{Text}
 
@@ -48,9 +51,27 @@ pub record IsLocation (parts : LineParts) (row : Location) (frame : FrameRecord)
   pub column : row.column ≡ frame.column
   pub caller : IsMaybeChain parts row.caller callers
 
+-- those of some numbers that are below a limit are the first ones, and so many
+pub record AreBelow (all : List ℕ) (limit count : ℕ) : Type 0 where
+  pub within : count ≤ length all
+  pub below : (j : ℕ) → j < count → slice_index all j < limit
+  pub others : (j : ℕ) → count ≤ j → j < length all → limit ≤ slice_index all j
+
+-- the upper halves of runs, and of the starts of steps
+abbrev pub run_halves : List StepRecord → List ℕ
+run_halves steps = map (λ r. r.upper) (runs_of steps)
+
+abbrev pub step_halves : List StepRecord → List ℕ
+step_halves steps = map upper_half (starts_of steps)
+
+-- a row is that of the run of an index
+pub record IsRunRow (steps : List StepRecord) (index : ℕ) (row : Run) : Type 0 where
+  pub upper : (d : RunRecord) → row.upper ≡ (slice_index_or (runs_of steps) index d).upper
+  pub count : (d : RunRecord) → row.steps ≡ (slice_index_or (runs_of steps) index d).steps
+
 -- a row is that of the step of an index
 pub record IsStepRow (steps : List StepRecord) (index : ℕ) (row : Step) : Type 0 where
-  pub start : (d : StepRecord) → row.start ≡ (slice_index_or steps index d).start
+  pub lower : (d : StepRecord) → row.lower ≡ lower_half (slice_index_or steps index d).start
   pub location : (d : StepRecord) → IsMaybeChain (parts_of steps) row.location (slice_index_or steps index d).frames
 
 -- a row is that of a file

@@ -1,4 +1,5 @@
 pub mod Steps
+pub mod Runs
 pub mod Numbering
 pub mod LineText
 pub mod LineTable

@@ -26,8 +26,8 @@ pub record FitsLines (room : ℕ) (steps : List StepRecord) : Type 0 where
 -- the bytes of a table that has no lines: a head of zeros
 unfoldable pub no_lines : List ℕ
 no_lines =
-    to_be_bytes w64 0 ++ (to_be_bytes w64 0 ++ (to_be_bytes w64 0
-    ++ (to_be_bytes w64 0 ++ (to_be_bytes w64 0 ++ to_be_bytes w64 0))))
+    to_be_bytes w64 0 ++ (to_be_bytes w64 0 ++ (to_be_bytes w64 0 ++ (to_be_bytes w64 0
+    ++ (to_be_bytes w64 0 ++ (to_be_bytes w64 0 ++ to_be_bytes w64 0)))))
 
 -- the table of some steps where so many bytes are allowed: that of all of them where it fits, and else one that has no
 -- lines
@@ -37,7 +37,7 @@ IsLineTextWithin room steps bytes =
 
 -- how many bytes are allowed for the table of an image: four times its own, and always those of a head
 abbrev pub room_of : List ℕ → ℕ
-room_of image = max 48 (4 * length image)
+room_of image = max 56 (4 * length image)
 
 -- these bytes are the line table of an image
 pub record IsLineTable (image bytes : List ℕ) : Type 0 where

@@ -1,11 +1,12 @@
--- The bytes of a line table: a head of 48 bytes, its steps, its locations, its files, and its texts. Numbers are
--- big-endian.
+-- The bytes of a line table: a head of 56 bytes, the runs of its steps, its steps, its locations, its files, and its
+-- texts. Numbers are big-endian.
 use Rattle.std.specs.Prelude.{◌+◌, ℕ, List, [], ◌∷◌, ◌++◌, Option, None, length, flat_map, filter_map}
 use Rattle.std.specs.Int.{w32, w64, to_be_bytes}
 use Rattle.std.specs.List.{concat}
 use Rattle.line_programs.specs.Paths.{PathRecord}
 use Rattle.source_frames.specs.Frames.{FrameRecord}
 use Rattle.line_tables.specs.Numbering.{distinct, number_in, number_or_zero, same_chain, same_path, same_text}
+use Rattle.line_tables.specs.Runs.{RunRecord, lower_half, runs_of}
 use Rattle.line_tables.specs.Steps.{StepRecord}
 
 -- the chains of the frames of an address: the outermost frame alone, it with the one that it called, and so on, up to
@@ -58,17 +59,21 @@ parts_of steps =
       texts = texts_in (chains_in steps) (files_in (chains_in steps));
     }
 
--- the head: six numbers of eight bytes. The first is 1, as there are lines
+-- the head: seven numbers of eight bytes. The first is 1, as there are lines
 unfoldable pub head_bytes : LineParts → List ℕ
 head_bytes parts =
-    to_be_bytes w64 1 ++ (to_be_bytes w64 (length parts.steps) ++ (to_be_bytes w64 (length parts.chains)
-    ++ (to_be_bytes w64 (length parts.files) ++ (to_be_bytes w64 (length parts.texts)
-    ++ to_be_bytes w64 (length (concat parts.texts))))))
+    to_be_bytes w64 1 ++ (to_be_bytes w64 (length (runs_of parts.steps)) ++ (to_be_bytes w64 (length parts.steps)
+    ++ (to_be_bytes w64 (length parts.chains) ++ (to_be_bytes w64 (length parts.files)
+    ++ (to_be_bytes w64 (length parts.texts) ++ to_be_bytes w64 (length (concat parts.texts)))))))
 
--- a step in 12 bytes: where it starts, and the number of its chain; 0 where it has no frames
+-- a run in 8 bytes: its upper half, and how many steps there are up to its last
+unfoldable pub run_bytes : RunRecord → List ℕ
+run_bytes run = to_be_bytes w32 run.upper ++ to_be_bytes w32 run.steps
+
+-- a step in 8 bytes: the lower half of its start, and the number of its chain; 0 where it has no frames
 unfoldable pub step_bytes : LineParts → StepRecord → List ℕ
 step_bytes parts step =
-    to_be_bytes w64 step.start ++ to_be_bytes w32 (number_in same_chain parts.chains step.frames)
+    to_be_bytes w32 (lower_half step.start) ++ to_be_bytes w32 (number_in same_chain parts.chains step.frames)
 
 -- a location in 20 bytes: the numbers of its name and of its file, line and column, and the number of the chain of its
 -- callers; 0 where there is none
@@ -97,11 +102,12 @@ text_rows before (text ∷ texts) =
 unfoldable pub table_bytes : LineParts → List ℕ
 table_bytes parts =
     head_bytes parts
+    ++ (flat_map run_bytes (runs_of parts.steps)
     ++ (flat_map (step_bytes parts) parts.steps
     ++ (flat_map (location_bytes parts) parts.chains
     ++ (flat_map (file_bytes parts) parts.files
     ++ (text_rows 0 parts.texts
-    ++ concat parts.texts))))
+    ++ concat parts.texts)))))
 
 -- the bytes of the table of some steps
 abbrev pub line_text : List StepRecord → List ℕ

@@ -5,6 +5,7 @@ use Rattle.checked_pages.specs.Views.{ArePagesOf}
 use Rattle.checked_pages.specs.declared.pages.Pages.{Pages}
 use Rattle.line_tables.specs.LineTable.{AreFew, HaveFewLines}
 use Rattle.line_tables.specs.LineText.{LineParts, line_text, parts_of}
+use Rattle.line_tables.specs.Runs.{runs_of}
 use Rattle.line_tables.specs.Steps.{StepRecord}
 use Rattle.line_tables.specs.declared.table.LineTable.{LineTable}
 
@@ -14,6 +15,7 @@ StandsAt all offset bytes = (offset ≤ length all) × (drop offset all ≡ byte
 
 -- the numbers of a head are those of the parts of a table
 pub record IsHeadOf (table : LineTable) (parts : LineParts) : Type 0 where
+  pub runs : table.runs ≡ length (runs_of parts.steps)
   pub steps : table.steps ≡ length parts.steps
   pub locations : table.locations ≡ length parts.chains
   pub files : table.files ≡ length parts.files

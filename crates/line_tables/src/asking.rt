@@ -139,8 +139,8 @@ impl LineTable {
         Ok(frames)
     }
 
-    /// The frames of an address of the file, the innermost first: one halving over the steps, and one location for each
-    /// frame.
+    /// The frames of an address of the file, the innermost first: a halving over the runs and one over the steps, and
+    /// one location for each frame.
     ///
     /// # Errors
     ///

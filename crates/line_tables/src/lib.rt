@@ -2,11 +2,12 @@
 //!
 //! At each address at which the frames are others than those of the address before a step says the location of the
 //! innermost one. A location says its function, file, line and column, and the location of its caller, which has a
-//! smaller number. So an answer is one halving over one list, and a chain that falls.
+//! smaller number. So an answer is a halving over one list, and a chain that falls.
 //!
-//! - `row`: the rows of a table, of 12, 20 or 8 bytes; `table`: [`LineTable`], a table whose head was read, and
+//! - `row`: the rows of a table, of 8, 20 or 12 bytes; `table`: [`LineTable`], a table whose head was read, and
 //!   where its parts stand;
-//! - `opening`: [`LineTable::open`]; `search`: the step that an address belongs to;
+//! - `opening`: [`LineTable::open`]; `halves`: the two halves of an address; `runs`: how many steps have a start
+//!   whose upper half is below a limit; `search`: the step that an address belongs to;
 //! - `frame`: [`OwnedFrame`]; `texts`, `files`: the texts and paths of a table by their numbers;
 //! - `asking`: [`LineTable::frames_at`], the frames of an address, and [`frames_by_claim`], of a table that is opened
 //!   for it;
@@ -18,14 +19,17 @@
 //! - A location is a chain of frames: two addresses share it, and all its callers, only if all their frames are equal
 //!   from it outwards.
 //! - Each text stands once, with its length beside its place: none is scanned for its end.
+//! - A step stores the lower half of its start alone: the upper half is that of its run, and most tables have one run.
 #![tactic(auto)]
 
 mod asking;
 mod files;
 mod frame;
+pub mod halves;
 pub mod laws;
 mod opening;
 mod row;
+mod runs;
 mod search;
 mod table;
 mod texts;

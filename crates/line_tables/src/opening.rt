@@ -10,7 +10,7 @@ ghost use Rattle.line_tables.specs.LineTable.{IsLineTable, no_lines};
 ghost use Rattle.line_tables.specs.Opened.{IsOpened, StandsAt};
 ghost use Rattle.line_tables.specs.Steps.{AreFrameSteps, StepRecord};
 
-use crate::row::{FILE_LEN, LOCATION_LEN, STEP_LEN, TEXT_LEN, u64_be_at};
+use crate::row::{FILE_LEN, LOCATION_LEN, RUN_LEN, STEP_LEN, TEXT_LEN, u64_be_at};
 use crate::table::{HEAD_LEN, LineTable};
 use byte_device::Placed;
 use checked_pages::{CheckFault, Pages};
@@ -19,6 +19,7 @@ use checked_pages::{CheckFault, Pages};
 #[derive(Clone, Copy)]
 struct Head {
     lines: u64,
+    runs: u64,
     steps: u64,
     locations: u64,
     files: u64,
@@ -28,46 +29,50 @@ struct Head {
 
 /// The head that these bytes are.
 fn head_of(bytes: &[u8]) -> Head
-    requires { length bytes.now ≡ 48 }
+    requires { length bytes.now ≡ 56 }
     ensures lines { result.lines ≡ from_be_bytes w64 (take 8 (drop 0 bytes.now)) }
-    ensures steps { result.steps ≡ from_be_bytes w64 (take 8 (drop 8 bytes.now)) }
-    ensures locations { result.locations ≡ from_be_bytes w64 (take 8 (drop 16 bytes.now)) }
-    ensures files { result.files ≡ from_be_bytes w64 (take 8 (drop 24 bytes.now)) }
-    ensures texts { result.texts ≡ from_be_bytes w64 (take 8 (drop 32 bytes.now)) }
-    ensures bytes { result.bytes ≡ from_be_bytes w64 (take 8 (drop 40 bytes.now)) }
+    ensures runs { result.runs ≡ from_be_bytes w64 (take 8 (drop 8 bytes.now)) }
+    ensures steps { result.steps ≡ from_be_bytes w64 (take 8 (drop 16 bytes.now)) }
+    ensures locations { result.locations ≡ from_be_bytes w64 (take 8 (drop 24 bytes.now)) }
+    ensures files { result.files ≡ from_be_bytes w64 (take 8 (drop 32 bytes.now)) }
+    ensures texts { result.texts ≡ from_be_bytes w64 (take 8 (drop 40 bytes.now)) }
+    ensures bytes { result.bytes ≡ from_be_bytes w64 (take 8 (drop 48 bytes.now)) }
 {
     Head {
         lines: u64_be_at(bytes, 0),
-        steps: u64_be_at(bytes, 8),
-        locations: u64_be_at(bytes, 16),
-        files: u64_be_at(bytes, 24),
-        texts: u64_be_at(bytes, 32),
-        bytes: u64_be_at(bytes, 40),
+        runs: u64_be_at(bytes, 8),
+        steps: u64_be_at(bytes, 16),
+        locations: u64_be_at(bytes, 24),
+        files: u64_be_at(bytes, 32),
+        texts: u64_be_at(bytes, 40),
+        bytes: u64_be_at(bytes, 48),
     }
 }
 
 impl Head {
     /// How many bytes a table with this head has.
     fn len(&self) -> u128
-        ensures { result ≡ 48 + 12 * self.now.steps + 20 * self.now.locations + 12 * self.now.files
-            + 8 * self.now.texts + self.now.bytes }
+        ensures { result ≡ 56 + 8 * self.now.runs + 8 * self.now.steps + 20 * self.now.locations
+            + 12 * self.now.files + 8 * self.now.texts + self.now.bytes }
     {
+        let runs = RUN_LEN as u128 * u128::from(self.runs);
         let steps = STEP_LEN as u128 * u128::from(self.steps);
         let locations = LOCATION_LEN as u128 * u128::from(self.locations);
         let files = FILE_LEN as u128 * u128::from(self.files);
         let texts = TEXT_LEN as u128 * u128::from(self.texts);
-        HEAD_LEN as u128 + steps + locations + files + texts + u128::from(self.bytes)
+        HEAD_LEN as u128 + runs + steps + locations + files + texts + u128::from(self.bytes)
     }
 
     /// The table with this head from an offset on, where it ends with so many bytes.
     fn table(&self, offset: u64, size: u64) -> Option<LineTable>
         ensures offset { IfSome result (λ table. table.offset ≡ offset) }
+        ensures runs { IfSome result (λ table. table.runs ≡ self.now.runs) }
         ensures steps { IfSome result (λ table. table.steps ≡ self.now.steps) }
         ensures locations { IfSome result (λ table. table.locations ≡ self.now.locations) }
         ensures files { IfSome result (λ table. table.files ≡ self.now.files) }
         ensures texts { IfSome result (λ table. table.texts ≡ self.now.texts) }
         ensures bytes { IfSome result (λ table. table.bytes ≡ self.now.bytes) }
-        ensures none { result ≡ None → offset + 48 + 12 * self.now.steps + 20 * self.now.locations
+        ensures none { result ≡ None → offset + 56 + 8 * self.now.runs + 8 * self.now.steps + 20 * self.now.locations
             + 12 * self.now.files + 8 * self.now.texts + self.now.bytes ≡ size → ⊥ }
     {
         if u128::from(offset) + self.len() != u128::from(size) {
@@ -75,6 +80,7 @@ impl Head {
         }
         Some(LineTable {
             offset,
+            runs: self.runs,
             steps: self.steps,
             locations: self.locations,
             files: self.files,

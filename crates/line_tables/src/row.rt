@@ -5,8 +5,11 @@ ghost use Rattle.std.specs.Int.{w32, w64, from_be_bytes};
 
 use byteorder::{BigEndian, ByteOrder};
 
+/// How many bytes a run has.
+pub(crate) const RUN_LEN: usize = 8;
+
 /// How many bytes a step has.
-pub(crate) const STEP_LEN: usize = 12;
+pub(crate) const STEP_LEN: usize = 8;
 
 /// How many bytes a location has.
 pub(crate) const LOCATION_LEN: usize = 20;
@@ -17,10 +20,20 @@ pub(crate) const FILE_LEN: usize = 12;
 /// How many bytes the row of a text has.
 pub(crate) const TEXT_LEN: usize = 8;
 
+/// A run: steps whose starts have one upper half.
+#[derive(Clone, Copy)]
+pub(crate) struct Run {
+    /// The upper half.
+    pub upper: u32,
+    /// How many steps there are up to its last.
+    pub steps: u32,
+}
+
 /// A step: from an address on, up to that of the next one, this is the location of the innermost frame.
 #[derive(Clone, Copy)]
 pub(crate) struct Step {
-    pub start: u64,
+    /// The lower half of the address.
+    pub lower: u32,
     /// The number of the location, from 1 on; 0 where there are no frames.
     pub location: u32,
 }

@@ -1,15 +1,16 @@
 //! The step of an address, found by halving.
 
-ghost use Rattle.std.specs.Prelude.{◌≡◌, ◌<◌, ℕ, List, Option, Some};
+ghost use Rattle.std.specs.Prelude.{◌≡◌, ◌+◌, ◌<◌, ◌≤◌, ℕ, List, Option, Some, IfOk};
 ghost use Rattle.checked_pages.specs.Pages.{AreStored};
 ghost use Rattle.checked_pages.specs.Views.{ArePagesOf, claim_view};
 ghost use Rattle.checked_pages.specs.Reading.{ReadsStored};
-ghost use Rattle.line_tables.specs.Inner.{IsMaybeChain, IsStepRow};
+ghost use Rattle.line_tables.specs.Inner.{AreBelow, IsMaybeChain, IsStepRow};
 ghost use Rattle.line_tables.specs.LineText.{parts_of};
 ghost use Rattle.line_tables.specs.Opened.{IsOpened};
 ghost use Rattle.line_tables.specs.Steps.{AreAscending, IsStepFor, StepRecord, frames_at, starts_of};
 
-use crate::row::{STEP_LEN, Step, u32_be_at, u64_be_at};
+use crate::halves::{lower_half, upper_half};
+use crate::row::{STEP_LEN, Step, u32_be_at};
 use crate::table::LineTable;
 use byte_device::Placed;
 use checked_pages::{CheckFault, Pages};
@@ -36,12 +37,46 @@ impl LineTable {
         let offset = self.first_step() + STEP_LEN as u64 * index;
         pages.read(device, offset, &mut bytes)?;
         Ok(Step {
-            start: u64_be_at(&bytes, 0),
-            location: u32_be_at(&bytes, 8),
+            lower: u32_be_at(&bytes, 0),
+            location: u32_be_at(&bytes, 4),
         })
     }
 
-    /// The number of the location of an address; 0 where it has no frames. One step is read for each halving.
+    /// How many steps start at an address or below it: those with a lower upper half, and of those with the same one as
+    /// many as have no higher lower half. One step is read for each halving.
+    fn steps_up_to<P: Placed>(
+        &self,
+        device: &mut P,
+        pages: &mut Pages,
+        address: u64,
+    ) -> Result<u64, CheckFault>
+        ensures claim { pages.new.claim ≡ pages.old.claim }
+        ensures keeps { (text all : List ℕ) → P.whole device.old ≡ Some text → ArePagesOf pages.old text all
+            → ArePagesOf pages.new text all }
+        ensures within { IfOk result (λ count. count ≤ self.now.steps) }
+        ensures read { ReadsStored P.whole P.failures device.old device.new result
+            (λ text count. (all : List ℕ) (steps : List StepRecord) → AreAscending (starts_of steps)
+            → IsOpened self.now pages.old text all steps → AreBelow (starts_of steps) (address + 1) count)
+            (λ text. (all : List ℕ) (steps : List StepRecord) → AreStored text (claim_view pages.old.claim) all
+            → IsOpened self.now pages.old text all steps → ⊥) }
+    {
+        let upper = u64::from(upper_half(address));
+        let lower = lower_half(address);
+        let mut low = self.steps_below(device, pages, upper)?;
+        let mut high = self.steps_below(device, pages, upper + 1)?;
+        'halving: while low < high {
+            let middle = low + (high - low) / 2;
+            let step = self.step_at(device, pages, middle)?;
+            if step.lower <= lower {
+                low = middle + 1;
+            } else {
+                high = middle;
+            }
+        }
+        Ok(low)
+    }
+
+    /// The number of the location of an address; 0 where it has no frames.
     pub(crate) fn location_for<P: Placed>(
         &self,
         device: &mut P,
@@ -59,19 +94,11 @@ impl LineTable {
             (λ text. (all : List ℕ) (steps : List StepRecord) → AreStored text (claim_view pages.old.claim) all
             → IsOpened self.now pages.old text all steps → ⊥) }
     {
-        let mut low = 0;
-        let mut high = self.steps;
-        let mut number = 0;
-        'halving: while low < high {
-            let middle = low + (high - low) / 2;
-            let step = self.step_at(device, pages, middle)?;
-            if step.start <= address {
-                number = step.location;
-                low = middle + 1;
-            } else {
-                high = middle;
-            }
+        let count = self.steps_up_to(device, pages, address)?;
+        if count == 0 {
+            return Ok(0);
         }
-        Ok(number)
+        let step = self.step_at(device, pages, count - 1)?;
+        Ok(step.location)
     }
 }

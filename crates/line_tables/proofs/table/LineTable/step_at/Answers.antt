@@ -15,7 +15,7 @@ pub returns-clause-read : goal.returns-clause-read
 returns-clause-read g c = record {
   says = λ text known all steps opened.
       step_read _ _ _ _ _ opened c.read.new.buf c.args.index (length c.read.new.buf) _ _ c.requires c.read.auto.buf (omega (arith, c.first_step.ensures))
-      (c.in_ok-read.ensures.read.says text known all opened.are_pages) c.u64_be_at.ensures c.u32_be_at.ensures;
+      (c.in_ok-read.ensures.read.says text known all opened.are_pages) c.u32_be_at.ensures c.u32_be_at-2.ensures;
   keeps = c.in_ok-read.ensures.read.keeps;
   counts = c.in_ok-read.ensures.read.counts;
 }

@@ -1,0 +1,21 @@
+use Rattle.std.proofs.Common.{length, Err, ap, ◌∙◌, arith}
+use Rattle.std.proofs.lemmas.Result.{err_from_is_err_and}
+use Rattle.checked_pages.proofs.ReadLemmas.{passed_on}
+use Rattle.line_tables.proofs.OpenedLemmas.{opened_long, run_read}
+use Rattle.line_tables.proofs.table.LineTable.run_at.Goals as goal
+
+pub returns-in_err-read-clause-read : goal.returns-in_err-read-clause-read
+returns-in_err-read-clause-read g c =
+    let p = err_from_is_err_and c.from_residual.result c.from_residual.ensures.1 in
+    passed_on _ _ _ _ _ _ _ _ _ _ _ c.in_err-read.was (p.1 ∙ ap Err p.2)
+    (λ text known absent all steps stored opened. absent all stored opened.are_pages (omega (arith, opened_long _ _ _ _ _ opened, c.requires, c.first_run.ensures, c.read.auto.buf)))
+    c.read.ensures.read
+
+pub returns-clause-read : goal.returns-clause-read
+returns-clause-read g c = record {
+  says = λ text known all steps opened.
+      run_read _ _ _ _ _ opened c.read.new.buf c.args.index (length c.read.new.buf) _ _ c.requires c.read.auto.buf (omega (arith, c.first_run.ensures))
+      (c.in_ok-read.ensures.read.says text known all opened.are_pages) c.u32_be_at.ensures c.u32_be_at-2.ensures;
+  keeps = c.in_ok-read.ensures.read.keeps;
+  counts = c.in_ok-read.ensures.read.counts;
+}

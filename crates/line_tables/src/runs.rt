@@ -1,0 +1,102 @@
+//! The steps whose starts have a lower upper half than others, found by halving.
+
+ghost use Rattle.std.specs.Prelude.{◌≡◌, ◌<◌, ◌≤◌, ℕ, List, Some, IfOk};
+ghost use Rattle.checked_pages.specs.Pages.{AreStored};
+ghost use Rattle.checked_pages.specs.Views.{ArePagesOf, claim_view};
+ghost use Rattle.checked_pages.specs.Reading.{ReadsStored};
+ghost use Rattle.line_tables.specs.Inner.{AreBelow, IsRunRow, run_halves, step_halves};
+ghost use Rattle.line_tables.specs.Opened.{IsOpened};
+ghost use Rattle.line_tables.specs.Steps.{AreAscending, StepRecord, starts_of};
+
+use crate::row::{RUN_LEN, Run, u32_be_at};
+use crate::table::LineTable;
+use byte_device::Placed;
+use checked_pages::{CheckFault, Pages};
+
+impl LineTable {
+    /// The run of an index.
+    fn run_at<P: Placed>(
+        &self,
+        device: &mut P,
+        pages: &mut Pages,
+        index: u64,
+    ) -> Result<Run, CheckFault>
+        requires { index < self.now.runs }
+        ensures claim { pages.new.claim ≡ pages.old.claim }
+        ensures keeps { (text all : List ℕ) → P.whole device.old ≡ Some text → ArePagesOf pages.old text all
+            → ArePagesOf pages.new text all }
+        ensures read { ReadsStored P.whole P.failures device.old device.new result
+            (λ text row. (all : List ℕ) (steps : List StepRecord) → IsOpened self.now pages.old text all steps
+            → IsRunRow steps index row)
+            (λ text. (all : List ℕ) (steps : List StepRecord) → AreStored text (claim_view pages.old.claim) all
+            → IsOpened self.now pages.old text all steps → ⊥) }
+    {
+        let mut bytes = [0; RUN_LEN];
+        let offset = self.first_run() + RUN_LEN as u64 * index;
+        pages.read(device, offset, &mut bytes)?;
+        Ok(Run {
+            upper: u32_be_at(&bytes, 0),
+            steps: u32_be_at(&bytes, 4),
+        })
+    }
+
+    /// How many runs have an upper half below a limit. One run is read for each halving.
+    fn runs_below<P: Placed>(
+        &self,
+        device: &mut P,
+        pages: &mut Pages,
+        limit: u64,
+    ) -> Result<u64, CheckFault>
+        ensures claim { pages.new.claim ≡ pages.old.claim }
+        ensures keeps { (text all : List ℕ) → P.whole device.old ≡ Some text → ArePagesOf pages.old text all
+            → ArePagesOf pages.new text all }
+        ensures within { IfOk result (λ count. count ≤ self.now.runs) }
+        ensures read { ReadsStored P.whole P.failures device.old device.new result
+            (λ text count. (all : List ℕ) (steps : List StepRecord) → AreAscending (starts_of steps)
+            → IsOpened self.now pages.old text all steps → AreBelow (run_halves steps) limit count)
+            (λ text. (all : List ℕ) (steps : List StepRecord) → AreStored text (claim_view pages.old.claim) all
+            → IsOpened self.now pages.old text all steps → ⊥) }
+    {
+        let mut low = 0;
+        let mut high = self.runs;
+        'halving: while low < high {
+            let middle = low + (high - low) / 2;
+            let row = self.run_at(device, pages, middle)?;
+            if u64::from(row.upper) < limit {
+                low = middle + 1;
+            } else {
+                high = middle;
+            }
+        }
+        Ok(low)
+    }
+
+    /// How many steps have a start whose upper half is below a limit.
+    pub(crate) fn steps_below<P: Placed>(
+        &self,
+        device: &mut P,
+        pages: &mut Pages,
+        limit: u64,
+    ) -> Result<u64, CheckFault>
+        ensures claim { pages.new.claim ≡ pages.old.claim }
+        ensures keeps { (text all : List ℕ) → P.whole device.old ≡ Some text → ArePagesOf pages.old text all
+            → ArePagesOf pages.new text all }
+        ensures within { IfOk result (λ count. count ≤ self.now.steps) }
+        ensures read { ReadsStored P.whole P.failures device.old device.new result
+            (λ text count. (all : List ℕ) (steps : List StepRecord) → AreAscending (starts_of steps)
+            → IsOpened self.now pages.old text all steps → AreBelow (step_halves steps) limit count)
+            (λ text. (all : List ℕ) (steps : List StepRecord) → AreStored text (claim_view pages.old.claim) all
+            → IsOpened self.now pages.old text all steps → ⊥) }
+    {
+        let runs = self.runs_below(device, pages, limit)?;
+        if runs == 0 {
+            return Ok(0);
+        }
+        let last = self.run_at(device, pages, runs - 1)?;
+        let count = u64::from(last.steps);
+        if count > self.steps {
+            return Err(CheckFault::Changed);
+        }
+        Ok(count)
+    }
+}
