@@ -36,7 +36,7 @@ use Rattle.indexed_answers.specs.AmongTold.{AreFramesToldAt, AreShownAmong, IsAn
 use Rattle.indexed_answers.specs.AmongAsked.{HasNoTable, IsDamagedAt, IsLinelessAt}
 use Rattle.indexed_answers.specs.Contents.{IsSliceOf}
 use Rattle.indexed_answers.specs.Told.{IsToldBy}
-use Rattle.index_laws.specs.Indexes.{AreIndexes, AreTiedSlices, DigestsTell, IsHeld, IsIndexFile, all_joined}
+use Rattle.index_laws.specs.Indexes.{AnswersUnder, AreIndexes, AreTiedSlices, DigestsTell, IsIndexFile, all_joined}
 use Rattle.index_laws.proofs.Among.{IsOfSlice, IsRecordOf, answers_if, answers_then, entry_if_live, find, held, slice_of_entry}
 use Rattle.index_laws.proofs.Joined.{joined_alone}
 use Rattle.index_laws.proofs.OfContent.{AreEntriesOf, IsAt, in_turn, one_place}
@@ -235,7 +235,7 @@ module _ (os : List Operations) (texts : List (List ℕ)) (indexes : List (List 
 
     -- ---- where there are no lines
 
-    pub lineless : (front : List ℕ) (answering : List EntryAt) (input number : ℕ) → AreAnsweringAmong front indexes answering → IsLinelessAt texts answering input number → (slice : List ℕ) × IsHeld os slice × HasNoLines slice
+    pub lineless : (front : List ℕ) (answering : List EntryAt) (input number : ℕ) → AreAnsweringAmong front indexes answering → IsLinelessAt texts answering input number → (slice : List ℕ) × AnswersUnder os front slice × HasNoLines slice
     lineless front answering input number are lacking =
         let x : EntryAt = record { input = input; number = number; entry = lacking.entry } in
         let answers : answers_among front (all_of indexes) x.entry ≡ true = All-contains (λ y. answers_among front (all_of indexes) y.entry ≡ true) answering x are.each lacking.answers in
@@ -245,7 +245,10 @@ module _ (os : List Operations) (texts : List (List ℕ)) (indexes : List (List 
         let is : IsSliceOf lacking.text s.0 x.entry = subst (λ (t : List ℕ). IsSliceOf t s.0 x.entry) same s.1.is.is in
         let within : input < length os = slice_get_within os input s.1.of.o s.1.of.file.content_at in (
           s.0,
-          (s.1.of.o, (input, within, get_or_from_slice_get os input s.1.of.o s.1.of.o s.1.of.file.content_at), held os texts indexes x (admission_record s.0) s.1.of),
+          record {
+            is_held = (s.1.of.o, (input, within, get_or_from_slice_get os input s.1.of.o s.1.of.o s.1.of.file.content_at), held os texts indexes x (admission_record s.0) s.1.of);
+            answers = λ key is_key is. answers_if os texts indexes all key is_key x s.0 s.1 (subst (λ (f : List ℕ). answers_among f (all_of indexes) x.entry ≡ true) (sym is) answers);
+          },
           lacking.lacks s.0 is.table is.bytes is.is_table (may_be lacking.text is.table (claim_in x.entry) is.stored),
         )
 

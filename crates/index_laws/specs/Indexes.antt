@@ -5,6 +5,7 @@ use Rattle.std.specs.FinSet as set
 use Rattle.sha2.specs.Sha256.{sha256}
 use Rattle.symbol_tables.specs.Steps.{AreBytes}
 use Rattle.archive_core.specs.Content.{IsAnswering, IsContent, Operations, joined}
+use Rattle.archive_core.specs.Key.{IsKey, key_bytes}
 use Rattle.archive_core.specs.Record.{admission_record}
 use Rattle.archive_core.specs.declared.keys.SliceKey.{SliceKey}
 use Rattle.archive_records.specs.Text.{written}
@@ -42,6 +43,11 @@ pub record IsAnsweringOf (os : List Operations) (key : SliceKey) (place : ℕ) (
   pub there : slice_get os place ≡ Some o
   pub has : set.contains o (admission_record slice) ≡ true
   pub answers : IsAnswering (all_joined os) key slice
+
+-- one of these contents has the slice, and it answers under the key with these bytes in the content that all make
+pub record AnswersUnder (os : List Operations) (front slice : List ℕ) : Type 0 where
+  pub is_held : IsHeld os slice
+  pub answers : (key : SliceKey) → IsKey key → key_bytes key ≡ front → IsAnswering (all_joined os) key slice
 
 -- two different slices of one length answer under a key, which two contents have
 pub record AreTiedSlices (os : List Operations) (key : SliceKey) : Type 0 where

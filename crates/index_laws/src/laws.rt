@@ -15,7 +15,8 @@ ghost use Rattle.indexed_answers.specs.Among.{AreAnsweringAmong, AreTied, EntryA
 ghost use Rattle.indexed_answers.specs.AmongTold.{IsAnswerAmong};
 ghost use Rattle.indexed_answers.specs.AmongAsked.{HasNoTable, IsUntoldAmong};
 ghost use Rattle.indexed_answers.specs.declared.fault.AnswerFault.TheVariants.{Damaged, NoLines};
-ghost use Rattle.index_laws.specs.Indexes.{AreIndexes, AreTiedSlices, DigestsTell, IsHeld, IsIndexFile, all_joined};
+ghost use Rattle.index_laws.specs.Indexes.{AnswersUnder, AreIndexes, AreTiedSlices, DigestsTell, IsIndexFile};
+ghost use Rattle.index_laws.specs.Indexes.{all_joined};
 
 /// The answer of several indexes under a key is that of the content that their contents make together, with the frames
 /// that are shown, if no two different slices of these have one SHA-256. The answer of one index is that of its
@@ -34,7 +35,7 @@ pub fn right_among()
 {}
 
 /// No entry that answers is damaged: its table is stored where it says. One whose table has no lines is that of a slice
-/// that has none. Nothing is supposed of SHA-256.
+/// that answers and has none. Nothing is supposed of SHA-256.
 pub fn undamaged_among()
     ensures entry { (os : List Operations) (texts : List (List ℕ)) (indexes : List (List (List ℕ)))
         (front text : List ℕ) (x : EntryAt) → AreIndexes os texts indexes → IsAmong indexes x
@@ -46,7 +47,7 @@ pub fn undamaged_among()
     ensures lineless { (os : List Operations) (texts : List (List ℕ)) (indexes : List (List (List ℕ)))
         (front : List ℕ) (answering : List EntryAt) (input number : ℕ) → AreIndexes os texts indexes
         → AreAnsweringAmong front indexes answering → IsUntoldAmong texts answering (NoLines input number)
-        → (slice : List ℕ) × IsHeld os slice × HasNoLines slice }
+        → (slice : List ℕ) × AnswersUnder os front slice × HasNoLines slice }
 {}
 
 /// Entries that are tied are those of two different slices of one length that answer under the key, of two contents.

@@ -152,7 +152,7 @@ module _ {I P : Type 0} (keys : List (List ℕ)) (inputs : List (Reader I)) (arc
   untold_table : (indexes : List (Reader I)) (answering : List EntryAt) → IsUnreadTable indexes answering at why → IsDeviceFault why
   untold_table indexes answering u = subst IsDeviceFault (sym u.why_is) refl
 
-  pub untold_by_device : (lines : Bool) (os : List Operations) → AreIndexesGiven inputs os → AreUntold lines keys inputs archives at why → IsDeviceFault why ⊎ IsForLines lines os why
+  pub untold_by_device : (lines : Bool) (os : List Operations) → AreIndexesGiven inputs os → AreUntold lines keys inputs archives at why → IsDeviceFault why ⊎ IsForLines lines os keys why
   untold_by_device lines os are u =
       let t = texts_of inputs os are in
       let indexes = indexes_are inputs archives u.all u.read os t.texts t.given t.files in
@@ -160,14 +160,14 @@ module _ {I P : Type 0} (keys : List (List ℕ)) (inputs : List (Reader I)) (arc
         | inl changed ↦ absurd (told.none_damaged os t.texts u.all indexes u.untold.key u.untold.answering changed.input changed.number u.untold.are (changed.changed t.texts t.given))
         | inr (inl lacking) ↦
             let slice = told.lineless os t.texts u.all indexes u.untold.key u.untold.answering lacking.input lacking.number u.untold.are (lacking.lacks t.texts t.given) in
-            inr (record { wanted = lacking.wanted; number = lacking.number; why_is = lacking.why_is; slice = slice.0; is_held = slice.1; lacks = slice.2 })
+            inr (record { wanted = lacking.wanted; number = lacking.number; why_is = lacking.why_is; key = u.untold.key; key_is = u.untold.key_is; slice = slice.0; answers = slice.1; lacks = slice.2 })
         | inr (inr unread) ↦ inl (untold_table inputs u.untold.answering unread)
       ]
 
   own_given : (os : List Operations) → AreOwnIndexes inputs archives os → AreIndexesGiven inputs os
   own_given os are = first_third IsOwnIndex IsIndexGiven inputs archives os (λ x y z is. is.0) are
 
-  pub asked_by_device : (lines : Bool) (os : List Operations) → AreOwnIndexes inputs archives os → AreRefusedAsking lines keys inputs archives at why → IsDeviceFault why ⊎ IsForLines lines os why
+  pub asked_by_device : (lines : Bool) (os : List Operations) → AreOwnIndexes inputs archives os → AreRefusedAsking lines keys inputs archives at why → IsDeviceFault why ⊎ IsForLines lines os keys why
   asked_by_device lines os are (inl first) = inl (first_by_device keys inputs archives os at why are first)
   asked_by_device lines os are (inr (inl (later, tied))) = inl (later_by_device keys inputs archives os at why are later)
   asked_by_device lines os are (inr (inr untold)) = untold_by_device lines os (own_given os are) untold

@@ -1,5 +1,5 @@
 -- Archives that are asked by the indexes of contents.
-use Rattle.std.specs.Prelude.{◌≡◌, ◌⊎◌, ℕ, Bool, List, true, length, take, drop}
+use Rattle.std.specs.Prelude.{◌≡◌, ◌⊎◌, ℕ, Bool, List, Contains, true, length, take, drop}
 use Rattle.std.specs.List.{AllZip}
 use Rattle.std.specs.FinSet as set
 use Rattle.sha2.specs.Sha256.{sha256}
@@ -12,7 +12,7 @@ use Rattle.command_ends.specs.Inputs.{Reader, IsGiven}
 use Rattle.command_ends.specs.declared.faults.Why.{Why}
 use Rattle.command_ends.specs.declared.faults.Why.TheVariants.{NoLines}
 use Rattle.slice_tables.specs.SliceTable.{HasNoLines}
-use Rattle.index_laws.specs.Indexes.{IsHeld, IsIndexFile}
+use Rattle.index_laws.specs.Indexes.{AnswersUnder, IsIndexFile}
 use Rattle.indexed_queries.specs.Together.{AllThree}
 
 -- each slice of a content is under a key whose parts have their widths, as each slice of bytes is
@@ -49,11 +49,13 @@ IsIndexed index archive o = IsIndexGiven index o
 abbrev pub AreIndexed : {I P : Type 0} → List (Reader I) → List (Reader P) → List Operations → Type 0
 AreIndexed indexes archives os = AllThree IsIndexed indexes archives os
 
--- Lines are wanted, and an input is refused for the table of a slice of one of these contents that has none.
-pub record IsForLines (lines : Bool) (os : List Operations) (why : Why) : Type 0 where
+-- Lines are wanted, and an input is refused for the table of a slice that answers under one of these keys and has none.
+pub record IsForLines (lines : Bool) (os : List Operations) (keys : List (List ℕ)) (why : Why) : Type 0 where
   pub wanted : lines ≡ true
   pub number : ℕ
   pub why_is : why ≡ NoLines number
+  pub key : List ℕ
+  pub key_is : Contains keys key
   pub slice : List ℕ
-  pub is_held : IsHeld os slice
+  pub answers : AnswersUnder os key slice
   pub lacks : HasNoLines slice

@@ -170,9 +170,9 @@ pub fn extracted_by_indexes<I: Placed, P: Placed>()
 {}
 
 /// If no entry is wanted by the indexes of contents, whatever bytes the archives have, no slice of the join of the
-/// contents is. With a digest no slice that is held has it, nothing is told, and nothing is supposed of SHA-256. Without
-/// one the rows that are told are those of the slices that answer, in their order, if no two different slices of
-/// several contents have one SHA-256. Their lines are pinned where the keys of the rows have their widths.
+/// contents is. With a digest no slice that is held has it, nothing is told, and nothing is supposed of SHA-256.
+/// Without one the rows that are told are those of the slices that answer, in their order, if no two different slices
+/// of several contents have one SHA-256. Their lines are pinned where the keys of the rows have their widths.
 pub fn undecided_by_indexes<I: Placed, P: Placed>()
     ensures digest { (inputs : List (Reader I)) (archives : List (Reader P)) (os : List Operations) (key : SliceKey)
         (digest : Digest) (told : List ℕ) → AreIndexesGiven inputs os → IsKey key
@@ -193,13 +193,13 @@ pub fn undecided_by_indexes<I: Placed, P: Placed>()
         → ((row : FindRow) → Contains tells.rows row → IsKey row.key) → told ≡ slices_text tells.slices }
 {}
 
-/// By the indexes of contents a table is refused for a device alone, or for a slice that has no lines if these are
-/// wanted, whatever bytes the archives have. By the indexes of these very archives all that is refused is so.
+/// By the indexes of contents a table is refused for a device alone, or if lines are wanted for a slice that answers
+/// and has none, whatever bytes the archives have. By the indexes of these very archives all that is refused is so.
 pub fn undamaged_by_indexes<I: Placed, P: Placed>()
     ensures tables { (lines : Bool) (keys : List (List ℕ)) (inputs : List (Reader I)) (archives : List (Reader P))
         (os : List Operations) (at : InputName) (why : Why) → AreIndexesGiven inputs os
-        → AreUntold lines keys inputs archives at why → IsDeviceFault why ⊎ IsForLines lines os why }
+        → AreUntold lines keys inputs archives at why → IsDeviceFault why ⊎ IsForLines lines os keys why }
     ensures asked { (lines : Bool) (keys : List (List ℕ)) (inputs : List (Reader I)) (archives : List (Reader P))
         (os : List Operations) (at : InputName) (why : Why) → AreOwnIndexes inputs archives os
-        → AreRefusedAsking lines keys inputs archives at why → IsDeviceFault why ⊎ IsForLines lines os why }
+        → AreRefusedAsking lines keys inputs archives at why → IsDeviceFault why ⊎ IsForLines lines os keys why }
 {}

@@ -1,4 +1,4 @@
-use Rattle.std.proofs.Common.{List, ℕ, map, rules, sym, subst}
+use Rattle.std.proofs.Common.{List, ℕ, rules, sym, subst}
 use Rattle.std.proofs.lemmas.Iterator.{YieldsList-from_map_by, YieldsList-from_slice}
 use Rattle.std.proofs.lemmas.Iterator.Consumers.{map_from_collect}
 use Rattle.std.proofs.lemmas.Result.{IfOk-weaker}
