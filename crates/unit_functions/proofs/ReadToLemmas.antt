@@ -8,14 +8,13 @@ use Rattle.std.proofs.lemmas.List.Concat.{flat_map-append}
 use Rattle.std.proofs.lemmas.Option.{slice_get_within}
 use Rattle.code_ranges.specs.EntryRanges.{UnitRangesRecord}
 use Rattle.code_ranges.specs.declared.range.CodeRange.{CodeRange}
-use Rattle.debug_entries.specs.Entries.{PlacedRecord, entries_of}
+use Rattle.debug_entries.specs.Entries.{PlacedRecord}
 use Rattle.source_frames.specs.DebugSections.{DebugSectionsRecord}
 use Rattle.source_frames.specs.DebugUnits.{UnitRecord}
 use Rattle.source_frames.specs.Frames.{place_of_call}
 use Rattle.source_frames.specs.Names.{IsName}
 use Rattle.source_frames.specs.ChainSteps.{scope_of}
 use Rattle.source_frames.specs.Scopes.{ScopeRecord, left_after_scope, scope_ranges, scopes_from, scopes_of}
-use Rattle.source_frames.specs.UnitCode.{entries_of_lists, unit_ranges_of}
 use Rattle.source_frames.proofs.NestedLemmas.{scopes_more, scopes_none}
 use Rattle.unit_functions.specs.OpenFunctions.{Adds, Closes, Takes}
 use Rattle.unit_functions.specs.UnitFunctions.{AreFunctions, FunctionRecord, IsFunction, functions_from, functions_of}
@@ -118,9 +117,9 @@ pub record AreReadTo (s : DebugSectionsRecord) (unit : UnitRecord) (all : List F
   pub so_far : AreSoFar s unit done functions ranges
   pub open_to : AreOpenTo done functions opened rest
 
-pub read_none : (s : DebugSectionsRecord) (unit : UnitRecord) (u : UnitRangesRecord) (left : ℕ) (entries : List PlacedRecord) (functions : List Function) (ranges : List CodeRange) (opened : List Open) → u ≡ unit_ranges_of s unit → left ≡ entries_of_lists unit
-    → entries ≡ entries_of s.debug_abbrev unit.header unit.bytes → functions ≡ [] → ranges ≡ [] → opened ≡ [] → AreReadTo s unit (functions_of s unit) (scopes_from u left entries) functions ranges opened
-read_none s unit u left entries functions ranges opened same_u same_left same_entries none no_ranges none_open = rw (same_u, same_left, same_entries, none, no_ranges, none_open) (record {
+pub read_none : (s : DebugSectionsRecord) (unit : UnitRecord) (rest : List ScopeRecord) (functions : List Function) (ranges : List CodeRange) (opened : List Open) → rest ≡ scopes_of s unit → functions ≡ [] → ranges ≡ [] → opened ≡ []
+    → AreReadTo s unit (functions_of s unit) rest functions ranges opened
+read_none s unit rest functions ranges opened same none no_ranges none_open = rw (same, none, no_ranges, none_open) (record {
   done = [];
   others = refl;
   so_far = none_so_far s unit;

@@ -81,7 +81,7 @@ impl<'a> Functions<'a> {
     ) -> Result<(), NoMemory>
         ensures ranges { OnOk result (self.new.ranges.items ≡ self.old.ranges.items ++ ranges.entry) }
         ensures added { OnOk result (Adds (sections_view info.now.sections) (unit_view unit.now)
-            (record { depth = depth; entry = entry_view entry; ranges = ranges.entry })
+            (record { depth = depth; entry = entry_view entry.entry; ranges = ranges.entry })
             (length self.new.ranges.items) opened.old.items opened.new.items
             self.old.functions.items self.new.functions.items) }
     {
