@@ -1,12 +1,11 @@
 -- Functions are closed one after another.
-use Rattle.std.proofs.Common.{◌≡◌, ◌≢◌, ℕ, zero, suc, ◌+◌, ◌-◌, ◌<◌, ◌≤◌, ◌||◌, ◌==◌, Bool, true, false, List, [], ◌∷◌, ◌++◌, length, set, get_or, drop, take, Option, Some, None, slice_get, refl, sym, ap, ◌∙◌, inl, inr, arith, eq-eqb}
+use Rattle.std.proofs.Common.{◌≡◌, ◌≢◌, ℕ, zero, suc, ◌+◌, ◌-◌, ◌<◌, ◌≤◌, ◌==◌, true, false, List, [], ◌∷◌, length, set, get_or, drop, take, Option, Some, None, slice_get, refl, sym, ap, ◌∙◌, inl, inr, arith, eq-eqb}
 use Rattle.std.specs.Option.{option_map}
 use Rattle.std.specs.List.{list_any, All}
-use Rattle.std.specs.Prelude.{IfSome}
 use Rattle.std.proofs.lemmas.Bool.{cases_eq, cases_Bool, ne_eqb}
-use Rattle.std.proofs.lemmas.List.{drop_more, drop_all, get_or-take, get_or_read, get_or_past, length-take-le, length-set, take-append-drop}
+use Rattle.std.proofs.lemmas.List.{drop_more, drop_all, get_or-take, get_or_read, length-take-le, length-set, take-append-drop}
 use Rattle.std.proofs.lemmas.List.Elements.{All-cons, All-nil}
-use Rattle.std.proofs.lemmas.Option.{slice_get-get_or, slice_get_past}
+use Rattle.std.proofs.lemmas.Option.{slice_get-get_or}
 use Rattle.unit_functions.specs.OpenFunctions.{AreAmong, Closes, closed_at}
 use Rattle.unit_functions.specs.declared.functions.Function.{Function}
 use Rattle.unit_functions.specs.declared.functions.Open.{Open}

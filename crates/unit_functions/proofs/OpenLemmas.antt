@@ -1,20 +1,18 @@
 -- The open functions know their ends, once the rest of the entries is known.
-use Rattle.std.proofs.Common.{◌≡◌, ◌≢◌, ℕ, zero, suc, ◌+◌, ◌-◌, ◌<◌, ◌≤◌, ◌||◌, ◌==◌, nat_le, Bool, true, false, List, [], ◌∷◌, ◌++◌, length, get_or, drop, take, Option, Some, None, slice_get, refl, sym, ap, subst, ◌∙◌, inl, inr, ◌⊎◌, arith, eq-eqb, length-append}
+use Rattle.std.proofs.Common.{◌≡◌, ℕ, zero, suc, ◌+◌, ◌-◌, ◌<◌, ◌≤◌, ◌||◌, ◌==◌, nat_le, Bool, true, false, List, [], ◌∷◌, ◌++◌, length, get_or, Some, slice_get, refl, sym, ap, subst, ◌∙◌, inl, inr, ◌⊎◌, arith, eq-eqb, length-append}
 use Rattle.std.specs.List.{list_any, All}
 use Rattle.std.specs.Option.{IfSome}
 use Rattle.std.proofs.lemmas.Bool.{cases_eq, cases_Bool, cases_lt, eqb-true, lt-leb, le-leb, or_cases, or_left, or_right}
 use Rattle.std.proofs.lemmas.List.{get_or_append_left, get_or_push, length_push, take_at, drop_at}
-use Rattle.std.proofs.lemmas.List.Elements.{All-head, All-tail, All-take, All-drop, All-push, All-weaker}
+use Rattle.std.proofs.lemmas.List.Elements.{All-head, All-tail, All-take, All-drop, All-push}
 use Rattle.std.proofs.lemmas.List.Folds.{list_any-append}
 use Rattle.std.proofs.lemmas.Option.{slice_get-get_or, slice_get_within, slice_get_past}
-use Rattle.source_frames.specs.DebugSections.{DebugSectionsRecord}
-use Rattle.source_frames.specs.DebugUnits.{UnitRecord}
 use Rattle.source_frames.specs.Scopes.{ScopeRecord}
-use Rattle.unit_functions.specs.OpenFunctions.{Closes, closed_at}
+use Rattle.unit_functions.specs.OpenFunctions.{Closes}
 use Rattle.unit_functions.specs.UnitFunctions.{FunctionRecord, count_within}
 use Rattle.unit_functions.specs.declared.functions.Function.{Function}
 use Rattle.unit_functions.specs.declared.functions.Open.{Open}
-use Rattle.unit_functions.proofs.ClosingLemmas.{WasOpen, was_open, closed_end, kept_end}
+use Rattle.unit_functions.proofs.ClosingLemmas.{was_open, closed_end, kept_end}
 
 -- one of some functions is that of an index
 abbrev pub has_index : List Open → ℕ → Bool

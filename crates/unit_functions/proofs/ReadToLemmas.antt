@@ -1,11 +1,10 @@
 -- How far the functions of a unit are read.
-use Rattle.std.proofs.Common.{◌≡◌, ℕ, zero, suc, ◌+◌, ◌-◌, ◌<◌, ◌≤◌, nat_le, true, false, List, [], ◌∷◌, ◌++◌, length, take, Option, Some, None, slice_get, refl, sym, ap, subst, ◌∙◌, inl, inr, arith, append_assoc, length-append}
+use Rattle.std.proofs.Common.{◌≡◌, ℕ, ◌+◌, ◌<◌, nat_le, true, List, [], ◌∷◌, ◌++◌, length, take, Some, slice_get, refl, sym, ap, subst, ◌∙◌, inl, inr, arith, append_assoc}
 use Rattle.std.specs.Prelude.{flat_map}
 use Rattle.std.specs.Option.{option_map}
-use Rattle.std.proofs.lemmas.Bool.{cases_eq, le-leb, lt-leb}
+use Rattle.std.proofs.lemmas.Bool.{cases_eq, le-leb}
 use Rattle.std.proofs.lemmas.List.{append-nil, length_push, nil_from_length, take-append-le, take_all}
 use Rattle.std.proofs.lemmas.List.Concat.{flat_map-append}
-use Rattle.std.proofs.lemmas.Option.{slice_get_within}
 use Rattle.code_ranges.specs.EntryRanges.{UnitRangesRecord}
 use Rattle.code_ranges.specs.declared.range.CodeRange.{CodeRange}
 use Rattle.debug_entries.specs.Entries.{PlacedRecord}
@@ -20,8 +19,8 @@ use Rattle.unit_functions.specs.OpenFunctions.{Adds, Closes, Takes}
 use Rattle.unit_functions.specs.UnitFunctions.{AreFunctions, FunctionRecord, IsFunction, functions_from, functions_of}
 use Rattle.unit_functions.specs.declared.functions.Function.{Function}
 use Rattle.unit_functions.specs.declared.functions.Open.{Open}
-use Rattle.unit_functions.proofs.ClosingLemmas.{KeepsAllButEnd, was_open, was_kept}
-use Rattle.unit_functions.proofs.OpenLemmas.{AreOpenTo, AreShallow, AreOut, closed_open, closed_shallow, has_index, none_open_yet, none_shallow, of_scope, old_or_new, open_with, open_without, out_of_all, out_of_scope, at_left, at_push}
+use Rattle.unit_functions.proofs.ClosingLemmas.{was_open, was_kept}
+use Rattle.unit_functions.proofs.OpenLemmas.{AreOpenTo, AreShallow, AreOut, closed_open, closed_shallow, none_open_yet, none_shallow, of_scope, old_or_new, open_with, open_without, out_of_all, out_of_scope, at_left, at_push}
 
 -- the ranges of functions
 abbrev pub ranges_of : List FunctionRecord → List CodeRange

@@ -1,6 +1,5 @@
 use Rattle.std.proofs.Common.{◌≡◌, ◌∙◌, ap}
 use Rattle.code_ranges.specs.UnitViews.{unit_view as ranges_view}
-use Rattle.code_ranges.specs.declared.range.CodeRange.{CodeRange}
 use Rattle.debug_entries.specs.EntryViews.{placed_view}
 use Rattle.source_frames.specs.Scopes.{scopes_from, scopes_of}
 use Rattle.source_frames.specs.SectionsViews.{sections_view}
