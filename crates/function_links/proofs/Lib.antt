@@ -4,3 +4,4 @@ pub mod ChainLemmas
 pub mod MakingLemmas
 pub mod TakingLemmas
 pub mod StartLemmas
+pub mod RangeLemmas
