@@ -5,3 +5,4 @@ pub mod MakingLemmas
 pub mod TakingLemmas
 pub mod StartLemmas
 pub mod RangeLemmas
+pub mod PartLemmas
