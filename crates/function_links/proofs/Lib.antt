@@ -4,3 +4,5 @@ pub mod ChainLemmas
 pub mod MakingLemmas
 pub mod TakingLemmas
 pub mod StartLemmas
+pub mod RangeLemmas
+pub mod PartLemmas

@@ -31,8 +31,8 @@ after_not (suc room) a end index f fs not = elim (cases_Bool (is_past end index)
   | inr before ↦ after_skip room a end index f fs before not
 ]
 
-drop_at : (of : List FunctionRecord) (index : ℕ) (f : FunctionRecord) → slice_get of index ≡ Some f → drop index of ≡ f ∷ drop (index + 1) of
-drop_at of index f is = drop_more of index f (slice_get_within of index f is) ∙ ap (λ (g : FunctionRecord). g ∷ drop (index + 1) of) (get_or_from_slice_get of index f f is)
+pub drop_function : (of : List FunctionRecord) (index : ℕ) (f : FunctionRecord) → slice_get of index ≡ Some f → drop index of ≡ f ∷ drop (index + 1) of
+drop_function of index f is = drop_more of index f (slice_get_within of index f is) ∙ ap (λ (g : FunctionRecord). g ∷ drop (index + 1) of) (get_or_from_slice_get of index f f is)
 
 reverse-cons : (f : FunctionRecord) (fs : List FunctionRecord) → reverse (f ∷ fs) ≡ reverse fs ++ f ∷ []
 reverse-cons f fs = reverse-append (f ∷ []) fs
@@ -110,7 +110,7 @@ skipped of links waits a number index f there not is = record {
   before = λ link at. let b = is.before link at in omega (arith, b);
   more = λ w. ap (λ (fs : List FunctionRecord). reverse is.chain ++ fs)
       (sym (after_not (256 - length is.chain) a (end_of is.chain) index f (drop (index + 1) of) not)
-      ∙ ap (λ (fs : List FunctionRecord). functions_after (256 - length is.chain) a (end_of is.chain) index fs) (sym (drop_at of index f there))) ∙ is.more w;
+      ∙ ap (λ (fs : List FunctionRecord). functions_after (256 - length is.chain) a (end_of is.chain) index fs) (sym (drop_function of index f there))) ∙ is.more w;
   all = is.all;
 }
 
@@ -151,7 +151,7 @@ module _ (of : List FunctionRecord) (functions now : List Function) (old new : L
   left_here : functions_after (256 - length is.chain) a (end_of is.chain) index (drop index of) ≡ f ∷ functions_after (256 - suc (length is.chain)) a (Some f.end) (index + 1) (drop (index + 1) of)
   left_here =
       let room : 256 - length is.chain ≡ suc (256 - suc (length is.chain)) = let n = few_before in omega (arith, n) in
-      ap (λ (fs : List FunctionRecord). functions_after (256 - length is.chain) a (end_of is.chain) index fs) (drop_at of index f there)
+      ap (λ (fs : List FunctionRecord). functions_after (256 - length is.chain) a (end_of is.chain) index fs) (drop_function of index f there)
       ∙ (ap (λ n. functions_after n a (end_of is.chain) index (f ∷ drop (index + 1) of)) room
       ∙ after_here (256 - suc (length is.chain)) a (end_of is.chain) index f (drop (index + 1) of) inside has)
 
