@@ -15,7 +15,7 @@ fn room_for(image: &Image) -> u64
     ensures { result ≡ room_of image.now }
 {
     let most = 4 * image.bytes().len() as u64;
-    if most < 48 { 48 } else { most }
+    if most < 56 { 56 } else { most }
 }
 
 /// The line table of an image: that of its steps, if it fits into four times the bytes of the image, and else one that

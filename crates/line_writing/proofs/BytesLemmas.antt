@@ -7,14 +7,15 @@ use Rattle.std.proofs.lemmas.List.{length-append, length-map}
 use Rattle.std.proofs.lemmas.List.Elements.{All-cons, All-head, All-nil, All-tail}
 use Rattle.source_frames.specs.Frames.{FrameRecord}
 use Rattle.line_tables.specs.LineTable.{FitsLines}
-use Rattle.line_tables.specs.LineText.{LineParts, chains_in, files_in, texts_in, file_bytes, head_bytes, line_text, location_bytes, parts_of, step_bytes, table_bytes, text_rows}
+use Rattle.line_tables.specs.LineText.{LineParts, chains_in, files_in, texts_in, file_bytes, head_bytes, line_text, location_bytes, parts_of, run_bytes, step_bytes, table_bytes, text_rows}
 use Rattle.line_tables.specs.Numbering.{same_chain, same_path, same_text}
-use Rattle.line_tables.specs.Steps.{StepRecord}
+use Rattle.line_tables.specs.Runs.{lower_half, runs_after, runs_of}
+use Rattle.line_tables.specs.Steps.{StepRecord, starts_of}
 use Rattle.line_tables.proofs.SameLemmas.{chain_decides, path_decides, text_decides}
 use Rattle.line_writing.specs.Kept.{KeptRecord, text_at, file_key_at, file_at, location_key_at, frame_of_key, chain_at, IsKept}
 use Rattle.line_writing.specs.Numbering.{IsNumber}
 use Rattle.line_writing.specs.PartBytes.{file_row, file_rows, location_row, location_rows, step_row, texts_at}
-use Rattle.line_writing.specs.StepViews.{HaveLocations, step_of}
+use Rattle.line_writing.specs.StepViews.{HaveLocations, step_of, step_starts}
 use Rattle.line_writing.specs.WholeText.{AreOrders, head_of, text_of_parts}
 use Rattle.line_writing.specs.declared.keys.LocationKey.{LocationKey}
 use Rattle.line_writing.specs.declared.step.Step.{Step}
@@ -27,6 +28,11 @@ use Rattle.line_writing.proofs.PartLemmas.{chains_told, file_uses_are, files_tol
 each_within : (count : ℕ) (xs : List ℕ) → Each (IsNumber count) xs → Each (λ n. n ≤ count) xs
 each_within count [] each = tt
 each_within count (x ∷ xs) each = (each.0.within, each_within count xs each.1)
+
+-- steps stand where those that they are stand
+starts_same : (k : KeptRecord) (steps : List Step) → starts_of (map (step_of k) steps) ≡ step_starts steps
+starts_same k [] = refl
+starts_same k (s ∷ steps) = λ i. s.start ∷ starts_same k steps i
 
 -- lines and columns of a chain have four bytes
 abbrev FewFrame : FrameRecord → Type 0
@@ -55,7 +61,7 @@ module _ (k : KeptRecord) (kept : IsKept k) where
     step_same : (s : Step) → s.location ≤ length k.locations → step_bytes parts (step_of k s) ≡ step_row locations s
     unfolding step_bytes step_row
     step_same s within =
-        ap (λ n. to_be_bytes w64 s.start ++ to_be_bytes w32 n)
+        ap (λ n. to_be_bytes w32 (lower_half s.start) ++ to_be_bytes w32 n)
         (told_number (λ n. n ≤ length k.locations) (chain_at k) same_chain chain_decides (chain_apart k kept) locations s.location (each_within (length k.locations) locations are_locations) within)
 
     pub steps_same : (steps : List Step) → HaveLocations k steps → flat_map (step_bytes parts) (map (step_of k) steps) ≡ flat_map (step_row locations) steps
@@ -102,9 +108,11 @@ module _ (k : KeptRecord) (kept : IsKept k) where
         let one : length (map (chain_at k) locations) ≡ length locations = length-map locations (chain_at k) in
         let two : length (map (file_at k) files) ≡ length files = length-map files (file_at k) in
         let three : length (map (text_at k) texts) ≡ length texts = length-map texts (text_at k) in
+        let runs : runs_of steps_told ≡ runs_after 0 (step_starts steps) = ap runs_of told ∙ ap (runs_after 0) (starts_same k steps) in
         let rows : flat_map (step_bytes parts) steps_told ≡ flat_map (step_row locations) steps = ap (flat_map (step_bytes parts)) told ∙ steps_same steps h in
         λ i.
-        (to_be_bytes w64 1 ++ (to_be_bytes w64 (count i) ++ (to_be_bytes w64 (one i) ++ (to_be_bytes w64 (two i) ++ (to_be_bytes w64 (three i) ++ to_be_bytes w64 (length (concat (map (text_at k) texts)))))))) ++ (rows i ++ (locations_same locations are_locations i ++ (files_same files are_files i ++ (text_rows 0 (map (text_at k) texts) ++ concat (map (text_at k) texts)))))
+        (to_be_bytes w64 1 ++ (to_be_bytes w64 (length (runs i)) ++ (to_be_bytes w64 (count i) ++ (to_be_bytes w64 (one i) ++ (to_be_bytes w64 (two i) ++ (to_be_bytes w64 (three i) ++ to_be_bytes w64 (length (concat (map (text_at k) texts)))))))))
+        ++ (flat_map run_bytes (runs i) ++ (rows i ++ (locations_same locations are_locations i ++ (files_same files are_files i ++ (text_rows 0 (map (text_at k) texts) ++ concat (map (text_at k) texts))))))
 
   -- ---- of the parts that steps have
 
@@ -163,8 +171,17 @@ module _ (k : KeptRecord) (kept : IsKept k) where
         let fs : List ℕ = file_rows k texts files in
         let ls : List ℕ = location_rows k locations files texts locations in
         let ss : List ℕ = flat_map (step_row locations) steps in
-        let head : List ℕ = head_of (length steps) (length locations) (length files) (length texts) (length last) in
-        omega (arith, longer_after rows last, longer_after fs (rows ++ last), longer_after ls (fs ++ (rows ++ last)), longer_after ss (ls ++ (fs ++ (rows ++ last))), longer_after head (ss ++ (ls ++ (fs ++ (rows ++ last)))))
+        let rs : List ℕ = flat_map run_bytes (runs_after 0 (step_starts steps)) in
+        let head : List ℕ = head_of (length (runs_after 0 (step_starts steps))) (length steps) (length locations) (length files) (length texts) (length last) in
+        omega (
+          arith,
+          longer_after rows last,
+          longer_after fs (rows ++ last),
+          longer_after ls (fs ++ (rows ++ last)),
+          longer_after ss (ls ++ (fs ++ (rows ++ last))),
+          longer_after rs (ss ++ (ls ++ (fs ++ (rows ++ last)))),
+          longer_after head (rs ++ (ss ++ (ls ++ (fs ++ (rows ++ last))))),
+        )
 
     pub too_much_text : (room most : ℕ) → most ≡ min room 4294967295 → most < length (concat (texts_at k texts)) → FitsLines room (map (step_of k) steps) → ⊥
     too_much_text room most is more fit =

@@ -7,6 +7,7 @@ mod ApartLemmas
 mod PartLemmas
 mod LoopLemmas
 mod RowLemmas
+mod RunLemmas
 mod BytesLemmas
 mod StoreLemmas
 mod LeastLemmas

@@ -7,10 +7,12 @@ use Rattle.std.specs.Option.{MatchOption, SomeIff}
 use Rattle.std.specs.Result.{OnOk}
 use Rattle.std.specs.declared.result.Result.{Result}
 use Rattle.std.specs.declared.result.Result.TheVariants.{Ok, Err}
-use Rattle.line_tables.specs.LineText.{text_rows}
+use Rattle.line_tables.specs.LineText.{run_bytes, text_rows}
 use Rattle.line_tables.specs.Numbering.{number_in}
+use Rattle.line_tables.specs.Runs.{RunRecord, runs_after}
 use Rattle.line_writing.specs.Kept.{KeptRecord}
 use Rattle.line_writing.specs.PartBytes.{file_row, file_rows, location_row, location_rows, step_row, texts_at}
+use Rattle.line_writing.specs.StepViews.{step_starts}
 use Rattle.line_writing.specs.WholeText.{head_of, text_of_parts}
 use Rattle.line_writing.specs.declared.keys.FileKey.{FileKey}
 use Rattle.line_writing.specs.declared.keys.LocationKey.{LocationKey}
@@ -34,6 +36,10 @@ five_parts old one two three four five a b c d e p q r s t =
 pub six_parts : (old one two three four five six a b c d e f : List ℕ) → one ≡ old ++ a → two ≡ one ++ b → three ≡ two ++ c → four ≡ three ++ d → five ≡ four ++ e → six ≡ five ++ f → six ≡ old ++ (a ++ (b ++ (c ++ (d ++ (e ++ f)))))
 six_parts old one two three four five six a b c d e f p q r s t u =
     five_parts one two three four five six b c d e f q r s t u ∙ ap (λ l. l ++ (b ++ (c ++ (d ++ (e ++ f))))) p ∙ append_assoc old a (b ++ (c ++ (d ++ (e ++ f))))
+
+pub seven_parts : (old one two three four five six seven a b c d e f h : List ℕ) → one ≡ old ++ a → two ≡ one ++ b → three ≡ two ++ c → four ≡ three ++ d → five ≡ four ++ e → six ≡ five ++ f → seven ≡ six ++ h → seven ≡ old ++ (a ++ (b ++ (c ++ (d ++ (e ++ (f ++ h))))))
+seven_parts old one two three four five six seven a b c d e f h p q r s t u v =
+    six_parts one two three four five six seven b c d e f h q r s t u v ∙ ap (λ l. l ++ (b ++ (c ++ (d ++ (e ++ (f ++ h)))))) p ∙ append_assoc old a (b ++ (c ++ (d ++ (e ++ (f ++ h)))))
 
 -- ---- texts
 
@@ -103,20 +109,21 @@ location_pushed locations files texts key of a b c old one two three four five i
     ∙ ap (λ k. old ++ location_row locations files texts k) is
 
 -- the head of a table
-pub head_pushed : (steps locations files texts bytes : ℕ) (old a b c d e f : List ℕ) → a ≡ old ++ to_be_bytes w64 1 → b ≡ a ++ to_be_bytes w64 steps → c ≡ b ++ to_be_bytes w64 locations → d ≡ c ++ to_be_bytes w64 files → e ≡ d ++ to_be_bytes w64 texts → f ≡ e ++ to_be_bytes w64 bytes
-    → f ≡ old ++ head_of steps locations files texts bytes
+pub head_pushed : (runs steps locations files texts bytes : ℕ) (old a b c d e f h : List ℕ) → a ≡ old ++ to_be_bytes w64 1 → b ≡ a ++ to_be_bytes w64 runs → c ≡ b ++ to_be_bytes w64 steps → d ≡ c ++ to_be_bytes w64 locations → e ≡ d ++ to_be_bytes w64 files → f ≡ e ++ to_be_bytes w64 texts → h ≡ f ++ to_be_bytes w64 bytes
+    → h ≡ old ++ head_of runs steps locations files texts bytes
 unfolding head_of
-head_pushed steps locations files texts bytes old a b c d e f p q r s t u =
-    six_parts old a b c d e f (to_be_bytes w64 1) (to_be_bytes w64 steps) (to_be_bytes w64 locations) (to_be_bytes w64 files) (to_be_bytes w64 texts) (to_be_bytes w64 bytes) p q r s t u
+head_pushed runs steps locations files texts bytes old a b c d e f h p q r s t u v =
+    seven_parts old a b c d e f h (to_be_bytes w64 1) (to_be_bytes w64 runs) (to_be_bytes w64 steps) (to_be_bytes w64 locations) (to_be_bytes w64 files) (to_be_bytes w64 texts) (to_be_bytes w64 bytes) p q r s t u v
 
 -- all of a table
-pub all_pushed : (k : KeptRecord) (steps : List Step) (locations files texts : List ℕ) (len : ℕ) (old a b c d e f : List ℕ) → len ≡ length (concat (texts_at k texts)) → old ≡ []
-    → a ≡ old ++ head_of (length steps) (length locations) (length files) (length texts) len → b ≡ a ++ flat_map (step_row locations) steps → c ≡ b ++ location_rows k locations files texts locations → d ≡ c ++ file_rows k texts files
-    → e ≡ d ++ text_rows 0 (texts_at k texts) → f ≡ e ++ concat (texts_at k texts) → f ≡ text_of_parts k steps locations files texts
+pub all_pushed : (k : KeptRecord) (steps : List Step) (locations files texts : List ℕ) (len : ℕ) (old a b c d e f h : List ℕ) → len ≡ length (concat (texts_at k texts)) → old ≡ []
+    → a ≡ old ++ head_of (length (runs_after 0 (step_starts steps))) (length steps) (length locations) (length files) (length texts) len → b ≡ a ++ flat_map run_bytes (runs_after 0 (step_starts steps)) → c ≡ b ++ flat_map (step_row locations) steps
+    → d ≡ c ++ location_rows k locations files texts locations → e ≡ d ++ file_rows k texts files → f ≡ e ++ text_rows 0 (texts_at k texts) → h ≡ f ++ concat (texts_at k texts) → h ≡ text_of_parts k steps locations files texts
 unfolding text_of_parts
-all_pushed k steps locations files texts len old a b c d e f is none p q r s t u =
-    six_parts old a b c d e f (head_of (length steps) (length locations) (length files) (length texts) len) (flat_map (step_row locations) steps) (location_rows k locations files texts locations) (file_rows k texts files) (text_rows 0 (texts_at k texts)) (concat (texts_at k texts)) p q r s t u
-    ∙ (λ i. none i ++ (head_of (length steps) (length locations) (length files) (length texts) (is i) ++ (flat_map (step_row locations) steps ++ (location_rows k locations files texts locations ++ (file_rows k texts files ++ (text_rows 0 (texts_at k texts) ++ concat (texts_at k texts)))))))
+all_pushed k steps locations files texts len old a b c d e f h is none p q r s t u v =
+    let runs : List RunRecord = runs_after 0 (step_starts steps) in
+    seven_parts old a b c d e f h (head_of (length runs) (length steps) (length locations) (length files) (length texts) len) (flat_map run_bytes runs) (flat_map (step_row locations) steps) (location_rows k locations files texts locations) (file_rows k texts files) (text_rows 0 (texts_at k texts)) (concat (texts_at k texts)) p q r s t u v
+    ∙ (λ i. none i ++ (head_of (length runs) (length steps) (length locations) (length files) (length texts) (is i) ++ (flat_map run_bytes runs ++ (flat_map (step_row locations) steps ++ (location_rows k locations files texts locations ++ (file_rows k texts files ++ (text_rows 0 (texts_at k texts) ++ concat (texts_at k texts))))))))
 
 -- what a call ensures, if it succeeds
 pub then_on : {T E : Type 0} (r : Result T E) (P Q : Type 0) → OnOk r P → (P → Q) → OnOk r Q

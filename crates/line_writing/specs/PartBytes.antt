@@ -1,16 +1,18 @@
 -- The bytes of the parts of a table, by numbers. No contract of a public function has these words.
 use Rattle.std.specs.Prelude.{ℕ, List, ◌++◌, ◌≡◌, flat_map, length, map, nat_eq}
-use Rattle.std.specs.Int.{w32, w64, to_be_bytes}
+use Rattle.std.specs.Int.{w32, to_be_bytes}
 use Rattle.line_tables.specs.Numbering.{number_in}
+use Rattle.line_tables.specs.Runs.{lower_half}
 use Rattle.line_writing.specs.Kept.{KeptRecord, file_key_at, location_key_at, text_at}
 use Rattle.line_writing.specs.declared.keys.FileKey.{FileKey}
 use Rattle.line_writing.specs.declared.keys.LocationKey.{LocationKey}
 use Rattle.line_writing.specs.declared.parts.Parts.{Parts}
 use Rattle.line_writing.specs.declared.step.Step.{Step}
 
--- a step: where it starts, and the new number of its location
+-- a step: the lower half of its start, and the new number of its location
 unfoldable pub step_row : List ℕ → Step → List ℕ
-step_row locations step = to_be_bytes w64 step.start ++ to_be_bytes w32 (number_in nat_eq locations step.location)
+step_row locations step =
+    to_be_bytes w32 (lower_half step.start) ++ to_be_bytes w32 (number_in nat_eq locations step.location)
 
 -- a location: the new numbers of its name and of its file, its line and column, and the new number of the one that it
 -- is inlined into

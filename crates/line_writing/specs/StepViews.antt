@@ -1,5 +1,5 @@
 -- What steps of the code are in the definitions.
-use Rattle.std.specs.Prelude.{ℕ, List, [], ◌∷◌, ◌==◌, ◌≤◌, All, if◌then◌else◌, length}
+use Rattle.std.specs.Prelude.{ℕ, List, [], ◌∷◌, ◌==◌, ◌≤◌, All, if◌then◌else◌, length, map}
 use Rattle.line_tables.specs.Steps.{StepRecord}
 use Rattle.line_writing.specs.Kept.{KeptRecord, chain_at}
 use Rattle.line_writing.specs.declared.step.Step.{Step}
@@ -7,6 +7,10 @@ use Rattle.line_writing.specs.declared.step.Step.{Step}
 -- a step with its frames
 abbrev pub step_of : KeptRecord → Step → StepRecord
 step_of k step = record { start = step.start; frames = chain_at k step.location }
+
+-- the addresses at which steps stand
+abbrev pub step_starts : List Step → List ℕ
+step_starts steps = map (λ (s : Step). s.start) steps
 
 -- the locations of steps are there, or 0
 abbrev pub HaveLocations : KeptRecord → List Step → Type 0

@@ -4,22 +4,24 @@ ghost use Rattle.std.specs.Prelude.{◌≡◌, ◌<◌, ◌++◌, ◌^◌, IfOk,
 ghost use Rattle.std.specs.List.{concat};
 ghost use Rattle.std.specs.Option.{option_map};
 ghost use Rattle.line_tables.specs.LineTable.{no_lines};
+ghost use Rattle.line_tables.specs.Runs.{runs_after};
 ghost use Rattle.line_writing.specs.KeptViews.{kept_view};
 ghost use Rattle.line_writing.specs.Lines.{IsWritten};
 ghost use Rattle.line_writing.specs.PartBytes.{AreCounts, texts_at};
-ghost use Rattle.line_writing.specs.StepViews.{HaveLocations, step_of};
+ghost use Rattle.line_writing.specs.StepViews.{HaveLocations, step_of, step_starts};
 ghost use Rattle.line_writing.specs.WholeText.{IsTextIfFits, head_of, text_of_parts};
 
 use crate::changes::changed_steps;
 use crate::kept::Kept;
 use crate::parts::Parts;
 use crate::rows::push_u64;
+use crate::runs::{count_runs, push_runs};
 use crate::step::Step;
 use crate::store::LineStore;
 use memory::{Heap, NoMemory};
 
 /// How many bytes the head of a table has.
-const HEAD_LEN: usize = 48;
+const HEAD_LEN: usize = 56;
 
 /// The head of a table that has no lines.
 #[tactic(auto, unfolding(line_tables::specs::LineTable::no_lines))]
@@ -32,13 +34,15 @@ fn no_lines(heap: Heap) -> Result<Vec<u8, Heap>, NoMemory>
 }
 
 impl Parts {
-    /// Adds the head of the table of so many steps, whose texts have so many bytes.
-    fn push_head(&self, text: &mut Vec<u8, Heap>, steps: usize, len: u64) -> Result<(), NoMemory>
-        ensures { OnOk result (text.new.items ≡ text.old.items ++ head_of steps (length self.now.locations.order.items)
+    /// Adds the head of the table of steps, whose texts have so many bytes.
+    fn push_head(&self, text: &mut Vec<u8, Heap>, steps: &[Step], len: u64) -> Result<(), NoMemory>
+        ensures { OnOk result (text.new.items ≡ text.old.items ++ head_of
+            (length (runs_after 0 (step_starts steps.now))) (length steps.now) (length self.now.locations.order.items)
             (length self.now.files.order.items) (length self.now.texts.order.items) len) }
     {
         push_u64(text, 1)?;
-        push_u64(text, steps as u64)?;
+        push_u64(text, count_runs(steps) as u64)?;
+        push_u64(text, steps.len() as u64)?;
         push_u64(text, self.locations.order().len() as u64)?;
         push_u64(text, self.files.order().len() as u64)?;
         push_u64(text, self.texts.order().len() as u64)?;
@@ -57,13 +61,15 @@ impl<'a> Kept<'a> {
     ) -> Result<Vec<u8, Heap>, NoMemory>
         requires counts { AreCounts (kept_view self.now) parts.now }
         requires steps { HaveLocations (kept_view self.now) steps.now }
+        requires few { length steps.now < 2 ^ 32 }
         requires len { len ≡ length (concat (texts_at (kept_view self.now) parts.now.texts.order.items)) }
         requires fits { len < 2 ^ 32 }
         ensures { IfOk result (λ text. text.items ≡ text_of_parts (kept_view self.now) steps.now
             parts.now.locations.order.items parts.now.files.order.items parts.now.texts.order.items) }
     {
         let mut text = Vec::new(heap);
-        parts.push_head(&mut text, steps.len(), len)?;
+        parts.push_head(&mut text, steps, len)?;
+        push_runs(&mut text, steps)?;
         self.push_steps(&mut text, parts, steps)?;
         self.push_locations(&mut text, parts, parts.locations.order())?;
         self.push_files(&mut text, parts, parts.files.order())?;

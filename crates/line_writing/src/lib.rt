@@ -3,8 +3,8 @@
 //! The modules in reading order: `numbers`, the numbers of things as they first come; `keys` and `kept`, what frames
 //! have, each thing once and told by number, and `lookups`, what a number tells of; `locate`, the location of the
 //! frames of an address; `step` and `store`, [`LineStore`], which takes them; `changes`, the steps at which frames
-//! change; `first_uses`, numbers anew by first use, and `parts`, those of a table; `rows` and `texts`, its bytes part by
-//! part; `finish`, [`LineStore::finish`]; `laws`, what the definitions say of each other.
+//! change; `first_uses`, numbers anew by first use, and `parts`, those of a table; `runs`, `rows` and `texts`, its bytes
+//! part by part; `finish`, [`LineStore::finish`]; `laws`, what the definitions say of each other.
 //!
 //! Decided:
 //!
@@ -27,6 +27,7 @@ mod lookups;
 mod numbers;
 mod parts;
 mod rows;
+mod runs;
 mod step;
 mod store;
 mod texts;

@@ -12,6 +12,7 @@ ghost use Rattle.line_writing.specs.StepViews.{HaveLocations};
 use crate::kept::Kept;
 use crate::parts::Parts;
 use crate::step::Step;
+use line_tables::halves::lower_half;
 use memory::{Heap, NoMemory};
 
 /// Adds a number of eight bytes.
@@ -44,7 +45,7 @@ impl<'a> Kept<'a> {
             ≡ text.old.items ++ flat_map (step_row parts.now.locations.order.items) steps.now) }
     {
         for step in steps {
-            push_u64(text, step.start)?;
+            push_u32(text, lower_half(step.start))?;
             push_u32(text, parts.locations.number_of(step.location))?;
         }
         Ok(())
