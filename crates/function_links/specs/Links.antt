@@ -1,8 +1,7 @@
 -- The functions of the chains of addresses, as links that addresses share.
-use Rattle.std.specs.Prelude.{ℕ, zero, suc, Bool, List, [], ◌∷◌, ◌++◌, ◌≡◌, ◌<◌, ◌+◌, ◌↔◌, length, flat_map, nat_le, slice_get}
-use Rattle.std.specs.Prelude.{reverse, if◌then◌else◌, Option, Some, None, ◌==◌}
+use Rattle.std.specs.Prelude.{ℕ, zero, suc, List, [], ◌∷◌, ◌≡◌, ◌<◌, ◌≤◌, ◌↔◌, length, flat_map, slice_get}
+use Rattle.std.specs.Prelude.{reverse, Option, Some, None}
 use Rattle.std.specs.List.{Contains}
-use Rattle.std.specs.Option.{option_map}
 use Rattle.code_ranges.specs.declared.range.CodeRange.{CodeRange}
 use Rattle.debug_entries.specs.Entries.{EntryRecord}
 use Rattle.row_steps.specs.AddressSteps.{at_step}
@@ -11,7 +10,7 @@ use Rattle.source_frames.specs.DebugUnits.{UnitRecord}
 use Rattle.source_frames.specs.Frames.{FrameRecord, path_in, place_of_call, place_of_row}
 use Rattle.source_frames.specs.Names.{IsName}
 use Rattle.waiting_indexes.specs.Rising.{AreRising}
-use Rattle.source_frames.specs.Scopes.{IsChain, ScopeRecord, scopes_of}
+use Rattle.source_frames.specs.Scopes.{IsChain, scopes_of}
 use Rattle.source_frames.specs.UnitLines.{LinesRecord}
 use Rattle.source_frames.specs.declared.frame.Place.{Place}
 use Rattle.line_programs.specs.declared.registers.Row.{Row}
@@ -48,6 +47,10 @@ pub record IsLinkOf (sections : DebugSectionsRecord) (unit : UnitRecord) (links 
 abbrev pub ends_of_ranges : List CodeRange → List ℕ
 ends_of_ranges ranges = flat_map (λ range. range.low ∷ range.high ∷ []) ranges
 
+-- each link stands in one before it, or in none
+abbrev pub AreCallersBefore : List LinkRecord → Type 0
+AreCallersBefore links = (i : ℕ) (link : LinkRecord) → slice_get links i ≡ Some link → link.caller ≤ i
+
 -- a step at exactly the addresses at which the ranges of functions begin or end, ascending, each with the number of the
 -- link of the addresses from there on up to the next one
 pub record AreLinkSteps (sections : DebugSectionsRecord) (unit : UnitRecord) (links : List LinkRecord)
@@ -57,6 +60,7 @@ pub record AreLinkSteps (sections : DebugSectionsRecord) (unit : UnitRecord) (li
       ↔ Contains (flat_map (λ scope. ends_of_ranges scope.ranges) (scopes_of sections unit)) a
   pub count : length numbers ≡ length starts
   pub each : (a : ℕ) → IsLinkOf sections unit links a (at_step 0 starts numbers a)
+  pub callers : AreCallersBefore links
 
 -- the frame of a name at a place
 abbrev pub frame_at_place : LinesRecord → Option (List ℕ) → Place → FrameRecord
