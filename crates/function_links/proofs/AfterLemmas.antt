@@ -1,5 +1,5 @@
 -- The functions of the chain of an address, one after another.
-use Rattle.std.proofs.Common.{◌≡◌, ℕ, zero, suc, ◌+◌, Bool, true, false, nat_le, List, [], ◌∷◌, length, slice_get, Option, Some, None, refl, sym, ap, subst, ◌∙◌, arith}
+use Rattle.std.proofs.Common.{◌≡◌, ℕ, zero, suc, ◌+◌, true, false, nat_le, List, [], ◌∷◌, length, Option, Some, refl}
 use Rattle.code_ranges.specs.Lists.{in_ranges}
 use Rattle.source_frames.specs.Scopes.{ScopeRecord}
 use Rattle.unit_functions.specs.UnitFunctions.{FunctionRecord, count_within, functions_after, functions_from, is_past}

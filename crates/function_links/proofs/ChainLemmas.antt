@@ -1,11 +1,11 @@
 -- The functions of the chain of an address are those of its entries.
-use Rattle.std.proofs.Common.{◌≡◌, ℕ, zero, suc, ◌+◌, ◌-◌, ◌<◌, ◌≤◌, ◌⊎◌, Bool, true, false, nat_le, List, [], ◌∷◌, length, map, slice_get, Option, Some, None, refl, sym, ap, subst, ◌∙◌, inl, inr, arith}
+use Rattle.std.proofs.Common.{◌≡◌, ℕ, zero, suc, ◌+◌, ◌-◌, ◌<◌, ◌≤◌, ◌⊎◌, true, false, nat_le, List, [], ◌∷◌, length, map, slice_get, Option, Some, None, refl, sym, ap, subst, ◌∙◌, inl, inr, arith}
 use Rattle.std.specs.Option.{option_map_or}
 use Rattle.std.proofs.lemmas.Bool.{both_ways, cases_Bool, cases_lt, le-leb, leb-false, leb-true, lt-leb}
 use Rattle.code_ranges.specs.Lists.{in_ranges}
 use Rattle.code_ranges.specs.declared.range.CodeRange.{CodeRange}
 use Rattle.debug_entries.specs.Entries.{EntryRecord}
-use Rattle.source_frames.specs.Scopes.{IsChain, IsChainWithin, IsFirst, IsIn, IsWithin, ScopeRecord, contains_at, depth_at}
+use Rattle.source_frames.specs.Scopes.{IsChain, IsChainWithin, IsIn, IsWithin, ScopeRecord, contains_at, depth_at}
 use Rattle.unit_functions.specs.UnitFunctions.{FunctionRecord, count_within, functions_after, functions_from, is_past}
 use Rattle.function_links.proofs.AfterLemmas.{after_here, after_past, after_skip, after_zero, from_bare, from_with, function_at}
 
@@ -104,12 +104,12 @@ module _ (a : ℕ) (all : List ScopeRecord) where
       inr (record { ends = closed.ends; at = closed.at; after = closed.after; reached = let r = closed.reached in omega (arith, r); no_deeper = closed.no_deeper })
   stands_skip (Some outer) (Some end) p before scope rest is bare (inl opened) = elim (cases_Bool (nat_le scope.depth (depth_at all outer))) [
     | inl flat ↦ inr (record {
-        ends = let e = (rw flat at opened.ends) in omega (arith, e);
-        at = p;
-        after = opened.under;
-        reached = omega arith;
-        no_deeper = subst (λ n. n ≤ depth_at all outer) (sym (depth_here p scope is)) (leb-true scope.depth (depth_at all outer) flat);
-      })
+      ends = let e = (rw flat at opened.ends) in omega (arith, e);
+      at = p;
+      after = opened.under;
+      reached = omega arith;
+      no_deeper = subst (λ n. n ≤ depth_at all outer) (sym (depth_here p scope is)) (leb-true scope.depth (depth_at all outer) flat);
+    })
     | inr deep ↦ inl (open_more outer end p before before scope rest is opened deep (rw (deep, bare) at opened.ends))
   ]
 
@@ -165,10 +165,13 @@ module _ (a : ℕ) (all : List ScopeRecord) where
       let fs = functions_from (before + 1) rest in
       elim (cases_Bool (in_ranges a scope.ranges)) [
         | inl has ↦ subst (λ (gs : List FunctionRecord). IsChainWithin (suc room) a all outer (entries_of gs)) (sym (after_here room a end before f fs past has)) (
-            p, scope, is, refl,
-            record { within = within; contains = contains_here p scope is ∙ has; first = none },
-            more room (Some p) (Some f.end) (p + 1) (before + 1) (next p scope rest from) (inl (open_first p before scope rest is)) (λ i less in_it contains. let l = in_it.later in omega (arith, less, l)),
-          )
+          p,
+          scope,
+          is,
+          refl,
+          record { within = within; contains = contains_here p scope is ∙ has; first = none },
+          more room (Some p) (Some f.end) (p + 1) (before + 1) (next p scope rest from) (inl (open_first p before scope rest is)) (λ i less in_it contains. let l = in_it.later in omega (arith, less, l)),
+        )
         | inr not ↦ subst (λ (gs : List FunctionRecord). IsChainWithin (suc room) a all outer (entries_of gs)) (sym (after_skip room a end before f fs past not))
             (more (suc room) outer end (p + 1) (before + 1) (next p scope rest from) stands (none_more outer p (contains_here p scope is ∙ not) none))
       ]

@@ -6,3 +6,4 @@ pub mod TakingLemmas
 pub mod StartLemmas
 pub mod RangeLemmas
 pub mod PartLemmas
+pub mod StepLemmas

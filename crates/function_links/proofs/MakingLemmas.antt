@@ -1,8 +1,8 @@
 -- Links that are added one after another.
-use Rattle.std.proofs.Common.{◌≡◌, ◌≢◌, ℕ, zero, suc, ◌+◌, ◌-◌, ◌<◌, ◌≤◌, ◌⊎◌, List, [], ◌∷◌, ◌++◌, length, set, get_or, slice_get, Option, Some, None, refl, sym, ap, subst, ◌∙◌, inl, inr, arith}
+use Rattle.std.proofs.Common.{◌≡◌, ◌≢◌, ℕ, zero, suc, ◌+◌, ◌-◌, ◌<◌, ◌≤◌, ◌⊎◌, List, [], ◌∷◌, ◌++◌, length, set, get_or, slice_get, Option, Some, refl, sym, ap, subst, ◌∙◌, inl, inr, arith}
 use Rattle.std.specs.Option.{option_map_or}
-use Rattle.std.proofs.lemmas.Bool.{cases_eq, cases_lt}
-use Rattle.std.proofs.lemmas.List.{length-append, length-set, length_push}
+use Rattle.std.proofs.lemmas.Bool.{cases_eq}
+use Rattle.std.proofs.lemmas.List.{length-set, length_push}
 use Rattle.std.proofs.lemmas.Option.{none-some, same_Some, slice_get-get_or, slice_get_within}
 use Rattle.function_links.specs.Making.{AreKept, AreMade, IsChild, IsLinkIn, IsMade, child_at, count_at, made_at}
 use Rattle.function_links.specs.declared.links.Link.{Link}
@@ -67,9 +67,11 @@ kept_child links i child link is = record {
   count = let n = length-set links i (record link { child = child }) in omega (arith, n);
   each = λ j l there. elim (cases_eq j i) [
     | inl same ↦
-        let l_is : l ≡ link = same_Some l link (sym there ∙ (ap (λ n. slice_get links n) same ∙ is)) in
-        (child, subst (λ n. slice_get (set links i (record link { child = child })) n ≡ Some (record l { child = child })) (sym same)
-        (get_set links i link (record link { child = child }) is ∙ ap (λ (m : Link). Some (record m { child = child })) (sym l_is)))
+        let l_is : l ≡ link = same_Some l link (sym there ∙ (ap (λ n. slice_get links n) same ∙ is)) in (
+          child,
+          subst (λ n. slice_get (set links i (record link { child = child })) n ≡ Some (record l { child = child })) (sym same)
+              (get_set links i link (record link { child = child }) is ∙ ap (λ (m : Link). Some (record m { child = child })) (sym l_is)),
+        )
     | inr not ↦ (l.child, get_other links i j (record link { child = child }) not ∙ there)
   ];
 }
@@ -247,11 +249,11 @@ module _ (functions : List Function) (old new : List Link) (last outer index num
   outer_there : slice_get new (outer - 1) ≡ Some link
   outer_there =
       let k = (pushed_kept functions old new last outer index number p).count in let w = p.within in
-      let some : 0 < outer = elim (cases_eq outer 0) [ | inl e ↦ absurd (not e) | inr n ↦ omega (arith, n) ] in
+      let some : 0 < outer = elim (cases_eq outer 0) [ inl e ↦ absurd (not e) | inr n ↦ omega (arith, n) ] in
       slice_get-get_or new (outer - 1) link (omega (arith, k, w, some)) ∙ ap Some (sym is)
 
   outer_is : suc (outer - 1) ≡ outer
-  outer_is = elim (cases_eq outer 0) [ | inl e ↦ absurd (not e) | inr n ↦ omega (arith, n) ]
+  outer_is = elim (cases_eq outer 0) [ inl e ↦ absurd (not e) | inr n ↦ omega (arith, n) ]
 
   pub inner_kept : AreKept new (set new (outer - 1) (record link { child = number }))
   inner_kept = kept_child new (outer - 1) number link outer_there

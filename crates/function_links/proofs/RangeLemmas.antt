@@ -1,12 +1,11 @@
 -- Starts of ranges get a function.
-use Rattle.std.proofs.Common.{◌≡◌, ◌≢◌, ℕ, zero, suc, ◌+◌, ◌<◌, ◌≤◌, ◌⊎◌, ◌&&◌, Bool, true, false, nat_le, nat_lt, List, [], ◌∷◌, length, get_or, slice_get, slice_index, take, drop, Option, Some, refl, sym, ap, subst, ◌∙◌, inl, inr, arith}
-use Rattle.std.specs.List.{list_any}
+use Rattle.std.proofs.Common.{◌≡◌, ℕ, zero, suc, ◌+◌, ◌<◌, ◌≤◌, ◌⊎◌, ◌&&◌, true, false, nat_le, nat_lt, List, [], ◌∷◌, length, get_or, slice_get, slice_index, take, Some, refl, sym, subst, ◌∙◌, inl, inr, arith}
 use Rattle.std.proofs.lemmas.Bool.{and_from, and_parts, cases_Bool, cases_eq, cases_lt, le-leb, leb-true, lt-ltb, ltb-true, or_cases, or_left, or_right}
 use Rattle.std.proofs.lemmas.Option.{same_Some}
 use Rattle.std.proofs.lemmas.List.Folds.{list_any_more}
 use Rattle.code_ranges.specs.Lists.{in_ranges}
 use Rattle.code_ranges.specs.declared.range.CodeRange.{CodeRange}
-use Rattle.function_links.specs.Taking.{AreOf, HasBefore, HasEither, HasIt, HasSame, HasTaken, IsTaking, IsUpTo, Takes}
+use Rattle.function_links.specs.Taking.{AreOf, HasBefore, HasSame, IsTaking, Takes}
 use Rattle.function_links.specs.declared.taking.Taking.{Taking}
 use Rattle.unit_functions.specs.UnitFunctions.{FunctionRecord}
 use Rattle.unit_functions.specs.declared.functions.Function.{Function}

@@ -1,11 +1,11 @@
 -- Starts that get a function.
-use Rattle.std.proofs.Common.{◌≡◌, ◌≢◌, ℕ, ◌+◌, ◌<◌, ◌≤◌, ◌⊎◌, true, false, List, length, get_or, slice_get, slice_index, Option, Result, Ok, Err, Some, refl, sym, ap, subst, ◌∙◌, inl, inr, arith}
+use Rattle.std.proofs.Common.{◌≡◌, ℕ, ◌<◌, ◌≤◌, true, false, List, length, slice_get, slice_index, Result, Ok, Err, Some, refl, sym, subst, ◌∙◌, inl, inr, arith}
 use Rattle.std.specs.Prelude.{OnOk}
 use Rattle.std.proofs.lemmas.Bool.{cases_eq}
-use Rattle.std.proofs.lemmas.Option.{none-some, same_Some, slice_get-get_or, slice_get_within}
+use Rattle.std.proofs.lemmas.Option.{none-some, same_Some, slice_get_within}
 use Rattle.code_ranges.specs.Lists.{in_ranges}
-use Rattle.function_links.specs.Making.{AreKept, AreMade, made_at}
-use Rattle.function_links.specs.Taking.{AreOf, Extends, HasBefore, HasEither, HasIt, HasSame, HasTaken, IsTaking, IsUpTo, Takes, end_of}
+use Rattle.function_links.specs.Making.{AreKept, made_at}
+use Rattle.function_links.specs.Taking.{Extends, HasBefore, HasEither, HasIt, HasSame, HasTaken, IsTaking, IsUpTo, Takes, end_of}
 use Rattle.function_links.specs.declared.links.Link.{Link}
 use Rattle.function_links.specs.declared.taking.Taking.{Taking}
 use Rattle.unit_functions.specs.UnitFunctions.{FunctionRecord, is_past}

@@ -1,7 +1,7 @@
 -- A start gets the functions of its chain, one after another.
-use Rattle.std.proofs.Common.{◌≡◌, ◌≢◌, ℕ, zero, suc, ◌+◌, ◌-◌, ◌<◌, ◌≤◌, ◌⊎◌, Bool, true, false, nat_le, List, [], ◌∷◌, ◌++◌, length, drop, get_or, reverse, set, slice_get, Option, Some, None, refl, sym, ap, subst, ◌∙◌, inl, inr, append_assoc, arith}
-use Rattle.std.proofs.lemmas.Bool.{cases_Bool, cases_eq, cases_lt, false≢true, le-leb, leb-true, lt-leb}
-use Rattle.std.proofs.lemmas.List.{append-nil, drop_more, get_or-set_other, get_or-set_same, length-set, reverse-append}
+use Rattle.std.proofs.Common.{◌≡◌, ℕ, zero, suc, ◌+◌, ◌-◌, ◌<◌, ◌≤◌, true, false, List, [], ◌∷◌, ◌++◌, length, drop, get_or, reverse, set, slice_get, Option, Some, None, refl, sym, ap, subst, ◌∙◌, inl, inr, append_assoc, arith}
+use Rattle.std.proofs.lemmas.Bool.{cases_Bool, cases_eq, le-leb, leb-true, lt-leb}
+use Rattle.std.proofs.lemmas.List.{append-nil, drop_more, get_or-set_other, get_or-set_same, reverse-append}
 use Rattle.std.proofs.lemmas.Option.{get_or_from_slice_get, none-some, same_Some, slice_get_within}
 use Rattle.code_ranges.specs.Lists.{in_ranges}
 use Rattle.function_links.specs.Making.{AreKept, AreMade, IsLinkIn, count_at, made_at}
@@ -24,7 +24,7 @@ past_all room a end index [] past = refl
 past_all zero a end index (f ∷ fs) past = after_zero a end index (f ∷ fs)
 past_all (suc room) a end index (f ∷ fs) past = after_past room a end index f fs past
 
-after_not : (room a : ℕ) (end : Option ℕ) (index : ℕ) (f : FunctionRecord) (fs : List FunctionRecord) → in_ranges a f.ranges ≡ false → functions_after room a end index (f ∷ fs) ≡ functions_after room a end (index + 1) fs
+pub after_not : (room a : ℕ) (end : Option ℕ) (index : ℕ) (f : FunctionRecord) (fs : List FunctionRecord) → in_ranges a f.ranges ≡ false → functions_after room a end index (f ∷ fs) ≡ functions_after room a end (index + 1) fs
 after_not zero a end index f fs not = after_zero a end index (f ∷ fs) ∙ sym (after_zero a end (index + 1) fs)
 after_not (suc room) a end index f fs not = elim (cases_Bool (is_past end index)) [
   | inl past ↦ past_all (suc room) a end index (f ∷ fs) past ∙ sym (past_all (suc room) a end (index + 1) fs (past_later end index past))
@@ -200,6 +200,16 @@ pub inside_link : (of : List FunctionRecord) (links : List Link) (waits : Type 0
     → slice_get of link.function ≡ Some r → index < r.end → is_past (end_of is.chain) index ≡ false
 inside_link of links waits a number index link r is there of_is inside =
     ap (λ (e : Option ℕ). is_past e index) (innermost of links number is.chain link r is.are there of_is) ∙ lt-leb r.end index inside
+
+-- before all functions
+pub up_to_first : (of : List FunctionRecord) (links : List Link) (waits : Type 0) (a number : ℕ) → number ≡ 0 → waits → IsUpTo of links waits a number 0
+up_to_first of links waits a number none w = record {
+  chain = [];
+  are = none;
+  before = λ link there. absurd (none-some link (subst (λ n. made_at links n ≡ Some link) none there));
+  more = λ still. refl;
+  all = λ not. absurd (not w);
+}
 
 -- ---- safety
 

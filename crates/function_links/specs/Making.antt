@@ -1,5 +1,5 @@
 -- Links that are being made, one after another: the words of inner functions. No contract of a public one has them.
-use Rattle.std.specs.Prelude.{ℕ, zero, suc, List, [], ◌∷◌, ◌≡◌, ◌≤◌, ◌<◌, length, slice_get, Option, Some, None}
+use Rattle.std.specs.Prelude.{ℕ, zero, suc, List, ◌≡◌, ◌≤◌, length, slice_get, Option, Some, None}
 use Rattle.std.specs.Option.{option_map_or}
 use Rattle.function_links.specs.declared.links.Link.{Link}
 use Rattle.unit_functions.specs.declared.functions.Function.{Function}

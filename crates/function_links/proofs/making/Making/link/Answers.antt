@@ -1,4 +1,4 @@
-use Rattle.std.proofs.Common.{arith, rules}
+use Rattle.std.proofs.Common.{rules}
 use Rattle.function_links.proofs.MakingLemmas.{found_link, found_within, kept_refl}
 use Rattle.function_links.proofs.making.Making.link.Goals as goal
 

@@ -1,11 +1,10 @@
-use Rattle.std.proofs.Common.{◌≡◌, ℕ, ◌∙◌, ◌+◌, ◌-◌, ◌<◌, ◌≤◌, List, Some, None, drop, get_or, length, slice_get, slice_index, slice_index_or, take, sym, ap, subst, refl, true, arith, rules}
+use Rattle.std.proofs.Common.{◌≡◌, ◌∙◌, ◌-◌, List, Some, None, drop, get_or, slice_get, slice_index, take, subst, true, arith}
 use Rattle.std.proofs.lemmas.Option.{slice_get-get_or}
 use Rattle.code_ranges.specs.Lists.{in_ranges}
 use Rattle.code_ranges.specs.declared.range.CodeRange.{CodeRange}
-use Rattle.function_links.specs.Taking.{AreOf, HasBefore, HasSame, Takes}
+use Rattle.function_links.specs.Taking.{Takes}
 use Rattle.unit_functions.specs.declared.functions.Function.{Function}
-use Rattle.function_links.proofs.MakingLemmas.{get_there}
-use Rattle.function_links.proofs.PartLemmas.{end_next, part_of}
+use Rattle.function_links.proofs.PartLemmas.{part_of}
 use Rattle.function_links.proofs.RangeLemmas.{all_taken, are_same, same_count, same_trans}
 use Rattle.function_links.proofs.StartLemmas.{record_of}
 use Rattle.function_links.proofs.taking.Taking.take_all.Goals as goal

@@ -1,8 +1,8 @@
-use Rattle.std.proofs.Common.{◌≡◌, ℕ, ◌∙◌, ◌+◌, ◌<◌, ◌≤◌, ◌∷◌, [], List, Some, get_or, length, slice_get, slice_index, sym, ap, subst, refl, true, arith, rules}
+use Rattle.std.proofs.Common.{◌≡◌, ℕ, ◌<◌, ◌≤◌, ◌∷◌, [], List, length, slice_index, sym, subst, refl, true, arith}
 use Rattle.code_ranges.specs.Lists.{in_ranges}
 use Rattle.function_links.specs.Taking.{HasSame}
 use Rattle.waiting_indexes.specs.Rising.{AreRising, IsCountBelow}
-use Rattle.function_links.proofs.RangeLemmas.{are_same, functions_count, same_count, same_trans, start_between, start_in, taking_waits, takes_next, takes_waiting, takes_weaker}
+use Rattle.function_links.proofs.RangeLemmas.{are_same, same_count, same_trans, start_between, start_in, taking_waits, takes_next, takes_waiting, takes_weaker}
 use Rattle.function_links.proofs.taking.Taking.take_range.Goals as goal
 
 pub starts-init : goal.starts-init

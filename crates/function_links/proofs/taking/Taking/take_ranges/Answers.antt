@@ -1,9 +1,9 @@
-use Rattle.std.proofs.Common.{◌≡◌, ℕ, ◌∙◌, ◌+◌, ◌<◌, ◌⊎◌, ◌∷◌, [], List, Some, get_or, length, slice_get, slice_index, take, sym, ap, subst, refl, inl, inr, true, arith, rules}
+use Rattle.std.proofs.Common.{◌≡◌, ℕ, ◌+◌, ◌⊎◌, ◌∷◌, [], List, get_or, slice_index, take, sym, subst, inl, inr, true, rules}
 use Rattle.std.proofs.lemmas.List.{take_all}
 use Rattle.std.proofs.lemmas.Option.{slice_get-get_or}
 use Rattle.code_ranges.specs.Lists.{in_ranges}
 use Rattle.code_ranges.specs.declared.range.CodeRange.{CodeRange}
-use Rattle.function_links.specs.Taking.{HasSame, Takes}
+use Rattle.function_links.specs.Taking.{Takes}
 use Rattle.function_links.proofs.RangeLemmas.{are_same, in_one, in_take, same_trans, takes_trans, takes_weaker}
 use Rattle.function_links.proofs.taking.Taking.take_ranges.Goals as goal
 

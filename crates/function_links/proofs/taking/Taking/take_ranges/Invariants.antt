@@ -1,4 +1,4 @@
-use Rattle.std.proofs.Common.{ℕ, ◌≡◌, List, Some, slice_get, slice_index, take, true}
+use Rattle.std.proofs.Common.{◌≡◌, List, Some, slice_get, slice_index, take, true}
 use Rattle.code_ranges.specs.Lists.{in_ranges}
 use Rattle.function_links.specs.Taking.{AreOf, HasSame, IsTaking, Takes}
 use Rattle.unit_functions.specs.UnitFunctions.{FunctionRecord}

@@ -1,9 +1,7 @@
-use Rattle.std.proofs.Common.{◌≡◌, ℕ, ◌∙◌, ◌<◌, Some, get_or, length, slice_get, slice_index, sym, ap, subst, refl, arith, rules}
+use Rattle.std.proofs.Common.{◌≡◌, ◌∙◌, ◌<◌, Some, get_or, length, slice_get, sym, ap, subst, refl, arith, rules}
 use Rattle.std.proofs.lemmas.List.{get_or_read}
 use Rattle.std.proofs.lemmas.Option.{slice_get-get_or, slice_get_within}
 use Rattle.function_links.specs.Making.{made_at}
-use Rattle.function_links.specs.declared.links.Link.{Link}
-use Rattle.unit_functions.specs.declared.functions.Function.{Function}
 use Rattle.function_links.proofs.MakingLemmas.{function_of, made_read}
 use Rattle.function_links.proofs.StartLemmas.{on_ok, record_of, takes_first, takes_more, takes_past, takes_same}
 use Rattle.function_links.proofs.taking.Taking.take_start.Goals as goal
