@@ -4,7 +4,7 @@ from __future__ import annotations
 
 import struct
 from functools import lru_cache
-from itertools import accumulate
+from itertools import accumulate, groupby
 from typing import Dict, Hashable, Iterable, List, NamedTuple, Optional, Set, Tuple, TypeVar
 
 from .dwarf_frames import MOST_FRAMES, Debug, DebugUnit, Frame, debug_of
@@ -12,7 +12,7 @@ from .dwarf_lines import PathParts, rows_of
 from .dwarf_ranges import aranges_of
 from .pages import MOST_ADDRESSES, Changed, Pages
 
-HEAD, STEP, LOCATION, FILE, TEXT = 48, 12, 20, 12, 8
+HEAD, RUN, STEP, LOCATION, FILE, TEXT = 56, 8, 8, 20, 12, 8
 NO_LINES = bytes(HEAD)
 T = TypeVar("T", bound=Hashable)
 
@@ -82,8 +82,13 @@ class Parts:
         names = [chain[0].name for chain in self.chains if chain[0].name is not None]
         self.texts = numbers_of([*names, *(text for parts in self.files for text in parts)])
 
+    def runs(self) -> List[bytes]:
+        lengths = [(upper, len(list(them))) for upper, them in groupby(it.start >> 32 for it in self.steps)]
+        ends = accumulate(length for _, length in lengths)
+        return [struct.pack(">2I", upper, end) for (upper, _), end in zip(lengths, ends)]
+
     def step(self, it: Step) -> bytes:
-        return struct.pack(">QI", it.start, self.chains[it.frames] if it.frames else 0)
+        return struct.pack(">2I", it.start & 0xFFFFFFFF, self.chains[it.frames] if it.frames else 0)
 
     def location(self, chain: Chain) -> bytes:
         frame, callers = chain[0], chain[1:]
@@ -101,9 +106,10 @@ class Parts:
 
     def bytes(self) -> bytes:
         texts = b"".join(self.texts)
-        counts = (len(self.steps), len(self.chains), len(self.files), len(self.texts), len(texts))
-        rows = [*map(self.step, self.steps), *map(self.location, self.chains), *map(self.file, self.files)]
-        return struct.pack(">6Q", 1, *counts) + b"".join([*rows, *self.text_rows()]) + texts
+        runs = self.runs()
+        counts = (len(runs), len(self.steps), len(self.chains), len(self.files), len(self.texts), len(texts))
+        rows = [*runs, *map(self.step, self.steps), *map(self.location, self.chains), *map(self.file, self.files)]
+        return struct.pack(">7Q", 1, *counts) + b"".join([*rows, *self.text_rows()]) + texts
 
 
 def fitting(room: int, steps: List[Step]) -> Optional[bytes]:
@@ -130,8 +136,9 @@ class LineTable:
 
     def __init__(self, pages: Pages, offset: int, counts: Tuple[int, ...]) -> None:
         self.pages = pages
-        self.steps, self.locations, self.files, self.texts, self.bytes = counts
-        self.first_step = offset + HEAD
+        self.runs, self.steps, self.locations, self.files, self.texts, self.bytes = counts
+        self.first_run = offset + HEAD
+        self.first_step = self.first_run + RUN * self.runs
         self.first_location = self.first_step + STEP * self.steps
         self.first_file = self.first_location + LOCATION * self.locations
         self.first_text = self.first_file + FILE * self.files
@@ -142,7 +149,7 @@ class LineTable:
     @staticmethod
     def opened(pages: Pages, offset: int) -> Optional[LineTable]:
         """The line table that stands there; None where it has no lines."""
-        has_lines, *counts = struct.unpack(">6Q", pages.read(offset, HEAD))
+        has_lines, *counts = struct.unpack(">7Q", pages.read(offset, HEAD))
         return LineTable(pages, offset, tuple(counts)) if has_lines else None
 
     def row(self, form: str, first: int, number: int, count: int) -> Tuple[int, ...]:
@@ -161,17 +168,41 @@ class LineTable:
     def path(self, number: int) -> PathParts:
         return PathParts(*map(self.text, self.row(">3I", self.first_file, number, self.files)))
 
-    def location_for(self, address: int) -> int:
-        """The number of the location of the last step that starts at an address or below it, found by halving."""
-        low, high, found = 0, self.steps, 0
+    def last_run(self, upper: int) -> int:
+        """The number of the last run whose upper half is not above this one, found by halving; 0 where there is none."""
+        low, high = 0, self.runs
         while low < high:
             middle = (low + high) // 2
-            start, location = self.row(">QI", self.first_step, middle + 1, self.steps)
-            if start <= address:
-                found, low = location, middle + 1
+            if self.run(middle + 1)[0] <= upper:
+                low = middle + 1
             else:
                 high = middle
-        return found
+        return low
+
+    def run(self, number: int) -> Tuple[int, int]:
+        """The upper half of a run, and how many steps there are up to its last."""
+        upper, steps = self.row(">2I", self.first_run, number, self.runs)
+        if steps > self.steps:
+            raise Changed
+        return upper, steps
+
+    def location_for(self, address: int) -> int:
+        """The number of the location of the last step that starts at an address or below it: among those of the last
+        run that is not above it, found by halving, and else the last one before them."""
+        number = self.last_run(address >> 32)
+        if not number:
+            return 0
+        upper, high = self.run(number)
+        low = self.run(number - 1)[1] if number > 1 else 0
+        if upper < address >> 32:
+            low = high
+        while low < high:
+            middle = (low + high) // 2
+            if self.row(">2I", self.first_step, middle + 1, self.steps)[0] <= address & 0xFFFFFFFF:
+                low = middle + 1
+            else:
+                high = middle
+        return self.row(">2I", self.first_step, low, self.steps)[1] if low else 0
 
     def frames(self, address: int) -> List[Frame]:
         """The frames of an address, the innermost first: of each location and of its callers, whose numbers fall."""
