@@ -1,10 +1,10 @@
 -- The frames of links are those of their entries.
-use Rattle.std.proofs.Common.{◌≡◌, ℕ, zero, List, [], ◌∷◌, Option, Some, None, refl, sym, ap, subst, ◌∙◌}
+use Rattle.std.proofs.Common.{◌≡◌, ℕ, List, [], ◌∷◌, Some, refl, sym, ap, subst, ◌∙◌}
 use Rattle.std.proofs.lemmas.Option.{none-some, same_Some}
 use Rattle.debug_entries.specs.Entries.{EntryRecord}
 use Rattle.source_frames.specs.DebugSections.{DebugSectionsRecord}
 use Rattle.source_frames.specs.DebugUnits.{UnitRecord}
-use Rattle.source_frames.specs.Frames.{AreFramesFrom, FrameRecord, path_in, place_of_call}
+use Rattle.source_frames.specs.Frames.{AreFramesFrom, FrameRecord, place_of_call}
 use Rattle.function_links.specs.Links.{AreEntriesOfLink, AreFramesOfLink, LinkRecord, frame_at_place, link_at}
 use Rattle.source_frames.specs.Names.{IsName}
 use Rattle.source_frames.specs.UnitLines.{LinesRecord}

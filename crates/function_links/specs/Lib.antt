@@ -1,2 +1,4 @@
 pub mod Links
 pub mod LinkViews
+pub mod Making
+pub mod Taking

@@ -1,8 +1,7 @@
 -- The functions of the chains of addresses, as links that addresses share.
-use Rattle.std.specs.Prelude.{ℕ, zero, suc, Bool, List, [], ◌∷◌, ◌++◌, ◌≡◌, ◌<◌, ◌≤◌, ◌+◌, ◌↔◌, length, flat_map, nat_le, slice_get}
-use Rattle.std.specs.Prelude.{reverse, if◌then◌else◌, Option, Some, None, ◌==◌}
+use Rattle.std.specs.Prelude.{ℕ, zero, suc, List, [], ◌∷◌, ◌≡◌, ◌<◌, ◌≤◌, ◌↔◌, length, flat_map, slice_get}
+use Rattle.std.specs.Prelude.{reverse, Option, Some, None}
 use Rattle.std.specs.List.{Contains}
-use Rattle.std.specs.Option.{option_map}
 use Rattle.code_ranges.specs.declared.range.CodeRange.{CodeRange}
 use Rattle.debug_entries.specs.Entries.{EntryRecord}
 use Rattle.row_steps.specs.AddressSteps.{at_step}
@@ -11,7 +10,7 @@ use Rattle.source_frames.specs.DebugUnits.{UnitRecord}
 use Rattle.source_frames.specs.Frames.{FrameRecord, path_in, place_of_call, place_of_row}
 use Rattle.source_frames.specs.Names.{IsName}
 use Rattle.waiting_indexes.specs.Rising.{AreRising}
-use Rattle.source_frames.specs.Scopes.{IsChain, ScopeRecord, scopes_of}
+use Rattle.source_frames.specs.Scopes.{IsChain, scopes_of}
 use Rattle.source_frames.specs.UnitLines.{LinesRecord}
 use Rattle.source_frames.specs.declared.frame.Place.{Place}
 use Rattle.line_programs.specs.declared.registers.Row.{Row}
