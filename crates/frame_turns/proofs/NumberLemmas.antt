@@ -46,31 +46,6 @@ module _ (P P' : ℕ → Option (List ℕ) → Type 0) (F F' : Option ℕ → Li
   pub linked_still : (count : ℕ) (all : List Linked) → AreLinked P F lines links count all → AreLinked P' F' lines links count all
   linked_still count all are = record { count_is = are.count_is; each = λ i linked at link l. is_linked_still link linked (are.each i linked at link l) }
 
--- ---- paths
-
-pub no_paths : (P : ℕ → Option PathRecord → Type 0) (lines : LinesRecord) (paths : Paths) → ((i : ℕ) → tree_map.get nat_cmp paths.by_index i ≡ None) → paths.last ≡ None → ArePathNumbers P lines paths
-no_paths P lines paths none last =
-    record {
-      by_index = λ i. subst (λ (o : Option ℕ). IfSome o (IsPathNumber P lines (Some i))) (sym (none i)) tt;
-      last = subst (λ (o : Option (ℕ × ℕ)). IfSome o (λ k. IsPathNumber P lines (Some k.0) k.1)) (sym last) tt;
-    }
-
-pub paths_kept : (P : ℕ → Option PathRecord → Type 0) (lines : LinesRecord) (old new : Paths) (index number : ℕ) → ArePathNumbers P lines old → tree_map.get nat_cmp new.by_index index ≡ Some number
-    → ((other : ℕ) → other ≢ index → tree_map.get nat_cmp new.by_index other ≡ tree_map.get nat_cmp old.by_index other) → new.last ≡ old.last → P number (path_in lines (Some index)) → ArePathNumbers P lines new
-paths_kept P lines old new index number are here others last told =
-    record {
-      by_index = λ i. elim (cases_eq i index) [
-        | inl e ↦
-            subst (λ (n : ℕ). IfSome (tree_map.get nat_cmp new.by_index n) (IsPathNumber P lines (Some n))) (sym e)
-            (subst (λ (o : Option ℕ). IfSome o (IsPathNumber P lines (Some index))) (sym here) told)
-        | inr not ↦ subst (λ (o : Option ℕ). IfSome o (IsPathNumber P lines (Some i))) (sym (others i not)) (are.by_index i)
-      ];
-      last = subst (λ (o : Option (ℕ × ℕ)). IfSome o (λ k. IsPathNumber P lines (Some k.0) k.1)) (sym last) are.last;
-    }
-
-pub path_found : (P : ℕ → Option PathRecord → Type 0) (lines : LinesRecord) (paths : Paths) (index number : ℕ) → ArePathNumbers P lines paths → tree_map.get nat_cmp paths.by_index index ≡ Some number → P number (path_in lines (Some index))
-path_found P lines paths index number are here = subst (λ (o : Option ℕ). IfSome o (IsPathNumber P lines (Some index))) here (are.by_index index)
-
 -- ---- links
 
 pub link_there : (links : List Link) (i : ℕ) (link : Link) → i < length links → link ≡ get_or links i link → slice_get (links_view links) i ≡ Some (link_view link)
@@ -103,9 +78,6 @@ parts_still P P' Q Q' F F' lines parts names paths frames told =
       linked = linked_still P P' F F' names frames lines (links_view parts.links.links.items) (length parts.links.links.items) parts.linked.items told.linked;
     }
 
-pub no_callers : (lines : LinesRecord) (links : List LinkRecord) (place : Place) (caller : ℕ) → caller ≡ 0 → AreFramesOfLink lines links place caller []
-no_callers lines links place caller none = none
-
 -- the frames of a link with those of the links that it stands in
 pub frames_of_link : (lines : LinesRecord) (links : List LinkRecord) (place : Place) (number n : ℕ) (link : LinkRecord) (outer : List FrameRecord) → number ≡ suc n → slice_get links n ≡ Some link → link.caller ≤ n
     → AreFramesOfLink lines links link.call link.caller outer → AreFramesOfLink lines links place number (frame_at_place lines link.name place ∷ outer)
@@ -125,9 +97,6 @@ frames_of_row_alone lines links (Some row) number none = subst (λ (m : ℕ). Ar
 
 -- one after another
 module _ (P : ℕ → Option (List ℕ) → Type 0) (F : Option ℕ → List FrameRecord → Type 0) (lines : LinesRecord) (links : List LinkRecord) where
-  pub none_linked : (all : List Linked) → all ≡ [] → AreLinked P F lines links (length all) all
-  none_linked all none = subst (λ (xs : List Linked). AreLinked P F lines links (length xs) xs) (sym none) (record { count_is = refl; each = λ i linked at. absurd (none-some linked at) })
-
   pub linked_more : (all : List Linked) (next : Linked) → AreLinked P F lines links (length all) all → IsLinkedAt P F lines links (length all) next → AreLinked P F lines links (length (all ++ next ∷ [])) (all ++ next ∷ [])
   linked_more all next are is =
       record {

@@ -53,42 +53,6 @@ step_some before found starts values address count n same some within here is =
 
 -- ---- counts
 
-module _ (starts : List ℕ) (address below : ℕ) (rising : AreRising starts) (is : IsCountBelow starts address below) where
-  pub count_here : below < length starts → get_or starts below 0 ≡ address → IsCountTo starts address (below + 1)
-  count_here within here =
-      record {
-        within = omega (arith, within);
-        upto = λ i h. elim (cases_eq i below) [
-          | inl e ↦ let at : get_or starts i 0 ≡ address = ap (λ n. get_or starts n 0) e ∙ here in omega (arith, at)
-          | inr not ↦ let b = is.below i (omega (arith, h, not)) in omega (arith, b)
-        ];
-        above = λ i h l. let r = rising below i 0 (omega (arith, h)) l in omega (arith, r, here);
-      }
-
-  pub count_past : length starts ≤ below → IsCountTo starts address below
-  count_past past =
-      record {
-        within = is.within;
-        upto = λ i h. let b = is.below i h in omega (arith, b);
-        above = λ i h l. absurd (omega (arith, past, h, l));
-      }
-
-  pub count_other : below < length starts → get_or starts below 0 ≢ address → IsCountTo starts address below
-  count_other within other =
-      record {
-        within = is.within;
-        upto = λ i h. let b = is.below i h in omega (arith, b);
-        above = λ i h l. elim (cases_eq i below) [
-          | inl e ↦
-              let a = is.above below (omega arith) within in
-              let at : get_or starts i 0 ≡ get_or starts below 0 = ap (λ n. get_or starts n 0) e in
-              omega (arith, a, at, other)
-          | inr not ↦
-              let a = is.above below (omega arith) within in
-              let r = rising below i 0 (omega (arith, h, not)) l in omega (arith, a, r)
-        ];
-      }
-
 -- at a start itself
 pub count_at_start : (starts : List ℕ) (i : ℕ) → AreRising starts → i < length starts → IsCountTo starts (get_or starts i 0) (i + 1)
 count_at_start starts i rising within =
@@ -111,10 +75,6 @@ later_start starts address count a is (i, within, here) above =
       | inl early ↦ let u = is.upto i early in absurd (omega (arith, u, at, above))
       | inr late ↦ (i, late, within, at)
     ]
-
--- the start after so many
-abbrev FirstAfter : List ℕ → ℕ → Option ℕ → Type 0
-FirstAfter starts count found = found ≡ slice_get starts count
 
 none_after : (starts : List ℕ) (address count a : ℕ) → IsCountTo starts address count → None ≡ slice_get starts count → Contains starts a → a ≤ address
 none_after starts address count a is none h = elim (cases_lt address a) [

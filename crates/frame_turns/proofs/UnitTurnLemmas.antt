@@ -117,10 +117,13 @@ module _ (s : DebugSectionsRecord) (unit : UnitRecord) (parts : PartsRecord) (li
         ]
 
     turn_from : (from a : ℕ) → a < 2 ^ 64 → Contains froms from → IsFrom parts starts from a → IsTurnBy s a
-    turn_from from a fits h is = (fits, elim is.begins [
-      | inl e ↦ inl (subst (λ (x : ℕ). Contains (boundaries s) x) (sym e) (step_boundary s starts places steps from (Some place) ((given from).0 h)))
-      | inr start ↦ inr (unit, record { place = place; is_unit = unit_from from a fits h is; read = read }, turn_of_start a start)
-    ])
+    turn_from from a fits h is = (
+      fits,
+      elim is.begins [
+        | inl e ↦ inl (subst (λ (x : ℕ). Contains (boundaries s) x) (sym e) (step_boundary s starts places steps from (Some place) ((given from).0 h)))
+        | inr start ↦ inr (unit, record { place = place; is_unit = unit_from from a fits h is; read = read }, turn_of_start a start)
+      ],
+    )
 
     frames_from_here : (a : ℕ) (frames : List FrameRecord) → IsUnitOf s a (Some place) → AreFramesAt parts a frames → AreFramesBy s a frames
     frames_from_here a frames is are =
@@ -136,8 +139,7 @@ module _ (s : DebugSectionsRecord) (unit : UnitRecord) (parts : PartsRecord) (li
         let last = last_step s starts places a place steps turn.0 is in
         let from = get_or starts last.0 0 in
         let none : (t : ℕ) → Contains starts t → from < t → a < t = λ t h above. none_after_last starts a last.0 t steps.rising last.1 h above in
-        let low : from ≤ a = last.1.here in
-        (
+        let low : from ≤ a = last.1.here in (
           from,
           (given from).1 last.2,
           record {

@@ -3,10 +3,8 @@ use Rattle.std.specs.Prelude.{ℕ, List, [], ◌++◌, ◌≡◌, ◌<◌, lengt
 use Rattle.std.specs.List.{All, Contains}
 use Rattle.source_frames.specs.AddressFrames.{AreFramesBy}
 use Rattle.source_frames.specs.DebugSections.{DebugSectionsRecord, debug_sections}
-use Rattle.source_frames.specs.FoundFrames.{frames_under}
 use Rattle.source_frames.specs.Frames.{FrameRecord}
 use Rattle.source_frames.specs.UnitAddresses.{IsUnitOf}
-use Rattle.source_frames.specs.declared.address_frames.AddressFrames.{AddressFrames}
 use Rattle.waiting_indexes.specs.Rising.{AreRising}
 use Rattle.frame_turns.specs.Turns.{IsTurnBy}
 
@@ -18,10 +16,6 @@ pub record TurnRecord : Type 0 where
 -- what has taken some turns has then taken these too
 abbrev pub Takes : (List TurnRecord → Type 0) → (List TurnRecord → Type 0) → List TurnRecord → Type 0
 Takes has_before has_now given = (before : List TurnRecord) → has_before before → has_now (before ++ given)
-
--- an address with the frames that were found for it
-abbrev pub with_frames : AddressFrames → ℕ → TurnRecord
-with_frames found address = record { address = address; frames = frames_under found address }
 
 -- an address without frames
 abbrev pub without_frames : ℕ → TurnRecord

@@ -19,7 +19,8 @@ IsPathNumber tells lines file number = tells number (path_in lines file)
 
 -- each number that is kept is that of the path of its file
 pub record ArePathNumbers (tells : ℕ → Option PathRecord → Type 0) (lines : LinesRecord) (paths : Paths) : Type 0 where
-  pub by_index : (index : ℕ) → IfSome (tree_map.get nat_cmp paths.by_index index) (IsPathNumber tells lines (Some index))
+  pub by_index : (index : ℕ) →
+      IfSome (tree_map.get nat_cmp paths.by_index index) (IsPathNumber tells lines (Some index))
   pub last : IfSome paths.last (λ known. IsPathNumber tells lines (Some known.0) known.1)
 
 -- the numbers of the name of a link, and of the frames of the links that it stands in, at the call that it is
@@ -48,8 +49,8 @@ pub record ArePartsTold (tells_name : ℕ → Option (List ℕ) → Type 0) (tel
     (tells_frames : Option ℕ → List FrameRecord → Type 0) (lines : LinesRecord) (parts : UnitParts) : Type 0 where
   pub paths : ArePathNumbers tells_path lines parts.paths
   pub callers : AreCallersBefore (links_view parts.links.links.items)
-  pub linked : AreLinked tells_name tells_frames lines (links_view parts.links.links.items) (length parts.links.links.items)
-      parts.linked.items
+  pub linked : AreLinked tells_name tells_frames lines (links_view parts.links.links.items)
+      (length parts.links.links.items) parts.linked.items
 
 -- the frame of a row alone, if there is one
 abbrev pub row_frames : LinesRecord → Option Row → List FrameRecord

@@ -86,13 +86,7 @@ pub(crate) fn below(address: Option<u64>, end: Option<u64>) -> Option<u64>
     ensures none { IfNone result (IfSome address (λ a. (e : ℕ) × (end ≡ Some e) × (e ≤ a))) }
 {
     match (address, end) {
-        (Some(a), Some(end)) => {
-            if a < end {
-                Some(a)
-            } else {
-                None
-            }
-        }
+        (Some(a), Some(end)) => { if a < end { Some(a) } else { None } }
         (a, _) => a,
     }
 }

@@ -16,7 +16,9 @@ use memory::NoMemory;
 pub trait FrameTaker<'a> {
     // This is the number of a name, or of none; of a path, or of none; of frames, the innermost first.
     ghost tells_name: { Self → ℕ → Option (List ℕ) → Type 0 };
+
     ghost tells_path: { Self → ℕ → Option PathRecord → Type 0 };
+
     ghost tells_frames: { Self → Option ℕ → List FrameRecord → Type 0 };
 
     // It is as it is once it has taken these, in this order.

@@ -1,5 +1,6 @@
 -- Starts that rows cover, one row after another: the words of inner functions. No contract of a public one has them.
-use Rattle.std.specs.Prelude.{ℕ, List, [], ◌≡◌, ◌≢◌, ◌+◌, ◌<◌, ◌≤◌, length, slice_index, slice_index_or, Option, Some, None}
+use Rattle.std.specs.Prelude.{ℕ, List, ◌≡◌, ◌≢◌, ◌+◌, ◌<◌, ◌≤◌, length, slice_index, slice_index_or}
+use Rattle.std.specs.Prelude.{Option, Some, None}
 use Rattle.line_programs.specs.Inner.{covering_with}
 use Rattle.line_programs.specs.declared.registers.Row.{Row}
 use Rattle.waiting_indexes.specs.Waiting.{Waits}
@@ -15,7 +16,8 @@ pub record Covers (first end : ℕ) (row : Row) (old new : List ℕ) (before aft
   pub only : (i : ℕ) → i < length old → Waits new i → Waits old i
   pub before_first : (i : ℕ) → i < first → slice_index_or after i None ≡ slice_index_or before i None
   pub behind : (i : ℕ) → end ≤ i → slice_index_or after i None ≡ slice_index_or before i None
-  pub done : (i : ℕ) → i < length before → slice_index old i ≢ i → slice_index_or after i None ≡ slice_index_or before i None
+  pub done : (i : ℕ) → i < length before → slice_index old i ≢ i
+      → slice_index_or after i None ≡ slice_index_or before i None
 
 -- each start waits for the first row that covers it, of one before and those that are left, or has the first of all
 pub record AreKnown (starts next : List ℕ) (rows : List (Option Row)) (before : Option Row) (left all : List Row)

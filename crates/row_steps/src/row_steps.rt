@@ -1,6 +1,6 @@
 //! The rows that cover each address, step by step.
 
-ghost use Rattle.std.specs.Prelude.{◌≡◌, ◌<◌, ◌≤◌, ◌+◌, ◌++◌, [], ℕ, IfOk, IfSome, MatchOption, None, OnOk, Option, Some, length, map};
+ghost use Rattle.std.specs.Prelude.{◌≡◌, ◌<◌, ◌≤◌, ◌+◌, ◌++◌, [], IfOk, IfSome, None, OnOk, Option, length, map};
 ghost use Rattle.std.specs.Prelude.{true, false};
 ghost use Rattle.source_frames.specs.AddressFrames.{rows_of};
 ghost use Rattle.source_frames.specs.FrameViews.{lines_view};

@@ -45,8 +45,7 @@ frames-requires g c = λ κs.
     let n = link.caller - 1 in
     let within : n < length all = omega (arith, low, c.if-link-eq0.false) in
     let inside : n < length c.args.links.now.links.items = omega (arith, within, c.requires.within) in
-    let of = numbers_of (g.T.FrameTaker.tells_name c.args.taker.now) (g.T.FrameTaker.tells_frames c.args.taker.now) lines c.args.links.now.links.items (length all) all n c.index-outer.result.now c.requires.linked within c.index-outer.ensures inside in
-    (
+    let of = numbers_of (g.T.FrameTaker.tells_name c.args.taker.now) (g.T.FrameTaker.tells_frames c.args.taker.now) lines c.args.links.now.links.items (length all) all n c.index-outer.result.now c.requires.linked within c.index-outer.ensures inside in (
       (refl, tt),
       (
         (of.0.name, c.number.ensures.names _ _ (c.name.ensures.names _ _ of.2.name)),

@@ -37,8 +37,7 @@ give_all-requires g c = λ κs.
     let parts = parts_of lines c.run.new.self.rows c.in_ok-parts.parts.links in
     let rows_are : rows_of lines ≡ rows_at s c.program_offset.result = rows_of_unit s unit lines c.program_offset.result c.in_ok-lines.ensures.value c.program_offset.ensures in
     let rows_back : rows_at s c.run.new.self.program ≡ rows_of lines = ap (rows_at s) c.in_ok-run.ensures.program ∙ sym rows_are in
-    let row_steps : AreRowSteps (rows_of lines) parts.row_starts parts.rows = subst (λ (rs : List Row). AreRowSteps rs parts.row_starts parts.rows) rows_back (c.in_ok-run.ensures.rows s c.requires.last rows_are) in
-    (
+    let row_steps : AreRowSteps (rows_of lines) parts.row_starts parts.rows = subst (λ (rs : List Row). AreRowSteps rs parts.row_starts parts.rows) rows_back (c.in_ok-run.ensures.rows s c.requires.last rows_are) in (
       (refl, tt),
       (
         subst (λ (xs : List ℕ). AreRising xs) (sym c.deref-2.ensures.value) c.requires.rising,

@@ -27,8 +27,7 @@ loop-unit-init g c =
 pub give_unit-requires : goal.give_unit-requires
 give_unit-requires g c = λ κs.
     let are : AreBoundariesBy c.args.by_unit c.deref-unit-items.result.now = subst (λ (xs : List UnitBoundaries). AreBoundariesBy c.args.by_unit xs) (sym c.deref-unit-items.ensures.value) c.in_ok-all.ensures in
-    let listed = listed_at c.args.by_unit c.deref-unit-items.result.now c.loop-unit.unit-index c.unit-item.result are (omega (arith, c.loop-unit-test.true)) c.unit-item.is in
-    (
+    let listed = listed_at c.args.by_unit c.deref-unit-items.result.now c.loop-unit.unit-index c.unit-item.result are (omega (arith, c.loop-unit-test.true)) c.unit-item.is in (
       (refl, tt),
       (
         c.requires.lines,

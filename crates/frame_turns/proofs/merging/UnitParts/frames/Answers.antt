@@ -45,8 +45,7 @@ returns-clause-is g c =
     let place : ◌≡◌ {A = Place} c.of_row-place.result (place_of_row c.args.row) = c.of_row-place.ensures in
     let frames = frame_at_place lines of.0.name c.of_row-place.result ∷ of.2.outer in
     let are : AreFramesOfLink lines links (place_of_row c.args.row) c.args.number frames = subst (λ (p : Place). AreFramesOfLink lines links p c.args.number frames) place
-    (frames_of_link lines links c.of_row-place.result c.args.number n of.0 of.2.outer some of.1 (c.requires.told.callers n of.0 of.1) of.2.are_outer) in
-    (
+    (frames_of_link lines links c.of_row-place.result c.args.number n of.0 of.2.outer some of.1 (c.requires.told.callers n of.0 of.1) of.2.are_outer) in (
       frames,
       frames_with_link lines links c.args.row c.args.number n frames some are,
       c.in_ok-found.ensures.is of.0.name (path_in lines c.of_row-place.result.file) of.2.outer (c.number.ensures.names _ _ of.2.name) c.in_ok-path.ensures.is (c.number.ensures.frames _ _ of.2.callers),

@@ -41,8 +41,7 @@ loop-from-preserved g c =
 pub give_between-requires : goal.give_between-requires
 give_between-requires g c = λ κs.
     let lines = lines_view c.args.lines.now in
-    let same : ◌≡◌ {A = Links} c.args.self.now.links c.loop-from.self.links = sym c.loop-from.invariant.links in
-    (
+    let same : ◌≡◌ {A = Links} c.args.self.now.links c.loop-from.self.links = sym c.loop-from.invariant.links in (
       (refl, tt),
       (
         below_after c.args.steps.now.starts.items (get_or c.args.boundaries.now c.loop-from.from-index 0) c.after-end.result (c.after-end.ensures c.requires.starts),
