@@ -26,43 +26,12 @@ pushed xs ys rest next all e h = ap (λ (zs : List ℕ). zs ++ rest) e ∙ appen
 pub pushed_all : (xs rest all : List ℕ) → rest ≡ [] → xs ++ rest ≡ all → xs ≡ all
 pushed_all xs rest all none h = sym (append-nil xs) ∙ ap (λ (zs : List ℕ). xs ++ zs) (sym none) ∙ h
 
-pub two : (xs ys zs : List ℕ) (a b : ℕ) → ys ≡ xs ++ a ∷ [] → zs ≡ ys ++ b ∷ [] → zs ≡ xs ++ (a ∷ (b ∷ []))
-two xs ys zs a b e f = f ∙ ap (λ (l : List ℕ). l ++ b ∷ []) e ∙ append_assoc xs (a ∷ []) (b ∷ [])
-
--- the scopes of entries, one after another
-pub scopes_step : (ranges : UnitRangesRecord) (left : ℕ) (p : PlacedRecord) (ps : List PlacedRecord)
-    → scopes_from ranges left (p ∷ ps) ≡ record { depth = p.depth; entry = p.entry; ranges = scope_ranges ranges left p.entry } ∷ scopes_from ranges (left_after_scope ranges left p.entry) ps
-unfolding scopes_from
-scopes_step ranges left p ps = refl
-
-pub scopes_end : (ranges : UnitRangesRecord) (left : ℕ) → scopes_from ranges left [] ≡ []
-unfolding scopes_from
-scopes_end ranges left = refl
-
 -- the units of a section, one after another
 pub units_step : (size : ℕ) (bytes unit rest : List ℕ) → ◌≡◌ {A = Option (List ℕ × List ℕ)} (Some (unit, rest)) (unit_at bytes) → placed_from unit_at size bytes ≡ (size - length bytes, unit) ∷ placed_from unit_at size rest
 units_step size bytes unit rest read = placed_some unit_at unit_shortens size bytes (unit, rest) (sym read)
 
 pub units_end : (size : ℕ) (bytes : List ℕ) → ◌≡◌ {A = Option (List ℕ × List ℕ)} None (unit_at bytes) → placed_from unit_at size bytes ≡ []
 units_end size bytes read = placed_missing unit_at size bytes (sym read)
-
-abbrev pub scope_ends : ScopeRecord → List ℕ
-scope_ends scope = ends_of scope.ranges
-
-pub functions_more : (ranges : UnitRangesRecord) (left next_left : ℕ) (p : PlacedRecord) (entries rest : List PlacedRecord) (turns next all : List ℕ)
-    → entries ≡ p ∷ rest → next_left ≡ left_after_scope ranges left p.entry → next ≡ turns ++ ends_of (scope_ranges ranges left p.entry)
-    → turns ++ flat_map scope_ends (scopes_from ranges left entries) ≡ all → next ++ flat_map scope_ends (scopes_from ranges next_left rest) ≡ all
-functions_more ranges left next_left p entries rest turns next all steps after e before =
-    let here : flat_map scope_ends (scopes_from ranges left entries) ≡ ends_of (scope_ranges ranges left p.entry) ++ flat_map scope_ends (scopes_from ranges (left_after_scope ranges left p.entry) rest) =
-    ap (flat_map scope_ends) (ap (scopes_from ranges left) steps ∙ scopes_step ranges left p rest) in
-    ap (λ (n : ℕ). next ++ flat_map scope_ends (scopes_from ranges n rest)) after
-    ∙ pushed turns (ends_of (scope_ranges ranges left p.entry)) (flat_map scope_ends (scopes_from ranges (left_after_scope ranges left p.entry) rest)) next all e
-    (ap (λ (zs : List ℕ). turns ++ zs) (sym here) ∙ before)
-
-pub functions_all : (ranges : UnitRangesRecord) (left : ℕ) (entries : List PlacedRecord) (turns all : List ℕ) → entries ≡ []
-    → turns ++ flat_map scope_ends (scopes_from ranges left entries) ≡ all → turns ≡ all
-functions_all ranges left entries turns all none before =
-    pushed_all turns (flat_map scope_ends (scopes_from ranges left entries)) all (ap (flat_map scope_ends) (ap (scopes_from ranges left) none ∙ scopes_end ranges left)) before
 
 abbrev pub own_ends : DebugSectionsRecord → ℕ × List ℕ → List ℕ
 own_ends s u = ends_of (own_ranges s u.0 u.1)
@@ -86,11 +55,3 @@ boundaries_are s first second third tuples none all more last =
     last
     ∙ ap (λ (xs : List ℕ). xs ++ flat_map (own_ends s) (placed unit_at s.debug_info))
     (more ∙ ap (λ (xs : List ℕ). xs ++ flat_map ends_of_tuple tuples) none ∙ ap (flat_map ends_of_tuple) all)
-
-pub turns_are : (s : DebugSectionsRecord) (unit : UnitRecord) (lines : LinesRecord) (first second third : List ℕ) → first ≡ [] → lines ≡ lines_of s unit → second ≡ first ++ flat_map scope_ends (scopes_of s unit)
-    → third ≡ second ++ map (λ (row : Row). row.registers.address) (rows_of lines) → third ≡ unit_turns s unit
-unfolding unit_turns
-turns_are s unit lines first second third none same more last =
-    last
-    ∙ ap (λ (xs : List ℕ). xs ++ map (λ (row : Row). row.registers.address) (rows_of lines)) (more ∙ ap (λ (xs : List ℕ). xs ++ flat_map scope_ends (scopes_of s unit)) none)
-    ∙ ap (λ (l : LinesRecord). flat_map scope_ends (scopes_of s unit) ++ map (λ (row : Row). row.registers.address) (rows_of l)) same

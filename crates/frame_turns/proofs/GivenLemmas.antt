@@ -13,13 +13,14 @@ use Rattle.source_frames.specs.DebugUnits.{UnitRecord}
 use Rattle.source_frames.specs.Frames.{FrameRecord}
 use Rattle.source_frames.specs.UnitAddresses.{IsUnitOf, read_unit}
 use Rattle.frame_turns.specs.Given.{Takes, TurnRecord, AreDistinct, AreTurnsBy, AreTurnsIn, AreTurnsWithUnits, HasUnit, IsTurnWithFrames, addresses}
-use Rattle.frame_turns.specs.Turns.{AreAscending, IsTurnBy, IsUnitTurn}
+use Rattle.waiting_indexes.specs.Rising.{AreRising}
+use Rattle.frame_turns.specs.Turns.{IsTurnBy, IsUnitTurn}
 use Rattle.frame_turns.specs.UnitSteps.{AreUnitSteps, IsStep}
 use Rattle.frame_turns.proofs.OwnLemmas.{boundary_step, none_is, own_is, step_boundary, step_unit}
 
 -- ---- numbers that are distinct
 
-pub distinct_by : (xs : List ℕ) → AreAscending xs → AreDistinct xs
+pub distinct_by : (xs : List ℕ) → AreRising xs → AreDistinct xs
 distinct_by xs rising i j d less within same = omega (arith, rising i j d less within, same)
 
 pub distinct_append : (xs ys : List ℕ) → AreDistinct xs → AreDistinct ys → ((a : ℕ) → Contains xs a → Contains ys a → ⊥) → AreDistinct (xs ++ ys)
@@ -76,14 +77,14 @@ addresses_with frames (x ∷ xs) = ap (λ (rest : List ℕ). x ∷ rest) (addres
 pub by_index : (P : ℕ → Type 0) (xs : List ℕ) → ((i : ℕ) → i < length xs → P (get_or xs i 0)) → (a : ℕ) → Contains xs a → P a
 by_index P xs each a (i, within, is) = subst P (get_or_default xs i 0 a within ∙ is) (each i within)
 
-pub turns_in : (s : DebugSectionsRecord) (place : Option ℕ) (frames : ℕ → List FrameRecord) (xs : List ℕ) → AreAscending xs
+pub turns_in : (s : DebugSectionsRecord) (place : Option ℕ) (frames : ℕ → List FrameRecord) (xs : List ℕ) → AreRising xs
     → ((a : ℕ) → Contains xs a ↔ (IsUnitOf s a place × IsTurnBy s a)) → ((a : ℕ) → Contains xs a → AreFramesBy s a (frames a)) → AreTurnsIn s place (map (turn_with frames) xs)
 turns_in s place frames xs rising are found = record {
   each = All-map (λ (t : TurnRecord). IsUnitOf s t.address place × IsTurnWithFrames s t) (turn_with frames) xs
       (All-weaker (Contains xs) (λ (a : ℕ). IsUnitOf s a place × IsTurnWithFrames s (turn_with frames a))
       (λ a h. let is = (are a).0 h in (is.0, (is.1, found a h))) xs (All-contains_itself xs));
   all = λ a unit turn. subst (λ (all : List ℕ). Contains all a) (sym (addresses_with frames xs)) ((are a).1 (unit, turn));
-  rising = subst (λ (all : List ℕ). AreAscending all) (sym (addresses_with frames xs)) rising;
+  rising = subst (λ (all : List ℕ). AreRising all) (sym (addresses_with frames xs)) rising;
 }
 
 -- ---- without a unit that is read
@@ -100,7 +101,7 @@ pub no_frames : (s : DebugSectionsRecord) (a : ℕ) (place : Option ℕ) → opt
 no_frames s a place none is = record { place = place; is_unit = is; are_frames = subst (λ (u : Option UnitRecord). AreFramesIn s u a []) (sym none) refl }
 
 module _ (s : DebugSectionsRecord) (starts : List ℕ) (places : List (Option ℕ)) (steps : AreUnitSteps s starts places) (place : Option ℕ) (own xs : List ℕ)
-    (given : (a : ℕ) → Contains own a ↔ IsStep starts places a place) (rising : AreAscending xs) (fits : (a : ℕ) → Contains xs a → a < 2 ^ 64) (same : (a : ℕ) → Contains xs a ↔ Contains own a)
+    (given : (a : ℕ) → Contains own a ↔ IsStep starts places a place) (rising : AreRising xs) (fits : (a : ℕ) → Contains xs a → a < 2 ^ 64) (same : (a : ℕ) → Contains xs a ↔ Contains own a)
     (none : option_and_then (read_unit s) place ≡ None) (apart : (a : ℕ) → IsUnitOf s a place → IsUnitTurn s a → ⊥) where
   bare : (a : ℕ) → Contains xs a ↔ (IsUnitOf s a place × IsTurnBy s a)
   bare a = (

@@ -1,9 +1,13 @@
-mod AscendingLemmas
 mod ByUnitLemmas
 mod CollectLemmas
 mod FreeLemmas
 mod GivenLemmas
 mod LoopLemmas
+mod MergeLemmas
+mod NumberLemmas
 mod OwnLemmas
+mod ProgramLemmas
+mod StartLemmas
 mod StayLemmas
 mod UnitStepLemmas
+mod UnitTurnLemmas

@@ -1,13 +1,14 @@
 -- The unit of an address is that of the last boundary not above it.
 use Rattle.std.proofs.Common.{◌≡◌, ℕ, zero, suc, ◌+◌, ◌<◌, ◌≤◌, ◌^◌, true, false, nat_lt, nat_le, List, length, get_or, Option, Some, None, refl, sym, ap, subst, ◌∙◌, inl, inr, ◌⊎◌, arith}
-use Rattle.std.specs.List.Sorted.{IsPartitionedBy, IsPartitionPoint}
-use Rattle.std.proofs.lemmas.Bool.{cases_Bool, leb-true, leb-false, ltb-true, ltb-false}
+use Rattle.std.specs.List.{Contains}
+use Rattle.std.proofs.lemmas.Bool.{cases_Bool, cases_lt, leb-true, leb-false, ltb-true, ltb-false}
 use Rattle.std.proofs.lemmas.Bool.Decides.{nat_tests}
 use Rattle.std.proofs.lemmas.List.{get_or_default}
 use Rattle.std.proofs.lemmas.Option.{none-some}
 use Rattle.source_frames.specs.DebugSections.{DebugSectionsRecord}
 use Rattle.source_frames.specs.UnitAddresses.{IsUnitOf}
-use Rattle.frame_turns.specs.Turns.{AreAscending, boundaries}
+use Rattle.waiting_indexes.specs.Rising.{AreRising}
+use Rattle.frame_turns.specs.Turns.{boundaries}
 use Rattle.source_frames.proofs.UnitAddressLemmas.{one_place}
 use Rattle.frame_turns.specs.UnitSteps.{AreUnitSteps, IsStep}
 use Rattle.frame_turns.proofs.FreeLemmas.{IsFree}
@@ -19,31 +20,7 @@ pub record IsLast (starts : List ℕ) (a n : ℕ) : Type 0 where
   pub here : get_or starts n 0 ≤ a
   pub after : (k : ℕ) → n < k → k < length starts → a < get_or starts k 0
 
--- numbers that ascend are parted by an address
-pub parted : (starts : List ℕ) (a : ℕ) → AreAscending starts → IsPartitionedBy (λ t. nat_le t a) starts
-parted starts a rising i j d below within holds = elim (cases_Bool (nat_lt i j)) [
-  | inl less ↦ grind (arith, nat_tests, rising i j d (ltb-true i j less) within, leb-true (get_or starts j d) a holds)
-  | inr not ↦
-      let same : i ≡ j = omega (arith, ltb-false i j not, below) in
-      subst (λ (k : ℕ). nat_le (get_or starts k d) a ≡ true) (sym same) holds
-]
-
-pub last_of_point : (starts : List ℕ) (a n : ℕ) → n + 1 ≤ length starts → IsPartitionPoint (λ t. nat_le t a ≡ true) (λ t. nat_le t a ≡ false) starts (n + 1) → IsLast starts a n
-last_of_point starts a n within point = record {
-  within = omega arith;
-  here = leb-true (get_or starts n 0) a (point.0 n 0 (omega arith) (omega arith));
-  after = λ k above inside. omega (arith, leb-false (get_or starts k 0) a (point.1 k 0 (omega arith) inside));
-}
-
 module _ (s : DebugSectionsRecord) (starts : List ℕ) (places : List (Option ℕ)) (a : ℕ) (steps : AreUnitSteps s starts places) where
-  pub unit_before_first : IsPartitionPoint (λ t. nat_le t a ≡ true) (λ t. nat_le t a ≡ false) starts 0 → IsUnitOf s a None
-  unit_before_first point = unit_none_before s a (record {
-    none = λ t h below.
-        let at = (steps.all t).1 h in
-        let past : a < get_or starts at.0 t = omega (arith, leb-false (get_or starts at.0 t) a (point.1 at.0 t (omega arith) at.1)) in
-        omega (arith, past, at.2, below);
-  })
-
   -- no boundary lies from the last start on up to the address
   free_after : (n : ℕ) → IsLast starts a n → IsFree (get_or starts n 0) a (boundaries s)
   free_after n last = record {
@@ -69,27 +46,6 @@ module _ (s : DebugSectionsRecord) (starts : List ℕ) (places : List (Option �
         let same : get_or starts n 0 ≡ a = omega (arith, ltb-false (get_or starts n 0) a not, last.here) in
         subst (λ (x : ℕ). IsUnitOf s x (get_or places n None)) same (steps.units.each n last.within)
   ]
-
--- so many numbers are not above an address
-abbrev pub IsCount : List ℕ → ℕ → ℕ → Type 0
-IsCount starts a count = IsPartitionPoint (λ t. nat_le t a ≡ true) (λ t. nat_le t a ≡ false) starts count
-
-module _ (s : DebugSectionsRecord) (given starts : List ℕ) (places : List (Option ℕ)) (a count : ℕ) (same : given ≡ starts) (counted : AreAscending given → IsCount given a count) (steps : AreUnitSteps s starts places) where
-  counts : IsCount starts a count
-  counts = subst (λ (xs : List ℕ). IsCount xs a count) same (counted (subst (λ (xs : List ℕ). AreAscending xs) (sym same) steps.rising))
-
-  pub unit_without : count ≡ 0 → IsUnitOf s a None
-  unit_without none = unit_before_first s starts places a steps (subst (λ (n : ℕ). IsCount starts a n) none counts)
-
-  pub unit_with : (n : ℕ) → count ≡ n + 1 → count ≤ length given → a < 2 ^ 64 → IsUnitOf s a (get_or places n None)
-  unit_with n some within fits =
-      unit_at_last s starts places a steps n fits
-      (last_of_point starts a n (omega (arith, ap length same, some, within)) (subst (λ (m : ℕ). IsCount starts a m) some counts))
-
-  pub unit_found : (found : Option ℕ) (n : ℕ) → count ≡ n + 1 → count ≤ length given → a < 2 ^ 64 → found ≡ get_or places n found → IsUnitOf s a found
-  unit_found found n some within fits is =
-      let inside : n < length places = omega (arith, steps.units.len, ap length same, some, within) in
-      subst (λ (o : Option ℕ). IsUnitOf s a o) (get_or_default places n None found inside ∙ sym is) (unit_with n some within fits)
 
 -- among the first so many numbers, one is the last not above an address, or all are above it
 last_below : (starts : List ℕ) (a n : ℕ) → n ≤ length starts → ((k : ℕ) → n ≤ k → k < length starts → a < get_or starts k 0) → ((m : ℕ) × IsLast starts a m) ⊎ ((k : ℕ) → k < length starts → a < get_or starts k 0)
@@ -126,9 +82,25 @@ module _ (s : DebugSectionsRecord) (starts : List ℕ) (places : List (Option �
     | inr above ↦ (None, nowhere above)
   ]
 
--- an address that has a unit has a boundary of it
-pub step_of : (s : DebugSectionsRecord) (starts : List ℕ) (places : List (Option ℕ)) (a place : ℕ) → AreUnitSteps s starts places → a < 2 ^ 64 → IsUnitOf s a (Some place) → (b : ℕ) × IsStep starts places b (Some place)
-step_of s starts places a place steps fits is = elim (last_below starts a (length starts) (omega arith) (λ k from inside. absurd (omega arith))) [
-  | inl last ↦ (get_or starts last.0 0, (last.0, last.1.within, refl, one_place s a (get_or places last.0 None) (Some place) (unit_at_last s starts places a steps last.0 fits last.1) is))
+-- the last boundary not above an address that has a unit is one of this unit
+pub last_step : (s : DebugSectionsRecord) (starts : List ℕ) (places : List (Option ℕ)) (a place : ℕ) → AreUnitSteps s starts places → a < 2 ^ 64 → IsUnitOf s a (Some place)
+    → (n : ℕ) × IsLast starts a n × IsStep starts places (get_or starts n 0) (Some place)
+last_step s starts places a place steps fits is = elim (last_below starts a (length starts) (omega arith) (λ k from inside. absurd (omega arith))) [
+  | inl last ↦ (last.0, last.1, (last.0, last.1.within, refl, one_place s a (get_or places last.0 None) (Some place) (unit_at_last s starts places a steps last.0 fits last.1) is))
   | inr above ↦ absurd (none-some place (one_place s a None (Some place) (nowhere s starts places a steps above) is))
 ]
+
+-- no start lies between it and the address
+pub none_after_last : (starts : List ℕ) (a n t : ℕ) → AreRising starts → IsLast starts a n → Contains starts t → get_or starts n 0 < t → a < t
+none_after_last starts a n t rising last (j, within, is) above =
+    let at : get_or starts j 0 ≡ t = get_or_default starts j 0 t within ∙ is in
+    elim (cases_lt n j) [
+      | inl later ↦ let u = last.after j later within in omega (arith, u, at)
+      | inr not ↦ elim (cases_lt j n) [
+        | inl before ↦ let w = last.within in let r = rising j n 0 before w in absurd (omega (arith, r, at, above))
+        | inr same ↦
+            let e : n ≡ j = omega (arith, not, same) in
+            let here : get_or starts n 0 ≡ t = ap (λ k. get_or starts k 0) e ∙ at in
+            absurd (omega (arith, here, above))
+      ]
+    ]

@@ -7,7 +7,8 @@ use Rattle.source_frames.specs.FoundFrames.{frames_under}
 use Rattle.source_frames.specs.Frames.{FrameRecord}
 use Rattle.source_frames.specs.UnitAddresses.{IsUnitOf}
 use Rattle.source_frames.specs.declared.address_frames.AddressFrames.{AddressFrames}
-use Rattle.frame_turns.specs.Turns.{AreAscending, IsTurnBy}
+use Rattle.waiting_indexes.specs.Rising.{AreRising}
+use Rattle.frame_turns.specs.Turns.{IsTurnBy}
 
 -- an address and its frames
 pub record TurnRecord : Type 0 where
@@ -62,4 +63,4 @@ pub record AreTurnsWithUnits (sections : DebugSectionsRecord) (turns : List Turn
 pub record AreTurnsIn (sections : DebugSectionsRecord) (place : Option ℕ) (turns : List TurnRecord) : Type 0 where
   pub each : All (λ turn. IsUnitOf sections turn.address place × IsTurnWithFrames sections turn) turns
   pub all : (a : ℕ) → IsUnitOf sections a place → IsTurnBy sections a → Contains (addresses turns) a
-  pub rising : AreAscending (addresses turns)
+  pub rising : AreRising (addresses turns)

@@ -5,3 +5,4 @@ pub mod ByUnit
 pub mod Taking
 pub mod UnitNumbers
 pub mod Between
+pub mod ByProgram

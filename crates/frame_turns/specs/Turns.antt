@@ -1,5 +1,5 @@
 -- The addresses at which the frames of an image may change.
-use Rattle.std.specs.Prelude.{ℕ, List, [], ◌∷◌, ◌++◌, ◌+◌, ◌^◌, ◌<◌, nat_lt, length, slice_index_or, map, flat_map}
+use Rattle.std.specs.Prelude.{ℕ, List, [], ◌∷◌, ◌++◌, ◌+◌, ◌^◌, ◌<◌, nat_lt, map, flat_map}
 use Rattle.std.specs.Prelude.{◌⊎◌, if◌then◌else◌}
 use Rattle.std.specs.List.{Contains}
 use Rattle.dwarf_numbers.specs.Sequences.{placed}
@@ -14,10 +14,6 @@ use Rattle.source_frames.specs.FoundFrames.{IsInUnit}
 use Rattle.source_frames.specs.Scopes.{scopes_of}
 use Rattle.source_frames.specs.UnitAddresses.{own_ranges}
 use Rattle.source_frames.specs.UnitLines.{lines_of}
-
--- numbers ascend
-abbrev pub AreAscending : List ℕ → Type 0
-AreAscending all = (i j d : ℕ) → i < j → j < length all → slice_index_or all i d < slice_index_or all j d
 
 -- where a tuple begins, and where it ends, if that is an address
 abbrev pub ends_of_tuple : Arange → List ℕ

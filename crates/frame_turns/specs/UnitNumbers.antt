@@ -1,15 +1,26 @@
--- The numbers that a taker gave to what the links of a unit have: the words of inner functions. No contract of a public
--- one has them.
-use Rattle.std.specs.Prelude.{ℕ, List, ◌≡◌, Option, Some, length, slice_get}
+-- The numbers that a taker gave to the paths and the links of a unit: the words of inner functions. No contract of a
+-- public one has them.
+use Rattle.std.specs.Prelude.{ℕ, List, [], ◌∷◌, ◌≡◌, Option, None, Some, IfSome, length, slice_get}
+use Rattle.std.specs.Ordering.{nat_cmp}
+use Rattle.std.specs.BTreeMap as tree_map
 use Rattle.line_programs.specs.Paths.{PathRecord}
-use Rattle.source_frames.specs.Frames.{FrameRecord, path_in}
-use Rattle.function_links.specs.Links.{AreFramesOfLink, LinkRecord}
+use Rattle.line_programs.specs.declared.registers.Row.{Row}
+use Rattle.source_frames.specs.Frames.{FrameRecord, frame_of_row, path_in}
+use Rattle.function_links.specs.Links.{AreCallersBefore, AreFramesOfLink, LinkRecord}
+use Rattle.function_links.specs.LinkViews.{links_view}
 use Rattle.source_frames.specs.UnitLines.{LinesRecord}
+use Rattle.frame_turns.specs.declared.merging.UnitParts.{UnitParts}
 use Rattle.frame_turns.specs.declared.numbers.Linked.{Linked}
+use Rattle.frame_turns.specs.declared.numbers.Paths.{Paths}
 
 -- the number of the path of a file, by the names of a program
 abbrev pub IsPathNumber : (ℕ → Option PathRecord → Type 0) → LinesRecord → Option ℕ → ℕ → Type 0
 IsPathNumber tells lines file number = tells number (path_in lines file)
+
+-- each number that is kept is that of the path of its file
+pub record ArePathNumbers (tells : ℕ → Option PathRecord → Type 0) (lines : LinesRecord) (paths : Paths) : Type 0 where
+  pub by_index : (index : ℕ) → IfSome (tree_map.get nat_cmp paths.by_index index) (IsPathNumber tells lines (Some index))
+  pub last : IfSome paths.last (λ known. IsPathNumber tells lines (Some known.0) known.1)
 
 -- the numbers of the name of a link, and of the frames of the links that it stands in, at the call that it is
 pub record IsLinked (names : ℕ → Option (List ℕ) → Type 0) (frames : Option ℕ → List FrameRecord → Type 0)
@@ -19,9 +30,28 @@ pub record IsLinked (names : ℕ → Option (List ℕ) → Type 0) (frames : Opt
   pub are_outer : AreFramesOfLink lines links link.call link.caller outer
   pub callers : frames linked.callers outer
 
+-- those of the link of an index
+abbrev pub IsLinkedAt : (ℕ → Option (List ℕ) → Type 0) → (Option ℕ → List FrameRecord → Type 0) → LinesRecord
+    → List LinkRecord → ℕ → Linked → Type 0
+IsLinkedAt names frames lines links index linked =
+    (link : LinkRecord) → slice_get links index ≡ Some link → IsLinked names frames lines links link linked
+
 -- those of so many first links
 pub record AreLinked (names : ℕ → Option (List ℕ) → Type 0) (frames : Option ℕ → List FrameRecord → Type 0)
     (lines : LinesRecord) (links : List LinkRecord) (count : ℕ) (all : List Linked) : Type 0 where
   pub count_is : length all ≡ count
-  pub each : (i : ℕ) (link : LinkRecord) (linked : Linked) → slice_get links i ≡ Some link
-      → slice_get all i ≡ Some linked → IsLinked names frames lines links link linked
+  pub each : (i : ℕ) (linked : Linked) → slice_get all i ≡ Some linked
+      → IsLinkedAt names frames lines links i linked
+
+-- the paths that are kept and the links of a unit have their numbers
+pub record ArePartsTold (tells_name : ℕ → Option (List ℕ) → Type 0) (tells_path : ℕ → Option PathRecord → Type 0)
+    (tells_frames : Option ℕ → List FrameRecord → Type 0) (lines : LinesRecord) (parts : UnitParts) : Type 0 where
+  pub paths : ArePathNumbers tells_path lines parts.paths
+  pub callers : AreCallersBefore (links_view parts.links.links.items)
+  pub linked : AreLinked tells_name tells_frames lines (links_view parts.links.links.items) (length parts.links.links.items)
+      parts.linked.items
+
+-- the frame of a row alone, if there is one
+abbrev pub row_frames : LinesRecord → Option Row → List FrameRecord
+row_frames lines None = []
+row_frames lines (Some row) = frame_of_row lines row ∷ []

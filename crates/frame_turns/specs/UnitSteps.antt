@@ -3,11 +3,12 @@ use Rattle.std.specs.Prelude.{ℕ, List, ◌≡◌, ◌<◌, ◌↔◌, length, 
 use Rattle.std.specs.List.{Contains}
 use Rattle.source_frames.specs.DebugSections.{DebugSectionsRecord}
 use Rattle.source_frames.specs.UnitAddresses.{AreUnitsOf}
-use Rattle.frame_turns.specs.Turns.{AreAscending, boundaries}
+use Rattle.waiting_indexes.specs.Rising.{AreRising}
+use Rattle.frame_turns.specs.Turns.{boundaries}
 
 -- all boundaries, ascending, each with the offset of its unit, or none
 pub record AreUnitSteps (sections : DebugSectionsRecord) (starts : List ℕ) (places : List (Option ℕ)) : Type 0 where
-  pub rising : AreAscending starts
+  pub rising : AreRising starts
   pub all : (a : ℕ) → Contains starts a ↔ Contains (boundaries sections) a
   pub units : AreUnitsOf sections starts places
 

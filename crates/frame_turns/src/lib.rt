@@ -6,26 +6,22 @@
 //! where the ranges of functions begin and end, and at the addresses of rows. So the turns are the boundaries, and of
 //! each unit those of these addresses whose unit it is.
 //!
-//! The modules in reading order: `ascending`, numbers in order; `unit_turns`, the turns of a unit; `unit_boundaries`,
-//! those of units; `unit_steps`, [`UnitSteps`], the unit of each address; `by_unit`, the boundaries under their units;
-//! `taker`, [`FrameTaker`], what takes turns with their frames, told by number; `numbers`, those of the paths and links
-//! of a unit; `merging`, the turns of a unit from one boundary to the next; `unit_by_unit`, [`give_turns`], all turns of
-//! an image; `laws`, that the frames stay the same between two turns.
+//! The modules in reading order: `unit_boundaries`, where the units change; `unit_steps`, the unit of each address;
+//! `by_unit`, the boundaries under their units; `taker`, [`FrameTaker`], what takes turns with their frames, told by
+//! number; `numbers`, those of the paths and links of a unit; `next_start` and `merging`, the turns of a unit from one
+//! boundary to the next; `unit_by_unit`, [`give_turns`], all turns of an image; `laws`, that the frames stay the same
+//! between two turns.
 #![tactic(auto)]
 
-mod ascending;
 mod by_unit;
 pub mod laws;
 mod merging;
+mod next_start;
 mod numbers;
 mod taker;
 mod unit_boundaries;
 mod unit_by_unit;
 mod unit_steps;
-mod unit_turns;
 
 pub use taker::FrameTaker;
-pub use unit_boundaries::boundaries;
 pub use unit_by_unit::give_turns;
-pub use unit_steps::UnitSteps;
-pub use unit_turns::turns_of_unit;

@@ -1,33 +1,28 @@
 //! The turns of a unit, merged from the steps of its rows and of its links.
 
-ghost use Rattle.std.specs.Prelude.{◌∷◌, [], ◌≡◌, ◌≤◌, ◌<◌, ◌↔◌, ℕ, IfOk, IfSome, List, OnOk, Some, length};
+ghost use Rattle.std.specs.Prelude.{◌∷◌, [], ◌≡◌, ◌≤◌, ◌<◌, ◌^◌, ℕ, IfOk, List, OnOk, length};
 ghost use Rattle.std.specs.List.{Contains};
-ghost use Rattle.frame_turns.specs.Between.{AreTurnsBetween};
-ghost use Rattle.frame_turns.specs.Given.{AreTurnsIn, Takes, TurnRecord};
-ghost use Rattle.frame_turns.specs.Turns.{AreAscending};
-ghost use Rattle.frame_turns.specs.UnitNumbers.{AreLinked};
-ghost use Rattle.frame_turns.specs.UnitSteps.{AreUnitSteps, IsStep};
-ghost use Rattle.source_frames.specs.AddressFrames.{rows_of};
-ghost use Rattle.source_frames.specs.DebugSections.{DebugSectionsRecord};
-ghost use Rattle.source_frames.specs.DebugUnits.{UnitRecord};
-ghost use Rattle.source_frames.specs.Frames.{FrameRecord};
-ghost use Rattle.source_frames.specs.FrameViews.{lines_view};
+ghost use Rattle.frame_turns.specs.Between.{AreSteps, AreTurnsBetween, AreTurnsFrom, IsBelow, parts_of};
+ghost use Rattle.frame_turns.specs.Given.{Takes, TurnRecord};
+ghost use Rattle.frame_turns.specs.UnitNumbers.{ArePartsTold};
 ghost use Rattle.function_links.specs.Links.{AreFramesOfRowAndLink, AreLinkSteps};
 ghost use Rattle.function_links.specs.LinkViews.{links_view};
-ghost use Rattle.row_steps.specs.RowSteps.{AreRowSteps};
+ghost use Rattle.source_frames.specs.Frames.{FrameRecord};
+ghost use Rattle.source_frames.specs.FrameViews.{lines_view};
 ghost use Rattle.source_frames.specs.SectionsViews.{sections_view};
-ghost use Rattle.source_frames.specs.UnitAddresses.{read_unit};
-ghost use Rattle.source_frames.specs.UnitLines.{lines_of};
 ghost use Rattle.source_frames.specs.UnitViews.{unit_view};
+ghost use Rattle.waiting_indexes.specs.Rising.{AreRising};
 
-use crate::numbers::{Linked, Paths, frames_of_both, linked};
+use crate::next_start::{below, count_to, next_start, number_of, row_of};
+use crate::numbers::{Linked, Paths, all_linked, frames_of_row};
 use crate::taker::FrameTaker;
 use crate::unit_steps::UnitSteps;
+use function_links::Links;
 use line_programs::Row;
 use memory::{Heap, NoMemory};
-use function_links::Links;
 use row_steps::RowSteps;
-use source_frames::{DebugInfo, DebugUnit, UnitLines};
+use source_frames::{DebugInfo, DebugUnit, Place, UnitLines};
+use waiting_indexes::count_below;
 
 /// What the frames of a unit are made of.
 #[derive(Drop)]
@@ -46,17 +41,16 @@ impl<'a> UnitParts<'a> {
         lines: &UnitLines<'a>,
         taker: &mut T,
     ) -> Result<UnitParts<'a>, NoMemory>
-        requires within { unit.now.header.entries_offset ≤ length unit.now.bytes.now }
+        requires { unit.now.header.entries_offset ≤ length unit.now.bytes.now }
         ensures links { IfOk result (λ parts. AreLinkSteps (sections_view info.now.sections) (unit_view unit.now)
             (links_view parts.links.links.items) parts.links.starts.items parts.links.numbers.items) }
-        ensures linked { IfOk result (λ parts. AreLinked (T.tells_name taker.new) (T.tells_frames taker.new)
-            (lines_view lines.now) (links_view parts.links.links.items) (length parts.links.links.items)
-            parts.linked.items) }
+        ensures told { IfOk result (λ parts. ArePartsTold (T.tells_name taker.new) (T.tells_path taker.new)
+            (T.tells_frames taker.new) (lines_view lines.now) parts) }
         ensures taken { OnOk result (Takes (T.has_taken taker.old) (T.has_taken taker.new) []) }
     {
         let links = Links::read(heap.clone()?, info, unit)?;
         let mut paths = Paths::new(heap.clone()?);
-        let linked = linked(heap, lines, &mut paths, &links.links, taker)?;
+        let linked = all_linked(heap, lines, &mut paths, &links, taker)?;
         Ok(UnitParts {
             paths,
             linked,
@@ -64,7 +58,37 @@ impl<'a> UnitParts<'a> {
         })
     }
 
-    /// Gives an address with its row and its link.
+    /// The number of the frames of a row and of the link of a number.
+    fn frames<T: FrameTaker<'a>>(
+        &mut self,
+        lines: &UnitLines<'a>,
+        taker: &mut T,
+        row: Option<Row>,
+        number: usize,
+    ) -> Result<Option<u32>, NoMemory>
+        requires within { number ≤ length self.old.links.links.items }
+        requires told { ArePartsTold (T.tells_name taker.old) (T.tells_path taker.old) (T.tells_frames taker.old)
+            (lines_view lines.now) self.old }
+        ensures is { IfOk result (λ found. (frames : List FrameRecord)
+            × AreFramesOfRowAndLink (lines_view lines.now) (links_view self.old.links.links.items) row number frames
+            × T.tells_frames taker.new found frames) }
+        ensures links { OnOk result (self.new.links ≡ self.old.links) }
+        ensures told { OnOk result (ArePartsTold (T.tells_name taker.new) (T.tells_path taker.new)
+            (T.tells_frames taker.new) (lines_view lines.now) self.new) }
+        ensures taken { Takes (T.has_taken taker.old) (T.has_taken taker.new) [] }
+    {
+        if number == 0 {
+            let alone = frames_of_row(lines, &mut self.paths, row, taker)?;
+            return Ok(alone);
+        }
+        let place = Place::of_row(row);
+        let path = self.paths.number(lines, taker, place.file)?;
+        let of = self.linked[number - 1];
+        let found = taker.frames(of.name, path, place.line, place.column, of.callers)?;
+        Ok(found)
+    }
+
+    /// Gives an address with the frames of its row and its link.
     fn give<T: FrameTaker<'a>>(
         &mut self,
         lines: &UnitLines<'a>,
@@ -74,26 +98,20 @@ impl<'a> UnitParts<'a> {
         number: usize,
     ) -> Result<(), NoMemory>
         requires within { number ≤ length self.old.links.links.items }
-        requires linked { AreLinked (T.tells_name taker.old) (T.tells_frames taker.old) (lines_view lines.now)
-            (links_view self.old.links.links.items) (length self.old.links.links.items) self.old.linked.items }
+        requires told { ArePartsTold (T.tells_name taker.old) (T.tells_path taker.old) (T.tells_frames taker.old)
+            (lines_view lines.now) self.old }
+        ensures fits { address < 2 ^ 64 }
         ensures given { OnOk result ((frames : List FrameRecord)
             × AreFramesOfRowAndLink (lines_view lines.now) (links_view self.old.links.links.items) row number frames
             × Takes (T.has_taken taker.old) (T.has_taken taker.new)
             (record { address = address; frames = frames } ∷ [])) }
-        ensures links { self.new.links ≡ self.old.links }
-        ensures linked { AreLinked (T.tells_name taker.new) (T.tells_frames taker.new) (lines_view lines.now)
-            (links_view self.new.links.links.items) (length self.new.links.links.items) self.new.linked.items }
+        ensures links { OnOk result (self.new.links ≡ self.old.links) }
+        ensures told { OnOk result (ArePartsTold (T.tells_name taker.new) (T.tells_path taker.new)
+            (T.tells_frames taker.new) (lines_view lines.now) self.new) }
     {
-        let frames = frames_of_both(
-            lines,
-            &mut self.paths,
-            &self.links.links,
-            &self.linked,
-            row,
-            number,
-            taker,
-        )?;
-        taker.take(address, frames)
+        let frames = self.frames(lines, taker, row, number)?;
+        taker.take(address, frames)?;
+        Ok(())
     }
 
     /// Gives the turns from an address on, below another one.
@@ -105,40 +123,26 @@ impl<'a> UnitParts<'a> {
         from: u64,
         end: Option<u64>,
     ) -> Result<(), NoMemory>
-        requires below { IfSome end (λ e. from < e) }
-        requires linked { AreLinked (T.tells_name taker.old) (T.tells_frames taker.old) (lines_view lines.now)
-            (links_view self.old.links.links.items) (length self.old.links.links.items) self.old.linked.items }
-        requires rows { AreRowSteps (rows_of (lines_view lines.now)) rows.now.starts.items rows.now.rows.items }
-        ensures given { OnOk result ((sections : DebugSectionsRecord) (unit : UnitRecord)
-            → lines_view lines.now ≡ lines_of sections unit
-            → AreLinkSteps sections unit (links_view self.old.links.links.items) self.old.links.starts.items
-            self.old.links.numbers.items
-            → (given : List TurnRecord) × Takes (T.has_taken taker.old) (T.has_taken taker.new) given
-            × AreTurnsBetween sections unit from end given) }
-        ensures links { self.new.links ≡ self.old.links }
-        ensures linked { AreLinked (T.tells_name taker.new) (T.tells_frames taker.new) (lines_view lines.now)
-            (links_view self.new.links.links.items) (length self.new.links.links.items) self.new.linked.items }
+        requires below { IsBelow from end }
+        requires steps { AreSteps (parts_of (lines_view lines.now) rows.now self.old.links) }
+        requires told { ArePartsTold (T.tells_name taker.old) (T.tells_path taker.old) (T.tells_frames taker.old)
+            (lines_view lines.now) self.old }
+        ensures given { OnOk result ((given : List TurnRecord)
+            × Takes (T.has_taken taker.old) (T.has_taken taker.new) given
+            × AreTurnsBetween (parts_of (lines_view lines.now) rows.now self.old.links) from end given) }
+        ensures links { OnOk result (self.new.links ≡ self.old.links) }
+        ensures told { OnOk result (ArePartsTold (T.tells_name taker.new) (T.tells_path taker.new)
+            (T.tells_frames taker.new) (lines_view lines.now) self.new) }
     {
-        let mut row = rows.starts.partition_point(|start| *start <= from);
-        let mut link = self.links.starts.partition_point(|start| *start <= from);
+        let mut row = count_below(&rows.starts, from);
+        let mut link = count_below(&self.links.starts, from);
         let mut address = Some(from);
         'turns: while let Some(at) = address {
-            let the_row = if row == 0 { None } else { rows.rows[row - 1] };
-            let the_link = if link == 0 {
-                0
-            } else {
-                self.links.numbers[link - 1]
-            };
-            self.give(lines, taker, at, the_row, the_link)?;
-            let next_row = rows.starts.get(row).copied();
-            let next_link = self.links.starts.get(link).copied();
-            let next = least(next_row, next_link);
-            if next_row.is_some() && next_row == next {
-                row += 1;
-            }
-            if next_link.is_some() && next_link == next {
-                link += 1;
-            }
+            row = count_to(&rows.starts, row, at);
+            link = count_to(&self.links.starts, link, at);
+            let number = number_of(&self.links, link);
+            self.give(lines, taker, at, row_of(rows, row), number)?;
+            let next = next_start(&rows.starts, &self.links.starts, row, link);
             address = below(next, end);
         }
         Ok(())
@@ -153,47 +157,21 @@ impl<'a> UnitParts<'a> {
         boundaries: &[u64],
         taker: &mut T,
     ) -> Result<(), NoMemory>
-        requires rising { AreAscending boundaries.now }
-        requires linked { AreLinked (T.tells_name taker.old) (T.tells_frames taker.old) (lines_view lines.now)
-            (links_view self.old.links.links.items) (length self.old.links.links.items) self.old.linked.items }
-        requires rows { AreRowSteps (rows_of (lines_view lines.now)) rows.now.starts.items rows.now.rows.items }
-        ensures { OnOk result ((sections : DebugSectionsRecord) (unit : UnitRecord) (place : ℕ)
-            → Some unit ≡ read_unit sections place → lines_view lines.now ≡ lines_of sections unit
-            → AreLinkSteps sections unit (links_view self.old.links.links.items) self.old.links.starts.items
-            self.old.links.numbers.items
-            → AreUnitSteps sections steps.now.starts.items steps.now.places.items
-            → ((a : ℕ) → Contains boundaries.now a
-            ↔ IsStep steps.now.starts.items steps.now.places.items a (Some place))
-            → (given : List TurnRecord) × Takes (T.has_taken taker.old) (T.has_taken taker.new) given
-            × AreTurnsIn sections (Some place) given) }
+        requires rising { AreRising boundaries.now }
+        requires starts { AreRising steps.now.starts.items }
+        requires stand { (a : ℕ) → Contains boundaries.now a → Contains steps.now.starts.items a }
+        requires steps { AreSteps (parts_of (lines_view lines.now) rows.now self.old.links) }
+        requires told { ArePartsTold (T.tells_name taker.old) (T.tells_path taker.old) (T.tells_frames taker.old)
+            (lines_view lines.now) self.old }
+        ensures { OnOk result ((given : List TurnRecord)
+            × Takes (T.has_taken taker.old) (T.has_taken taker.new) given
+            × AreTurnsFrom (parts_of (lines_view lines.now) rows.now self.old.links) steps.now.starts.items
+            boundaries.now given) }
     {
         for from in boundaries {
             let end = steps.after(*from);
             self.give_between(lines, rows, taker, *from, end)?;
         }
         Ok(())
-    }
-}
-
-/// The lesser of two addresses, if there is one.
-fn least(a: Option<u64>, b: Option<u64>) -> Option<u64> {
-    match (a, b) {
-        (Some(a), Some(b)) => Some(if a <= b { a } else { b }),
-        (Some(a), None) => Some(a),
-        (None, b) => b,
-    }
-}
-
-/// An address, if it is below another one.
-fn below(address: Option<u64>, end: Option<u64>) -> Option<u64> {
-    match (address, end) {
-        (Some(a), Some(end)) => {
-            if a < end {
-                Some(a)
-            } else {
-                None
-            }
-        }
-        (a, _) => a,
     }
 }

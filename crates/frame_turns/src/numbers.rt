@@ -1,19 +1,20 @@
 //! The numbers that a taker gave to the paths and the links of a unit.
 
-ghost use Rattle.std.specs.Prelude.{◌≡◌, ◌≤◌, ℕ, IfOk, List, length};
+ghost use Rattle.std.specs.Prelude.{[], ◌≡◌, ◌≢◌, ◌<◌, ◌+◌, ℕ, IfOk, OnOk, Some, None, length};
+ghost use Rattle.std.specs.Ordering.{nat_cmp};
+ghost use Rattle.std.specs.BTreeMap as tree_map;
 ghost use Rattle.frame_turns.specs.Given.{Takes};
 ghost use Rattle.frame_turns.specs.Taking.{StillTells};
-ghost use Rattle.frame_turns.specs.UnitNumbers.{AreLinked, IsPathNumber};
-ghost use Rattle.source_frames.specs.Frames.{FrameRecord};
-ghost use Rattle.source_frames.specs.FrameViews.{lines_view};
-ghost use Rattle.function_links.specs.Links.{AreFramesOfRowAndLink};
+ghost use Rattle.frame_turns.specs.UnitNumbers.{AreLinked, ArePathNumbers, IsPathNumber, row_frames};
+ghost use Rattle.function_links.specs.Links.{AreCallersBefore};
 ghost use Rattle.function_links.specs.LinkViews.{links_view};
+ghost use Rattle.source_frames.specs.FrameViews.{lines_view};
 
 use crate::taker::FrameTaker;
+use function_links::{Link, Links};
 use line_programs::Row;
 use memory::{Heap, NoMemory};
-use function_links::Link;
-use source_frames::{Place, UnitLines};
+use source_frames::UnitLines;
 use std::collections::BTreeMap;
 
 /// The numbers of paths under the indexes of their files, and the last one that was asked for.
@@ -25,11 +26,25 @@ pub(crate) struct Paths {
 
 impl Paths {
     /// None.
-    pub fn new(heap: Heap) -> Paths {
+    pub fn new(heap: Heap) -> Paths
+        ensures index { (i : ℕ) → tree_map.get nat_cmp result.by_index i ≡ None }
+        ensures last { result.last ≡ None }
+    {
         Paths {
             by_index: BTreeMap::new(heap),
             last: None,
         }
+    }
+
+    /// Keeps the number of the path of a file.
+    fn keep(&mut self, index: u64, number: u32) -> Result<(), NoMemory>
+        ensures here { OnOk result (tree_map.get nat_cmp self.new.by_index index ≡ Some number) }
+        ensures others { OnOk result ((other : ℕ) → other ≢ index →
+            tree_map.get nat_cmp self.new.by_index other ≡ tree_map.get nat_cmp self.old.by_index other) }
+        ensures last { OnOk result (self.new.last ≡ self.old.last) }
+    {
+        self.by_index.insert(index, number)?;
+        Ok(())
     }
 
     /// The number of the path of a file, which is kept.
@@ -38,12 +53,20 @@ impl Paths {
         lines: &UnitLines<'a>,
         taker: &mut T,
         index: u64,
-    ) -> Result<u32, NoMemory> {
+    ) -> Result<u32, NoMemory>
+        requires { ArePathNumbers (T.tells_path taker.old) (lines_view lines.now) self.old }
+        ensures is { IfOk result (λ number.
+            IsPathNumber (T.tells_path taker.new) (lines_view lines.now) (Some index) number) }
+        ensures kept { OnOk result (ArePathNumbers (T.tells_path taker.new) (lines_view lines.now) self.new) }
+        ensures names { StillTells (T.tells_name taker.old) (T.tells_name taker.new) }
+        ensures frames { StillTells (T.tells_frames taker.old) (T.tells_frames taker.new) }
+        ensures taken { Takes (T.has_taken taker.old) (T.has_taken taker.new) [] }
+    {
         if let Some(number) = self.by_index.get(&index) {
             return Ok(*number);
         }
         let number = taker.path(lines.path_in(Some(index)))?;
-        self.by_index.insert(index, number)?;
+        self.keep(index, number)?;
         Ok(number)
     }
 
@@ -54,10 +77,13 @@ impl Paths {
         taker: &mut T,
         file: Option<u64>,
     ) -> Result<u32, NoMemory>
+        requires { ArePathNumbers (T.tells_path taker.old) (lines_view lines.now) self.old }
         ensures is { IfOk result (λ number.
             IsPathNumber (T.tells_path taker.new) (lines_view lines.now) file number) }
+        ensures kept { OnOk result (ArePathNumbers (T.tells_path taker.new) (lines_view lines.now) self.new) }
         ensures names { StillTells (T.tells_name taker.old) (T.tells_name taker.new) }
         ensures frames { StillTells (T.tells_frames taker.old) (T.tells_frames taker.new) }
+        ensures taken { Takes (T.has_taken taker.old) (T.has_taken taker.new) [] }
     {
         let Some(index) = file else {
             return taker.path(None);
@@ -80,20 +106,31 @@ pub(crate) struct Linked {
     pub callers: Option<u32>,
 }
 
-/// The numbers of a link, those of the links before it being known.
-fn linked_of<'a, T: FrameTaker<'a>>(
+/// Adds the numbers of the next link, those of the links before it being known.
+fn push_linked<'a, T: FrameTaker<'a>>(
     lines: &UnitLines<'a>,
     paths: &mut Paths,
-    all: &[Linked],
-    link: &Link<'a>,
+    links: &Links<'a>,
+    all: &mut Vec<Linked, Heap>,
     taker: &mut T,
-) -> Result<Linked, NoMemory> {
+) -> Result<(), NoMemory>
+    requires within { length all.old.items < length links.now.links.items }
+    requires callers { AreCallersBefore (links_view links.now.links.items) }
+    requires paths { ArePathNumbers (T.tells_path taker.old) (lines_view lines.now) paths.old }
+    requires linked { AreLinked (T.tells_name taker.old) (T.tells_frames taker.old) (lines_view lines.now)
+        (links_view links.now.links.items) (length all.old.items) all.old.items }
+    ensures count { OnOk result (length all.new.items ≡ length all.old.items + 1) }
+    ensures linked { OnOk result (AreLinked (T.tells_name taker.new) (T.tells_frames taker.new) (lines_view lines.now)
+        (links_view links.now.links.items) (length all.new.items) all.new.items) }
+    ensures kept { OnOk result (ArePathNumbers (T.tells_path taker.new) (lines_view lines.now) paths.new) }
+    ensures taken { Takes (T.has_taken taker.old) (T.has_taken taker.new) [] }
+{
+    let link: Link<'a> = links.links[all.len()];
     let name = taker.name(link.name)?;
     if link.caller == 0 {
-        return Ok(Linked {
-            name,
-            callers: taker.no_frames(),
-        });
+        let callers = taker.no_frames();
+        all.push(Linked { name, callers })?;
+        return Ok(());
     }
     let outer = all[link.caller - 1];
     let path = paths.number(lines, taker, link.call.file)?;
@@ -104,55 +141,53 @@ fn linked_of<'a, T: FrameTaker<'a>>(
         link.call.column,
         outer.callers,
     )?;
-    Ok(Linked { name, callers })
+    all.push(Linked { name, callers })?;
+    Ok(())
 }
 
 /// The numbers of all links of a unit.
-pub(crate) fn linked<'a, T: FrameTaker<'a>>(
+pub(crate) fn all_linked<'a, T: FrameTaker<'a>>(
     heap: Heap,
     lines: &UnitLines<'a>,
     paths: &mut Paths,
-    links: &[Link<'a>],
+    links: &Links<'a>,
     taker: &mut T,
 ) -> Result<Vec<Linked, Heap>, NoMemory>
+    requires callers { AreCallersBefore (links_view links.now.links.items) }
+    requires paths { ArePathNumbers (T.tells_path taker.old) (lines_view lines.now) paths.old }
     ensures is { IfOk result (λ all. AreLinked (T.tells_name taker.new) (T.tells_frames taker.new)
-        (lines_view lines.now) (links_view links.now) (length links.now) all.items) }
+        (lines_view lines.now) (links_view links.now.links.items) (length links.now.links.items) all.items) }
+    ensures kept { OnOk result (ArePathNumbers (T.tells_path taker.new) (lines_view lines.now) paths.new) }
+    ensures taken { OnOk result (Takes (T.has_taken taker.old) (T.has_taken taker.new) []) }
 {
     let mut all: Vec<Linked, Heap> = Vec::new(heap);
-    for link in links {
-        let next = linked_of(lines, paths, &all, link, taker)?;
-        all.push(next)?;
+    'links: while all.len() < links.links.len() {
+        push_linked(lines, paths, links, &mut all, taker)?;
     }
     Ok(all)
 }
 
-/// The number of the frames of a row and of the link of a number.
-pub(crate) fn frames_of_both<'a, T: FrameTaker<'a>>(
+/// The number of the frames of a row alone.
+pub(crate) fn frames_of_row<'a, T: FrameTaker<'a>>(
     lines: &UnitLines<'a>,
     paths: &mut Paths,
-    links: &[Link<'a>],
-    linked: &[Linked],
     row: Option<Row>,
-    number: usize,
     taker: &mut T,
 ) -> Result<Option<u32>, NoMemory>
-    requires within { number ≤ length links.now }
-    requires linked { AreLinked (T.tells_name taker.old) (T.tells_frames taker.old) (lines_view lines.now)
-        (links_view links.now) (length links.now) linked.now }
-    ensures is { IfOk result (λ found. (frames : List FrameRecord)
-        × AreFramesOfRowAndLink (lines_view lines.now) (links_view links.now) row number frames
-        × T.tells_frames taker.new found frames) }
+    requires { ArePathNumbers (T.tells_path taker.old) (lines_view lines.now) paths.old }
+    ensures is { IfOk result (λ found. T.tells_frames taker.new found (row_frames (lines_view lines.now) row)) }
+    ensures kept { OnOk result (ArePathNumbers (T.tells_path taker.new) (lines_view lines.now) paths.new) }
+    ensures names { StillTells (T.tells_name taker.old) (T.tells_name taker.new) }
+    ensures frames { StillTells (T.tells_frames taker.old) (T.tells_frames taker.new) }
+    ensures taken { Takes (T.has_taken taker.old) (T.has_taken taker.new) [] }
 {
-    if number == 0 && row.is_none() {
+    let Some(row) = row else {
         return Ok(taker.no_frames());
-    }
-    let place = Place::of_row(row);
-    let path = paths.number(lines, taker, place.file)?;
-    if number == 0 {
-        let none = taker.name(None)?;
-        let callers = taker.no_frames();
-        return taker.frames(none, path, place.line, place.column, callers);
-    }
-    let of = linked[number - 1];
-    taker.frames(of.name, path, place.line, place.column, of.callers)
+    };
+    let place = row.registers;
+    let path = paths.number(lines, taker, Some(place.file))?;
+    let none = taker.name(None)?;
+    let callers = taker.no_frames();
+    let alone = taker.frames(none, path, place.line, place.column, callers)?;
+    Ok(alone)
 }

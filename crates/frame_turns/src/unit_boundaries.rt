@@ -7,17 +7,28 @@ ghost use Rattle.std.specs.BTreeSet as tree_set;
 ghost use Rattle.code_ranges.specs.Aranges.{is_named};
 ghost use Rattle.dwarf_numbers.specs.Sequences.{placed};
 ghost use Rattle.dwarf_numbers.specs.Units.{unit_at};
-ghost use Rattle.frame_turns.specs.Turns.{AreAscending, boundaries, ends_of, ends_of_tuple};
+ghost use Rattle.frame_turns.specs.Turns.{boundaries, ends_of, ends_of_tuple};
+ghost use Rattle.waiting_indexes.specs.Rising.{AreRising};
 ghost use Rattle.source_frames.specs.SectionsViews.{sections_view};
 ghost use Rattle.source_frames.specs.UnitAddresses.{own_ranges};
 
-use crate::ascending::ascending;
-use crate::unit_turns::push_ranges;
 use code_ranges::{Arange, Aranges, Ranges, named_units};
 use dwarf_numbers::split_unit;
 use memory::{Heap, NoMemory};
 use source_frames::{DebugInfo, DebugUnit};
 use std::collections::BTreeSet;
+use waiting_indexes::sorted_once;
+
+/// Adds where ranges begin and end.
+fn push_ranges(starts: &mut Vec<u64, Heap>, ranges: Ranges<'_>) -> Result<(), NoMemory>
+    ensures { OnOk result (starts.new.items ≡ starts.old.items ++ ends_of ranges.entry) }
+{
+    for range in ranges {
+        starts.push(range.low)?;
+        starts.push(range.high)?;
+    }
+    Ok(())
+}
 
 /// Adds where a tuple begins, and where it ends, if that is an address.
 fn push_tuple(starts: &mut Vec<u64, Heap>, tuple: &Arange) -> Result<(), NoMemory>
@@ -85,8 +96,8 @@ fn push_units(
 
 /// The boundaries of units, ascending, each once. It takes the time of `__debug_aranges`, of the first entries of the
 /// units and of sorting them, and the memory of them.
-pub fn boundaries(heap: Heap, info: &DebugInfo<'_>) -> Result<Vec<u64, Heap>, NoMemory>
-    ensures rising { IfOk result (λ starts. AreAscending starts.items) }
+pub(crate) fn boundaries(heap: Heap, info: &DebugInfo<'_>) -> Result<Vec<u64, Heap>, NoMemory>
+    ensures rising { IfOk result (λ starts. AreRising starts.items) }
     ensures same { IfOk result (λ starts. (a : ℕ) → Contains starts.items a
         ↔ Contains (boundaries (sections_view info.now.sections)) a) }
 {
@@ -94,5 +105,5 @@ pub fn boundaries(heap: Heap, info: &DebugInfo<'_>) -> Result<Vec<u64, Heap>, No
     push_tuples(&mut starts, Aranges::of(info.sections.debug_aranges))?;
     let named = named_units(heap, info.sections.debug_aranges)?;
     push_units(&mut starts, info, &named)?;
-    Ok(ascending(starts))
+    Ok(sorted_once(starts))
 }

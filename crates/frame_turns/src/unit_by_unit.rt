@@ -1,18 +1,18 @@
 //! The frames at the turns of an image, unit by unit.
 
-ghost use Rattle.std.specs.Prelude.{◌≡◌, ◌↔◌, ◌<◌, ℕ, All, IfOk, IfSome, List, OnOk, Some, map};
+ghost use Rattle.std.specs.Prelude.{◌≡◌, ◌↔◌, ◌<◌, ◌^◌, ℕ, IfOk, IfSome, List, OnOk, Some, map};
 ghost use Rattle.std.specs.List.{Contains};
 ghost use Rattle.std.specs.BTreeMap as tree_map;
-ghost use Rattle.frame_turns.specs.Between.{rows_at};
+ghost use Rattle.frame_turns.specs.ByProgram.{AreBoundariesBy, AreRowsOfLast, rows_at};
 ghost use Rattle.frame_turns.specs.ByUnit.{addresses_under};
 ghost use Rattle.frame_turns.specs.Given.{AreTurnsIn, AreTurnsOf, AreTurnsWithUnits, Takes, TurnRecord, without_frames};
 ghost use Rattle.frame_turns.specs.UnitSteps.{AreUnitSteps, IsStep};
 ghost use Rattle.source_frames.specs.FrameViews.{lines_view};
 ghost use Rattle.source_frames.specs.AddressFrames.{rows_of};
-ghost use Rattle.row_steps.specs.RowSteps.{AreRowSteps};
+ghost use Rattle.source_frames.specs.DebugSections.{DebugSectionsRecord};
+ghost use Rattle.waiting_indexes.specs.Rising.{AreRising};
 ghost use Rattle.source_frames.specs.SectionsViews.{sections_view};
 
-use crate::ascending::ascending;
 use crate::by_unit::{ByUnit, by_unit, take_unit};
 use crate::merging::UnitParts;
 use crate::taker::FrameTaker;
@@ -22,6 +22,7 @@ use macho_image::Image;
 use memory::{Heap, NoMemory};
 use row_steps::RowSteps;
 use source_frames::{DebugInfo, UnitLines};
+use waiting_indexes::sorted_once;
 
 /// A unit: where its program stands, its offset, and its boundaries.
 #[derive(Drop)]
@@ -40,7 +41,8 @@ struct LastRows {
 
 /// Gives addresses without frames.
 fn give_without<'a, T: FrameTaker<'a>>(taker: &mut T, addresses: &[u64]) -> Result<(), NoMemory>
-    ensures { OnOk result (Takes (T.has_taken taker.old) (T.has_taken taker.new)
+    ensures fits { OnOk result ((a : ℕ) → Contains addresses.now a → a < 2 ^ 64) }
+    ensures given { OnOk result (Takes (T.has_taken taker.old) (T.has_taken taker.new)
         (map (λ a. without_frames a) addresses.now)) }
 {
     let none = taker.no_frames();
@@ -51,7 +53,7 @@ fn give_without<'a, T: FrameTaker<'a>>(taker: &mut T, addresses: &[u64]) -> Resu
 }
 
 impl LastRows {
-    /// Those of the program at an offset, which a unit has.
+    /// Runs the program at an offset, which a unit has, unless it was the last one.
     fn run(
         &mut self,
         heap: Heap,
@@ -59,6 +61,9 @@ impl LastRows {
         program: Option<u64>,
     ) -> Result<(), NoMemory>
         requires { IfSome lines.now.program (λ p. 0 < p.header.line_range) }
+        ensures program { OnOk result (self.new.program ≡ program) }
+        ensures rows { OnOk result ((sections : DebugSectionsRecord) → AreRowsOfLast sections self.old
+            → rows_of (lines_view lines.now) ≡ rows_at sections program → AreRowsOfLast sections self.new) }
     {
         if self.program.is_some() && self.program == program {
             return Ok(());
@@ -81,23 +86,24 @@ fn give_unit<'a, T: FrameTaker<'a>>(
 ) -> Result<(), NoMemory>
     requires lines { line_units.now ≡ info.now.sections.debug_line.now }
     requires steps { AreUnitSteps (sections_view info.now.sections) steps.now.starts.items steps.now.places.items }
+    requires rising { AreRising of.now.boundaries.items }
     requires boundaries { (a : ℕ) → Contains of.now.boundaries.items a
         ↔ IsStep steps.now.starts.items steps.now.places.items a (Some of.now.place) }
-    requires last { AreRowSteps (rows_at (sections_view info.now.sections) last.old.program) last.old.rows.starts.items
-        last.old.rows.rows.items }
+    requires last { AreRowsOfLast (sections_view info.now.sections) last.old }
     ensures given { OnOk result ((given : List TurnRecord)
         × Takes (T.has_taken taker.old) (T.has_taken taker.new) given
         × AreTurnsIn (sections_view info.now.sections) (Some of.now.place) given) }
-    ensures last { OnOk result (AreRowSteps (rows_at (sections_view info.now.sections) last.new.program)
-        last.new.rows.starts.items last.new.rows.rows.items) }
+    ensures last { OnOk result (AreRowsOfLast (sections_view info.now.sections) last.new) }
 {
     let Some(unit) = info.unit_at(of.place) else {
-        return give_without(taker, &of.boundaries);
+        give_without(taker, &of.boundaries)?;
+        return Ok(());
     };
     let lines = UnitLines::read(heap.clone()?, &info.sections, line_units, &unit)?;
     last.run(heap.clone()?, &lines, unit.program_offset())?;
     let mut parts = UnitParts::read(heap, info, &unit, &lines, taker)?;
-    parts.give_all(&lines, &last.rows, steps, &of.boundaries, taker)
+    parts.give_all(&lines, &last.rows, steps, &of.boundaries, taker)?;
+    Ok(())
 }
 
 /// The offset of the program of the unit at an offset; units without one come last.
@@ -108,18 +114,20 @@ fn program_at(info: &DebugInfo<'_>, place: u64) -> u64 {
     }
 }
 
-/// The units, in the order of their programs, each with its boundaries, which ascend.
+/// The units, in the order of their programs, each with its boundaries.
 fn by_program(
     heap: Heap,
     info: &DebugInfo<'_>,
     mut by_unit: ByUnit,
-) -> Result<Vec<UnitBoundaries, Heap>, NoMemory> {
+) -> Result<Vec<UnitBoundaries, Heap>, NoMemory>
+    ensures { IfOk result (λ all. AreBoundariesBy by_unit all.items) }
+{
     let mut all = Vec::new(heap);
     'units: while let Some((place, list)) = take_unit(&mut by_unit) {
         all.push(UnitBoundaries {
             program: program_at(info, place),
             place,
-            boundaries: ascending(list.addresses),
+            boundaries: sorted_once(list.addresses),
         })?;
     }
     all.sort_unstable_by_key(|unit| unit.program);
@@ -179,7 +187,7 @@ pub fn give_turns<'a, T: FrameTaker<'a>>(
     let line_units = Units::read(heap.clone()?, info.sections.debug_line)?;
     let steps = UnitSteps::read(heap.clone()?, &info)?;
     let (without, by_unit) = by_unit(heap.clone()?, &steps)?;
-    let without = ascending(without);
+    let without = sorted_once(without);
     give_without(taker, &without)?;
     give_units(heap, &info, &line_units, &steps, by_unit, taker)?;
     Ok(())

@@ -3,6 +3,7 @@ use Rattle.std.proofs.Common.{◌≡◌, ◌≢◌, ℕ, zero, suc, ◌+◌, ◌
 use Rattle.std.specs.Prelude.{◌↔◌}
 use Rattle.std.specs.List.{Contains}
 use Rattle.std.proofs.lemmas.Bool.{cases_Bool, cases_eq, cases_lt, ltb-true, ltb-false}
+use Rattle.std.proofs.lemmas.Bool.Decides.{nat_tests}
 use Rattle.std.proofs.lemmas.Grind.{get_or_default_zero}
 use Rattle.std.proofs.lemmas.Option.{none-some, same_Some, slice_get-get_or}
 use Rattle.line_programs.specs.Covering.{CoversAt, IsCovering}
@@ -13,7 +14,13 @@ use Rattle.row_steps.specs.RowCover.{AreKnown, Covers}
 use Rattle.waiting_indexes.specs.Rising.{IsCountBelow}
 use Rattle.row_steps.specs.RowSteps.{AreRowSteps}
 use Rattle.waiting_indexes.specs.Rising.{AreRising}
-use Rattle.line_programs.proofs.CoveringLemmas.{IsCovered, covering_with-is, step_end, step_none, step_some, test_false, test_true}
+use Rattle.line_programs.proofs.CoveringLemmas.{IsCovered, covering_with-is, step_end, step_none, step_some}
+
+test_true : (a : ℕ) (last row : Row) → covers a last row ≡ true → IsCovered a last row
+test_true a last row h = record { inside = grind (arith, nat_tests); above = grind (arith, nat_tests); below = grind (arith, nat_tests) }
+
+test_false : (a : ℕ) (last row : Row) → covers a last row ≡ false → IsCovered a last row → ⊥
+test_false a last row h k = let x = k.inside in let y = k.above in let z = k.below in grind (arith, nat_tests)
 
 covered_none : (a : ℕ) (last row : Row) → (IsCovered a last row → ⊥) → covered a (Some last) row ≡ None
 covered_none a last row not = elim (cases_Bool (covers a last row)) [

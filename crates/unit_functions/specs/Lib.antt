@@ -1,1 +1,2 @@
+pub mod OpenFunctions
 pub mod UnitFunctions

@@ -1,5 +1,5 @@
--- The functions of a unit that have ranges: the words of inner functions. No contract of a public one has them.
-use Rattle.std.specs.Prelude.{ℕ, zero, suc, Bool, true, false, List, [], ◌∷◌, ◌≡◌, ◌+◌, ◌<◌, length, flat_map, take, nat_le}
+-- The functions of a unit that have ranges.
+use Rattle.std.specs.Prelude.{ℕ, zero, suc, Bool, false, List, [], ◌∷◌, ◌≡◌, ◌+◌, length, flat_map, take, nat_le}
 use Rattle.std.specs.Prelude.{slice_get, if◌then◌else◌, Option, Some, None}
 use Rattle.std.specs.Option.{option_map}
 use Rattle.code_ranges.specs.Lists.{in_ranges}

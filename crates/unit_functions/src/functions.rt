@@ -2,11 +2,13 @@
 
 ghost use Rattle.std.specs.Prelude.{◌≡◌, ◌≤◌, ◌++◌, IfOk, OnOk, length, true};
 ghost use Rattle.code_ranges.specs.UnitViews.{unit_view as ranges_view};
-ghost use Rattle.debug_entries.specs.EntryViews.{unread_view};
-ghost use Rattle.source_frames.specs.Scopes.{left_after_scope};
+ghost use Rattle.debug_entries.specs.EntryViews.{entry_view, unread_view};
+ghost use Rattle.source_frames.specs.ChainSteps.{scope_of};
+ghost use Rattle.source_frames.specs.Scopes.{left_after_scope, scope_ranges};
 ghost use Rattle.source_frames.specs.SectionsViews.{sections_view};
-ghost use Rattle.unit_functions.specs.UnitFunctions.{AreFunctions};
 ghost use Rattle.source_frames.specs.UnitViews.{unit_view};
+ghost use Rattle.unit_functions.specs.OpenFunctions.{Adds, AreAmong, Closes, Takes};
+ghost use Rattle.unit_functions.specs.UnitFunctions.{AreFunctions};
 
 use code_ranges::{CodeRange, Ranges, UnitRanges};
 use debug_entries::{Entries, Entry, UnreadEntry};
@@ -28,7 +30,7 @@ pub struct Function<'a> {
 
 /// A function in which further ones may stand: its depth and its index.
 #[derive(Clone, Copy)]
-pub struct Open {
+pub(crate) struct Open {
     pub depth: usize,
     pub index: usize,
 }
@@ -52,14 +54,19 @@ fn push_ranges(all: &mut Vec<CodeRange, Heap>, ranges: Ranges<'_>) -> Result<(),
 
 impl<'a> Functions<'a> {
     /// Closes the functions in which an entry of a depth does not stand.
-    fn close(&mut self, open: &mut Vec<Open, Heap>, depth: usize) {
+    fn close(&mut self, opened: &mut Vec<Open, Heap>, depth: usize)
+        requires { AreAmong (length self.old.functions.items) opened.old.items }
+        ensures ranges { self.new.ranges ≡ self.old.ranges }
+        ensures closed { Closes depth opened.old.items opened.new.items
+            self.old.functions.items self.new.functions.items }
+    {
         let count = self.functions.len();
-        let mut left = open.len();
-        'open: while left > 0 && open[left - 1].depth >= depth {
-            self.functions[open[left - 1].index].end = count;
+        let mut left = opened.len();
+        'opened: while left > 0 && opened[left - 1].depth >= depth {
+            self.functions[opened[left - 1].index].end = count;
             left -= 1;
         }
-        open.truncate(left);
+        opened.truncate(left);
     }
 
     /// Adds an entry that is of a function, if it has ranges.
@@ -67,11 +74,17 @@ impl<'a> Functions<'a> {
         &mut self,
         info: &DebugInfo<'a>,
         unit: &DebugUnit<'a>,
-        open: &mut Vec<Open, Heap>,
+        opened: &mut Vec<Open, Heap>,
         depth: usize,
         entry: Entry<'a>,
         ranges: Ranges<'a>,
-    ) -> Result<(), NoMemory> {
+    ) -> Result<(), NoMemory>
+        ensures ranges { OnOk result (self.new.ranges.items ≡ self.old.ranges.items ++ ranges.entry) }
+        ensures added { OnOk result (Adds (sections_view info.now.sections) (unit_view unit.now)
+            (record { depth = depth; entry = entry_view entry.entry; ranges = ranges.entry })
+            (length self.new.ranges.items) opened.old.items opened.new.items
+            self.old.functions.items self.new.functions.items) }
+    {
         let before = self.ranges.len();
         push_ranges(&mut self.ranges, ranges)?;
         if self.ranges.len() == before {
@@ -86,7 +99,7 @@ impl<'a> Functions<'a> {
             end: index + 1,
             ranges_end: self.ranges.len(),
         })?;
-        open.push(Open { depth, index })?;
+        opened.push(Open { depth, index })?;
         Ok(())
     }
 
@@ -98,20 +111,27 @@ impl<'a> Functions<'a> {
         unit: &DebugUnit<'a>,
         ranges: &UnitRanges<'a>,
         left: &mut u128,
-        open: &mut Vec<Open, Heap>,
+        opened: &mut Vec<Open, Heap>,
         depth: usize,
         entry: &UnreadEntry<'_, 'a>,
     ) -> Result<(), NoMemory>
-        ensures { OnOk result (left.new
+        requires { AreAmong (length self.old.functions.items) opened.old.items }
+        ensures left { OnOk result (left.new
             ≡ left_after_scope (ranges_view ranges.now) left.old (unread_view entry.now)) }
+        ensures ranges { OnOk result (self.new.ranges.items ≡ self.old.ranges.items
+            ++ scope_ranges (ranges_view ranges.now) left.old (unread_view entry.now)) }
+        ensures taken { OnOk result (Takes (sections_view info.now.sections) (unit_view unit.now)
+            (scope_of (ranges_view ranges.now) left.old depth (unread_view entry.now))
+            (length self.new.ranges.items) opened.old.items opened.new.items
+            self.old.functions.items self.new.functions.items) }
     {
-        self.close(open, depth);
+        self.close(opened, depth);
         if !is_function(entry) {
             return Ok(());
         }
         let entry = entry.read();
         let own = scope_ranges(ranges, &entry, left);
-        self.push_entry(info, unit, open, depth, entry, own)
+        self.push_entry(info, unit, opened, depth, entry, own)
     }
 
     /// The functions of a unit. It takes the time of the unit, which is read once, and of their names, and the memory
@@ -131,19 +151,19 @@ impl<'a> Functions<'a> {
             functions: Vec::new(heap.clone()?),
             ranges: Vec::new(heap.clone()?),
         };
-        let mut open = Vec::new(heap);
+        let mut opened = Vec::new(heap);
         for placed in Entries::of(&info.abbreviations, unit.header, unit.bytes) {
             all.take(
                 info,
                 unit,
                 &ranges,
                 &mut left,
-                &mut open,
+                &mut opened,
                 placed.depth,
                 &placed.entry,
             )?;
         }
-        all.close(&mut open, 0);
+        all.close(&mut opened, 0);
         Ok(all)
     }
 }

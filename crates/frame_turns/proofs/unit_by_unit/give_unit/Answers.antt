@@ -1,53 +1,75 @@
-use Rattle.std.proofs.Common.{[], ℕ, List, Some, get_or, map, subst, sym}
+use Rattle.std.proofs.Common.{◌≡◌, ◌∙◌, [], ℕ, List, Some, ap, map, refl, subst, sym}
 use Rattle.std.specs.List.{Contains}
-use Rattle.std.proofs.lemmas.List.Elements.{Contains-get_or}
-use Rattle.source_frames.specs.AddressFrames.{AreFramesBy}
-use Rattle.source_frames.specs.FoundFrames.{frames_under}
+use Rattle.line_programs.specs.declared.registers.Row.{Row}
+use Rattle.row_steps.specs.RowSteps.{AreRowSteps}
+use Rattle.source_frames.specs.AddressFrames.{rows_of}
+use Rattle.source_frames.specs.FrameViews.{lines_view}
 use Rattle.source_frames.specs.Frames.{FrameRecord}
 use Rattle.source_frames.specs.SectionsViews.{sections_view}
+use Rattle.source_frames.specs.UnitViews.{unit_view}
+use Rattle.waiting_indexes.specs.Rising.{AreRising}
+use Rattle.frame_turns.specs.Between.{AreTurnsFrom, parts_of}
+use Rattle.frame_turns.specs.ByProgram.{rows_at}
 use Rattle.frame_turns.specs.Given.{Takes}
-use Rattle.frame_turns.proofs.GivenLemmas.{bare_turns, by_index, none_read, turn_with, turns_in}
+use Rattle.frame_turns.proofs.GivenLemmas.{bare_turns, none_read, takes_more, turn_with}
+use Rattle.frame_turns.proofs.OwnLemmas.{step_boundary}
+use Rattle.frame_turns.proofs.ProgramLemmas.{rows_of_unit}
+use Rattle.frame_turns.proofs.UnitTurnLemmas.{are_steps, turns_in_unit}
 use Rattle.frame_turns.proofs.unit_by_unit.give_unit.Goals as goal
 
-pub own_turns-requires : goal.own_turns-requires
-own_turns-requires g c = record {
-  within = c.in-Some.ensures.within;
-  range = c.in_ok-lines.ensures.range;
-  lines_are = c.in_ok-lines.ensures.value;
-  read = c.in-Some.ensures.value;
-  steps = c.requires.steps;
-  boundaries = c.requires.boundaries;
-}
-
-pub frames_in_unit-requires : goal.frames_in_unit-requires
-frames_in_unit-requires g c = record {
-  within = c.in-Some.ensures.within;
-  range = c.in_ok-lines.ensures.range;
-  lines_are = c.in_ok-lines.ensures.value;
-  unit_is = λ i h.
-      let a = get_or c.deref-2.result.now i 0 in
-      let stands : Contains c.in_ok-turns.turns.items a = subst (λ (xs : List ℕ). Contains xs a) c.deref-2.ensures.value (Contains-get_or c.deref-2.result.now i 0 h) in
-      record { place = c.args.place; is_unit = ((c.in_ok-turns.ensures.each a).0 stands).0; read = c.in-Some.ensures.value };
-}
-
-pub returns : goal.returns
-returns g c =
-    let s = sections_view c.args.info.now.sections in
-    let frames : ℕ → List FrameRecord = λ a. frames_under c.in_ok-frames.frames a in
-    let turns : List ℕ = c.in_ok-turns.turns.items in (
-      map (turn_with frames) turns,
-      subst (λ (xs : List ℕ). Takes (g.T.FrameTaker.has_taken c.args.taker.now) (g.T.FrameTaker.has_taken c.give_frames.new.taker) (map (turn_with frames) xs)) c.deref-3.ensures.value c.in_ok-give_frames.ensures,
-      turns_in s (Some c.args.place) frames turns c.in_ok-turns.ensures.rising c.in_ok-turns.ensures.each
-          (λ a h. by_index (λ (x : ℕ). AreFramesBy s x (frames x)) c.deref-2.result.now c.in_ok-frames.ensures a (subst (λ (xs : List ℕ). Contains xs a) (sym c.deref-2.ensures.value) h)),
-    )
-
-pub returns-in_default : goal.returns-in_default
-returns-in_default g c =
+pub returns-in_default-clause-given : goal.returns-in_default-clause-given
+returns-in_default-clause-given g c =
     let s = sections_view c.args.info.now.sections in
     let none : ℕ → List FrameRecord = λ a. [] in
-    let turns : List ℕ = c.ascending-turns.result.items in (
+    let turns : List ℕ = c.args.of.now.boundaries.items in (
       map (turn_with none) turns,
-      subst (λ (xs : List ℕ). Takes (g.T.FrameTaker.has_taken c.args.taker.now) (g.T.FrameTaker.has_taken c.give_without.new.taker) (map (turn_with none) xs)) c.deref.ensures.value c.in_ok-give_without.ensures,
-      bare_turns s c.args.steps.now.starts.items c.args.steps.now.places.items c.requires.steps (Some c.args.place) c.args.boundaries.items turns c.requires.boundaries
-          c.ascending-turns.ensures.rising c.ascending-turns.ensures.fits c.ascending-turns.ensures.same (sym c.in_default.ensures.value) (λ a is turn. none_read s a c.args.place c.in_default.ensures.value is turn),
+      subst (λ (xs : List ℕ). Takes (g.T.FrameTaker.has_taken c.args.taker.now) (g.T.FrameTaker.has_taken c.give_without.new.taker) (map (turn_with none) xs)) c.deref.ensures.value c.in_ok-give_without.ensures.given,
+      bare_turns s c.args.steps.now.starts.items c.args.steps.now.places.items c.requires.steps (Some c.args.of.now.place) turns turns c.requires.boundaries
+          c.requires.rising (λ a h. c.in_ok-give_without.ensures.fits a (subst (λ (xs : List ℕ). Contains xs a) (sym c.deref.ensures.value) h)) (λ a. (λ h. h, λ h. h)) (sym c.in_default.ensures.value) (λ a is turn. none_read s a c.args.of.now.place c.in_default.ensures.value is turn),
+    )
+
+pub give_all-requires : goal.give_all-requires
+give_all-requires g c = λ κs.
+    let s = sections_view c.args.info.now.sections in
+    let unit = unit_view c.in-Some.unit in
+    let lines = lines_view c.in_ok-lines.lines in
+    let steps = c.requires.steps in
+    let parts = parts_of lines c.run.new.self.rows c.in_ok-parts.parts.links in
+    let rows_are : rows_of lines ≡ rows_at s c.program_offset.result = rows_of_unit s unit lines c.program_offset.result c.in_ok-lines.ensures.value c.program_offset.ensures in
+    let rows_back : rows_at s c.run.new.self.program ≡ rows_of lines = ap (rows_at s) c.in_ok-run.ensures.program ∙ sym rows_are in
+    let row_steps : AreRowSteps (rows_of lines) parts.row_starts parts.rows = subst (λ (rs : List Row). AreRowSteps rs parts.row_starts parts.rows) rows_back (c.in_ok-run.ensures.rows s c.requires.last rows_are) in
+    (
+      (refl, tt),
+      (
+        subst (λ (xs : List ℕ). AreRising xs) (sym c.deref-2.ensures.value) c.requires.rising,
+        (
+          steps.rising,
+          (
+            λ a h. (steps.all a).1 (step_boundary s c.args.steps.now.starts.items c.args.steps.now.places.items steps a (Some c.args.of.now.place) ((c.requires.boundaries a).0 (subst (λ (xs : List ℕ). Contains xs a) c.deref-2.ensures.value h))),
+            (are_steps s unit parts c.in_ok-lines.ensures.value row_steps c.in_ok-parts.ensures.links, c.in_ok-parts.ensures.told),
+          ),
+        ),
+      ),
+    )
+
+pub returns-clause-last : goal.returns-clause-last
+returns-clause-last g c =
+    let s = sections_view c.args.info.now.sections in
+    c.in_ok-run.ensures.rows s c.requires.last (rows_of_unit s (unit_view c.in-Some.unit) (lines_view c.in_ok-lines.lines) c.program_offset.result c.in_ok-lines.ensures.value c.program_offset.ensures)
+
+pub returns-clause-given : goal.returns-clause-given
+returns-clause-given g c =
+    let s = sections_view c.args.info.now.sections in
+    let unit = unit_view c.in-Some.unit in
+    let lines = lines_view c.in_ok-lines.lines in
+    let starts = c.args.steps.now.starts.items in
+    let parts = parts_of lines c.run.new.self.rows c.in_ok-parts.parts.links in
+    let rows_are : rows_of lines ≡ rows_at s c.program_offset.result = rows_of_unit s unit lines c.program_offset.result c.in_ok-lines.ensures.value c.program_offset.ensures in
+    let rows_back : rows_at s c.run.new.self.program ≡ rows_of lines = ap (rows_at s) c.in_ok-run.ensures.program ∙ sym rows_are in
+    let row_steps : AreRowSteps (rows_of lines) parts.row_starts parts.rows = subst (λ (rs : List Row). AreRowSteps rs parts.row_starts parts.rows) rows_back (c.in_ok-run.ensures.rows s c.requires.last rows_are) in
+    let given = c.in_ok-give_all.ensures in
+    let are : AreTurnsFrom parts starts c.args.of.now.boundaries.items given.0 = subst (λ (xs : List ℕ). AreTurnsFrom parts starts xs given.0) c.deref-2.ensures.value given.2 in (
+      given.0,
+      takes_more (g.T.FrameTaker.has_taken c.args.taker.now) (g.T.FrameTaker.has_taken c.read-2.new.taker) (g.T.FrameTaker.has_taken c.give_all.new.taker) [] given.0 c.in_ok-parts.ensures.taken given.1,
+      turns_in_unit s unit parts c.in_ok-lines.ensures.value row_steps c.in_ok-parts.ensures.links c.args.of.now.place c.in-Some.ensures.value starts c.args.steps.now.places.items c.requires.steps c.args.of.now.boundaries.items c.requires.boundaries given.0 are,
     )

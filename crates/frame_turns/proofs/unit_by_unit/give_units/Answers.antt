@@ -1,39 +1,74 @@
-use Rattle.std.proofs.Common.{◌++◌, [], List, ℕ, Some, refl, subst}
+use Rattle.std.proofs.Common.{◌≡◌, ◌<◌, ◌∙◌, ◌++◌, [], ℕ, List, Some, ap, arith, get_or, length, refl, subst, sym}
 use Rattle.std.specs.Prelude.{◌↔◌}
-use Rattle.std.specs.List.{Contains}
+use Rattle.std.specs.List.{All, Contains}
+use Rattle.std.proofs.lemmas.List.{get_or-map, length-map}
+use Rattle.std.proofs.lemmas.List.Elements.{All-get_or}
+use Rattle.line_programs.specs.declared.registers.Row.{Row}
+use Rattle.row_steps.specs.RowSteps.{AreRowSteps}
 use Rattle.source_frames.specs.SectionsViews.{sections_view}
+use Rattle.waiting_indexes.specs.Rising.{AreRising}
+use Rattle.frame_turns.specs.ByProgram.{AreBoundariesBy, places}
+use Rattle.frame_turns.specs.ByUnit.{addresses_under}
 use Rattle.frame_turns.specs.UnitSteps.{IsStep}
+use Rattle.frame_turns.specs.declared.unit_by_unit.UnitBoundaries.{UnitBoundaries}
 use Rattle.frame_turns.proofs.GivenLemmas.{takes_more, takes_none}
-use Rattle.frame_turns.proofs.LoopLemmas.{far_end, far_more, far_start, left_is}
+use Rattle.frame_turns.proofs.LoopLemmas.{far_end, far_more, far_start}
+use Rattle.frame_turns.proofs.ProgramLemmas.{listed_at, no_rows_at, place_at}
 use Rattle.frame_turns.proofs.unit_by_unit.give_units.Goals as goal
 
-pub units-init : goal.units-init
-units-init g c = ([], takes_none (g.T.FrameTaker.has_taken c.args.taker.now), far_start (sections_view c.args.info.now.sections) c.args.by_unit)
+pub loop-unit-init : goal.loop-unit-init
+loop-unit-init g c =
+    let s = sections_view c.args.info.now.sections in
+    record {
+      last = subst (λ (rs : List Row). AreRowSteps rs c.in_ok-none.field-0.starts.items c.in_ok-none.field-0.rows.items) (sym (no_rows_at s)) c.in_ok-none.ensures;
+      given = ([], takes_none (g.T.FrameTaker.has_taken c.args.taker.now), far_start s (places c.deref-unit-items.result.now));
+    }
 
 pub give_unit-requires : goal.give_unit-requires
-give_unit-requires g c =
-    let starts = c.args.steps.now.starts.items in
-    let places = c.args.steps.now.places.items in
-    let place = c.in-Some.place in
-    let is = left_is (sections_view c.args.info.now.sections) c.args.by_unit c.units.by_unit c.units.invariant.0 place c.in-Some.list c.units.invariant.2 c.in-Some.ensures.taken in
-    let boundaries : (a : ℕ) → Contains c.in-Some.list.addresses.items a ↔ IsStep starts places a (Some place) = λ a.
-    subst (λ (xs : List ℕ). Contains xs a ↔ IsStep starts places a (Some place)) is (c.requires.boundaries place a) in
-    λ k. ((refl, tt), (c.requires.lines, (c.requires.steps, boundaries)))
-
-pub units-preserved : goal.units-preserved
-units-preserved g c =
-    let given = c.units.invariant.0 in
-    let new = c.in_ok-give_unit.ensures.0 in (
-      given ++ new,
-      takes_more (g.T.FrameTaker.has_taken c.args.taker.now) (g.T.FrameTaker.has_taken c.units.taker) (g.T.FrameTaker.has_taken c.give_unit.new.taker) given new c.units.invariant.1 c.in_ok-give_unit.ensures.1,
-      far_more (sections_view c.args.info.now.sections) c.args.by_unit c.units.by_unit c.take_unit.new.by_unit given new c.in-Some.place c.in-Some.list c.units.invariant.2
-          c.in-Some.ensures.taken c.in-Some.ensures.gone c.in-Some.ensures.others c.in_ok-give_unit.ensures.2,
+give_unit-requires g c = λ κs.
+    let are : AreBoundariesBy c.args.by_unit c.deref-unit-items.result.now = subst (λ (xs : List UnitBoundaries). AreBoundariesBy c.args.by_unit xs) (sym c.deref-unit-items.ensures.value) c.in_ok-all.ensures in
+    let listed = listed_at c.args.by_unit c.deref-unit-items.result.now c.loop-unit.unit-index c.unit-item.result are (omega (arith, c.loop-unit-test.true)) c.unit-item.is in
+    (
+      (refl, tt),
+      (
+        c.requires.lines,
+        (
+          c.requires.steps,
+          (
+            listed.0,
+            (
+              λ a. (λ h. (c.requires.boundaries c.unit-item.result.place a).0 ((listed.1 a).0 h), λ h. (listed.1 a).1 ((c.requires.boundaries c.unit-item.result.place a).1 h)),
+              c.loop-unit.invariant.last,
+            ),
+          ),
+        ),
+      ),
     )
 
+pub loop-unit-preserved : goal.loop-unit-preserved
+loop-unit-preserved g c =
+    let s = sections_view c.args.info.now.sections in
+    let all = c.deref-unit-items.result.now in
+    let are : AreBoundariesBy c.args.by_unit all = subst (λ (xs : List UnitBoundaries). AreBoundariesBy c.args.by_unit xs) (sym c.deref-unit-items.ensures.value) c.in_ok-all.ensures in
+    let within : c.loop-unit.unit-index < length all = omega (arith, c.loop-unit-test.true) in
+    let n : length (places all) ≡ length all = length-map all (λ u. u.place) in
+    let given = c.in_ok-give_unit.ensures.given in
+    record {
+      last = c.in_ok-give_unit.ensures.last;
+      given = (
+        c.loop-unit.invariant.given.0 ++ given.0,
+        takes_more (g.T.FrameTaker.has_taken c.args.taker.now) (g.T.FrameTaker.has_taken c.loop-unit.taker) (g.T.FrameTaker.has_taken c.give_unit.new.taker) c.loop-unit.invariant.given.0 given.0 c.loop-unit.invariant.given.1 given.1,
+        far_more s (places all) c.loop-unit.unit-index c.unit-item.result.place c.loop-unit.invariant.given.0 given.0 (omega (arith, n, within)) (place_at all c.loop-unit.unit-index c.unit-item.result within c.unit-item.is) are.once c.loop-unit.invariant.given.2 given.2,
+      );
+    }
+
 pub returns : goal.returns
-returns g c = (
-  c.units.invariant.0,
-  c.units.invariant.1,
-  far_end (sections_view c.args.info.now.sections) c.args.steps.now.starts.items c.args.steps.now.places.items c.args.by_unit c.units.by_unit c.units.invariant.0 c.requires.steps c.requires.boundaries
-      c.in_default.ensures.none c.units.invariant.2,
-)
+returns g c =
+    let s = sections_view c.args.info.now.sections in
+    let all = c.deref-unit-items.result.now in
+    let are : AreBoundariesBy c.args.by_unit all = subst (λ (xs : List UnitBoundaries). AreBoundariesBy c.args.by_unit xs) (sym c.deref-unit-items.ensures.value) c.in_ok-all.ensures in
+    let n : length (places all) ≡ length all = length-map all (λ u. u.place) in (
+      c.loop-unit.invariant.given.0,
+      c.loop-unit.invariant.given.1,
+      far_end s c.args.steps.now.starts.items c.args.steps.now.places.items c.args.by_unit all c.loop-unit.unit-index c.loop-unit.invariant.given.0 c.requires.steps c.requires.boundaries are (omega (arith, n, c.loop-unit-test.false)) c.loop-unit.invariant.given.2,
+    )

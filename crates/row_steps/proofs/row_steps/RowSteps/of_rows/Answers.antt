@@ -21,12 +21,12 @@ cover_all-requires-clause-known c =
 
 pub returns : goal.returns
 returns c =
-    let same : ◌≡◌ {A = List ℕ} c.cover_all.new.self.starts.items c.rising-starts.result.items = λ i. (c.cover_all.ensures.starts i).items in
+    let same : ◌≡◌ {A = List ℕ} c.cover_all.new.self.starts.items c.sorted_once-starts.result.items = λ i. (c.cover_all.ensures.starts i).items in
     let known = c.cover_all.ensures.known in
     let pushed : ◌≡◌ {A = List ℕ} c.push_addresses.new.starts.items (map (λ (row : Row). row.registers.address) c.args.rows) =
     c.in_ok-push_addresses.ensures ∙ ap (λ (xs : List ℕ). xs ++ map (λ (row : Row). row.registers.address) c.args.rows) c.new-starts.ensures.items in
     are_row_steps c.args.rows c.cover_all.new.self.starts.items c.cover_all.new.waiting.next.items c.cover_all.new.self.rows.items known.0
-    (subst (λ (s : List ℕ). AreRising s) (sym same) c.rising-starts.ensures.rising)
+    (subst (λ (s : List ℕ). AreRising s) (sym same) c.sorted_once-starts.ensures.rising)
     (λ a. subst (λ (s : List ℕ). Contains s a ↔ Contains (map (λ (row : Row). row.registers.address) c.args.rows) a) (sym same)
-    (subst (λ (xs : List ℕ). Contains c.rising-starts.result.items a ↔ Contains xs a) pushed (c.rising-starts.ensures.same a)))
+    (subst (λ (xs : List ℕ). Contains c.sorted_once-starts.result.items a ↔ Contains xs a) pushed (c.sorted_once-starts.ensures.same a)))
     (subst (λ (r : List Row). AreKnown c.cover_all.new.self.starts.items c.cover_all.new.waiting.next.items c.cover_all.new.self.rows.items known.0 [] r) c.requires known.1)

@@ -1,0 +1,148 @@
+-- The numbers that a taker gave to paths and links.
+use Rattle.std.proofs.Common.{◌≡◌, ◌≢◌, ℕ, zero, suc, ◌+◌, ◌-◌, ◌<◌, ◌≤◌, List, [], ◌∷◌, ◌++◌, length, get_or, slice_get, Option, Some, None, refl, sym, ap, subst, ◌∙◌, inl, inr, arith, add-one}
+use Rattle.std.specs.Prelude.{IfSome}
+use Rattle.std.specs.Option.{option_map}
+use Rattle.std.specs.Ordering.{nat_cmp}
+use Rattle.std.specs.BTreeMap as tree_map
+use Rattle.std.proofs.lemmas.Bool.{cases_eq, cases_lt}
+use Rattle.std.proofs.lemmas.Option.{IfSome_then, get_or_from_slice_get, none-some, same_Some, slice_get-get_or, slice_get-map, slice_get_read, slice_get_within}
+use Rattle.std.proofs.lemmas.List.{get_or_append_left, get_or-append_right, length-map, length_push}
+use Rattle.function_links.specs.Links.{AreCallersBefore, AreFramesOfLink, AreFramesOfRowAndLink, LinkRecord, frame_at_place, link_at}
+use Rattle.function_links.specs.LinkViews.{link_view, links_view}
+use Rattle.function_links.specs.declared.links.Link.{Link}
+use Rattle.line_programs.specs.Paths.{PathRecord}
+use Rattle.line_programs.specs.declared.registers.Row.{Row}
+use Rattle.source_frames.specs.Frames.{FrameRecord, path_in, place_of_row}
+use Rattle.source_frames.specs.UnitLines.{LinesRecord}
+use Rattle.source_frames.specs.declared.frame.Place.{Place}
+use Rattle.frame_turns.specs.Given.{Takes, TurnRecord}
+use Rattle.frame_turns.specs.Taking.{StillTells}
+use Rattle.frame_turns.specs.UnitNumbers.{AreLinked, ArePartsTold, ArePathNumbers, IsLinked, IsLinkedAt, IsPathNumber, row_frames}
+use Rattle.frame_turns.specs.declared.merging.UnitParts.{UnitParts}
+use Rattle.frame_turns.specs.declared.numbers.Linked.{Linked}
+use Rattle.frame_turns.specs.declared.numbers.Paths.{Paths}
+use Rattle.frame_turns.proofs.GivenLemmas.{takes_more}
+
+pub takes_nothing : (P Q R : List TurnRecord → Type 0) → Takes P Q [] → Takes Q R [] → Takes P R []
+takes_nothing P Q R first then = takes_more P Q R [] [] first then
+
+-- ---- what is told still
+
+pub still_more : {N A : Type 0} (P Q R : N → A → Type 0) → StillTells P Q → StillTells Q R → StillTells P R
+still_more P Q R first then number told h = then number told (first number told h)
+
+pub paths_still : (P Q : ℕ → Option PathRecord → Type 0) (lines : LinesRecord) (paths : Paths) → StillTells P Q → ArePathNumbers P lines paths → ArePathNumbers Q lines paths
+paths_still P Q lines paths still are =
+    record {
+      by_index = λ i. IfSome_then (tree_map.get nat_cmp paths.by_index i) (are.by_index i) (λ n h. still n (path_in lines (Some i)) h);
+      last = IfSome_then paths.last are.last (λ k h. still k.1 (path_in lines (Some k.0)) h);
+    }
+
+module _ (P P' : ℕ → Option (List ℕ) → Type 0) (F F' : Option ℕ → List FrameRecord → Type 0) (names : StillTells P P') (frames : StillTells F F') (lines : LinesRecord) (links : List LinkRecord) where
+  pub is_linked_still : (link : LinkRecord) (linked : Linked) → IsLinked P F lines links link linked → IsLinked P' F' lines links link linked
+  is_linked_still link linked is =
+      record { name = names linked.name link.name is.name; outer = is.outer; are_outer = is.are_outer; callers = frames linked.callers is.outer is.callers }
+
+  pub linked_still : (count : ℕ) (all : List Linked) → AreLinked P F lines links count all → AreLinked P' F' lines links count all
+  linked_still count all are = record { count_is = are.count_is; each = λ i linked at link l. is_linked_still link linked (are.each i linked at link l) }
+
+-- ---- paths
+
+pub no_paths : (P : ℕ → Option PathRecord → Type 0) (lines : LinesRecord) (paths : Paths) → ((i : ℕ) → tree_map.get nat_cmp paths.by_index i ≡ None) → paths.last ≡ None → ArePathNumbers P lines paths
+no_paths P lines paths none last =
+    record {
+      by_index = λ i. subst (λ (o : Option ℕ). IfSome o (IsPathNumber P lines (Some i))) (sym (none i)) tt;
+      last = subst (λ (o : Option (ℕ × ℕ)). IfSome o (λ k. IsPathNumber P lines (Some k.0) k.1)) (sym last) tt;
+    }
+
+pub paths_kept : (P : ℕ → Option PathRecord → Type 0) (lines : LinesRecord) (old new : Paths) (index number : ℕ) → ArePathNumbers P lines old → tree_map.get nat_cmp new.by_index index ≡ Some number
+    → ((other : ℕ) → other ≢ index → tree_map.get nat_cmp new.by_index other ≡ tree_map.get nat_cmp old.by_index other) → new.last ≡ old.last → P number (path_in lines (Some index)) → ArePathNumbers P lines new
+paths_kept P lines old new index number are here others last told =
+    record {
+      by_index = λ i. elim (cases_eq i index) [
+        | inl e ↦
+            subst (λ (n : ℕ). IfSome (tree_map.get nat_cmp new.by_index n) (IsPathNumber P lines (Some n))) (sym e)
+            (subst (λ (o : Option ℕ). IfSome o (IsPathNumber P lines (Some index))) (sym here) told)
+        | inr not ↦ subst (λ (o : Option ℕ). IfSome o (IsPathNumber P lines (Some i))) (sym (others i not)) (are.by_index i)
+      ];
+      last = subst (λ (o : Option (ℕ × ℕ)). IfSome o (λ k. IsPathNumber P lines (Some k.0) k.1)) (sym last) are.last;
+    }
+
+pub path_found : (P : ℕ → Option PathRecord → Type 0) (lines : LinesRecord) (paths : Paths) (index number : ℕ) → ArePathNumbers P lines paths → tree_map.get nat_cmp paths.by_index index ≡ Some number → P number (path_in lines (Some index))
+path_found P lines paths index number are here = subst (λ (o : Option ℕ). IfSome o (IsPathNumber P lines (Some index))) here (are.by_index index)
+
+-- ---- links
+
+pub link_there : (links : List Link) (i : ℕ) (link : Link) → i < length links → link ≡ get_or links i link → slice_get (links_view links) i ≡ Some (link_view link)
+link_there links i link within here = slice_get-map link_view links i ∙ ap (option_map link_view) (slice_get_read links (length links) i link refl within here)
+
+pub linked_at : (P : ℕ → Option (List ℕ) → Type 0) (F : Option ℕ → List FrameRecord → Type 0) (lines : LinesRecord) (links : List LinkRecord) (i : ℕ) (link : LinkRecord) (linked : Linked) → slice_get links i ≡ Some link
+    → IsLinked P F lines links link linked → IsLinkedAt P F lines links i linked
+linked_at P F lines links i link linked there is other at = subst (λ (l : LinkRecord). IsLinked P F lines links l linked) (same_Some link other (sym there ∙ at)) is
+
+-- the link of an index, and its numbers
+link_of : (links : List LinkRecord) (i : ℕ) → i < length links → (link : LinkRecord) × (slice_get links i ≡ Some link)
+link_of [] i within = absurd (omega (arith, within))
+link_of (link ∷ links) zero within = (link, refl)
+link_of (link ∷ links) (suc i) within = link_of links i (omega (arith, within))
+
+pub numbers_of : (P : ℕ → Option (List ℕ) → Type 0) (F : Option ℕ → List FrameRecord → Type 0) (lines : LinesRecord) (links : List Link) (count : ℕ) (all : List Linked) (i : ℕ) (linked : Linked)
+    → AreLinked P F lines (links_view links) count all → i < length all → linked ≡ get_or all i linked → i < length links
+    → (link : LinkRecord) × (slice_get (links_view links) i ≡ Some link) × IsLinked P F lines (links_view links) link linked
+numbers_of P F lines links count all i linked are within here inside =
+    let n : length (links_view links) ≡ length links = length-map links link_view in
+    let there = link_of (links_view links) i (omega (arith, inside, n)) in
+    (there.0, there.1, are.each i linked (slice_get_read all (length all) i linked refl within here) there.0 there.1)
+
+pub parts_still : (P P' : ℕ → Option (List ℕ) → Type 0) (Q Q' : ℕ → Option PathRecord → Type 0) (F F' : Option ℕ → List FrameRecord → Type 0) (lines : LinesRecord) (parts : UnitParts) → StillTells P P' → StillTells Q Q' → StillTells F F'
+    → ArePartsTold P Q F lines parts → ArePartsTold P' Q' F' lines parts
+parts_still P P' Q Q' F F' lines parts names paths frames told =
+    record {
+      paths = paths_still Q Q' lines parts.paths paths told.paths;
+      callers = told.callers;
+      linked = linked_still P P' F F' names frames lines (links_view parts.links.links.items) (length parts.links.links.items) parts.linked.items told.linked;
+    }
+
+pub no_callers : (lines : LinesRecord) (links : List LinkRecord) (place : Place) (caller : ℕ) → caller ≡ 0 → AreFramesOfLink lines links place caller []
+no_callers lines links place caller none = none
+
+-- the frames of a link with those of the links that it stands in
+pub frames_of_link : (lines : LinesRecord) (links : List LinkRecord) (place : Place) (number n : ℕ) (link : LinkRecord) (outer : List FrameRecord) → number ≡ suc n → slice_get links n ≡ Some link → link.caller ≤ n
+    → AreFramesOfLink lines links link.call link.caller outer → AreFramesOfLink lines links place number (frame_at_place lines link.name place ∷ outer)
+frames_of_link lines links place number n link outer is at before are =
+    subst (λ (m : ℕ). AreFramesOfLink lines links place m (frame_at_place lines link.name place ∷ outer)) (sym is) (link, at, omega (arith, before), refl, are)
+
+pub frames_with_link : (lines : LinesRecord) (links : List LinkRecord) (row : Option Row) (number n : ℕ) (frames : List FrameRecord) → number ≡ suc n → AreFramesOfLink lines links (place_of_row row) number frames
+    → AreFramesOfRowAndLink lines links row number frames
+frames_with_link lines links None number n frames is are =
+    subst (λ (m : ℕ). AreFramesOfRowAndLink lines links None m frames) (sym is) (subst (λ (m : ℕ). AreFramesOfLink lines links (place_of_row None) m frames) is are)
+frames_with_link lines links (Some row) number n frames is are =
+    subst (λ (m : ℕ). AreFramesOfRowAndLink lines links (Some row) m frames) (sym is) (subst (λ (m : ℕ). AreFramesOfLink lines links (place_of_row (Some row)) m frames) is are)
+
+pub frames_of_row_alone : (lines : LinesRecord) (links : List LinkRecord) (row : Option Row) (number : ℕ) → number ≡ 0 → AreFramesOfRowAndLink lines links row number (row_frames lines row)
+frames_of_row_alone lines links None number none = subst (λ (m : ℕ). AreFramesOfRowAndLink lines links None m []) (sym none) refl
+frames_of_row_alone lines links (Some row) number none = subst (λ (m : ℕ). AreFramesOfRowAndLink lines links (Some row) m (row_frames lines (Some row))) (sym none) refl
+
+-- one after another
+module _ (P : ℕ → Option (List ℕ) → Type 0) (F : Option ℕ → List FrameRecord → Type 0) (lines : LinesRecord) (links : List LinkRecord) where
+  pub none_linked : (all : List Linked) → all ≡ [] → AreLinked P F lines links (length all) all
+  none_linked all none = subst (λ (xs : List Linked). AreLinked P F lines links (length xs) xs) (sym none) (record { count_is = refl; each = λ i linked at. absurd (none-some linked at) })
+
+  pub linked_more : (all : List Linked) (next : Linked) → AreLinked P F lines links (length all) all → IsLinkedAt P F lines links (length all) next → AreLinked P F lines links (length (all ++ next ∷ [])) (all ++ next ∷ [])
+  linked_more all next are is =
+      record {
+        count_is = refl;
+        each = λ i linked at.
+            let within : i < length all + 1 = let w = slice_get_within (all ++ next ∷ []) i linked at in omega (arith, w, length_push all next) in
+            elim (cases_lt i (length all)) [
+              | inl before ↦ are.each i linked (slice_get-get_or all i linked before ∙ ap Some (sym (get_or_append_left all (next ∷ []) linked i before) ∙ value i linked at))
+              | inr not ↦
+                  let e : i ≡ length all = omega (arith, within, not) in
+                  let first : i - length all ≡ 0 = omega (arith, e) in
+                  let same : next ≡ linked = sym (ap (λ n. get_or (next ∷ []) n linked) first) ∙ (sym (get_or-append_right all (next ∷ []) (length all) i linked refl not) ∙ value i linked at) in
+                  subst (λ (n : ℕ). IsLinkedAt P F lines links n linked) (sym e) (subst (λ (x : Linked). IsLinkedAt P F lines links (length all) x) same is)
+            ];
+      }
+    where
+      value : (i : ℕ) (linked : Linked) → slice_get (all ++ next ∷ []) i ≡ Some linked → get_or (all ++ next ∷ []) i linked ≡ linked
+      value i linked at = get_or_from_slice_get (all ++ next ∷ []) i linked linked at

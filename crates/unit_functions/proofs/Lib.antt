@@ -1,0 +1,4 @@
+pub mod ClosingLemmas
+pub mod AddingLemmas
+pub mod OpenLemmas
+pub mod ReadToLemmas

@@ -1,0 +1,12 @@
+use Rattle.std.proofs.Common.{◌≡◌}
+use Rattle.unit_functions.proofs.ClosingLemmas.{AreClosedFrom}
+use Rattle.unit_functions.proofs.functions.Functions.close.Given as goal
+
+abbrev pub invariant-opened : goal.invariant-opened
+invariant-opened l = record {
+  ranges : l.self.ranges ≡ l.fn.self.ranges;
+  so_far : AreClosedFrom l.depth l.left l.opened.items l.fn.self.functions.items l.self.functions.items;
+}
+
+abbrev pub decreases-opened : goal.decreases-opened
+decreases-opened l = l.left
