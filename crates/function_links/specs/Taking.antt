@@ -1,7 +1,7 @@
 -- Starts that get the links of the functions that contain them, one function after another: the words of inner
 -- functions. No contract of a public one has them.
-use Rattle.std.specs.Prelude.{ℕ, List, [], ◌∷◌, ◌++◌, ◌≡◌, ◌≢◌, ◌≤◌, ◌<◌, ◌+◌, ◌-◌, ◌⊎◌, length, drop, flat_map, reverse, take}
-use Rattle.std.specs.Prelude.{slice_get, slice_index, Option, Some, None}
+use Rattle.std.specs.Prelude.{ℕ, List, [], ◌∷◌, ◌++◌, ◌≡◌, ◌≢◌, ◌≤◌, ◌<◌, ◌+◌, ◌-◌, ◌⊎◌, length, drop, flat_map, reverse}
+use Rattle.std.specs.Prelude.{slice_get, slice_index, take, Option, Some, None}
 use Rattle.code_ranges.specs.declared.range.CodeRange.{CodeRange}
 use Rattle.function_links.specs.Making.{AreKept, AreMade, IsLinkIn, count_at, made_at}
 use Rattle.function_links.specs.declared.links.Link.{Link}
@@ -81,7 +81,7 @@ pub record IsUpTo (of : List FunctionRecord) (links : List Link) (waits : Type 0
       ++ functions_after (256 - length chain) address (end_of chain) index (drop index of) ≡ chain_in of address
   pub all : (waits → ⊥) → reverse chain ≡ chain_in of address
 
--- those up to an index, with that of the index if it waits
+-- it has those up to an index, and if it waits, that of the index is the last
 pub record HasTaken (of : List FunctionRecord) (links : List Link) (waits : Type 0) (address number index : ℕ)
     : Type 0 where
   pub up_to : IsUpTo of links waits address number (index + 1)
@@ -93,13 +93,13 @@ HasBefore of t index at =
     IsUpTo of t.making.links.items (Waits t.waiting.next.items at) (slice_index t.starts.items at)
     (slice_index t.numbers.items at) index
 
--- a start has those up to an index, which contains it
+-- a start has those up to an index, whose function contains it
 abbrev pub HasIt : List FunctionRecord → Taking → ℕ → ℕ → Type 0
 HasIt of t index at =
     HasTaken of t.making.links.items (Waits t.waiting.next.items at) (slice_index t.starts.items at)
     (slice_index t.numbers.items at) index
 
--- a start has the functions before an index, or also that
+-- a start has those before an index, or also that of the index
 abbrev pub HasEither : List FunctionRecord → Taking → ℕ → ℕ → Type 0
 HasEither of t index at = HasBefore of t index at ⊎ HasIt of t index at
 
