@@ -11,7 +11,7 @@ units-preserved c =
     let size = length c.args.info.now.sections.debug_info.now in
     record {
       within = omega (arith, c.units.invariant.within, c.in-Some.ensures.shorter);
-      so_far = units_more s size c.units.rest.now c.in-Some.bytes.now c.in-Some.after.now c.units.starts.items c.push_ranges.new.turns.items _ c.in-Some.ensures.value
+      so_far = units_more s size c.units.rest.now c.in-Some.bytes.now c.in-Some.after.now c.units.starts.items c.push_ranges.new.starts.items _ c.in-Some.ensures.value
           (c.in_ok-push_ranges.ensures ∙ ap (λ (rs : List CodeRange). c.units.starts.items ++ ends_of rs) c.own_ranges.ensures) c.units.invariant.so_far;
     }
 
