@@ -1,23 +1,16 @@
 -- Numbers that are collected one after another.
-use Rattle.std.proofs.Common.{◌≡◌, ℕ, ◌-◌, List, [], ◌∷◌, ◌++◌, length, map, Option, Some, None, refl, sym, ap, ◌∙◌, append_assoc}
+use Rattle.std.proofs.Common.{◌≡◌, ℕ, ◌-◌, List, [], ◌∷◌, ◌++◌, length, Option, Some, None, sym, ap, ◌∙◌, append_assoc}
 use Rattle.std.specs.Prelude.{flat_map}
 use Rattle.std.proofs.lemmas.List.{append-nil}
 use Rattle.code_ranges.specs.Aranges.{aranges_of}
 use Rattle.code_ranges.specs.declared.arange.Arange.{Arange}
-use Rattle.code_ranges.specs.EntryRanges.{UnitRangesRecord}
-use Rattle.debug_entries.specs.Entries.{PlacedRecord}
 use Rattle.dwarf_numbers.specs.Sequences.{placed, placed_from}
 use Rattle.dwarf_numbers.specs.Units.{unit_at}
 use Rattle.dwarf_numbers.proofs.SequenceLemmas.{placed_missing, placed_some}
 use Rattle.dwarf_numbers.proofs.UnitLemmas.{unit_shortens}
-use Rattle.line_programs.specs.declared.registers.Row.{Row}
-use Rattle.source_frames.specs.AddressFrames.{rows_of}
-use Rattle.source_frames.specs.DebugUnits.{UnitRecord}
-use Rattle.source_frames.specs.UnitLines.{LinesRecord, lines_of}
 use Rattle.source_frames.specs.DebugSections.{DebugSectionsRecord}
-use Rattle.source_frames.specs.Scopes.{ScopeRecord, left_after_scope, scope_ranges, scopes_from, scopes_of}
 use Rattle.source_frames.specs.UnitAddresses.{own_ranges}
-use Rattle.frame_turns.specs.Turns.{boundaries, ends_of, ends_of_tuple, unit_turns}
+use Rattle.frame_turns.specs.Turns.{boundaries, ends_of, ends_of_tuple}
 
 -- what is pushed comes off what is left
 pub pushed : (xs ys rest next all : List ℕ) → next ≡ xs ++ ys → xs ++ (ys ++ rest) ≡ all → next ++ rest ≡ all

@@ -1,18 +1,13 @@
 -- The units of boundaries.
-use Rattle.std.proofs.Common.{◌≡◌, ℕ, ◌+◌, ◌<◌, ◌^◌, false, ◌==◌, List, [], ◌∷◌, ◌++◌, length, get_or, take, Option, Some, None, sym, ap, subst, ◌∙◌, inl, inr, ◌⊎◌, arith}
-use Rattle.std.specs.Prelude.{◌↔◌, IsTrue}
+use Rattle.std.proofs.Common.{◌≡◌, ℕ, List, get_or, Option, Some, None, subst, ◌∙◌}
 use Rattle.std.specs.List.{Contains}
-use Rattle.std.proofs.lemmas.Bool.{eqb-true, eq-eqb}
-use Rattle.std.proofs.lemmas.List.{get_or_default, take_more}
-use Rattle.std.proofs.lemmas.List.Elements.{Contains-append_cases, Contains-append_left, Contains-append_right}
+use Rattle.std.proofs.lemmas.List.{get_or_default}
 use Rattle.std.proofs.lemmas.Option.{none-some, same_Some}
 use Rattle.source_frames.specs.DebugSections.{DebugSectionsRecord}
-use Rattle.source_frames.specs.DebugUnits.{UnitRecord}
-use Rattle.source_frames.specs.UnitAddresses.{IsUnitOf, read_unit}
+use Rattle.source_frames.specs.UnitAddresses.{IsUnitOf}
 use Rattle.source_frames.proofs.UnitAddressLemmas.{one_place}
-use Rattle.frame_turns.specs.Turns.{IsTurnBy, IsUnitTurn, boundaries, unit_turns}
+use Rattle.frame_turns.specs.Turns.{boundaries}
 use Rattle.frame_turns.specs.UnitSteps.{AreUnitSteps, IsStep}
-use Rattle.frame_turns.proofs.ByUnitLemmas.{in_one, of_one}
 
 pub own_is : (s : DebugSectionsRecord) (a place own : ℕ) → IsUnitOf s a (Some own) → IsUnitOf s a (Some place) → own ≡ place
 own_is s a place own is other = same_Some own place (one_place s a (Some own) (Some place) is other)

@@ -1,8 +1,8 @@
 -- The turns of a unit are those from its boundaries on.
-use Rattle.std.proofs.Common.{◌≡◌, ℕ, zero, suc, ◌+◌, ◌<◌, ◌≤◌, ◌^◌, ◌⊎◌, List, [], ◌∷◌, ◌++◌, length, get_or, map, Option, Some, None, refl, sym, ap, subst, ◌∙◌, inl, inr, arith}
+use Rattle.std.proofs.Common.{◌≡◌, ℕ, zero, suc, ◌+◌, ◌<◌, ◌≤◌, ◌^◌, List, [], ◌∷◌, length, get_or, map, Option, Some, None, refl, sym, ap, subst, ◌∙◌, inl, inr, arith}
 use Rattle.std.specs.Prelude.{◌↔◌, flat_map, reverse}
-use Rattle.std.specs.List.{All, Contains}
-use Rattle.std.proofs.lemmas.Bool.{cases_eq, cases_lt}
+use Rattle.std.specs.List.{Contains}
+use Rattle.std.proofs.lemmas.Bool.{cases_eq}
 use Rattle.std.proofs.lemmas.List.{get_or_default}
 use Rattle.std.proofs.lemmas.List.Elements.{All-weaker, Contains-append_cases, Contains-append_left, Contains-append_right}
 use Rattle.std.proofs.lemmas.Option.{none-some, same_Some, slice_get_within}
@@ -21,8 +21,8 @@ use Rattle.source_frames.specs.Scopes.{scopes_of}
 use Rattle.source_frames.specs.UnitAddresses.{IsUnitOf, read_unit}
 use Rattle.source_frames.specs.UnitLines.{LinesRecord, lines_of}
 use Rattle.frame_turns.specs.Between.{AreFramesAt, AreSteps, AreTurnsFrom, IsCountTo, IsFrom, IsStart, IsTurnOfParts, PartsRecord}
-use Rattle.frame_turns.specs.Given.{AreTurnsIn, IsTurnWithFrames, TurnRecord, addresses}
-use Rattle.frame_turns.specs.Turns.{IsTurnBy, IsUnitTurn, boundaries, ends_of, unit_turns}
+use Rattle.frame_turns.specs.Given.{AreTurnsIn, IsTurnWithFrames, TurnRecord}
+use Rattle.frame_turns.specs.Turns.{IsTurnBy, boundaries, ends_of, unit_turns}
 use Rattle.frame_turns.specs.UnitSteps.{AreUnitSteps, IsStep}
 use Rattle.frame_turns.proofs.FreeLemmas.{IsFree}
 use Rattle.frame_turns.proofs.OwnLemmas.{own_is, step_boundary, step_unit}

@@ -1,4 +1,4 @@
-use Rattle.std.proofs.Common.{[], arith}
+use Rattle.std.proofs.Common.{arith}
 use Rattle.frame_turns.proofs.NumberLemmas.{takes_nothing}
 use Rattle.frame_turns.proofs.numbers.all_linked.Goals as goal
 

@@ -1,4 +1,4 @@
-use Rattle.std.proofs.Common.{◌≡◌, ◌≤◌, ◌<◌, ◌-◌, ◌++◌, ◌∷◌, ◌∙◌, [], ℕ, suc, List, ap, get_or, length, refl, sym, subst, arith}
+use Rattle.std.proofs.Common.{◌≡◌, ◌≤◌, ◌<◌, ◌-◌, ◌∙◌, [], ℕ, suc, List, ap, get_or, length, refl, sym, subst, arith}
 use Rattle.function_links.specs.LinkViews.{link_view, links_view}
 use Rattle.source_frames.specs.FrameViews.{lines_view}
 use Rattle.source_frames.specs.Frames.{path_in}

@@ -1,6 +1,6 @@
 use Rattle.std.proofs.Common.{List, sym, subst}
 use Rattle.frame_turns.specs.declared.unit_by_unit.UnitBoundaries.{UnitBoundaries}
-use Rattle.frame_turns.proofs.ProgramLemmas.{AreListed, in_order, listed_more, none_listed}
+use Rattle.frame_turns.proofs.ProgramLemmas.{AreListed, in_order, listed_more}
 use Rattle.frame_turns.proofs.unit_by_unit.by_program.Goals as goal
 
 pub units-preserved : goal.units-preserved

@@ -1,15 +1,9 @@
-use Rattle.std.proofs.Common.{◌≡◌, ◌<◌, ◌∙◌, ◌++◌, [], ℕ, List, Some, ap, arith, get_or, length, refl, subst, sym}
-use Rattle.std.specs.Prelude.{◌↔◌}
-use Rattle.std.specs.List.{All, Contains}
-use Rattle.std.proofs.lemmas.List.{get_or-map, length-map}
-use Rattle.std.proofs.lemmas.List.Elements.{All-get_or}
+use Rattle.std.proofs.Common.{◌≡◌, ◌<◌, ◌++◌, [], List, arith, length, refl, subst, sym}
+use Rattle.std.proofs.lemmas.List.{length-map}
 use Rattle.line_programs.specs.declared.registers.Row.{Row}
 use Rattle.row_steps.specs.RowSteps.{AreRowSteps}
 use Rattle.source_frames.specs.SectionsViews.{sections_view}
-use Rattle.waiting_indexes.specs.Rising.{AreRising}
 use Rattle.frame_turns.specs.ByProgram.{AreBoundariesBy, places}
-use Rattle.frame_turns.specs.ByUnit.{addresses_under}
-use Rattle.frame_turns.specs.UnitSteps.{IsStep}
 use Rattle.frame_turns.specs.declared.unit_by_unit.UnitBoundaries.{UnitBoundaries}
 use Rattle.frame_turns.proofs.GivenLemmas.{takes_more, takes_none}
 use Rattle.frame_turns.proofs.LoopLemmas.{far_end, far_more, far_start}

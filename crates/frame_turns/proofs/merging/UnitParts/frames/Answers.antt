@@ -1,4 +1,4 @@
-use Rattle.std.proofs.Common.{◌∷◌, ◌-◌, ◌≡◌, ◌<◌, ℕ, suc, length, refl, subst, arith}
+use Rattle.std.proofs.Common.{◌∷◌, ◌-◌, ◌≡◌, ◌<◌, suc, length, refl, subst, arith}
 use Rattle.function_links.specs.LinkViews.{links_view}
 use Rattle.source_frames.specs.FrameViews.{lines_view}
 use Rattle.source_frames.specs.Frames.{path_in, place_of_row}

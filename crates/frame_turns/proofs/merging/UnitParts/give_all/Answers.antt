@@ -1,8 +1,7 @@
-use Rattle.std.proofs.Common.{◌≡◌, ◌∙◌, ◌++◌, [], List, get_or, refl, subst, sym, arith}
+use Rattle.std.proofs.Common.{◌≡◌, ◌∙◌, ◌++◌, [], get_or, refl, subst, sym, arith}
 use Rattle.function_links.specs.declared.links.Links.{Links}
 use Rattle.source_frames.specs.FrameViews.{lines_view}
 use Rattle.frame_turns.specs.Between.{AreSteps, AreTurnsBetween, IsNextAbove, parts_of}
-use Rattle.frame_turns.specs.Given.{TurnRecord}
 use Rattle.frame_turns.proofs.GivenLemmas.{takes_more, takes_none}
 use Rattle.frame_turns.proofs.MergeLemmas.{all_turns_given, below_after, no_turns_yet, turns_so_far_more}
 use Rattle.frame_turns.proofs.merging.UnitParts.give_all.Goals as goal

@@ -10,7 +10,6 @@ use Rattle.row_steps.specs.AddressSteps.{at_step}
 use Rattle.source_frames.specs.FrameViews.{lines_view}
 use Rattle.waiting_indexes.specs.Rising.{AreRising, IsCountBelow}
 use Rattle.frame_turns.specs.Between.{AreFramesAt, IsCountTo, IsMerged, IsNextStart, parts_of}
-use Rattle.frame_turns.specs.Given.{TurnRecord}
 use Rattle.frame_turns.proofs.GivenLemmas.{takes_more, takes_none}
 use Rattle.frame_turns.proofs.MergeLemmas.{AreTurnsBelow, IsUpto, above_upto, all_below, falls, links_next, merged_first, merged_next, none_below, rows_next, turns_more}
 use Rattle.frame_turns.proofs.merging.UnitParts.give_between.Goals as goal

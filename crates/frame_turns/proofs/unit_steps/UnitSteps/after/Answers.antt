@@ -1,4 +1,4 @@
-use Rattle.std.proofs.Common.{ℕ, ◌≡◌, ◌∙◌, List, Option, slice_get, ap, subst, sym}
+use Rattle.std.proofs.Common.{ℕ, ◌∙◌, List, slice_get, ap, subst, sym}
 use Rattle.waiting_indexes.specs.Rising.{AreRising}
 use Rattle.frame_turns.specs.Between.{IsCountTo}
 use Rattle.frame_turns.proofs.StartLemmas.{next_above}
