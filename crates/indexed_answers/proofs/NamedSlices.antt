@@ -1,6 +1,6 @@
 -- Slices that entries name.
 use Rattle.std.proofs.Common.{◌≡◌, ◌≢◌, ℕ, ◌+◌, ◌<◌, Bool, true, List, length, take, get_or, sym, subst, inl, inr}
-use Rattle.std.specs.Prelude.{All, Contains, MatchOption, None, Option, Some, filter}
+use Rattle.std.specs.Prelude.{Contains, MatchOption, None, Option, Some, filter}
 use Rattle.std.proofs.lemmas.List.{take_more}
 use Rattle.std.proofs.lemmas.List.Elements.{All-contains, All-filter, Contains-push_cases, filter_passes}
 use Rattle.indexed_answers.specs.Among.{EntryAt, IsAmong, all_of, lives_under}

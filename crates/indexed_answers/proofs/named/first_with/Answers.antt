@@ -1,4 +1,4 @@
-use Rattle.std.proofs.Common.{◌≡◌, ◌≢◌, ◌<◌, ◌∙◌, List, map, length, subst, sym, arith}
+use Rattle.std.proofs.Common.{◌≢◌, ◌<◌, ◌∙◌, List, map, length, subst, sym, arith}
 use Rattle.std.specs.Prelude.{Contains}
 use Rattle.std.proofs.Math.ListN.{length-map}
 use Rattle.std.proofs.lemmas.List.{take_all}

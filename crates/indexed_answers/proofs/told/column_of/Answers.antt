@@ -11,7 +11,7 @@ use Rattle.indexed_answers.proofs.told.column_of.Goals as goal
 
 pub returns-in_err-base-clause-read : goal.returns-in_err-base-clause-read
 returns-in_err-base-clause-read g c =
-    let p = err_from_is_err_and c.from_residual-in_err-base.result c.from_residual-in_err-base.ensures.1 in
+    let p = err_from_is_err_and c.from_residual.result c.from_residual.ensures.1 in
     passed_on _ _ _ _ _ _ _ _ _ _ _ c.in_err-base.was (p.1 ∙ ap Err p.2)
     (λ text known absent long slice all is stored. absent long slice all is (subst (λ claim. AreStored text claim all) c.args.numbered.now.fields.claim_is stored))
     c.owns_by_claim.ensures

@@ -10,7 +10,7 @@ use Rattle.indexed_answers.proofs.told.owns_by_claim.Goals as goal
 
 pub returns-in_err-table : goal.returns-in_err-table
 returns-in_err-table g c =
-    let p = err_from_is_err_and c.from_residual-in_err-table.result c.from_residual-in_err-table.ensures.1 in
+    let p = err_from_is_err_and c.from_residual.result c.from_residual.ensures.1 in
     passed_on _ _ _ _ _ _ _ _ _ _ _ c.in_err-table.was (p.1 ∙ ap Err p.2)
     (λ text known absent long slice all is stored. absent long is.is_table.0 is.is_table.2 (subst (AreStored text (claim_view c.args.claim)) is.is_table.3 stored)) c.open.ensures.read
 
