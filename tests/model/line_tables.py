@@ -169,11 +169,11 @@ class LineTable:
         return PathParts(*map(self.text, self.row(">3I", self.first_file, number, self.files)))
 
     def last_run(self, upper: int) -> int:
-        """The number of the last run whose upper half is not above this one, found by halving; 0 where there is none."""
+        """The number of the last run whose upper half is not above this one, found by halving; 0 if there is none."""
         low, high = 0, self.runs
         while low < high:
             middle = (low + high) // 2
-            if self.run(middle + 1)[0] <= upper:
+            if self.row(">2I", self.first_run, middle + 1, self.runs)[0] <= upper:
                 low = middle + 1
             else:
                 high = middle
@@ -187,8 +187,8 @@ class LineTable:
         return upper, steps
 
     def location_for(self, address: int) -> int:
-        """The number of the location of the last step that starts at an address or below it: among those of the last
-        run that is not above it, found by halving, and else the last one before them."""
+        """The number of the location of the last step that starts at an address or below it: one of the last run
+        that is not above it, found by halving, or the last one before them."""
         number = self.last_run(address >> 32)
         if not number:
             return 0
