@@ -109,10 +109,19 @@ def small_companions(count):
     return paths
 
 
-def code_of(companion):
-    """The address and the size of the largest section of code of a companion."""
+def sections_of(companion):
+    """The address and the size of each section of code of a companion."""
     with companion.open("rb") as file:
         front = file.read(1 << 16)
     count = struct.unpack_from("<I", front, 32 + 64)[0]
-    sections = (struct.unpack_from("<QQ", front, 32 + 72 + 80 * number + 32) for number in range(count))
-    return max(sections, key=lambda it: it[1])
+    return [struct.unpack_from("<QQ", front, 32 + 72 + 80 * number + 32) for number in range(count)]
+
+
+def code_of(companion):
+    """The address and the size of the largest section of code of a companion."""
+    return max(sections_of(companion), key=lambda it: it[1])
+
+
+def base_of(companion):
+    """The address of the segment of the code."""
+    return min(sections_of(companion))[0]
