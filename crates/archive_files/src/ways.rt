@@ -1,6 +1,6 @@
 //! How OUT is written: what its path leads to, as the system says it. A call that asks is noted with its answer.
 
-ghost use Rattle.std.specs.Prelude.{◌≡◌, ◌≢◌, ◌∷◌, ◌++◌, [], IfErr, IfOk, OnErr, OnOk, false, string_bytes, true};
+ghost use Rattle.std.specs.Prelude.{◌≡◌, ◌≢◌, ◌∷◌, ◌++◌, [], IfErr, IfOk, OnErr, false, string_bytes, true};
 ghost use Rattle.std.specs.IoError.{error_kind};
 ghost use Rattle.archive_files.specs.FileCalls.{FindsFile, FindsNoLink, FindsNothing, Leads, are_looks, found};
 ghost use Rattle.archive_files.specs.OutFiles.{IsWayTo};

@@ -30,7 +30,7 @@ use Rattle.command_ends.specs.declared.faults.Why.TheVariants.{Device as CannotR
 use Rattle.command_ends.specs.Inputs.{Reader, reader, Gives, IsDeviceFault, IsGiven, IsArchive, IsAccepted, IsArchiveRefused, IsFileRefused, IsFirstRefused}
 use Rattle.command_ends.specs.Inputs.{IsFramesRefused, IsRefusedArchive, IsRefusedInTurn, IsScriptRefused, IsTextRefused}
 use Rattle.archive_laws.specs.Refusals.{EachHoldAlike, HoldAlike, IsUnopened, RefuseOne}
-use Rattle.archive_laws.proofs.Accepted.{archive, file, text}
+use Rattle.archive_laws.proofs.Accepted.{file, text}
 use Rattle.archive_laws.proofs.Given.{is_given, known}
 
 abbrev pub NoDevice : Why → Type 0

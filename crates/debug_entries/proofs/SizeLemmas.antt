@@ -5,10 +5,9 @@ use Rattle.std.proofs.lemmas.Bool.{cases_Bool, eqb-true, lt-ltb, le-ltb, ltb-tru
 use Rattle.std.proofs.lemmas.List.{drop_more, drop_all, drop-drop}
 use Rattle.std.proofs.lemmas.Option.{none-some, option_and_then_some}
 use Rattle.dwarf_numbers.specs.FormNumbers.{DW_FORM_implicit_const}
-use Rattle.dwarf_numbers.specs.Forms.{fixed_size, sized_value_at, value_at}
+use Rattle.dwarf_numbers.specs.Forms.{fixed_size, value_at}
 use Rattle.dwarf_numbers.specs.Leb128.{unsigned_leb128_at}
 use Rattle.dwarf_numbers.specs.Values.{ValueRecord}
-use Rattle.dwarf_numbers.proofs.SequenceLemmas.{none_or_some}
 use Rattle.dwarf_numbers.proofs.ShorterLemmas.{mapped_some}
 use Rattle.debug_entries.specs.Attributes.{AttributesRecord, with_attribute}
 use Rattle.debug_entries.specs.Abbreviations.{DeclarationRecord, declaration_of}

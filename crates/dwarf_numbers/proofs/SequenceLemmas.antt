@@ -1,6 +1,6 @@
 -- Steps over items that stand one after another.
 use Rattle.std.proofs.Common.{◌≡◌, append_assoc, ℕ, zero, suc, ◌-◌, ◌<◌, ◌≤◌, ◌⊎◌, List, [], ◌∷◌, ◌++◌, length, Option, Some, None, refl, ap, sym, ◌∙◌, inl, inr, cond, ◌==◌, arith}
-use Rattle.std.specs.Option.{option_map, option_map_or, option_and_then, option_or}
+use Rattle.std.specs.Option.{option_map, option_or}
 use Rattle.std.proofs.lemmas.Bool.{cases_Bool}
 use Rattle.std.proofs.lemmas.List.{append-nil}
 use Rattle.dwarf_numbers.specs.Sequences.{counted, ended_within, ended, sequence_within, sequence, placed_within, placed_from, item_at, Shortens}

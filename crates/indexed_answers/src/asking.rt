@@ -1,6 +1,5 @@
 //! What several indexes tell of places under a key.
 
-ghost use Rattle.std.specs.Prelude.{ℕ, List};
 ghost use Rattle.std.specs.List.{AllZip};
 ghost use Rattle.indexed_answers.specs.AmongAsked.{AreOpened, AsksAmong};
 ghost use Rattle.indexed_answers.specs.Views.{IsColumnAt};

@@ -3,7 +3,7 @@
 ghost use Rattle.std.specs.Prelude.{◌≡◌, ◌≢◌, Contains, IfOk, MatchOption, drop, map, take};
 ghost use Rattle.std.specs.List.{AllZip};
 ghost use Rattle.archive_core.specs.Key.{key_bytes};
-ghost use Rattle.indexed_answers.specs.Among.{AreAnsweringAmong, AreTied, EntryAt};
+ghost use Rattle.indexed_answers.specs.Among.{AreTied, EntryAt};
 ghost use Rattle.indexed_answers.specs.InnerAnswering.{entry_at};
 ghost use Rattle.indexed_answers.specs.Named.{LivesAmong, Names, NamesAmong, digest_at, state_at};
 

@@ -1,16 +1,15 @@
 //! The frames of an address, by a line table.
 
-ghost use Rattle.std.specs.Prelude.{◌≡◌, ◌<◌, ◌≤◌, ◌^◌, ◌++◌, ◌∷◌, [], ℕ, List, Some, IfErr, MatchOption, OnOk, length};
-ghost use Rattle.checked_pages.specs.Pages.{AreStored, MayBeStored};
+ghost use Rattle.std.specs.Prelude.{◌≡◌, ◌<◌, ◌≤◌, ◌++◌, ◌∷◌, [], ℕ, List, Some, IfErr, OnOk, length};
+ghost use Rattle.checked_pages.specs.Pages.{AreStored};
 ghost use Rattle.checked_pages.specs.Views.{ArePagesOf, claim_view};
 ghost use Rattle.checked_pages.specs.Reading.{ReadsStored};
 ghost use Rattle.source_frames.specs.AddressFrames.{AreFramesOf};
 ghost use Rattle.source_frames.specs.Frames.{FrameRecord};
 ghost use Rattle.line_tables.specs.FrameViews.{owned_frame_view, owned_frames};
 ghost use Rattle.line_tables.specs.Inner.{IsChainNumber, IsLocation, IsMaybeChain};
-ghost use Rattle.line_tables.specs.LineTable.{IsLineTable, no_lines};
 ghost use Rattle.line_tables.specs.LineText.{parts_of};
-ghost use Rattle.line_tables.specs.Opened.{IsOpened, StandsAt};
+ghost use Rattle.line_tables.specs.Opened.{IsOpened};
 ghost use Rattle.line_tables.specs.Steps.{AreFrameSteps, StepRecord};
 
 use crate::frame::OwnedFrame;
@@ -166,33 +165,4 @@ impl LineTable {
         let frames = self.frames_from(heap, device, pages, location)?;
         Ok(frames)
     }
-}
-
-/// The frames of an address of the file, by the line table that ends the bytes that a claim names, from an offset of
-/// these on; none where it has no lines.
-///
-/// # Errors
-///
-/// Those of [`Pages::open`], [`LineTable::open`] and [`LineTable::frames_at`].
-pub fn frames_by_claim<P: Placed>(
-    heap: Heap,
-    device: &mut P,
-    claim: Claim,
-    offset: u64,
-    address: u64,
-) -> Result<Option<Vec<OwnedFrame, Heap>>, CheckFault>
-    ensures { ReadsStored P.whole P.failures device.old device.new result
-        (λ text found. (image all bytes : List ℕ) → IsLineTable image bytes → StandsAt all offset bytes
-        → MayBeStored text (claim_view claim) all
-        → MatchOption found (bytes ≡ no_lines) (λ frames. AreFramesOf image address (owned_frames frames.items)))
-        (λ text. length text < 2 ^ 64 → (image all bytes : List ℕ) → IsLineTable image bytes
-        → StandsAt all offset bytes → AreStored text (claim_view claim) all → ⊥) }
-{
-    let own = handle(&heap)?;
-    let mut pages = Pages::open(own, device, claim)?;
-    let Some(table) = LineTable::open(device, &mut pages, offset)? else {
-        return Ok(None);
-    };
-    let frames = table.frames_at(heap, device, &mut pages, address)?;
-    Ok(Some(frames))
 }

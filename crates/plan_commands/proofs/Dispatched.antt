@@ -1,11 +1,11 @@
 -- Archives and indexes that are handed on, and the query that they make.
-use Rattle.std.proofs.Common.{◌≡◌, ◌∙◌, ℕ, ◌<◌, ◌≤◌, suc, List, [], ◌∷◌, ◌++◌, length, take, drop, Option, Result}
+use Rattle.std.proofs.Common.{◌≡◌, ℕ, ◌<◌, suc, List, [], ◌∷◌, ◌++◌, length, take, drop, Option, Result}
 use Rattle.std.proofs.Common.{Bool, false, Err, refl, ap, sym, subst, arith, inl, inr}
 use Rattle.std.proofs.KnownBytes.{Appends-nil}
 use Rattle.std.proofs.lemmas.Bool.{le-ltb, lt-ltb}
 use Rattle.std.proofs.lemmas.Bool.Decides.{nat_tests}
 use Rattle.std.proofs.Math.Seq.{drop-append_seam, take-append_seam}
-use Rattle.std.specs.Prelude.{◌==◌, nat_lt}
+use Rattle.std.specs.Prelude.{◌==◌}
 use Rattle.command_ends.specs.Ends.{EndsReport, Query}
 use Rattle.command_ends.specs.Outputs.{Writer, writer}
 use Rattle.command_ends.specs.declared.faults.CommandFault.{CommandFault}

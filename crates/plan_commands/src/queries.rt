@@ -1,6 +1,6 @@
 //! Queries over the inputs of a line, which stand in the order of its words.
 
-ghost use Rattle.std.specs.Prelude.{◌<◌, ◌≤◌, drop, length, suc, take};
+ghost use Rattle.std.specs.Prelude.{◌<◌, drop, length, suc, take};
 ghost use Rattle.command_ends.specs.Ends.{EndsReport};
 ghost use Rattle.command_ends.specs.Inputs.{reader, readers};
 ghost use Rattle.command_ends.specs.Outputs.{writer};

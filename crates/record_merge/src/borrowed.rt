@@ -1,7 +1,7 @@
 //! Operations that stand in memory, read as the text that they would be.
 
 ghost use Rattle.std.specs.Prelude.{◌≡◌, ◌+◌, ◌<◌, ◌^◌, ◌++◌, ℕ, List, [], length, map, true, false};
-ghost use Rattle.std.specs.Prelude.{Option, Some, None, IfOk, IfSome};
+ghost use Rattle.std.specs.Prelude.{Some, None, IfOk, IfSome};
 ghost use Rattle.std.specs.Ordering.{nat_cmp};
 ghost use Rattle.std.specs.Cmp.Lexicographic.{slice_cmp};
 ghost use Rattle.archive_core.specs.Content.{is_covered};

@@ -1,7 +1,7 @@
 -- The names of sections in 32 bytes, and what is found with them.
 use Rattle.std.proofs.Common.{◌≡◌, ℕ, zero, suc, ◌+◌, ◌*◌, ◌-◌, ◌==◌, ◌<◌, ◌≤◌, inl, inr, subst, length-take, append_assoc, List, [], ◌∷◌, ◌++◌, length, take, drop, map, slice_get, refl, sym, ap, ◌∙◌, arith, Option, Some, None, length-append}
 use Rattle.std.specs.Prelude.{All, flat_map}
-use Rattle.std.specs.List.{before_first, position_or_len}
+use Rattle.std.specs.List.{before_first}
 use Rattle.std.specs.Option.{option_map, option_map_or}
 use Rattle.std.proofs.lemmas.Option.{slice_get-map, slice_get_past}
 use Rattle.std.proofs.lemmas.Bool.{cases_Bool}
@@ -12,7 +12,7 @@ use Rattle.macho_image.specs.Commands.{SegmentRecord, nsects}
 use Rattle.macho_image.specs.Kinds.{segments}
 use Rattle.macho_image.specs.Sections.{SectionRecord, section_record, section_records, sections, sections_in, section_of}
 use Rattle.macho_symbols.specs.Symbols.{Tuple}
-use Rattle.macho_symbols.specs.Found.{FoundRecord, FindsNearest, found_of}
+use Rattle.macho_symbols.specs.Found.{FindsNearest, found_of}
 use Rattle.symbol_tables.specs.Asked.{IsSaid}
 use Rattle.symbol_tables.specs.Table.{FitsTable, IsTableOf, head_bytes, SectionNames, TableParts, names_of, padded, section_bytes, table_bytes, zeros}
 use Rattle.symbol_tables.specs.Found.{names_at, owned_view}

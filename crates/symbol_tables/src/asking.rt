@@ -1,11 +1,11 @@
 //! The nearest symbol of an address, by a stored table.
 
-ghost use Rattle.std.specs.Prelude.{◌≡◌, ◌+◌, ◌*◌, ◌<◌, ◌^◌, ℕ, List, Some, length};
-ghost use Rattle.checked_pages.specs.Pages.{AreStored, MayBeStored};
+ghost use Rattle.std.specs.Prelude.{◌≡◌, ◌+◌, ◌*◌, ◌<◌, ℕ, List, Some};
+ghost use Rattle.checked_pages.specs.Pages.{AreStored};
 ghost use Rattle.checked_pages.specs.Views.{claim_view};
 ghost use Rattle.checked_pages.specs.Reading.{ReadsStored};
 ghost use Rattle.symbol_tables.specs.Steps.{AreBytes};
-ghost use Rattle.symbol_tables.specs.Table.{IsTableOf, IsTableText, TableParts, table_bytes};
+ghost use Rattle.symbol_tables.specs.Table.{IsTableOf, TableParts, table_bytes};
 ghost use Rattle.symbol_tables.specs.Asked.{IsSaid};
 ghost use Rattle.symbol_tables.specs.Opened.{IsOpened};
 
@@ -77,28 +77,4 @@ impl Table {
         )?;
         Ok(Some(NearestSymbol { row, name }))
     }
-}
-
-/// The nearest symbol of an address of the file, by the table that a claim names.
-///
-/// # Errors
-///
-/// Those of [`Table::open`] and of [`checked_pages::Pages::read`].
-pub fn nearest_by_claim<P: Placed>(
-    heap: Heap,
-    device: &mut P,
-    claim: Claim,
-    address: u64,
-) -> Result<Option<NearestSymbol>, CheckFault>
-    ensures { ReadsStored P.whole P.failures device.old device.new result
-        (λ text found. (image all : List ℕ) → AreBytes image → IsTableText image all
-        → MayBeStored text (claim_view claim) all → IsSaid image address found)
-        (λ text. length text < 2 ^ 64 → (image all : List ℕ) → IsTableText image all
-        → AreStored text (claim_view claim) all → ⊥) }
-{
-    let Ok(own) = heap.clone() else {
-        return Err(CheckFault::OutOfMemory);
-    };
-    let mut table = Table::open(own, device, claim)?;
-    table.nearest(heap, device, address)
 }

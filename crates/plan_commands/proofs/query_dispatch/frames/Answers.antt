@@ -1,4 +1,4 @@
-use Rattle.std.proofs.Common.{arith, length, refl, sym}
+use Rattle.std.proofs.Common.{refl}
 use Rattle.std.proofs.lemmas.Result.{err_from_is_err_and}
 use Rattle.command_ends.specs.Inputs.{reader}
 use Rattle.indexed_symbols.specs.Frames.{frames_at}
