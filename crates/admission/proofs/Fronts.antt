@@ -65,9 +65,6 @@ in_part file i old new is =
       content = is ∙ ap (admitted old) (sym (ap (take (length kept)) whole ∙ take-append_seam kept rest));
     }
 
-pub none_taken : (file : List ℕ) (old new : Operations) → new ≡ old → HoldsFirstParts file old new
-none_taken file old new is = in_part file 0 old new is
-
 -- of a universal file
 module _ (file : List ℕ) (fat : is_fat (kind_of file) ≡ true) where
   pub stopped_before : (i : ℕ) (old mid new : Operations) (rows : List Taken) → IsTaking (slices file) i old mid rows → new ≡ mid → HoldsFirstParts file old new

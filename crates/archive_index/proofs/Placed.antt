@@ -112,7 +112,3 @@ module _ (offset : ℕ) (r : List ℕ) where
 pub is_placed : (offset : ℕ) (r : List ℕ) → IsRecord r → IsPlacedEntry (placed_entry offset r)
 is_placed offset r (inl a) = admitted_entry offset r a
 is_placed offset r (inr b) = retired_entry offset r b
-
-pub are_placed : (low : List ℕ) (k : ℕ) (rs : List (List ℕ)) → InOrder Archive low rs → AllByRecursion IsPlacedEntry (placed_entries k rs)
-are_placed low k [] a = tt
-are_placed low k (r ∷ rs) a = (is_placed k r a.0, are_placed r (k + length r) rs a.2)

@@ -21,9 +21,6 @@ use Rattle.archive_queries.specs.Symbolicate.{asked_of, is_symbol, Answered, IsA
 pub status_more : (rows : List Answered) (row : Answered) → (if is_symbol row.answer then answers_status rows else Partial) ≡ answers_status (rows ++ row ∷ [])
 status_more rows row = grind (arith, list_all-append (λ row. is_symbol row.answer) rows (row ∷ []))
 
-pub none_told : (content : Operations) (key : SliceKey) (load : Option ℕ) (lines : Bool) → TellsAddresses content key load lines [] Done []
-none_told content key load lines = record { rows = []; addresses_are = refl; answered = tt; status_is = refl; text_is = refl }
-
 pub more_told : (content : Operations) (key : SliceKey) (load : Option ℕ) (lines : Bool) (before addresses : List ℕ) (status next : Status) (text printed : List ℕ) (address : ℕ) (answer : Answer) (frames : List (List FrameRecord))
     → TellsAddresses content key load lines before status text
     → addresses ≡ before ++ address ∷ []

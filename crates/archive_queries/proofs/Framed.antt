@@ -135,10 +135,6 @@ asked_picked asked key there long r under =
 
 -- ---- one question after another
 
--- the key of the next frame
-pub next_is : (asked : List AskedFrame) (one : AskedFrame) (left : List AskedFrame) → asked ≡ one ∷ left → first_key (map key_of_asked asked) ≡ Some one.frame.key
-next_is asked one left is = ap (λ (l : List AskedFrame). first_key (map key_of_asked l)) is
-
 -- none was told
 pub none_told : (wanted : Bool) (content : Operations) (frames : List Frame) (asked : List AskedFrame) (told : List ToldFrame) (text : List ℕ) → AreLines frames asked → length asked ≡ length frames → length told ≡ length asked
     → AreTold wanted content asked asked (length told) told text

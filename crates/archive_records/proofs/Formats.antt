@@ -15,10 +15,6 @@ use Rattle.archive_records.specs.Text.{end_record, ending, InOrder}
 
 -- ---- records
 
-pub framed_old : (bytes : List ℕ) → framed OldArchive bytes ≡ framed Archive bytes
-unfolding framed framed_behind head_length body_length
-framed_old bytes = refl
-
 pub follows_old : (a b : List ℕ) → may_follow OldArchive a b ≡ may_follow Archive a b
 unfolding may_follow allows
 follows_old a b = refl

@@ -132,21 +132,3 @@ module _ {R S D : Type 0} (left : R → Option (List ℕ)) (failures : R → ℕ
   one_device (Err x) old2 o p at why co cp go gp s = absurd go.2
 
 -- ---- what is kept
-
-fails_keeps : (out : Out) (text : List ℕ) (n : ℕ) → FailsAt out text n → out.published_new ≡ out.published_old
-fails_keeps out _ n (inl f) = f.1.0
-fails_keeps out _ n (inr f) = f.1.kept
-
--- nothing is in place where such a command ended otherwise than by its report
-pub stopped_keeps : (command : Streamed) (out : Out) (report : Writer) (fault : CommandFault) → ((n : ℕ) → fault ≡ Report n → ⊥)
-    → EndsStreamed command out report (Err fault) → out.published_new ≡ out.published_old
-stopped_keeps command out report (Input at why) other e = e.nothing_published.0
-stopped_keeps command out report (Output n) other e = elim e [
-  | inl s ↦ s.nothing_published.0
-  | inr c ↦ fails_keeps out c.1.text n c.1.published.0
-]
-stopped_keeps command out report (Report n) other e = absurd (other n refl)
-stopped_keeps command out report OutOfMemory other e = elim e [
-  | inl s ↦ s.nothing_published.0
-  | inr c ↦ c.1.published.1.0
-]

@@ -28,14 +28,6 @@ module _ (Makes : List ℕ → List ℕ → Type 0) (Refuses : InputName → Why
   stopped_amidst (Report n) s t nothing unreported = absurd s
   stopped_amidst OutOfMemory s t nothing unreported = inl (record { stops = s; bytes = t.0; took = t.1; count = t.2; nothing_published = nothing; unreported = unreported })
 
-  -- its inputs are accepted, and what they make is published
-  pub published_amidst : (result : Result Status CommandFault) (text told : List ℕ) → NoneFailed → Makes text told → Publishes out report text told result → EndsSo result
-  published_amidst (Ok status) text told u makes p = (u, record { text = text; told = told; makes = makes; published = p })
-  published_amidst (Err (Input at why)) text told u makes p = absurd p
-  published_amidst (Err (Output n)) text told u makes p = inr (u, record { text = text; told = told; makes = makes; published = p })
-  published_amidst (Err (Report n)) text told u makes p = (u, record { text = text; told = told; makes = makes; published = p })
-  published_amidst (Err OutOfMemory) text told u makes p = inr (u, record { text = text; told = told; makes = makes; published = p })
-
 -- what stops one command stops another that makes no more, is refused where that one is, and blames no more readers
 module _ (Makes Others : List ℕ → List ℕ → Type 0) (Refuses RefusesToo : InputName → Why → Type 0) (NoneFailed NoneFailedToo Known KnownToo : Type 0) (draft : Writer)
     (makes : (text told : List ℕ) → Others text told → Makes text told) (refuses : (at : InputName) (why : Why) → Refuses at why → RefusesToo at why) (unfailed : NoneFailed → NoneFailedToo) (known : KnownToo → Known) where
@@ -107,28 +99,3 @@ module _ (Makes : Operations → List ℕ → Type 0) (Refuses : InputName → W
 
     first_of : (n : ℕ) → HasFirst other KnownToo out.draft n → HasFirst command_of Known out.draft n
     first_of n f k text told m = f (known k) text told (back k text told m)
-
-    stops_so : (fault : CommandFault) → StopsAmidst other KnownToo out.draft fault → StopsInTurn command_of Wants Known out.draft fault
-    stops_so (Input at why) s = (refuses at why s.0, s.1, (s.2.0, first_of s.2.0 s.2.1))
-    stops_so (Output n) s = (whole s.0, s.1, first_of n s.2)
-    stops_so (Report n) s = absurd s
-    stops_so OutOfMemory s = inl (whole s.0, s.1, (s.2.0, first_of s.2.0 s.2.1))
-
-    carries_so : (r : Result Status CommandFault) → Carries (MakesArchive Others) out report r → Carries (MakesArchive Makes) out report r
-    carries_so r c = record { text = c.text; told = c.told; makes = forth c.text c.told c.makes; published = c.published }
-
-    stopped_so : (fault : CommandFault) → IsStopped (writes_amidst other KnownToo out.draft) out report fault → IsStopped (writes_in_turn command_of Wants Known out.draft) out report fault
-    stopped_so fault s = record { stops = stops_so fault s.stops; bytes = s.bytes; took = s.took; count = s.count; nothing_published = s.nothing_published; unreported = s.unreported }
-
-    pub ends_in_turn : (r : Result Status CommandFault) → EndsAsItComes other KnownToo out report r → EndsInTurnSo r
-    ends_in_turn (Ok status) e = (whole e.0, carries_so (Ok status) e.1)
-    ends_in_turn (Err (Input at why)) e = stopped_so (Input at why) e
-    ends_in_turn (Err (Output n)) e = elim e [
-      | inl s ↦ inl (stopped_so (Output n) s)
-      | inr c ↦ inr (whole c.0, carries_so (Err (Output n)) c.1)
-    ]
-    ends_in_turn (Err (Report n)) e = (whole e.0, carries_so (Err (Report n)) e.1)
-    ends_in_turn (Err OutOfMemory) e = elim e [
-      | inl s ↦ inl (stopped_so OutOfMemory s)
-      | inr c ↦ inr (whole c.0, carries_so (Err OutOfMemory) c.1)
-    ]

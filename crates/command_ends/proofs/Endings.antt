@@ -45,23 +45,3 @@ module _ (Makes : Status → List ℕ → Type 0) (Refuses : InputName → Why �
   reported (Err (Output n)) status text u makes p = absurd p
   reported (Err (Report n)) status text u makes p = (u, record { status = status; text = text; makes = makes; reported = p })
   reported (Err OutOfMemory) status text u makes p = absurd p
-
--- a command whose first input is an archive, and that reads others behind it
-module _ {R : Type 0} (Makes : List ℕ → List ℕ → Type 0) (input : Reader R) (Untouched OthersUnfailed : Type 0) (IsRefusedBehind : InputName → Why → Type 0) (out : Out) (report : Writer) where
-  abbrev EndsInOrder : Result Status CommandFault → Type 0
-  EndsInOrder result = Ends (record { Makes = Makes; Refuses = IsRefusedInOrder input Untouched IsRefusedBehind; Unfailed = Unfailed input × OthersUnfailed }) out report result
-
-  -- the archive is refused, or memory is wanting for it
-  pub first_refused : (fault : CommandFault) → IsRefusal (IsRefusedArchive 0 input) (Unfailed input) fault → Untouched → OthersUnfailed → IsKept out → Takes report [] → EndsInOrder (Err fault)
-  first_refused (Input place why) r untouched others o p = (inl (r, untouched), o, p)
-  first_refused (Output _) r untouched others o p = absurd r
-  first_refused (Report _) r untouched others o p = absurd r
-  first_refused OutOfMemory r untouched others o p = ((r, others), inl (o, p))
-
-  -- the archive is accepted, and of the inputs behind it one is refused, or memory is wanting for them
-  pub behind_refused : (fault : CommandFault) (content : Operations) → IsContent content → HoldsArchive input content → Unfailed input
-      → IsRefusal IsRefusedBehind OthersUnfailed fault → IsKept out → Takes report [] → EndsInOrder (Err fault)
-  behind_refused (Input place why) content is holds unfailed r o p = (inr ((content, is, holds), unfailed, r), o, p)
-  behind_refused (Output _) content is holds unfailed r o p = absurd r
-  behind_refused (Report _) content is holds unfailed r o p = absurd r
-  behind_refused OutOfMemory content is holds unfailed r o p = ((unfailed, r), inl (o, p))

@@ -39,15 +39,6 @@ pub record AreListed (before now : tree_map.BTreeMap ℕ AddressList) (all : Lis
   pub gone : (place : ℕ) → Contains (places all) place → at now place ≡ None
   pub once : AreDistinct (places all)
 
-pub none_listed : (before : tree_map.BTreeMap ℕ AddressList) (all : List UnitBoundaries) → all ≡ [] → AreListed before before all
-none_listed before all none = subst (λ (xs : List UnitBoundaries). AreListed before before xs) (sym none) (record {
-  each = All-nil (IsListed before);
-  every = λ place a h. inr refl;
-  left = λ place. inr refl;
-  gone = λ place h. absurd (not_in_none place h);
-  once = λ i j d less within. absurd (omega (arith, within));
-})
-
 module _ (before now next : tree_map.BTreeMap ℕ AddressList) (all : List UnitBoundaries) (unit : UnitBoundaries) (list : AddressList) (far : AreListed before now all)
     (here : at now unit.place ≡ Some list) (gone : at next unit.place ≡ None) (others : (other : ℕ) → other ≢ unit.place → at next other ≡ at now other)
     (rising : AreRising unit.boundaries.items) (same : (a : ℕ) → Contains unit.boundaries.items a ↔ Contains list.addresses.items a) where

@@ -84,10 +84,6 @@ pub made_kept : (old new : List Link) (number : ℕ) (link : Link) → AreKept o
 made_kept old new zero link kept is = absurd (none-some link is)
 made_kept old new (suc i) link kept is = kept.each i link is
 
-pub made_there : (links : List Link) (number : ℕ) → 0 < number → number ≤ length links → (link : Link) × (made_at links number ≡ Some link)
-made_there links zero some within = absurd (omega (arith, some))
-made_there links (suc i) some within = get_there links i (omega (arith, within))
-
 pub count_of_made : (links : List Link) (number : ℕ) (link : Link) → made_at links number ≡ Some link → count_at links number ≡ link.count
 count_of_made links number link is = ap (λ (l : Option Link). option_map_or (λ l. l.count) l 0) is
 

@@ -32,10 +32,6 @@ pub retired_append : (front : List ℕ) (es fs : List (List ℕ)) → retired_of
 retired_append front es fs =
     ap (map subject_of) (filter-append (retires_under front) es fs) ∙ map-append subject_of (filter (retires_under front) es) (filter (retires_under front) fs)
 
--- one entry more that retires nothing here, or does
-pub retired_passed : (front : List ℕ) (es : List (List ℕ)) (i : ℕ) (e : List ℕ) → i < length es → e ≡ get_or es i e → retires_under front e ≡ false → retired_of front (take (i + 1) es) ≡ retired_of front (take i es)
-retired_passed front es i e lt is other = ap (map subject_of) (filter_passed (retires_under front) es i e lt is other)
-
 pub retired_pushed : (front : List ℕ) (es : List (List ℕ)) (i : ℕ) (e : List ℕ) → i < length es → e ≡ get_or es i e → retires_under front e ≡ true
     → retired_of front (take (i + 1) es) ≡ retired_of front (take i es) ++ subject_of e ∷ []
 retired_pushed front es i e lt is here =

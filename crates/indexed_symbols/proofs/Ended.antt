@@ -49,14 +49,6 @@ module _ {D P : Type 0} (lines : Bool) (IsSought : List (List ℕ) → Type 0) (
       (EachUnfailed archives × IsUntoldBy whole failures lines keys all old new at why)
       ⊎ (AreTiedUnder keys all × NoneFailed failures old new × AreRefusedUnder IsSought all archives at why)
 
-  -- slices were asked after tables were not
-  pub slices_refused : (fault : CommandFault) → AreTiedUnder keys all → NoneFailed failures old new → IsRefusal (AreRefusedUnder IsSought all archives) (EachUnfailed archives) fault
-      → IsRefusal IsEitherRefused (NoneFailed failures old new × EachUnfailed archives) fault
-  slices_refused (Input at why) tied none r = inr (tied, none, r)
-  slices_refused (Output n) tied none r = absurd r
-  slices_refused (Report n) tied none r = absurd r
-  slices_refused OutOfMemory tied none r = (none, r)
-
   -- tables are refused, before slices were asked
   pub tables_refused : (fault : CommandFault) → EachUnfailed archives → IsRefusal (IsUntoldBy whole failures lines keys all old new) (NoneFailed failures old new) fault
       → IsRefusal IsEitherRefused (NoneFailed failures old new × EachUnfailed archives) fault

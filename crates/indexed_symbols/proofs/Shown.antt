@@ -95,9 +95,6 @@ module _ (AreTexts : List (List ℕ) → Type 0) (all : List (List (List ℕ))) 
 
 -- ---- addresses
 
-pub no_addresses : (answers : Answers) (lines : Bool) → ShowsAddresses answers lines [] Done []
-no_addresses answers lines = record { rows = []; addresses_are = refl; numbered = λ number row at. absurd (cc at); status_is = refl; text_is = refl }
-
 -- what stands in a list with one more
 pushed : (rows : List Answered) (row : Answered) (n : ℕ) (one : Answered) → slice_get (rows ++ row ∷ []) n ≡ Some one → (slice_get rows n ≡ Some one) ⊎ ((n ≡ length rows) × (row ≡ one))
 pushed [] row zero one at = inr (refl, cc)

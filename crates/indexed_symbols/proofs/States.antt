@@ -11,12 +11,6 @@ use Rattle.indexed_queries.specs.Together.{AreAllKept, AreReadWith, IsKept}
 use Rattle.indexed_symbols.specs.Asking.{AreGiven, FailsAlone}
 use Rattle.indexed_symbols.specs.InnerAsking.{AreAllOpened}
 
-module _ {D V : Type 0} (known : D → V) where
-  -- of a device that was opened, the same is known of one that was
-  ok_known : (x : Result D CannotOpen) (v : V) → known_of known x ≡ Ok v → (d : D) × (x ≡ Ok d) × (known d ≡ v)
-  ok_known (Ok d) v e = (d, refl, cc)
-  ok_known (Err r) v e = absurd (cc e)
-
 module _ {D : Type 0} (whole : D → Option (List ℕ)) where
   opened_one : (x y : Result D CannotOpen) → known_of whole y ≡ known_of whole x → IsOk x → IsOk y
   opened_one (Ok d) (Ok e) same is = refl

@@ -26,16 +26,6 @@ pub stands_none : (whole : Option (List ℕ)) (at : ℕ) → Stands whole at []
 stands_none None at = tt
 stands_none (Some all) at = refl
 
--- before the first piece
-pub gone_none : (whole held : Option (List ℕ)) (at : ℕ) (hasher : Sha256) → Holds256 hasher [] → HaveGone whole held held at 0 hasher
-gone_none whole held at hasher holds = record {
-  bytes = [];
-  long = refl;
-  stands = stands_none whole at;
-  gained = Appends-none held;
-  holds = holds;
-}
-
 -- the first of bytes that stand at a place do
 stands_front : (whole : Option (List ℕ)) (at : ℕ) (front back : List ℕ) → Stands whole at (front ++ back) → Stands whole at front
 stands_front None at front back stand = tt

@@ -127,10 +127,6 @@ module _ (last : List ℕ) (count offset : ℕ) (retired : List (List ℕ)) (dro
       λ _. inl (item, refl),
     )
 
-    -- it is the last one then
-    pub goes_to : may_follow OldArchive last x ≡ true → (long : ℕ) → long ≡ offset + length x → (kept : List (List ℕ)) (drops : Bool) → Keeps retired kept drops x → Passes (Some (x ++ rest)) (Some rest) (stood last count offset retired dropped) (stood x (count + 1) long kept drops)
-    goes_to above long is kept drops keeps = record { taken = refl; item = item; follows = above; file_is = refl; count_is = refl; offset_is = is; few = few; kept = keeps }
-
 -- ---- what a merge is told of it
 
 module _ (a b c : Option (List ℕ)) (done : List (List ℕ)) (low : List ℕ) (shared : List (List ℕ)) (now new : MergeInput) (unread : now.ahead ≡ Unread) (s : Stands a b done low (record { reader = beside (Some shared) now.reader; ahead = now.ahead })) where

@@ -129,26 +129,6 @@ memory_stopped f a b done rest fault taken ordered apart few is cut = record {
   undecided = λ _. cut;
 }
 
--- want of memory blames no device
-module _ {R S : Type 0} (left : Stream R) (right : Stream S) where
-  no_device : {D : Type 0} (device : Stream D) (fault : RecordFault) → fault.kind ≡ OutOfMemory → IsUnfailed device → Blames device.bytes device.failures device.old device.new fault.kind
-  no_device device fault memory unfailed = subst (Blames device.bytes device.failures device.old device.new) (sym memory) (memory_blames device.bytes device.failures device.old device.new unfailed)
-
-  pub left_blamed : (w : ℕ) (cause : MergeCause) → BlamesLeft left cause → IsUnfailed right → BlamesBy left right w w cause
-  left_blamed w (Left fault) blames unfailed = (blames, unfailed, refl)
-  left_blamed w (Right fault) blames unfailed = absurd blames
-  left_blamed w Write blames unfailed = absurd blames
-
-  pub right_blamed : (w : ℕ) (cause : MergeCause) → IsUnfailed left → BlamesRight right cause → BlamesBy left right w w cause
-  right_blamed w (Left fault) unfailed blames = (no_device left fault blames.0 unfailed, blames.1, refl)
-  right_blamed w (Right fault) unfailed blames = (unfailed, blames, refl)
-  right_blamed w Write unfailed blames = absurd blames
-
-  pub writer_blamed : (w0 w1 : ℕ) (cause : MergeCause) → IsUnfailed left → IsUnfailed right → BlamesWriter w0 w1 cause → BlamesBy left right w0 w1 cause
-  writer_blamed w0 w1 (Left fault) a b blames = (no_device left fault blames.0 a, b, blames.1)
-  writer_blamed w0 w1 (Right fault) a b blames = (a, no_device right fault blames.0 b, blames.1)
-  writer_blamed w0 w1 Write a b blames = (a, b, blames)
-
 -- who is blamed after no device failed is blamed for all
 pub blamed_later : {R S : Type 0} (a : R → Option (List ℕ)) (f : R → ℕ) (bytes : S → Option (List ℕ)) (h : S → ℕ) (r0 r1 r2 : R) (s0 s1 s2 : S) (w0 w1 w2 : ℕ) (cause : MergeCause) → f r1 ≡ f r0 → h s1 ≡ h s0 → w1 ≡ w0
     → BlamesBy (stream a f r1 r2) (stream bytes h s1 s2) w1 w2 cause → BlamesBy (stream a f r0 r2) (stream bytes h s0 s2) w0 w2 cause

@@ -46,9 +46,6 @@ known_same starts next rows before row left all none known =
       found = known.found;
     }
 
-pub none_first : (starts : List ℕ) (row : Row) → (i : ℕ) → i < length starts → covered (get_or starts i 0) None row ≡ None
-none_first starts row i h = refl
-
 pub none_ended : (starts : List ℕ) (last row : Row) → last.end_sequence ≡ true → (i : ℕ) → i < length starts → covered (get_or starts i 0) (Some last) row ≡ None
 none_ended starts last row ends i h = covered_none (get_or starts i 0) last row (λ is. cc (sym ends ∙ is.inside))
 

@@ -12,6 +12,3 @@ table_of_lines image slice lines bytes same are_lines is_table =
 
 pub table_of_symbols : (image bytes : List ℕ) → IsSliceTable image bytes → IsTableText image bytes
 table_of_symbols image bytes is = (is.is_table.0, is.is_table.1, is.is_table.2, is.is_table.3)
-
-pub without_lines : (image lines : List ℕ) → IsLineTable image lines → lines ≡ no_lines → HasNoLines image
-without_lines image lines is same = subst (IsLineTable image) same is

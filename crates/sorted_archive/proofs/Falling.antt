@@ -19,9 +19,6 @@ eq_of_both : (r : Ordering) → is_lt r ≡ false → is_le r ≡ true → is_eq
 eq_of_both r h g = grind arith
 
 module _ {X : Type 0} where
-  -- a list of no elements is empty
-  pub empty_of : (xs : List X) → (length xs == 0) ≡ true → xs ≡ []
-  empty_of xs h = nil_from_length xs ((Decides-eqb (length xs) 0).0 h)
 
   -- what is written back to the front of a list, as it was there, leaves it as it was
   pub written_back : (old new : List X) (n : ℕ) → new ≡ old → length old ≤ n → take n (new ++ drop (length new) old) ≡ old

@@ -182,6 +182,3 @@ found_said image address t f is said small names offset =
     let at : AreNamesOf f.names (section_of image c.sect) =
     subst (λ n. AreNamesOf f.names (section_of image n)) said.3 (subst (λ ns. AreNamesOf ns (section_of image f.symbol.row.sect)) (sym (names ∙ ap (λ ns. names_at ns f.symbol.row.sect) is.names)) (names_of_number image f.symbol.row.sect small)) in
     (Some c, said.1, ap Some (found_same image address c f said.4 said.2 said.3 offset at))
-
-pub none_found : (image : List ℕ) (address : ℕ) → IsSaid image address None → FindsNearest image address None
-none_found image address said = (None, said, refl)

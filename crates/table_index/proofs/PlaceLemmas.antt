@@ -138,12 +138,6 @@ bytes_at entries i e lt is = ap entry_bytes is ∙ sym (get_or-map entry_bytes e
 pub fields_at : (entries : List TableEntry) (i : ℕ) (e : TableEntry) → All HasItsFields entries → i < length entries → e ≡ get_or entries i e → HasItsFields e
 fields_at entries i e fields lt is = All-contains HasItsFields entries e fields (i, lt, sym is)
 
--- what the entry at a place claims
-pub claim_at_place : (entries : List TableEntry) (index : List (List ℕ)) (i : ℕ) (e : TableEntry) → map entry_bytes entries ≡ index → All HasItsFields entries → i < length index → e ≡ get_or entries i e → claim_in (get_or index i []) ≡ claim_view e.claim
-claim_at_place entries index i e are fields lt is =
-    let within : i < length entries = omega (arith, lt, ap length are, length-map entries entry_bytes) in
-    ap (λ (xs : List (List ℕ)). claim_in (get_or xs i [])) (sym are) ∙ ap claim_in (sym (bytes_at entries i e within is)) ∙ (fields_at entries i e fields within is).claim_is
-
 -- offsets do not fall, by their fields and by their bytes
 pub offsets_rise : (xs : List TableEntry) → All HasItsFields xs → IsNonDecreasingBy (λ e. e.placed.offset) xs → IsNonDecreasingBy offset_in (map entry_bytes xs)
 offsets_rise [] fields up = λ i j d le lt. absurd (omega (arith, lt))

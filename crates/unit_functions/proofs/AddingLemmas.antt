@@ -15,14 +15,6 @@ use Rattle.unit_functions.specs.OpenFunctions.{Adds, Closes, Takes}
 use Rattle.unit_functions.specs.declared.functions.Function.{Function}
 use Rattle.unit_functions.specs.declared.functions.Open.{Open}
 
--- as many ranges as before are no ranges more
-pub adds_none : (s : DebugSectionsRecord) (unit : UnitRecord) (scope : ScopeRecord) (ranges next : List CodeRange) (opened : List Open) (functions : List Function) → next ≡ ranges ++ scope.ranges → length next ≡ length ranges
-    → Adds s unit scope (length next) opened opened functions functions
-adds_none s unit scope ranges next opened functions more same = record {
-  without = λ none. (refl, refl);
-  with_ranges = λ some. absurd (omega (arith, ap (λ (rs : List CodeRange). length rs) more, length-append ranges scope.ranges));
-}
-
 -- a function of the entry
 pub adds_one : (s : DebugSectionsRecord) (unit : UnitRecord) (scope : ScopeRecord) (ranges next : List CodeRange) (opened now_open : List Open) (functions after : List Function) (f : Function) (index : ℕ) → next ≡ ranges ++ scope.ranges → length next ≢ length ranges → index ≡ length functions
     → IsName s (record { unit = unit; entry = scope.entry }) (option_map (λ n. n.now) f.name) → f.call ≡ place_of_call scope.entry → f.end ≡ index + 1 → f.ranges_end ≡ length next
