@@ -1,5 +1,5 @@
 -- What is told of addresses, one after another.
-use Rattle.std.proofs.Common.{arith, ◌≡◌, ℕ, Bool, if◌then◌else◌, List, [], ◌∷◌, ◌++◌, Option, refl, sym, ap, ◌∙◌}
+use Rattle.std.proofs.Common.{arith, ◌≡◌, ℕ, Bool, if◌then◌else◌, List, [], ◌∷◌, ◌++◌, Option, sym, ap, ◌∙◌}
 use Rattle.std.proofs.lemmas.List.{map-append, flat_map_more}
 use Rattle.std.proofs.lemmas.List.Elements.{All-from_recursion, All-weaker, recursion_from_All}
 use Rattle.std.proofs.lemmas.List.Folds.{list_all-append}
@@ -12,7 +12,7 @@ use Rattle.archive_core.specs.declared.lookup.Answer.{Answer}
 use Rattle.command_ends.proofs.Readers.{all_more}
 use Rattle.report_text.specs.Answers.{answer_lines}
 use Rattle.command_ends.specs.declared.faults.Status.{Status}
-use Rattle.command_ends.specs.declared.faults.Status.TheVariants.{Done, Partial}
+use Rattle.command_ends.specs.declared.faults.Status.TheVariants.{Partial}
 use Rattle.archive_queries.proofs.Sourced.{answers_alike, sourced_as}
 use Rattle.archive_queries.specs.Sources.{IsSourced}
 use Rattle.source_frames.specs.Frames.{FrameRecord}

@@ -15,12 +15,12 @@ use Rattle.command_ends.specs.declared.faults.CommandFault.TheVariants.{Input, O
 use Rattle.command_ends.specs.declared.faults.InputName.{InputName}
 use Rattle.command_ends.specs.declared.faults.Status.{Status}
 use Rattle.command_ends.specs.declared.faults.Why.{Why}
-use Rattle.command_ends.specs.Ends.{Carries, EndsStreamed, IsStopped, MakesArchive, Streamed}
+use Rattle.command_ends.specs.Ends.{Carries, EndsStreamed, IsStopped, MakesArchive}
 use Rattle.command_ends.specs.Inputs.{Reader, reader, Unfailed, EachUnfailed, IsDeviceFault, IsGivenArchive}
 use Rattle.archive_updates.proofs.AtHand.{counted, sizes_are}
 use Rattle.archive_updates.specs.Merge.{MakesMerged, merge_in_turn}
 use Rattle.archive_updates.specs.MergeStreams.{IsMergeFaultTold, IsSide, StopsMerge, StopsMergeOfOne, merge_as_it_comes, merge_of_one}
-use Rattle.command_ends.specs.Outputs.{Out, Outs, Writer, FailsAt, PlacesNothing, Publishes, Takes, draft_of, out_of}
+use Rattle.command_ends.specs.Outputs.{Outs, Writer, PlacesNothing, Publishes, Takes, draft_of, out_of}
 use Rattle.command_ends.proofs.Readers.{by_device}
 
 -- ---- one FILE, which was opened, as IN was

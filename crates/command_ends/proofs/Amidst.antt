@@ -10,9 +10,9 @@ use Rattle.command_ends.specs.declared.faults.CommandFault.TheVariants.{Input, O
 use Rattle.command_ends.specs.declared.faults.InputName.{InputName}
 use Rattle.command_ends.specs.declared.faults.Status.{Status}
 use Rattle.command_ends.specs.declared.faults.Why.{Why}
-use Rattle.command_ends.specs.Ends.{Carries, Command, EndsAsItComes, EndsStreamed, HasFirst, HasTaken, IsStopped, MakesArchive, StopsAmidst, StopsInTurn, writes_amidst, writes_in_turn}
+use Rattle.command_ends.specs.Ends.{Command, EndsAsItComes, EndsStreamed, HasFirst, HasTaken, MakesArchive, StopsAmidst, writes_in_turn}
 use Rattle.command_ends.specs.Inputs.{HoldsArchive, IsGivenArchive, IsKnown, IsRefusal, reader}
-use Rattle.command_ends.specs.Outputs.{IsKept, Out, PlacesNothing, Publishes, Takes, Writer}
+use Rattle.command_ends.specs.Outputs.{IsKept, Out, PlacesNothing, Takes, Writer}
 
 module _ (Makes : List ℕ → List ℕ → Type 0) (Refuses : InputName → Why → Type 0) (NoneFailed Known : Type 0) (out : Out) (report : Writer) where
   abbrev EndsSo : Result Status CommandFault → Type 0

@@ -1,6 +1,6 @@
 -- How a command ends, from what its parts did.
-use Rattle.std.proofs.Common.{ℕ, refl, List, [], Result, Ok, Err, inl, inr}
-use Rattle.archive_core.specs.Content.{Operations, IsContent}
+use Rattle.std.proofs.Common.{ℕ, refl, List, Result, Ok, Err, inr}
+use Rattle.archive_core.specs.Content.{Operations}
 use Rattle.archive_records.specs.Text.{written}
 use Rattle.command_ends.specs.declared.faults.CommandFault.{CommandFault}
 use Rattle.command_ends.specs.declared.faults.CommandFault.TheVariants.{Input, Output, Report, OutOfMemory}
@@ -8,8 +8,8 @@ use Rattle.command_ends.specs.declared.faults.InputName.{InputName}
 use Rattle.command_ends.specs.declared.faults.Status.{Status}
 use Rattle.command_ends.specs.declared.faults.Why.{Why}
 use Rattle.command_ends.specs.Ends.{Ends, EndsReport, MakesArchive}
-use Rattle.command_ends.specs.Inputs.{Reader, Unfailed, IsRefusal, IsRefusedArchive, IsRefusedInOrder, HoldsArchive}
-use Rattle.command_ends.specs.Outputs.{Out, Writer, IsKept, Takes, Publishes, Reports, report_of}
+use Rattle.command_ends.specs.Inputs.{Unfailed}
+use Rattle.command_ends.specs.Outputs.{Out, Writer, Publishes, Reports, report_of}
 
 module _ (Makes : List ℕ → List ℕ → Type 0) (Refuses : InputName → Why → Type 0) (NoneFailed : Type 0) (out : Out) (report : Writer) where
   abbrev EndsSo : Result Status CommandFault → Type 0

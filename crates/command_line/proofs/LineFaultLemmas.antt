@@ -1,5 +1,5 @@
 -- What a line that `clap` refuses has for an answer, by the kinds of error that its own definition names.
-use Rattle.std.proofs.Common.{arith, ◌≡◌, ◌⊎◌, ℕ, inl, inr, true, List, [], ◌∷◌, Option, Some, None, Result, Ok, Err, IfOk}
+use Rattle.std.proofs.Common.{arith, ◌≡◌, ℕ, inl, inr, true, List, [], ◌∷◌, Option, Some, None, Result, Ok, Err, IfOk}
 use Rattle.std.proofs.Common.{Global, IfErr, IsErrAnd, MatchResult, String, ap, is_some, option_map, refl, string_bytes}
 use Rattle.std.proofs.Common.{subst, sym}
 use Rattle.std.specs.Prelude.{option_and_then}
@@ -17,7 +17,7 @@ use Rattle.clap.specs.Words.{HasKind, IsAmong, Kinds, Row, Text, kind_of}
 use Rattle.clap.specs.declared.error.Error.{Error}
 use Rattle.clap.specs.declared.error.kind.ErrorKind.{ErrorKind}
 use Rattle.clap.specs.declared.error.kind.ErrorKind.TheVariants as kind
-use Rattle.command_line.specs.LineFaults.{IsHelpUnlessMemory, IsRefusalUnlessMemory, IsRefusedAs, IsRefusedBy, first_other}
+use Rattle.command_line.specs.LineFaults.{IsHelpUnlessMemory, IsRefusalUnlessMemory, IsRefusedBy, first_other}
 use Rattle.command_line.specs.LineFaults.{form_refusal, other_form, other_in, other_word, out_refusal, refusal_among}
 use Rattle.command_line.specs.LineFaults.{refusal_at, refusal_in, refusal_of}
 use Rattle.command_line.specs.declared.line_faults.LineFault.{LineFault}

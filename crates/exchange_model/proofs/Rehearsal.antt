@@ -1,11 +1,11 @@
 -- A rehearsal, computed.
-use Rattle.std.proofs.Common.{◌≡◌, ℕ, true, false, List, [], ◌∷◌, refl}
+use Rattle.std.proofs.Common.{◌≡◌, ℕ, false, List, [], ◌∷◌, refl}
 use Rattle.std.specs.declared.option.Option.{Option}
 use Rattle.std.specs.declared.option.Option.TheVariants.{None}
 use Rattle.std.specs.declared.result.Result.TheVariants.{Ok, Err}
 use Rattle.exchange_model.specs.World.{Event, Take, Full, Ask, Reply, Deliver, Save, Stop, Sent, Delivered, Saved, Refused, NoSite, NoMessage, NotASummary, NotAContent, FileRefused, outcome, outcomes, state, rows, Skipped}
 use Rattle.archive_core.specs.Content.{Operations}
-use Rattle.exchange_model.specs.Reached.{senders, is_kept}
+use Rattle.exchange_model.specs.Reached.{is_kept}
 
 abbrev rehearsal : List (Option (List ℕ)) → List (Event ℕ)
 rehearsal x = Take 1 (Ok x) ∷ Ask 1 ∷ Stop 1 ∷ Take 0 (Ok x) ∷ Reply 0 0 ∷ Deliver 1 1 ∷ Deliver 1 1 ∷ []

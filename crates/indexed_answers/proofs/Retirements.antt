@@ -21,7 +21,7 @@ use Rattle.archive_core.proofs.Made.{bytes_same}
 use Rattle.indexed_answers.specs.Among.{all_of, covers, lives_under, subject_of}
 use Rattle.indexed_answers.specs.Told.{admits_under}
 use Rattle.indexed_answers.specs.InnerAnswering.{is_retired, lives_by, retired_of, retires_under}
-use Rattle.indexed_answers.proofs.Lists.{filter_passed, filter_pushed}
+use Rattle.indexed_answers.proofs.Lists.{filter_pushed}
 
 -- ---- in another order
 

@@ -3,10 +3,10 @@ use Rattle.std.proofs.Common.{◌≡◌, ℕ, ◌≤◌, nat_eq, Bool, true, fal
 use Rattle.std.specs.List.Sorted.{IsNonDecreasingBy, IsPermutation}
 use Rattle.std.proofs.lemmas.Bool.{cases_Bool}
 use Rattle.std.proofs.lemmas.List.{get_or-map, length-map, map-append}
-use Rattle.std.proofs.lemmas.List.Elements.{All-cons, All-head, All-tail, All-weaker}
+use Rattle.std.proofs.lemmas.List.Elements.{All-cons, All-head, All-tail}
 use Rattle.std.proofs.lemmas.List.Sorted.{All-permutation, IsPermutation-map}
 use Rattle.source_frames.specs.Frames.{FrameRecord}
-use Rattle.line_tables.specs.LineTable.{IsLineTextWithin, no_lines}
+use Rattle.line_tables.specs.LineTable.{IsLineTextWithin}
 use Rattle.line_tables.specs.Numbering.{same_chain}
 use Rattle.line_tables.specs.Steps.{StepRecord}
 use Rattle.line_tables.proofs.SameLemmas.{chain_decides}
@@ -16,7 +16,7 @@ use Rattle.line_writing.specs.Located.{IsLocated, StillTells}
 use Rattle.line_writing.specs.StepViews.{HaveLocations, changed_after, step_of}
 use Rattle.line_writing.specs.StoreViews.{taken_steps}
 use Rattle.line_writing.specs.declared.step.Step.{Step}
-use Rattle.line_writing.proofs.KeptLemmas.{chain_none, chain_same, location_stays, longer_on, name_stays, path_stays}
+use Rattle.line_writing.proofs.KeptLemmas.{chain_none, chain_same, location_stays, name_stays, path_stays}
 use Rattle.line_writing.proofs.NumberedLemmas.{told_same}
 use Rattle.line_writing.proofs.ApartLemmas.{chain_apart}
 

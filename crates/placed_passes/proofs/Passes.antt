@@ -7,7 +7,7 @@ use Rattle.sha2.specs.Hashers.{Holds256}
 use Rattle.sha2.specs.declared.Sha256.{Sha256}
 use Rattle.byte_device.specs.Devices.{Stream}
 use Rattle.byte_device.specs.declared.Failed.{Failed}
-use Rattle.byte_device.proofs.Known.{Appends-none, Appends-then}
+use Rattle.byte_device.proofs.Known.{Appends-then}
 use Rattle.byte_device.proofs.PlacedReading.{stands_more}
 use Rattle.byte_device.specs.Places.{Stands, TakenAt}
 use Rattle.placed_passes.specs.Copies.{HasFewer, HashesAt, IsUnfailed}

@@ -21,7 +21,7 @@ use Rattle.archive_records.specs.Kind.{kind_of, may_follow}
 use Rattle.archive_records.specs.Layout.{framed}
 use Rattle.archive_records.specs.Fault.{next, next_by, tested}
 use Rattle.archive_records.specs.Text.{end_record, last_of}
-use Rattle.archive_records.specs.Reader.{Finishes, HasReadAll, HasWhole, Keeps, Passes, Position, StoppedWith, StopsAt, beside}
+use Rattle.archive_records.specs.Reader.{Finishes, HasReadAll, HasWhole, Position, StoppedWith, StopsAt, beside}
 use Rattle.archive_records.proofs.Forms.{item-framed, item-no_end}
 use Rattle.record_merge.specs.declared.side.Lookahead.{Lookahead}
 use Rattle.record_merge.specs.declared.side.Lookahead.TheVariants.{Unread, Held, Ended}

@@ -19,19 +19,16 @@ use Rattle.archive_records.specs.declared.fault.RecordFault.{RecordFault}
 use Rattle.archive_records.proofs.Steps.{HasRead-grows}
 use Rattle.archive_records.proofs.Formats.{follows_of}
 use Rattle.archive_records.proofs.KeptRecords.{kept_none, long_record}
-use Rattle.record_merge.specs.MergeSteps.{Stands, Merging, HasMagicRead, RightStopped, WriteStopped, BlamesBy, BlamesLeft, BlamesRight, BlamesWriter, IsToldOfRight, memory_behind, HasEnded, HasStoppedMerge, StopsMerge as MergeStops, Both}
+use Rattle.record_merge.specs.MergeSteps.{Stands, Merging, HasMagicRead, RightStopped, WriteStopped, BlamesBy, BlamesRight, IsToldOfRight, memory_behind, HasEnded, HasStoppedMerge, StopsMerge as MergeStops, Both}
 use Rattle.record_merge.proofs.MergeSteps.{held_record, before_last}
 use Rattle.archive_records.proofs.Blamed.{blames_behind}
-use Rattle.archive_records.proofs.FaultKinds.{memory_blames}
 use Rattle.archive_records.proofs.Forms.{item-framed, item-no_end}
 use Rattle.archive_records.proofs.Ends.{framed_end, end-is_end}
-use Rattle.archive_records.specs.declared.fault.RecordFaultKind.TheVariants.{OutOfMemory}
 use Rattle.archive_records.specs.Fault.{IsCutAtMost}
 use Rattle.archive_records.specs.Front.{front_length}
 use Rattle.archive_records.specs.Layout.{framed}
 use Rattle.archive_records.specs.Reading.{Blames}
 use Rattle.byte_device.specs.Devices.{FailedIn, Stream, stream}
-use Rattle.record_merge.specs.Merging.{IsUnfailed}
 use Rattle.archive_records.specs.declared.fault.MergeCause.{MergeCause}
 use Rattle.archive_records.specs.declared.fault.MergeCause.TheVariants.{Left, Right, Write}
 use Rattle.archive_records.specs.declared.fault.MergeFault.{MergeFault}

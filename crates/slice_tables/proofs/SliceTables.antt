@@ -1,8 +1,8 @@
 -- The table of a slice: of what it is made, that it is one of its symbols, and where it has no lines.
 use Rattle.std.proofs.Common.{◌≡◌, ℕ, List, subst}
-use Rattle.line_tables.specs.LineTable.{IsLineTable, no_lines}
+use Rattle.line_tables.specs.LineTable.{IsLineTable}
 use Rattle.symbol_tables.specs.Table.{IsTableText, IsTableWith}
-use Rattle.slice_tables.specs.SliceTable.{HasNoLines, IsSliceTable}
+use Rattle.slice_tables.specs.SliceTable.{IsSliceTable}
 
 -- the table of an image with its lines is that of the slice, which the image is
 pub table_of_lines : (image slice lines bytes : List ℕ) → image ≡ slice → IsLineTable image lines → IsTableWith image lines bytes → IsSliceTable slice bytes

@@ -1,5 +1,5 @@
 -- The names of sections in 32 bytes, and what is found with them.
-use Rattle.std.proofs.Common.{◌≡◌, ℕ, zero, suc, ◌+◌, ◌*◌, ◌-◌, ◌==◌, ◌<◌, ◌≤◌, inl, inr, subst, length-take, append_assoc, List, [], ◌∷◌, ◌++◌, length, take, drop, map, slice_get, refl, sym, ap, ◌∙◌, arith, Option, Some, None, length-append}
+use Rattle.std.proofs.Common.{◌≡◌, ℕ, zero, suc, ◌+◌, ◌*◌, ◌-◌, ◌==◌, ◌<◌, ◌≤◌, inl, inr, subst, length-take, append_assoc, List, [], ◌∷◌, ◌++◌, length, take, drop, map, slice_get, refl, sym, ap, ◌∙◌, arith, Option, Some, length-append}
 use Rattle.std.specs.Prelude.{All, flat_map}
 use Rattle.std.specs.List.{before_first}
 use Rattle.std.specs.Option.{option_map, option_map_or}

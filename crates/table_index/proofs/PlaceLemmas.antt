@@ -17,7 +17,6 @@ use Rattle.archive_core.specs.Content.{is_admission}
 use Rattle.archive_records.specs.Layout.{largest_slice}
 use Rattle.archive_records.proofs.Ascending.{cons_cases, here, later}
 use Rattle.archive_index.specs.Entry.{length_in, offset_in}
-use Rattle.checked_pages.specs.Views.{claim_view}
 use Rattle.table_index.specs.Entry.{HasItsFields, claim_in, entry_bytes, stored_size}
 use Rattle.table_index.specs.declared.entry.TableEntry.{TableEntry}
 use Rattle.table_index.specs.Text.{AreLaid, FollowOn, PassChecks}
