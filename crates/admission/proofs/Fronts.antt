@@ -25,7 +25,7 @@ pub taking_none : (xs : List (List ℕ)) (o : Operations) (rows : List Taken) �
 unfolding taken_rows
 taking_none xs o rows is = record { content = refl; rows_are = is }
 
-front_more : (xs : List (List ℕ)) (i : ℕ) (x : List ℕ) → slice_get xs i ≡ Some x → take (i + 1) xs ≡ take i xs ++ x ∷ []
+pub front_more : (xs : List (List ℕ)) (i : ℕ) (x : List ℕ) → slice_get xs i ≡ Some x → take (i + 1) xs ≡ take i xs ++ x ∷ []
 front_more xs i x is =
     (take_at_read xs i x (slice_get_within xs i x is)).1
     ∙ ap (λ y. take i xs ++ y ∷ []) (get_or_from_slice_get xs i x x is)

@@ -31,7 +31,7 @@ counted_missing item zero bytes some e = absurd (omega arith)
 counted_missing item (suc count) bytes some e = rw e refl
 
 -- what is made of an option is made of what it has
-mapped : {A B : Type 0} (f : A → B) (o : Option A) (y : B) → option_map f o ≡ Some y → (x : A) × (o ≡ Some x) × (f x ≡ y)
+pub mapped : {A B : Type 0} (f : A → B) (o : Option A) (y : B) → option_map f o ≡ Some y → (x : A) × (o ≡ Some x) × (f x ≡ y)
 mapped f None y e = cc e
 mapped f (Some x) y e = (x, refl, cc e)
 

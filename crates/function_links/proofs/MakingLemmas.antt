@@ -7,6 +7,7 @@ use Rattle.std.proofs.lemmas.Option.{none-some, same_Some, slice_get-get_or, sli
 use Rattle.function_links.specs.Making.{AreKept, AreMade, IsChild, IsLinkIn, IsMade, child_at, count_at, made_at}
 use Rattle.function_links.specs.declared.links.Link.{Link}
 use Rattle.unit_functions.specs.declared.functions.Function.{Function}
+use Rattle.unit_functions.proofs.OpenLemmas.{at_push as get_last}
 
 -- ---- elements of lists
 
@@ -14,10 +15,6 @@ get_left : {A : Type 0} (xs ys : List A) (i : ℕ) (x : A) → slice_get xs i �
 get_left [] ys i x e = absurd (none-some x e)
 get_left (y ∷ xs) ys zero x e = e
 get_left (y ∷ xs) ys (suc i) x e = get_left xs ys i x e
-
-get_last : {A : Type 0} (xs : List A) (x : A) → slice_get (xs ++ x ∷ []) (length xs) ≡ Some x
-get_last [] x = refl
-get_last (y ∷ xs) x = get_last xs x
 
 from_pushed : {A : Type 0} (xs : List A) (x : A) (i : ℕ) (y : A) → slice_get (xs ++ x ∷ []) i ≡ Some y → (slice_get xs i ≡ Some y) ⊎ ((i ≡ length xs) × (y ≡ x))
 from_pushed [] x zero y e = inr (refl, same_Some y x (sym e))

@@ -20,7 +20,7 @@ use Rattle.archive_core.proofs.Answering.{live_is_valid}
 use Rattle.archive_core.proofs.Compare.{length_key_bytes}
 use Rattle.archive_core.proofs.Entries.{retirement_entry}
 use Rattle.archive_core.proofs.Members.{in_flat_map, to_flat_map}
-use Rattle.archive_core.proofs.Records.{length-key_of}
+use Rattle.archive_core.proofs.Records.{length-key_of, one_key as same_key}
 use Rattle.archive_records.proofs.Contents.{members_listed}
 use Rattle.table_index.specs.Text.{IsIndexText}
 use Rattle.indexed_answers.specs.Among.{EntryAt, IsAmong, all_of, answers_among, covers, has_live_companion, lives_under}
@@ -28,7 +28,7 @@ use Rattle.indexed_answers.specs.Told.{admits_under, is_companion}
 use Rattle.index_laws.specs.Indexes.{AreIndexes, IsIndexFile, all_joined}
 use Rattle.index_laws.proofs.Joined.{all_content, any_of, free_if_live, has_any, live_in_all, there_if_live, to_any}
 use Rattle.index_laws.proofs.OfContent.{AreEntriesOf, IsAt, of_index, there as there_at}
-use Rattle.index_laws.proofs.Records.{IsEntryOf, IsEntryOfSlice, admits_by_tag, front_of_retirement, key_in, of_slice, rest_of, retires_by_tag, same_key, tag_of}
+use Rattle.index_laws.proofs.Records.{IsEntryOf, IsEntryOfSlice, admits_by_tag, front_of_retirement, key_in, of_slice, rest_of, retires_by_tag, tag_of}
 
 -- ---- an entry and its key
 

@@ -1,13 +1,12 @@
 -- An entry, and the record that it is of.
 use Rattle.std.proofs.Common.{◌≡◌, ℕ, ◌+◌, ◌<◌, ◌^◌, true, false, Bool, cond, eqb, List, ◌∷◌, ◌++◌, length, take, drop, get_or, refl, sym, ap, ◌∙◌, subst, inl, inr, arith}
-use Rattle.std.specs.Int.{w32, w64, to_be_bytes, from_be_bytes}
+use Rattle.std.specs.Int.{w64, to_be_bytes}
 use Rattle.std.specs.Ordering.{nat_cmp, ordering_then}
 use Rattle.std.specs.declared.cmp.Ordering.TheVariants.{Less, Equal}
 use Rattle.std.specs.Cmp.{tied_itself, nat_cmp_is}
 use Rattle.std.specs.Cmp.Lexicographic.{nat_list_cmp_total, slice_cmp}
 use Rattle.std.proofs.lemmas.Bool.{true≢false}
 use Rattle.std.proofs.lemmas.List.{drop_at, drop-take, get_or-drop, get_or-take, take_at, take-take}
-use Rattle.std.proofs.lemmas.Nat.{from_be_bytes-to_be_bytes_4}
 use Rattle.sha2.specs.Sha256.{sha256}
 use Rattle.macho_image.specs.Contents.{is_dsym_image}
 use Rattle.macho_image.specs.Layout.{u32_le_at}
@@ -18,11 +17,10 @@ use Rattle.archive_core.specs.Key.{IsKey, key_bytes}
 use Rattle.archive_core.specs.Record.{Admits, IsRecord, Retires, admission, admission_record, retirement_record}
 use Rattle.archive_core.specs.Summary.{entry}
 use Rattle.archive_core.specs.Valid.{IsValid, key_of}
-use Rattle.archive_core.specs.declared.keys.SliceKey.{SliceKey}
 use Rattle.archive_core.proofs.Compare.{three_parts}
 use Rattle.archive_core.proofs.Digits.{cmp_eight}
 use Rattle.archive_core.proofs.Entries.{admission_entry, retirement_entry, slice_of}
-use Rattle.archive_core.proofs.Records.{length-admission_record, length-key_of, same_parts}
+use Rattle.archive_core.proofs.Records.{length-admission_record, length-key_of}
 use Rattle.archive_index.specs.Entry.{kind_byte, length_in}
 use Rattle.indexed_answers.specs.Contents.{IsSliceOf}
 use Rattle.indexed_answers.specs.Told.{is_companion}
@@ -42,16 +40,6 @@ is_key_of slice valid bytes = record {
   cputype = word slice 4 bytes;
   cpusubtype = omega arith;
 }
-
--- keys with the same bytes are the same
-pub same_key : (k l : SliceKey) → IsKey k → IsKey l → key_bytes k ≡ key_bytes l → k ≡ l
-unfolding key_bytes
-same_key k l is_k is_l e =
-    let uuid = same_parts k.uuid l.uuid _ _ (is_k.uuid ∙ sym is_l.uuid) e in
-    let arch = same_parts (to_be_bytes w32 k.arch.cputype) (to_be_bytes w32 l.arch.cputype) (to_be_bytes w32 k.arch.cpusubtype) (to_be_bytes w32 l.arch.cpusubtype) refl uuid.1 in
-    let cputype : k.arch.cputype ≡ l.arch.cputype = sym (from_be_bytes-to_be_bytes_4 k.arch.cputype is_k.cputype) ∙ ap (from_be_bytes w32) arch.0 ∙ from_be_bytes-to_be_bytes_4 l.arch.cputype is_l.cputype in
-    let cpusubtype : k.arch.cpusubtype ≡ l.arch.cpusubtype = sym (from_be_bytes-to_be_bytes_4 k.arch.cpusubtype is_k.cpusubtype) ∙ ap (from_be_bytes w32) arch.1 ∙ from_be_bytes-to_be_bytes_4 l.arch.cpusubtype is_l.cpusubtype in
-    λ i. record { uuid = uuid.0 i; arch = record { cputype = cputype i; cpusubtype = cpusubtype i } }
 
 -- ---- records in their order
 

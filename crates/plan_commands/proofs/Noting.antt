@@ -14,10 +14,6 @@ use Rattle.plan_commands.specs.Ends.{Ran}
 use Rattle.plan_commands.specs.Files.{Calls, IsCarriedOut, IsDone, command_fault_of}
 use Rattle.error_lines.specs.StandardError.{SaysFailure, SaysNotes}
 
-pub on_any : {X E P : Type 0} (r : Result X E) → P → OnOk r P
-on_any (Ok x) p = p
-on_any (Err e) p = tt
-
 both_on : {X E A : Type 0} (r : Result X E) (x y z : A) → OnOk r (x ≡ y) → OnOk r (y ≡ z) → OnOk r (x ≡ z)
 both_on (Ok r) x y z first then = first ∙ then
 both_on (Err e) x y z first then = tt

@@ -13,14 +13,14 @@ use Rattle.archive_core.specs.declared.keys.Digest.{Digest}
 use Rattle.archive_core.specs.declared.keys.SliceKey.{SliceKey}
 use Rattle.archive_core.proofs.Compare.{length_key_bytes}
 use Rattle.archive_core.proofs.Members.{in_front, in_rest}
-use Rattle.archive_core.proofs.Records.{length-key_of}
+use Rattle.archive_core.proofs.Records.{length-key_of, one_key as same_key}
 use Rattle.command_ends.specs.Inputs.{Reader}
 use Rattle.command_ends.specs.Outputs.{Writer}
 use Rattle.report_text.specs.Finds.{find_lines}
 use Rattle.index_laws.specs.Indexes.{AreIndexes, DigestsTell, all_joined}
 use Rattle.index_laws.proofs.Among.{entry_if_live, lives_then}
 use Rattle.index_laws.proofs.Joined.{joined_alone}
-use Rattle.index_laws.proofs.Records.{key_in, same_key}
+use Rattle.index_laws.proofs.Records.{key_in}
 use Rattle.index_laws.proofs.Right.{IsAnsweringSlice, slices_right}
 use Rattle.indexed_answers.specs.Among.{EntryAt}
 use Rattle.indexed_answers.specs.Named.{IsRowAt, LivesAmong}

@@ -131,7 +131,7 @@ known_step starts now old new rows after last row left all first end e low high 
 
 -- ---- all addresses
 
-above_first : (a start : ℕ) (starts : List ℕ) → AreRising (start ∷ starts) → a < start → (i : ℕ) → i < length (start ∷ starts) → a < get_or (start ∷ starts) i 0
+pub above_first : (a start : ℕ) (starts : List ℕ) → AreRising (start ∷ starts) → a < start → (i : ℕ) → i < length (start ∷ starts) → a < get_or (start ∷ starts) i 0
 above_first a start starts rising less zero h = less
 above_first a start starts rising less (suc i) h = let r : start < get_or starts i 0 = rising 0 (suc i) 0 (omega arith) h in omega (arith, r, less)
 
@@ -139,7 +139,7 @@ later_above : (a start : ℕ) (starts : List ℕ) (n : ℕ) → ((j : ℕ) → n
 later_above a start starts n all zero less within = absurd (omega (arith, less))
 later_above a start starts n all (suc j) less within = all j (omega (arith, less)) (omega (arith, within))
 
-rising_rest : (start : ℕ) (starts : List ℕ) → AreRising (start ∷ starts) → AreRising starts
+pub rising_rest : (start : ℕ) (starts : List ℕ) → AreRising (start ∷ starts) → AreRising starts
 rising_rest start starts rising = λ i j d less within. rising (suc i) (suc j) d (omega (arith, less)) (omega (arith, within))
 
 -- what is found at the last start that is not above an address

@@ -17,10 +17,10 @@ use Rattle.symbol_tables.specs.Asked.{IsSaid}
 use Rattle.symbol_tables.specs.Table.{FitsTable, IsTableOf, head_bytes, SectionNames, TableParts, names_of, padded, section_bytes, table_bytes, zeros}
 use Rattle.symbol_tables.specs.Found.{names_at, owned_view}
 use Rattle.symbol_tables.specs.declared.found.OwnedFound.{OwnedFound}
-use Rattle.symbol_tables.proofs.SectionLemmas.{get-take}
 use Rattle.symbol_tables.proofs.NameLemmas.{before_nul, before_other}
 use Rattle.symbol_tables.proofs.TableLemmas.{length-head, length-padded}
 use Rattle.symbol_tables.specs.Rows.{rows_bytes}
+use Rattle.macho_symbols.proofs.ExtentLemmas.{get-take}
 
 -- ---- a name in 16 bytes
 
@@ -44,7 +44,7 @@ pub record IsPadded (name : List ℕ) : Type 0 where
   pub short : length name ≤ 16
   pub again : before_first (λ b. b == 0) (padded name) ≡ name
 
-short_first : (xs : List ℕ) → length (before_first (λ b. b == 0) xs) ≤ length xs
+pub short_first : (xs : List ℕ) → length (before_first (λ b. b == 0) xs) ≤ length xs
 short_first xs = omega (arith, length-take {A = ℕ})
 
 padded_name : (bytes : List ℕ) (at : ℕ) → IsPadded (name_at bytes at)
