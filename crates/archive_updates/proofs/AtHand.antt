@@ -1,5 +1,5 @@
 -- IN's archive, merged with one that is at hand: what came of it.
-use Rattle.std.proofs.Common.{◌≡◌, ℕ, List, [], ◌++◌, length, MatchResult, Option, Result, Ok, Err, refl, ap, sym, subst, arith, ◌⊎◌, inl, inr}
+use Rattle.std.proofs.Common.{◌≡◌, ℕ, List, [], ◌++◌, length, Option, Result, Ok, Err, refl, ap, sym, subst, arith, ◌⊎◌, inl, inr}
 use Rattle.std.specs.FinSet as set
 use Rattle.archive_core.specs.Content.{Operations, IsContent, joined}
 use Rattle.archive_records.specs.declared.fault.MergeCause.{MergeCause}
@@ -10,7 +10,6 @@ use Rattle.archive_records.specs.declared.fault.RecordFaultKind.TheVariants.{Dev
 use Rattle.archive_records.specs.declared.writing.Sizes.{Sizes}
 use Rattle.archive_records.specs.Text.{written, IsArchiveOf}
 use Rattle.archive_records.specs.Writing.{IsWrittenWhole}
-use Rattle.byte_device.specs.declared.disks.CannotOpen.{CannotOpen}
 use Rattle.byte_device.specs.Devices.{FailedIn, Stream, stream}
 use Rattle.byte_device.specs.Writes.{WritesFirst}
 use Rattle.report_text.specs.Report.{archive_line}
@@ -78,11 +77,6 @@ module _ {R S W : Type 0} (left : R → Option (List ℕ)) (failures : R → ℕ
 
   pub unfinished_opened : (e : MergeFault) → Merges (stream left failures l l') other (stream held draft_failures w w') (Err e) → IsUnfinished (reader left failures (Ok l) (Ok l')) (Unit {0}) (writer held draft_failures w w')
   unfinished_opened e merges = record { no_text = merges.2; begun = begun_by e.cause e.written merges.0 }
-
--- what an input lends is what was opened
-pub lent_from : {S : Type 0} (old : Result S CannotOpen) (lent : S) → MatchResult old (λ source. lent ≡ source) (λ _. ⊥) → old ≡ Ok lent
-lent_from (Ok source) lent is = cc
-lent_from (Err e) lent is = absurd is
 
 -- a device that has never failed did not fail
 never_failed : (old new : ℕ) → old ≡ 0 → new ≡ 0 → FailedIn old new → ⊥

@@ -1,5 +1,5 @@
 -- `merge` of several FILEs: their join, and IN merged with it.
-use Rattle.std.proofs.Common.{◌≡◌, ◌++◌, ◌||◌, ℕ, List, [], ◌∷◌, Option, Some, Result, Ok, Err, refl, ap, sym, ◌∙◌, arith}
+use Rattle.std.proofs.Common.{◌≡◌, ◌++◌, ℕ, List, [], ◌∷◌, Option, Some, Result, Ok, Err, refl, ap, sym, ◌∙◌, arith}
 use Rattle.std.specs.Prelude.{IfErr, IfOk, OnOk}
 use Rattle.std.specs.Cmp.Lexicographic.{nat_list_cmp_total, slice_cmp}
 use Rattle.std.specs.Ordering.{nat_cmp}
@@ -27,6 +27,7 @@ use Rattle.archive_updates.proofs.AtHand.{archive_published, join_stopped}
 use Rattle.archive_updates.proofs.Behind.{all_given, read_behind}
 use Rattle.archive_updates.proofs.Joins.{joined_archives}
 use Rattle.archive_updates.proofs.Migrated.{join_with_nothing}
+use Rattle.archive_core.proofs.Made.{union_assoc}
 
 -- the text in memory is that of the join of the files
 pub text_of_join : {S G : Type 0} (held : G → Option (List ℕ)) (r : Result G CommandFault) (files : List (Reader S)) (none p : Operations) → none ≡ set.empty → AreRead (HasJoined files none p) (EachUnfailed files)
@@ -36,11 +37,6 @@ text_of_join held (Ok text) files none p is j there content wanting = record { i
 text_of_join held (Err e) files none p is j there content wanting = rw wanting j.unfailed
 
 -- ---- one content after another
-
-union_assoc : (a b c : Operations) → set.union (set.union a b) c ≡ set.union a (set.union b c)
-union_assoc a b c = same_set nat_list_cmp_total bytes_same (set.union (set.union a b) c) (set.union a (set.union b c)) (λ r.
-    let union : (o p : Operations) → set.contains (set.union o p) r ≡ (set.contains o r || set.contains p r) = λ o p. contains-union nat_list_cmp_total o p r in
-    grind (arith, union (set.union a b) c, union a b, union a (set.union b c), union b c))
 
 join_behind : (o c m : Operations) → IsMade m → joined (joined o c) m ≡ joined o (joined c m)
 join_behind o c m is =

@@ -1,11 +1,16 @@
 -- An input whose source is lent.
-use Rattle.std.proofs.Common.{◌≡◌, ◌∙◌, ℕ, List, Option, Result, Ok, Err, ap, subst}
+use Rattle.std.proofs.Common.{◌≡◌, ◌∙◌, ℕ, List, Option, Result, Ok, Err, ap, subst, sym}
 use Rattle.std.specs.Prelude.{IfSome, MatchResult}
 use Rattle.byte_device.specs.declared.disks.CannotOpen.{CannotOpen}
 use Rattle.archive_core.specs.Content.{Operations}
 use Rattle.archive_records.specs.Reading.{IsReadInPart}
 use Rattle.archive_records.specs.declared.kind.TextKind.TheVariants.{Archive}
 use Rattle.command_ends.specs.Inputs.{AreRead, HoldsContent, Unfailed, reader}
+
+-- an input whose source is lent was opened, and is that source
+pub lent_from : {S : Type 0} (old : Result S CannotOpen) (lent : S) → MatchResult old (λ source. lent ≡ source) (λ _. ⊥) → old ≡ Ok lent
+lent_from {S = S} (Ok source) lent is = ap (λ (s : S). Ok s) (sym is)
+lent_from (Err e) lent is = absurd is
 
 -- what is true of the bytes of the source that was lent is true of those of the input
 pub of_lent : {S E : Type 0} (old : Result S E) (source : S) (left : S → Option (List ℕ)) (P : List ℕ → Type 0)

@@ -2,7 +2,8 @@ use Rattle.std.proofs.Common.{refl, rules}
 use Rattle.archive_updates.proofs.Begun.{untouched}
 use Rattle.byte_device.proofs.Known.{Appends-none}
 use Rattle.std.proofs.lemmas.Result.{err_from_is_err_and}
-use Rattle.archive_updates.proofs.AtHand.{lent_from, taken_of}
+use Rattle.archive_updates.proofs.AtHand.{taken_of}
+use Rattle.command_ends.proofs.BorrowedSources.{lent_from}
 use Rattle.archive_updates.proofs.Deltas.{copied_opened, stopped_copy, unfinished_copy}
 use Rattle.archive_updates.proofs.delta.copy_input.Goals as goal
 

@@ -2,7 +2,8 @@ use Rattle.std.proofs.Common.{refl, rules}
 use Rattle.archive_updates.proofs.Begun.{untouched}
 use Rattle.byte_device.proofs.Known.{Appends-none}
 use Rattle.std.proofs.lemmas.Result.{err_from_is_err_and}
-use Rattle.archive_updates.proofs.AtHand.{lent_from, joined_opened, stopped_opened, taken_of, unfinished_opened}
+use Rattle.archive_updates.proofs.AtHand.{joined_opened, stopped_opened, taken_of, unfinished_opened}
+use Rattle.command_ends.proofs.BorrowedSources.{lent_from}
 use Rattle.archive_updates.proofs.joining.join_input.Goals as goal
 
 pub returns-in-Ok : goal.returns-in-Ok

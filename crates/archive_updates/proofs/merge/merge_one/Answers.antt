@@ -1,4 +1,4 @@
-use Rattle.archive_updates.proofs.AtHand.{lent_from}
+use Rattle.command_ends.proofs.BorrowedSources.{lent_from}
 use Rattle.archive_updates.proofs.merge.merge_one.Goals as goal
 
 pub returns : goal.returns

@@ -2,7 +2,8 @@ use Rattle.std.proofs.Common.{Some, ap, refl, ◌∙◌, rules}
 use Rattle.archive_updates.proofs.Begun.{untouched}
 use Rattle.byte_device.proofs.Known.{Appends-none}
 use Rattle.std.proofs.lemmas.Result.{err_from_is_err_and}
-use Rattle.archive_updates.proofs.AtHand.{lent_from, stopped_opened, taken_of, unfinished_opened}
+use Rattle.archive_updates.proofs.AtHand.{stopped_opened, taken_of, unfinished_opened}
+use Rattle.command_ends.proofs.BorrowedSources.{lent_from}
 use Rattle.archive_updates.proofs.Tellings.{makes_at_hand, told_opened}
 use Rattle.archive_updates.proofs.Told.{text_in_order}
 use Rattle.sorted_archive.proofs.Held.{are_records}

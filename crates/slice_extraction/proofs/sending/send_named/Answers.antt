@@ -1,6 +1,6 @@
 use Rattle.std.proofs.Common.{refl}
 use Rattle.std.proofs.lemmas.Result.{err_from_is_err_and}
-use Rattle.indexed_queries.proofs.Refused.{lent_from}
+use Rattle.command_ends.proofs.BorrowedSources.{lent_from}
 use Rattle.byte_device.proofs.Known.{Appends-none}
 use Rattle.command_ends.specs.Inputs.{reader}
 use Rattle.command_ends.specs.Outputs.{writer}
