@@ -12,7 +12,7 @@ use Rattle.archive_files.specs.declared.input_state.AtTurn.{AtTurn}
 use Rattle.archive_files.specs.InputStates.{AreFirstAsked, IsWaiting, Open, Unopened, Waiting, bytes_at, left_in, stage_of}
 use Rattle.archive_files.specs.declared.input_state.InputState.{InputState}
 use Rattle.archive_files.specs.declared.input_state.InputState.TheVariants as state
-use Rattle.command_ends.proofs.Readers.{pairs_more as zip_more}
+use Rattle.command_core.proofs.Readers.{pairs_more as zip_more}
 
 -- one more input is made
 pub inputs_more : {B X P : Type 0} (R : P → B → Type 0) (f : X → P) (xs : List X) (i : ℕ) (ys zs : List B) (d : X)

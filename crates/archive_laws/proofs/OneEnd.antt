@@ -12,19 +12,19 @@ use Rattle.report_text.specs.Finds.{find_lines, list_lines}
 use Rattle.report_text.specs.Names.{name_lines}
 use Rattle.crash_frames.specs.Frames.{frames_of}
 use Rattle.crash_frames.specs.declared.frame.Frame.{Frame}
-use Rattle.command_ends.specs.declared.faults.CommandFault.TheVariants.{Input, Output, Report, OutOfMemory}
-use Rattle.command_ends.specs.declared.faults.InputName.{InputName}
-use Rattle.command_ends.specs.declared.faults.Status.{Status}
-use Rattle.command_ends.specs.declared.faults.Why.{Why}
-use Rattle.command_ends.specs.Archives.{AreRefused, AreUnfailed, HoldTogether, further_name, merged}
-use Rattle.command_ends.specs.Ends.{Query}
-use Rattle.command_ends.specs.Found.{TellsFound, found_status}
-use Rattle.command_ends.specs.Inputs.{Reader, EachUntouched, HoldsArchive, IsArchive, IsArchiveRefused, IsDeviceFault, IsFirstRefused, IsFrames, IsFramesRefused}
-use Rattle.command_ends.specs.Inputs.{IsGivenArchive, IsRefusedArchive, IsRefusedInOrder, IsRefusedInTurn}
-use Rattle.command_ends.specs.Outputs.{Takes}
+use Rattle.command_core.specs.declared.faults.CommandFault.TheVariants.{Input, Output, Report, OutOfMemory}
+use Rattle.command_core.specs.declared.faults.InputName.{InputName}
+use Rattle.command_core.specs.declared.faults.Status.{Status}
+use Rattle.command_core.specs.declared.faults.Why.{Why}
+use Rattle.command_core.specs.Archives.{AreRefused, AreUnfailed, HoldTogether, further_name, merged}
+use Rattle.command_core.specs.Ends.{Query}
+use Rattle.command_core.specs.Found.{TellsFound, found_status}
+use Rattle.command_core.specs.Inputs.{Reader, EachUntouched, HoldsArchive, IsArchive, IsArchiveRefused, IsDeviceFault, IsFirstRefused, IsFrames, IsFramesRefused}
+use Rattle.command_core.specs.Inputs.{IsGivenArchive, IsRefusedArchive, IsRefusedInOrder, IsRefusedInTurn}
+use Rattle.command_core.specs.Outputs.{Takes}
 use Rattle.archive_exchange.specs.ModelEvent.{ModelEvent, AreSeen}
-use Rattle.rehearsal.specs.Script.{acts, script_of}
-use Rattle.rehearsal.specs.declared.event.Event.{Event}
+use Rattle.exchange_script.specs.Script.{acts, script_of}
+use Rattle.exchange_script.specs.declared.event.Event.{Event}
 use Rattle.rehearse.specs.Rehearse.{rehearse}
 use Rattle.archive_queries.specs.Find.{find}
 use Rattle.archive_queries.specs.Name.{TellsNamed, name}

@@ -11,21 +11,21 @@ use Rattle.archive_exchange.specs.InnerEvents.{SeenFile}
 use Rattle.archive_exchange.specs.ModelEvent.{ModelEvent, IsFile, IsSeen, AreSeen, OutcomeIs, row_told, fault_told}
 use Rattle.admission.specs.declared.fault.TakeFault.{TakeFault}
 use Rattle.archive_words.specs.Lines.{line_at}
-use Rattle.rehearsal.specs.Flaws.{script_flaw}
-use Rattle.rehearsal.specs.declared.event.Event.{Event}
-use Rattle.rehearsal.specs.declared.event.Event.TheVariants as event
+use Rattle.exchange_script.specs.Flaws.{script_flaw}
+use Rattle.exchange_script.specs.declared.event.Event.{Event}
+use Rattle.exchange_script.specs.declared.event.Event.TheVariants as event
 use Rattle.archive_exchange.specs.declared.outcome.Outcome.{Outcome}
 use Rattle.archive_exchange.specs.declared.outcome.Outcome.TheVariants.{Took, Retired, Refused}
-use Rattle.rehearsal.specs.Events.{Act, Take, Retire, Full, Ask, Reply, Deliver, Save, Stop, act_of}
-use Rattle.rehearsal.specs.Script.{Wrong, acts, script_of}
+use Rattle.exchange_script.specs.Events.{Act, Take, Retire, Full, Ask, Reply, Deliver, Save, Stop, act_of}
+use Rattle.exchange_script.specs.Script.{Wrong, acts, script_of}
 use Rattle.rehearse.specs.Rehearsal.{event_fault_text, event_lines, outcome_text, sent_text, took_text}
 use Rattle.report_text.specs.Report.{line}
 use Rattle.byte_device.specs.declared.disks.CannotOpen.{CannotOpen}
-use Rattle.command_ends.specs.declared.faults.InputName.{InputName}
-use Rattle.command_ends.specs.declared.faults.Status.{Status}
-use Rattle.command_ends.specs.declared.faults.Why.{Why}
-use Rattle.command_ends.specs.declared.faults.Why.TheVariants.{Device as CannotRead, Script as Faulty, CannotOpen as NotOpened}
-use Rattle.command_ends.specs.Inputs.{Reader, reader, IsDeviceFault, IsGiven, IsRefusedScript, IsScriptRefused}
+use Rattle.command_core.specs.declared.faults.InputName.{InputName}
+use Rattle.command_core.specs.declared.faults.Status.{Status}
+use Rattle.command_core.specs.declared.faults.Why.{Why}
+use Rattle.command_core.specs.declared.faults.Why.TheVariants.{Device as CannotRead, Script as Faulty, CannotOpen as NotOpened}
+use Rattle.command_core.specs.Inputs.{Reader, reader, IsDeviceFault, IsGiven, IsRefusedScript, IsScriptRefused}
 use Rattle.rehearse.specs.Rehearse.{MakesRehearsed, TellsEvents, rehearsal_lines, site_lines}
 use Rattle.archive_laws.proofs.Given.{is_given}
 

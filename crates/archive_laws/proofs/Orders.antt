@@ -14,8 +14,8 @@ use Rattle.admission.proofs.Rows.{admitted-append}
 use Rattle.admission.specs.File.{parts, admissible}
 use Rattle.admission.specs.Take.{admitted, taken_rows}
 use Rattle.report_text.specs.declared.rows.AdmitRow.{AdmitRow}
-use Rattle.archive_updates.specs.Admit.{images_of, file_rows, admit_rows}
-use Rattle.archive_updates.proofs.Files.{admit_rows-append}
+use Rattle.archive_writing.specs.Admit.{images_of, file_rows, admit_rows}
+use Rattle.archive_writing.proofs.Files.{admit_rows-append}
 use Rattle.admission.proofs.Fronts.{front_more as front_with}
 
 pub admitted_joined : (o : Operations) (images : List (List ℕ)) → IsMade o → admitted o images ≡ joined o (content_of (set.from_list (map admission_record images)))

@@ -4,12 +4,12 @@ ghost use Rattle.std.specs.Prelude.{◌≡◌, ◌↔◌, ℕ, List, [], Bool, O
 ghost use Rattle.archive_core.specs.Content.{Operations};
 ghost use Rattle.crash_frames.specs.Frames.{frames_of};
 ghost use Rattle.crash_frames.specs.declared.frame.Frame.{Frame};
-ghost use Rattle.command_ends.specs.declared.faults.InputName.{InputName};
-ghost use Rattle.command_ends.specs.declared.faults.Status.{Status};
-ghost use Rattle.command_ends.specs.declared.faults.Why.{Why};
+ghost use Rattle.command_core.specs.declared.faults.InputName.{InputName};
+ghost use Rattle.command_core.specs.declared.faults.Status.{Status};
+ghost use Rattle.command_core.specs.declared.faults.Why.{Why};
 ghost use Rattle.archive_queries.specs.Frames.{MakesFramed, SymbolicatesEach, TellsFrames, frames};
-ghost use Rattle.archive_updates.specs.Merge.{merge};
-ghost use Rattle.command_ends.specs.Inputs.{Gives, HoldsContent, IsDeviceFault, IsGiven, Reader};
+ghost use Rattle.archive_writing.specs.Merge.{merge};
+ghost use Rattle.command_core.specs.Inputs.{Gives, HoldsContent, IsDeviceFault, IsGiven, Reader};
 ghost use Rattle.archive_laws.specs.Joins.{IsGivenJoin};
 
 use crate::content_laws::one_answer;

@@ -9,10 +9,10 @@ use Rattle.archive_core.specs.Key.{key_bytes}
 use Rattle.archive_core.specs.Part.{AreAlikeUnder}
 use Rattle.archive_core.specs.declared.keys.SliceKey.{SliceKey}
 use Rattle.archive_core.specs.declared.lookup.Answer.{Answer}
-use Rattle.command_ends.proofs.Readers.{all_more}
+use Rattle.command_core.proofs.Readers.{all_more}
 use Rattle.report_text.specs.Answers.{answer_lines}
-use Rattle.command_ends.specs.declared.faults.Status.{Status}
-use Rattle.command_ends.specs.declared.faults.Status.TheVariants.{Partial}
+use Rattle.command_core.specs.declared.faults.Status.{Status}
+use Rattle.command_core.specs.declared.faults.Status.TheVariants.{Partial}
 use Rattle.archive_queries.proofs.Sourced.{answers_alike, sourced_as}
 use Rattle.archive_queries.specs.Sources.{IsSourced}
 use Rattle.source_frames.specs.Frames.{FrameRecord}

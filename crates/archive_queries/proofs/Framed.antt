@@ -34,16 +34,16 @@ use Rattle.report_text.specs.Answers.{answer_lines}
 use Rattle.report_text.proofs.Grouped.{key_is_same, same_key}
 use Rattle.archive_queries.specs.declared.asked_frames.AskedFrame.{AskedFrame}
 use Rattle.archive_queries.specs.declared.asked_frames.ToldFrame.{ToldFrame}
-use Rattle.command_ends.specs.declared.faults.CommandFault.{CommandFault}
-use Rattle.command_ends.specs.declared.faults.Status.{Status}
-use Rattle.command_ends.specs.declared.faults.Status.TheVariants.{Done, Partial}
-use Rattle.command_ends.specs.Ends.{EndsReport}
+use Rattle.command_core.specs.declared.faults.CommandFault.{CommandFault}
+use Rattle.command_core.specs.declared.faults.Status.{Status}
+use Rattle.command_core.specs.declared.faults.Status.TheVariants.{Done, Partial}
+use Rattle.command_core.specs.Ends.{EndsReport}
 use Rattle.archive_queries.specs.Frames.{IsFrameAnswered, TellsFrames, RefusesFrames}
 use Rattle.archive_queries.specs.InnerFrames.{AreLines, AreNumbered, AreTold, IsFrameTold, asked_cmp, is_asked}
 use Rattle.archive_queries.proofs.Parts.{refusal_of, together_refused}
-use Rattle.command_ends.specs.Archives.{AreRefused, AreUnfailed}
-use Rattle.command_ends.specs.Inputs.{EachUnfailed, EachUntouched, IsFrames, Reader, IsRefusal, IsRefusedFrames, IsUntouched, Unfailed, failures_of}
-use Rattle.command_ends.specs.Outputs.{Writer, Takes}
+use Rattle.command_core.specs.Archives.{AreRefused, AreUnfailed}
+use Rattle.command_core.specs.Inputs.{EachUnfailed, EachUntouched, IsFrames, Reader, IsRefusal, IsRefusedFrames, IsUntouched, Unfailed, failures_of}
+use Rattle.command_core.specs.Outputs.{Writer, Takes}
 use Rattle.archive_queries.specs.Sources.{IsSourced}
 use Rattle.archive_queries.specs.Symbolicate.{Answered, asked_of, is_symbol, answers_text}
 use Rattle.source_frames.specs.Frames.{FrameRecord}

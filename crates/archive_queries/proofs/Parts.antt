@@ -18,17 +18,17 @@ use Rattle.archive_core.specs.declared.keys.SliceKey.{SliceKey}
 use Rattle.archive_core.proofs.Members.{in_rest}
 use Rattle.archive_reading.specs.Keys.{first_key}
 use Rattle.byte_device.specs.declared.disks.CannotOpen.{CannotOpen}
-use Rattle.command_ends.proofs.Archives.{each_archive, hold_more}
-use Rattle.command_ends.proofs.Readers.{all_more, none_failed, none_touched}
-use Rattle.command_ends.specs.Archives.{AreRefused, AreUnfailed, HoldTogether, ReadsTogether, further_name, merged}
-use Rattle.command_ends.specs.declared.faults.CommandFault.{CommandFault}
-use Rattle.command_ends.specs.declared.faults.CommandFault.TheVariants.{Input, Output, Report, OutOfMemory}
-use Rattle.command_ends.specs.declared.faults.InputName.{InputName}
-use Rattle.command_ends.specs.declared.faults.Status.{Status}
-use Rattle.command_ends.specs.declared.faults.Why.{Why}
-use Rattle.command_ends.specs.Ends.{EndsReport}
-use Rattle.command_ends.specs.Outputs.{Takes, Writer}
-use Rattle.command_ends.specs.Inputs.{EachUnfailed, EachUntouched, HoldsArchive, HoldsContent, HoldsPart, IsArchive, IsArchiveRefused, IsFirstRefused, IsRefusal, IsRefusedArchive, Reader, Reads, Unfailed, readers}
+use Rattle.command_core.proofs.Archives.{each_archive, hold_more}
+use Rattle.command_core.proofs.Readers.{all_more, none_failed, none_touched}
+use Rattle.command_core.specs.Archives.{AreRefused, AreUnfailed, HoldTogether, ReadsTogether, further_name, merged}
+use Rattle.command_core.specs.declared.faults.CommandFault.{CommandFault}
+use Rattle.command_core.specs.declared.faults.CommandFault.TheVariants.{Input, Output, Report, OutOfMemory}
+use Rattle.command_core.specs.declared.faults.InputName.{InputName}
+use Rattle.command_core.specs.declared.faults.Status.{Status}
+use Rattle.command_core.specs.declared.faults.Why.{Why}
+use Rattle.command_core.specs.Ends.{EndsReport}
+use Rattle.command_core.specs.Outputs.{Takes, Writer}
+use Rattle.command_core.specs.Inputs.{EachUnfailed, EachUntouched, HoldsArchive, HoldsContent, HoldsPart, IsArchive, IsArchiveRefused, IsFirstRefused, IsRefusal, IsRefusedArchive, Reader, Reads, Unfailed, readers}
 use Rattle.archive_queries.specs.InnerTogether.{HasJoinedParts}
 use Rattle.archive_queries.specs.Together.{AreAlikeWhere}
 

@@ -4,13 +4,13 @@ use Rattle.std.specs.List.{AllZip, flat_map, list_all}
 use Rattle.archive_core.specs.Content.{Operations}
 use Rattle.crash_frames.specs.Frames.{frames_of}
 use Rattle.crash_frames.specs.declared.frame.Frame.{Frame}
-use Rattle.command_ends.specs.declared.faults.InputName.{InputName}
-use Rattle.command_ends.specs.declared.faults.Status.{Status}
-use Rattle.command_ends.specs.declared.faults.Status.TheVariants.{Done, Partial}
-use Rattle.command_ends.specs.declared.faults.Why.{Why}
-use Rattle.command_ends.specs.Archives.{AreRefused, AreUnfailed, HoldTogether}
-use Rattle.command_ends.specs.Ends.{Query}
-use Rattle.command_ends.specs.Inputs.{Reader, Gives, Unfailed, IsUntouched, EachUntouched, IsFrames, IsRefusedFrames}
+use Rattle.command_core.specs.declared.faults.InputName.{InputName}
+use Rattle.command_core.specs.declared.faults.Status.{Status}
+use Rattle.command_core.specs.declared.faults.Status.TheVariants.{Done, Partial}
+use Rattle.command_core.specs.declared.faults.Why.{Why}
+use Rattle.command_core.specs.Archives.{AreRefused, AreUnfailed, HoldTogether}
+use Rattle.command_core.specs.Ends.{Query}
+use Rattle.command_core.specs.Inputs.{Reader, Gives, Unfailed, IsUntouched, EachUntouched, IsFrames, IsRefusedFrames}
 use Rattle.archive_queries.specs.Symbolicate.{Answered, IsAnswered, answers_status, answers_text}
 use Rattle.archive_queries.specs.Symbolicate.{MakesAnswered}
 

@@ -3,14 +3,14 @@ ghost use Rattle.std.specs.Prelude.{◌≡◌, ◌&&◌, [], IfOk, length, map, 
 ghost use Rattle.archive_core.specs.Names.{IsNames};
 ghost use Rattle.archive_core.specs.Names.{owned_name_view};
 ghost use Rattle.archive_reading.specs.Names.{AddsNames};
-ghost use Rattle.command_ends.specs.Archives.{ReadsOthers, ReadsTogether};
-ghost use Rattle.command_ends.specs.Inputs.{HoldsContent, IsRefusedArchive, Reads, reader, readers};
+ghost use Rattle.command_core.specs.Archives.{ReadsOthers, ReadsTogether};
+ghost use Rattle.command_core.specs.Inputs.{HoldsContent, IsRefusedArchive, Reads, reader, readers};
 ghost use Rattle.archive_queries.specs.InnerNames.{HaveAdded};
 ghost use Rattle.archive_queries.specs.Name.{Answers, underscored};
 
 use archive_reading::{NamesFound, NamesTold, SoughtNames, gather_names, live_names, read_names};
 use byte_device::{CannotOpen, Source};
-use command_ends::{CommandFault, InputName, Status, found_status, opened, refusal};
+use command_core::{CommandFault, InputName, Status, found_status, opened, refusal};
 use memory::{Heap, NoMemory};
 use report_text::name_lines;
 

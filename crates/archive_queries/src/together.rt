@@ -5,8 +5,8 @@ ghost use Rattle.archive_core.specs.Key.{key_bytes};
 ghost use Rattle.archive_core.specs.Part.{is_under, part};
 ghost use Rattle.archive_core.specs.declared.keys.SliceKey.{SliceKey};
 ghost use Rattle.archive_reading.specs.Keys.{AnswersAs, AreInOrder, first_key};
-ghost use Rattle.command_ends.specs.Archives.{ReadsOthers, ReadsTogether};
-ghost use Rattle.command_ends.specs.Inputs.{HoldsContent, IsRefusedArchive, Reads, reader, readers};
+ghost use Rattle.command_core.specs.Archives.{ReadsOthers, ReadsTogether};
+ghost use Rattle.command_core.specs.Inputs.{HoldsContent, IsRefusedArchive, Reads, reader, readers};
 ghost use Rattle.archive_queries.specs.InnerTogether.{HasJoinedParts};
 ghost use Rattle.archive_queries.specs.Together.{AreAlikeWhere};
 
@@ -14,7 +14,7 @@ use archive_core::{Archive, SliceKey, take_all};
 use archive_reading::{Questions, Selects};
 use archive_records::key_front;
 use byte_device::{CannotOpen, Source};
-use command_ends::{CommandFault, answer_input, read_input_part};
+use command_core::{CommandFault, answer_input, read_input_part};
 use memory::{Heap, NoMemory};
 
 /// Joins what is picked of the archive with this number among the words.

@@ -2,8 +2,8 @@
 use Rattle.std.proofs.Common.{◌≡◌, ℕ, true, false, List, [], ◌∷◌, ◌==◌, refl, inl, arith}
 use Rattle.std.proofs.lemmas.Bool.{or_from, or_parts}
 use Rattle.std.specs.List.{list_any}
-use Rattle.command_ends.specs.declared.failures.Failure.{Failure}
-use Rattle.command_ends.specs.Outputs.{Writer}
+use Rattle.command_core.specs.declared.failures.Failure.{Failure}
+use Rattle.command_core.specs.Outputs.{Writer}
 use Rattle.command_line.specs.Lines.{Line}
 use Rattle.error_lines.specs.StandardError.{IsSaid, SaysFailure, failure_text, has_line_feed, is_control}
 use Rattle.byte_device.proofs.Known.{Appends-none as nothing_more}

@@ -6,13 +6,13 @@ use Rattle.clap.specs.Words.{Text}
 use Rattle.byte_device.specs.Disks.{cannot_create_text}
 use Rattle.command_line.specs.Lines.{Line}
 use Rattle.report_text.specs.Report.{line}
-use Rattle.command_ends.specs.declared.failures.Failure.{Failure}
-use Rattle.command_ends.specs.declared.failures.Failure.TheVariants.{Command, CannotCreate, CannotReplace}
-use Rattle.command_ends.specs.declared.faults.Status.{Status}
-use Rattle.command_ends.specs.FaultTexts.{command_fault_text}
-use Rattle.command_ends.specs.Outputs.{FailsBehind, Takes, Writer}
-use Rattle.archive_updates.specs.Notes.{note_text}
-use Rattle.archive_updates.specs.declared.notes.Note.{Note}
+use Rattle.command_core.specs.declared.failures.Failure.{Failure}
+use Rattle.command_core.specs.declared.failures.Failure.TheVariants.{Command, CannotCreate, CannotReplace}
+use Rattle.command_core.specs.declared.faults.Status.{Status}
+use Rattle.command_core.specs.FaultTexts.{command_fault_text}
+use Rattle.command_core.specs.Outputs.{FailsBehind, Takes, Writer}
+use Rattle.archive_writing.specs.Notes.{note_text}
+use Rattle.archive_writing.specs.declared.notes.Note.{Note}
 use Rattle.error_lines.specs.Hints.{file_of, subject_of}
 
 -- the line of a failure

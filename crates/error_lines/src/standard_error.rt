@@ -1,7 +1,7 @@
 //! What is said on standard error.
 
 ghost use Rattle.std.specs.Prelude.{◌≡◌, [], IfOk, IfSome, None, Some, string_bytes};
-ghost use Rattle.command_ends.specs.Outputs.{Takes, writer};
+ghost use Rattle.command_core.specs.Outputs.{Takes, writer};
 ghost use Rattle.command_line.specs.Lines.{Line};
 ghost use Rattle.report_text.specs.Report.{line};
 ghost use Rattle.error_lines.specs.Hints.{file_of, subject_of, subject_text};
@@ -10,9 +10,9 @@ ghost use Rattle.error_lines.specs.StandardError.{SaysWanting, note_lines};
 
 use crate::help_lines::{help_line, report_line};
 use crate::hints::Help;
-use archive_updates::Note;
+use archive_writing::Note;
 use byte_device::{Sink, push_all};
-use command_ends::Failure;
+use command_core::Failure;
 use memory::NoMemory;
 use std::alloc::Global;
 use std::fmt::{self, Display, Write};

@@ -8,9 +8,9 @@ use Rattle.archive_core.specs.declared.keys.SliceKey.{SliceKey}
 use Rattle.archive_core.specs.declared.lookup.Where.{Where}
 use Rattle.archive_core.proofs.Members.{in_map, to_map}
 use Rattle.crash_frames.specs.declared.frame.Frame.{Frame}
-use Rattle.command_ends.specs.Inputs.{IsRefusal}
-use Rattle.command_ends.specs.declared.faults.CommandFault.{CommandFault}
-use Rattle.command_ends.specs.declared.faults.CommandFault.TheVariants.{Input, Output, Report, OutOfMemory}
+use Rattle.command_core.specs.Inputs.{IsRefusal}
+use Rattle.command_core.specs.declared.faults.CommandFault.{CommandFault}
+use Rattle.command_core.specs.declared.faults.CommandFault.TheVariants.{Input, Output, Report, OutOfMemory}
 use Rattle.indexed_answers.specs.Among.{AreAnsweringAmong, EntryAt}
 use Rattle.indexed_answers.specs.AmongAsked.{AsksAmong, BlamesAmong, HasText, HaveTexts, each_known}
 use Rattle.indexed_answers.specs.AmongTold.{IsAnswerAmong}

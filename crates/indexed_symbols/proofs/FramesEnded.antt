@@ -7,12 +7,12 @@ use Rattle.archive_queries.specs.Frames.{TellsFrames}
 use Rattle.archive_queries.specs.Symbolicate.{Answered}
 use Rattle.crash_frames.specs.Frames.{frames_of}
 use Rattle.crash_frames.specs.declared.frame.Frame.{Frame}
-use Rattle.command_ends.specs.Ends.{EndsReport}
-use Rattle.command_ends.specs.Inputs.{Reader, readers, EachUnfailed, EachUntouched, Gives, IsRefusal, IsRefusedFrames, Unfailed}
-use Rattle.command_ends.specs.Outputs.{Takes, Writer}
-use Rattle.command_ends.specs.declared.faults.CommandFault.{CommandFault}
-use Rattle.command_ends.specs.declared.faults.CommandFault.TheVariants.{Input, Output, Report, OutOfMemory}
-use Rattle.command_ends.specs.declared.faults.Status.{Status}
+use Rattle.command_core.specs.Ends.{EndsReport}
+use Rattle.command_core.specs.Inputs.{Reader, readers, EachUnfailed, EachUntouched, Gives, IsRefusal, IsRefusedFrames, Unfailed}
+use Rattle.command_core.specs.Outputs.{Takes, Writer}
+use Rattle.command_core.specs.declared.faults.CommandFault.{CommandFault}
+use Rattle.command_core.specs.declared.faults.CommandFault.TheVariants.{Input, Output, Report, OutOfMemory}
+use Rattle.command_core.specs.declared.faults.Status.{Status}
 use Rattle.indexed_answers.specs.AmongAsked.{HaveTexts}
 use Rattle.indexed_queries.specs.Several.{AreUnfailedTogether}
 use Rattle.indexed_queries.specs.Together.{AreAllKept, AreReadWith, IsFirstRefusedByIndex}

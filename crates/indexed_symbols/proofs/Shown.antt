@@ -14,9 +14,9 @@ use Rattle.archive_core.specs.declared.lookup.Answer.{Answer}
 use Rattle.archive_core.specs.declared.lookup.Where.{Where}
 use Rattle.crash_frames.specs.declared.frame.Frame.{Frame}
 use Rattle.report_text.specs.Answers.{answer_lines}
-use Rattle.command_ends.specs.declared.faults.Status.{Status}
-use Rattle.command_ends.specs.declared.faults.Status.TheVariants.{Done, Partial}
-use Rattle.command_ends.proofs.Readers.{pairs_more}
+use Rattle.command_core.specs.declared.faults.Status.{Status}
+use Rattle.command_core.specs.declared.faults.Status.TheVariants.{Done, Partial}
+use Rattle.command_core.proofs.Readers.{pairs_more}
 use Rattle.archive_queries.proofs.Answered.{status_more}
 use Rattle.archive_queries.specs.Symbolicate.{Answered, asked_of, is_symbol}
 use Rattle.indexed_answers.specs.AmongTold.{IsAnswerAmong}

@@ -4,7 +4,7 @@ use Rattle.std.specs.Prelude.{IsOk, slice_get, slice_set}
 use Rattle.std.proofs.lemmas.Option.{slice_get_within}
 use Rattle.byte_device.specs.Devices.{FailedIn}
 use Rattle.byte_device.specs.declared.disks.CannotOpen.{CannotOpen}
-use Rattle.command_ends.specs.Inputs.{Reader, reader, readers, EachUnfailed, Gives, IsGiven, failures_of}
+use Rattle.command_core.specs.Inputs.{Reader, reader, readers, EachUnfailed, Gives, IsGiven, failures_of}
 use Rattle.indexed_answers.specs.Among.{AreAnsweringAmong, EntryAt}
 use Rattle.indexed_answers.specs.AmongAsked.{AreOpened, HasText, HaveTexts, IsOpenedAt, each_known, known_of}
 use Rattle.indexed_queries.specs.Together.{AreAllKept, AreReadWith, IsKept}

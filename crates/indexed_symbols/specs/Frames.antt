@@ -7,11 +7,11 @@ use Rattle.archive_queries.specs.Frames.{TellsFrames}
 use Rattle.archive_queries.specs.Symbolicate.{Answered, answers_status, answers_text}
 use Rattle.crash_frames.specs.Frames.{frames_of}
 use Rattle.crash_frames.specs.declared.frame.Frame.{Frame}
-use Rattle.command_ends.specs.Ends.{Query}
-use Rattle.command_ends.specs.Inputs.{Reader, EachUntouched, Gives, IsRefusedFrames, Unfailed}
-use Rattle.command_ends.specs.declared.faults.InputName.{InputName}
-use Rattle.command_ends.specs.declared.faults.Status.{Status}
-use Rattle.command_ends.specs.declared.faults.Why.{Why}
+use Rattle.command_core.specs.Ends.{Query}
+use Rattle.command_core.specs.Inputs.{Reader, EachUntouched, Gives, IsRefusedFrames, Unfailed}
+use Rattle.command_core.specs.declared.faults.InputName.{InputName}
+use Rattle.command_core.specs.declared.faults.Status.{Status}
+use Rattle.command_core.specs.declared.faults.Why.{Why}
 use Rattle.indexed_queries.specs.Several.{AreUnfailedTogether, MakesTogether}
 use Rattle.indexed_queries.specs.Together.{AreReadWith}
 use Rattle.indexed_symbols.specs.Asking.{AreGiven, AreRefusedAsking, AreTiedUnder, IsAnsweredByTables}

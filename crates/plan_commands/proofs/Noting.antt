@@ -4,12 +4,12 @@ use Rattle.std.specs.Prelude.{MatchResult, OnOk}
 use Rattle.clap.specs.Words.{Text}
 use Rattle.command_line.specs.Lines.{Line, error_kinds, line_of}
 use Rattle.archive_files.specs.declared.replaceable.OutFault.{OutFault}
-use Rattle.archive_updates.specs.declared.notes.Note.{Note}
-use Rattle.command_ends.specs.declared.failures.Failure.{Failure}
-use Rattle.command_ends.specs.declared.faults.CommandFault.{CommandFault}
-use Rattle.command_ends.specs.declared.faults.Status.{Status}
-use Rattle.command_ends.specs.Outputs.{Writer}
-use Rattle.command_ends.specs.Statuses.{status_of}
+use Rattle.archive_writing.specs.declared.notes.Note.{Note}
+use Rattle.command_core.specs.declared.failures.Failure.{Failure}
+use Rattle.command_core.specs.declared.faults.CommandFault.{CommandFault}
+use Rattle.command_core.specs.declared.faults.Status.{Status}
+use Rattle.command_core.specs.Outputs.{Writer}
+use Rattle.command_core.specs.Statuses.{status_of}
 use Rattle.plan_commands.specs.Ends.{Ran}
 use Rattle.plan_commands.specs.Files.{Calls, IsCarriedOut, IsDone, command_fault_of}
 use Rattle.error_lines.specs.StandardError.{SaysFailure, SaysNotes}

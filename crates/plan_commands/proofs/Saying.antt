@@ -9,7 +9,7 @@ use Rattle.command_line.specs.LineFaults.{IsHelpUnlessMemory, IsRefusalUnlessMem
 use Rattle.command_line.specs.Lines.{error_kinds, is_in_order, named_command}
 use Rattle.command_line.specs.declared.line_faults.LineFault.{LineFault}
 use Rattle.command_line.specs.declared.line_faults.LineFault.TheVariants.{Help, Refused, OutOfMemory}
-use Rattle.command_ends.specs.Outputs.{Writer}
+use Rattle.command_core.specs.Outputs.{Writer}
 use Rattle.plan_commands.specs.Ends.{EndsLine, IsHelped, IsRefused, WantsMemory}
 
 -- ---- words that give no plan

@@ -7,11 +7,11 @@ use Rattle.command_line.specs.LineFaults.{IsRefusedBy, refusal_of}
 use Rattle.command_line.specs.Lines.{Line, error_kinds, is_in_order, line_of, named_command}
 use Rattle.command_line.specs.declared.line_faults.LineFault.{LineFault}
 use Rattle.command_line.specs.declared.line_faults.LineFault.TheVariants as fault
-use Rattle.command_ends.specs.declared.failures.Failure.{Failure}
-use Rattle.command_ends.specs.declared.faults.Status.{Status}
-use Rattle.command_ends.specs.Outputs.{Takes, Writer}
-use Rattle.command_ends.specs.Statuses.{status_of}
-use Rattle.archive_updates.specs.declared.notes.Note.{Note}
+use Rattle.command_core.specs.declared.failures.Failure.{Failure}
+use Rattle.command_core.specs.declared.faults.Status.{Status}
+use Rattle.command_core.specs.Outputs.{Takes, Writer}
+use Rattle.command_core.specs.Statuses.{status_of}
+use Rattle.archive_writing.specs.declared.notes.Note.{Note}
 use Rattle.plan_commands.specs.Files.{Calls, IsDone}
 use Rattle.error_lines.specs.StandardError.{IsPushed, SaysEnd, SaysRefused, SaysWanting, reason_in}
 

@@ -2,21 +2,21 @@
 
 ghost use Rattle.std.specs.Prelude.{◌≡◌, ◌≢◌, Err, MatchResult, Ok, map, string_bytes};
 ghost use Rattle.std.specs.IoError.{error_kind};
-ghost use Rattle.command_ends.specs.Outputs.{writer};
+ghost use Rattle.command_core.specs.Outputs.{writer};
 ghost use Rattle.archive_files.specs.AtTurns.{told_by};
 ghost use Rattle.archive_files.specs.Fresh.{AreFresh};
 ghost use Rattle.command_line.specs.LineView.{line_view};
 ghost use Rattle.plan_commands.specs.Files.{calls_of};
-ghost use Rattle.command_ends.specs.Statuses.{status_of};
+ghost use Rattle.command_core.specs.Statuses.{status_of};
 ghost use Rattle.plan_commands.specs.Ends.{EndsLine, EndsWords, IsIdle, IsUnreadable, WantsMemory};
 ghost use Rattle.error_lines.specs.StandardError.{SaysFailure, SaysNotes, behind_error, reason_in, without_line_feed};
 
 use crate::files::execute;
 use crate::plans::Plan;
 use archive_files::{Disk, OpenedFile, OutFile, OutPath, PlacedFile, SystemDisk, SystemFiles};
-use archive_updates::Note;
+use archive_writing::Note;
 use byte_device::{Placed, Sink, Source, push_all};
-use command_ends::{Failure, Status, Target, status_of};
+use command_core::{Failure, Status, Target, status_of};
 use command_line::{Line, LineFault, read_line};
 use error_lines::{
     FailureLine, RefusedLine, Seen, help_with, say, say_help, say_notes, say_wanting,

@@ -24,9 +24,9 @@ use Rattle.archive_queries.specs.Symbolicate.{Answered, asked_of}
 use Rattle.archive_queries.proofs.Parts.{joined_alike}
 use Rattle.archive_queries.proofs.Sourced.{answers_alike, sourced_as}
 use Rattle.crash_frames.specs.declared.frame.Frame.{Frame}
-use Rattle.command_ends.specs.Archives.{merged}
-use Rattle.command_ends.specs.Inputs.{IsGiven, Reader}
-use Rattle.command_ends.specs.declared.faults.Status.{Status}
+use Rattle.command_core.specs.Archives.{merged}
+use Rattle.command_core.specs.Inputs.{IsGiven, Reader}
+use Rattle.command_core.specs.declared.faults.Status.{Status}
 use Rattle.index_laws.specs.Indexes.{IsIndexFile, all_joined}
 use Rattle.index_laws.proofs.Right.{zip_right}
 use Rattle.indexed_queries.specs.Prefixes.{AreNamedUnder, HoldsNamed}

@@ -11,10 +11,10 @@ use Rattle.archive_core.proofs.Members.{in_front, in_map, in_rest}
 use Rattle.archive_queries.specs.Frames.{IsFrameAnswered, TellsFrames}
 use Rattle.archive_queries.specs.Symbolicate.{Answered, IsAnswered, TellsAddresses, asked_of}
 use Rattle.archive_queries.proofs.Answered.{told_alike}
-use Rattle.command_ends.specs.Inputs.{IsDeviceFault, IsGiven, Reader}
-use Rattle.command_ends.specs.declared.faults.InputName.{InputName}
-use Rattle.command_ends.specs.declared.faults.Status.{Status}
-use Rattle.command_ends.specs.declared.faults.Why.{Why}
+use Rattle.command_core.specs.Inputs.{IsDeviceFault, IsGiven, Reader}
+use Rattle.command_core.specs.declared.faults.InputName.{InputName}
+use Rattle.command_core.specs.declared.faults.Status.{Status}
+use Rattle.command_core.specs.declared.faults.Why.{Why}
 use Rattle.crash_frames.specs.declared.frame.Frame.{Frame}
 use Rattle.table_index.specs.Text.{IsIndexText}
 use Rattle.index_laws.specs.Indexes.{AreIndexes, DigestsTell, IsIndexFile, all_joined}

@@ -14,8 +14,8 @@ use Rattle.archive_core.specs.declared.keys.SliceKey.{SliceKey}
 use Rattle.archive_core.proofs.Compare.{length_key_bytes}
 use Rattle.archive_core.proofs.Members.{in_front, in_rest}
 use Rattle.archive_core.proofs.Records.{length-key_of, one_key as same_key}
-use Rattle.command_ends.specs.Inputs.{Reader}
-use Rattle.command_ends.specs.Outputs.{Writer}
+use Rattle.command_core.specs.Inputs.{Reader}
+use Rattle.command_core.specs.Outputs.{Writer}
 use Rattle.report_text.specs.Finds.{find_lines}
 use Rattle.index_laws.specs.Indexes.{AreIndexes, DigestsTell, all_joined}
 use Rattle.index_laws.proofs.Among.{entry_if_live, lives_then}

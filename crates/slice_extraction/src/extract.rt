@@ -2,8 +2,8 @@
 
 ghost use Rattle.std.specs.Prelude.{◌≡◌, length};
 ghost use Rattle.archive_core.specs.Key.{key_bytes};
-ghost use Rattle.command_ends.specs.Inputs.{reader, readers};
-ghost use Rattle.command_ends.specs.Outputs.{out_of, outs, writer};
+ghost use Rattle.command_core.specs.Inputs.{reader, readers};
+ghost use Rattle.command_core.specs.Outputs.{out_of, outs, writer};
 ghost use Rattle.slice_extraction.specs.Extract.{Extracts, extract};
 
 use crate::publishing::publish_wanted;
@@ -12,7 +12,7 @@ use archive_queries::read_parts;
 use archive_reading::Under;
 use archive_records::key_front;
 use byte_device::{CannotOpen, Sink, Source};
-use command_ends::{CommandFault, Output, Status, Target};
+use command_core::{CommandFault, Output, Status, Target};
 use memory::Heap;
 
 /// The bytes of a key.

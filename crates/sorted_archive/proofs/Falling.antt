@@ -18,7 +18,6 @@ eq_of_both : (r : Ordering) → is_lt r ≡ false → is_le r ≡ true → is_eq
 eq_of_both r h g = grind arith
 
 module _ {X : Type 0} where
-
   -- what is written back to the front of a list, as it was there, leaves it as it was
   pub written_back : (old new : List X) (n : ℕ) → new ≡ old → length old ≤ n → take n (new ++ drop (length new) old) ≡ old
   written_back old new n same long = rw same (ap (λ rest. take n (old ++ rest)) (drop_all (length old) old (omega arith)) ∙ ap (take n) (append-nil old) ∙ take_all n old long)

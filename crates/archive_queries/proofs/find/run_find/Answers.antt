@@ -4,9 +4,9 @@ use Rattle.byte_device.proofs.Known.{Appends-none}
 use Rattle.archive_core.specs.Part.{is_under}
 use Rattle.archive_core.proofs.Picked.{finds_alike}
 use Rattle.report_text.specs.Finds.{find_lines}
-use Rattle.command_ends.specs.Found.{found_status}
-use Rattle.command_ends.proofs.Endings.{reported}
-use Rattle.command_ends.proofs.Readers.{none_failed}
+use Rattle.command_core.specs.Found.{found_status}
+use Rattle.command_core.proofs.Endings.{reported}
+use Rattle.command_core.proofs.Readers.{none_failed}
 use Rattle.archive_queries.proofs.Parts.{together_refused, together_tells}
 use Rattle.archive_queries.proofs.find.run_find.Goals as goal
 

@@ -3,8 +3,8 @@ use Rattle.std.proofs.lemmas.Result.{err_from_is_err_and}
 use Rattle.byte_device.proofs.Known.{Appends-none}
 use Rattle.archive_queries.proofs.Framed.{archives_refused, frames_refused}
 use Rattle.archive_queries.proofs.Parts.{together_tells}
-use Rattle.command_ends.proofs.Endings.{reported}
-use Rattle.command_ends.proofs.Readers.{none_failed, none_touched}
+use Rattle.command_core.proofs.Endings.{reported}
+use Rattle.command_core.proofs.Readers.{none_failed, none_touched}
 use Rattle.archive_queries.proofs.frames.run_frames.Goals as goal
 
 pub returns-in_err-clone : goal.returns-in_err-clone

@@ -1,4 +1,4 @@
-use Rattle.command_ends.proofs.BorrowedSources.{read_lent}
+use Rattle.command_core.proofs.BorrowedSources.{read_lent}
 use Rattle.archive_queries.proofs.name.gather_input.Goals as goal
 
 pub returns-in-Ok : goal.returns-in-Ok

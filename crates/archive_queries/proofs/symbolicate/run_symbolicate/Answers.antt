@@ -4,8 +4,8 @@ use Rattle.byte_device.proofs.Known.{Appends-none}
 use Rattle.archive_core.specs.Key.{key_bytes}
 use Rattle.archive_core.specs.Part.{is_under}
 use Rattle.archive_queries.proofs.Answered.{told_alike}
-use Rattle.command_ends.proofs.Endings.{reported}
-use Rattle.command_ends.proofs.Readers.{none_failed}
+use Rattle.command_core.proofs.Endings.{reported}
+use Rattle.command_core.proofs.Readers.{none_failed}
 use Rattle.archive_queries.proofs.Parts.{together_refused, together_tells}
 use Rattle.archive_queries.proofs.symbolicate.run_symbolicate.Goals as goal
 

@@ -1,5 +1,5 @@
 use Rattle.indexed_queries.proofs.Refused.{index_kept, index_refused, tables_read}
-use Rattle.command_ends.proofs.BorrowedSources.{lent_from}
+use Rattle.command_core.proofs.BorrowedSources.{lent_from}
 use Rattle.indexed_queries.proofs.inputs.read_tables.Goals as goal
 
 pub returns-in-Ok-clause-read : goal.returns-in-Ok-clause-read

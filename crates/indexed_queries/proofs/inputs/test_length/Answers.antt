@@ -1,6 +1,6 @@
 use Rattle.std.proofs.Common.{refl, ◌∙◌}
 use Rattle.std.proofs.lemmas.Option.{IfSome_then}
-use Rattle.command_ends.proofs.BorrowedSources.{lent_from}
+use Rattle.command_core.proofs.BorrowedSources.{lent_from}
 use Rattle.indexed_queries.proofs.inputs.test_length.Goals as goal
 
 pub returns-in-Ok-true-clause-tests : goal.returns-in-Ok-true-clause-tests

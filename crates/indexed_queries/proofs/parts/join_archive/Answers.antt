@@ -1,7 +1,7 @@
 use Rattle.std.proofs.Common.{map}
 use Rattle.indexed_queries.specs.Prefixes.{prefix_bytes}
 use Rattle.indexed_queries.proofs.Joined.{named_in, told_refused}
-use Rattle.command_ends.proofs.BorrowedSources.{lent_from}
+use Rattle.command_core.proofs.BorrowedSources.{lent_from}
 use Rattle.indexed_queries.proofs.parts.join_archive.Goals as goal
 
 pub returns-in-Ok : goal.returns-in-Ok

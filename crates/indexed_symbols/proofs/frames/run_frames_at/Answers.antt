@@ -3,10 +3,10 @@ use Rattle.std.proofs.lemmas.Result.{err_from_is_err_and}
 use Rattle.byte_device.proofs.Known.{Appends-none}
 use Rattle.crash_frames.specs.Frames.{frames_of}
 use Rattle.crash_frames.specs.declared.frame.Frame.{Frame}
-use Rattle.command_ends.proofs.Endings.{reported}
-use Rattle.command_ends.proofs.Readers.{none_failed, none_touched, readers_long}
-use Rattle.command_ends.specs.Inputs.{Gives, reader, readers}
-use Rattle.command_ends.specs.Outputs.{writer}
+use Rattle.command_core.proofs.Endings.{reported}
+use Rattle.command_core.proofs.Readers.{none_failed, none_touched, readers_long}
+use Rattle.command_core.specs.Inputs.{Gives, reader, readers}
+use Rattle.command_core.specs.Outputs.{writer}
 use Rattle.indexed_queries.proofs.Groups.{three_long}
 use Rattle.indexed_queries.specs.Together.{AreReadWith, IsReadWith}
 use Rattle.indexed_symbols.specs.Frames.{AreToldAt}

@@ -16,7 +16,7 @@ use Rattle.plan_commands.proofs.Noting.{told_done}
 use Rattle.plan_commands.proofs.Outcomes.{carried_outcome}
 use Rattle.plan_commands.proofs.Saying.{none_called}
 use Rattle.plan_commands.proofs.files.execute.Goals as goal
-use Rattle.archive_updates.proofs.Taking.{always as on_any}
+use Rattle.archive_writing.proofs.Taking.{always as on_any}
 
 pub returns-in_err-heap : goal.returns-in_err-heap
 returns-in_err-heap g c =

@@ -1,6 +1,6 @@
 use Rattle.std.proofs.Common.{◌++◌, ◌∙◌, ap, codes, refl, subst, sym}
 use Rattle.std.proofs.KnownBytes.{Appends-nil}
-use Rattle.command_ends.specs.Outputs.{writer}
+use Rattle.command_core.specs.Outputs.{writer}
 use Rattle.plan_commands.specs.Ends.{EndsLine}
 use Rattle.error_lines.specs.StandardError.{IsSaid, reason_in}
 use Rattle.plan_commands.proofs.runs.end_without_line.Goals as goal

@@ -4,10 +4,10 @@ use Rattle.byte_device.proofs.Known.{Appends-none}
 use Rattle.archive_core.specs.Key.{key_bytes}
 use Rattle.archive_core.specs.Part.{is_under}
 use Rattle.archive_queries.proofs.Parts.{together_tells}
-use Rattle.command_ends.specs.Archives.{AreRefused, AreUnfailed, HoldTogether}
-use Rattle.command_ends.specs.Inputs.{reader, readers}
-use Rattle.command_ends.specs.declared.faults.CommandFault.TheVariants.{OutOfMemory}
-use Rattle.command_ends.proofs.Readers.{none_failed}
+use Rattle.command_core.specs.Archives.{AreRefused, AreUnfailed, HoldTogether}
+use Rattle.command_core.specs.Inputs.{reader, readers}
+use Rattle.command_core.specs.declared.faults.CommandFault.TheVariants.{OutOfMemory}
+use Rattle.command_core.proofs.Readers.{none_failed}
 use Rattle.slice_extraction.proofs.Extracted.{refused_so, wanted_so}
 use Rattle.slice_extraction.proofs.extract.run_extract.Goals as goal
 
