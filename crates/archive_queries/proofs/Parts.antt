@@ -28,7 +28,7 @@ use Rattle.command_core.specs.declared.faults.Status.{Status}
 use Rattle.command_core.specs.declared.faults.Why.{Why}
 use Rattle.command_core.specs.Ends.{EndsReport}
 use Rattle.command_core.specs.Outputs.{Takes, Writer}
-use Rattle.command_core.specs.Inputs.{EachUnfailed, EachUntouched, HoldsArchive, HoldsContent, HoldsPart, IsArchive, IsArchiveRefused, IsFirstRefused, IsRefusal, IsRefusedArchive, Reader, Reads, Unfailed, readers}
+use Rattle.command_core.specs.Inputs.{EachUnfailed, EachUntouched, HoldsArchive, HoldsContent, HoldsPart, IsArchive, IsArchiveRefused, IsFirstRefused, IsRefusal, IsRefusedArchive, Reader, ReadsInput, Unfailed, readers}
 use Rattle.archive_queries.specs.InnerTogether.{HasJoinedParts}
 use Rattle.archive_queries.specs.Together.{AreAlikeWhere}
 
@@ -179,7 +179,7 @@ pub no_others : {X : Type 0} (xs : List X) (empty : Bool) → empty ≡ nat_eq (
 no_others xs empty is holds = nil_from_length xs (eqb-true (length xs) 0 (sym is ∙ holds))
 
 pub alone_told : {R T : Type 0} (left : R → Option (List ℕ)) (failures : R → ℕ) (archive : Reader R) (others : List (Result R CannotOpen)) (IsTrue : T → Operations → Type 0) (result : Result T CommandFault) → others ≡ []
-    → Reads archive result (λ input told. HoldsContent input (IsTrue told)) (IsRefusedArchive 0) → ReadsTogether archive (readers left failures others others) result IsTrue
+    → ReadsInput archive result (λ input told. HoldsContent input (IsTrue told)) (IsRefusedArchive 0) → ReadsTogether archive (readers left failures others others) result IsTrue
 alone_told left failures archive others IsTrue (Ok told) none read = record { is = alone left failures archive others (IsTrue told) none read.is; unfailed = (read.unfailed, none_failed left failures others) }
 alone_told left failures archive others IsTrue (Err fault) none refused = first_refused archive (readers left failures others others) fault refused (none_touched left failures others) (none_failed left failures others)
 

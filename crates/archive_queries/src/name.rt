@@ -4,7 +4,7 @@ ghost use Rattle.archive_core.specs.Names.{IsNames};
 ghost use Rattle.archive_core.specs.Names.{owned_name_view};
 ghost use Rattle.archive_reading.specs.Names.{AddsNames};
 ghost use Rattle.command_core.specs.Archives.{ReadsOthers, ReadsTogether};
-ghost use Rattle.command_core.specs.Inputs.{HoldsContent, IsRefusedArchive, Reads, reader, readers};
+ghost use Rattle.command_core.specs.Inputs.{HoldsContent, IsRefusedArchive, ReadsInput, reader, readers};
 ghost use Rattle.archive_queries.specs.InnerNames.{HaveAdded};
 ghost use Rattle.archive_queries.specs.Name.{Answers, underscored};
 
@@ -30,7 +30,7 @@ fn read_name_rows<R: Source>(
     sought: SoughtNames<'_>,
     input: &mut Result<R, CannotOpen>,
 ) -> Result<NamesTold, CommandFault>
-    ensures { Reads (reader R.left R.failures input.old input.new) result
+    ensures { ReadsInput (reader R.left R.failures input.old input.new) result
         (λ input told. HoldsContent input
         (λ o. IsNames o sought.entry.name.now (map owned_name_view told.rows.items)
         × IsNames o sought.entry.other.now (map owned_name_view told.others.items)))
@@ -53,7 +53,7 @@ fn gather_input<R: Source>(
     sought: SoughtNames<'_>,
     input: &mut Result<R, CannotOpen>,
 ) -> Result<NamesFound, CommandFault>
-    ensures { Reads (reader R.left R.failures input.old input.new) result
+    ensures { ReadsInput (reader R.left R.failures input.old input.new) result
         (λ input now. HoldsContent input (λ o. AddsNames o sought.entry.name.now sought.entry.other.now found now))
         (IsRefusedArchive number) }
 {

@@ -6,7 +6,7 @@ ghost use Rattle.archive_core.specs.Part.{is_under, part};
 ghost use Rattle.archive_core.specs.declared.keys.SliceKey.{SliceKey};
 ghost use Rattle.archive_reading.specs.Keys.{AnswersAs, AreInOrder, first_key};
 ghost use Rattle.command_core.specs.Archives.{ReadsOthers, ReadsTogether};
-ghost use Rattle.command_core.specs.Inputs.{HoldsContent, IsRefusedArchive, Reads, reader, readers};
+ghost use Rattle.command_core.specs.Inputs.{HoldsContent, IsRefusedArchive, ReadsInput, reader, readers};
 ghost use Rattle.archive_queries.specs.InnerTogether.{HasJoinedParts};
 ghost use Rattle.archive_queries.specs.Together.{AreAlikeWhere};
 
@@ -25,7 +25,7 @@ pub fn join_part<A: Archive + Drop, S: Selects, R: Source>(
     select: &S,
     archive: &mut Result<R, CannotOpen>,
 ) -> Result<(), CommandFault>
-    ensures { Reads (reader R.left R.failures archive.old archive.new) result
+    ensures { ReadsInput (reader R.left R.failures archive.old archive.new) result
         (λ archive _. HoldsContent archive
         (λ o. A.content kept.new ≡ joined (A.content kept.old) (part o (S.picked select.now))))
         (IsRefusedArchive number) }

@@ -16,7 +16,7 @@ ghost use Rattle.archive_writing.specs.Begun.{EndsBegun};
 ghost use Rattle.command_core.specs.Ends.{EndsStreamed};
 ghost use Rattle.command_core.specs.Inputs.{EachUnfailed, Holds, IsAccepted, IsFileRefused};
 ghost use Rattle.command_core.specs.Inputs.{IsFirstRefused, IsRefusal, IsRefusedBytes};
-ghost use Rattle.command_core.specs.Inputs.{IsRefusedFile, Reads, ReadsInputs, reader, readers};
+ghost use Rattle.command_core.specs.Inputs.{IsRefusedFile, ReadsInput, ReadsInputs, reader, readers};
 ghost use Rattle.command_core.specs.Outputs.{out_of, outs, writer};
 
 use crate::arriving::{Arrivals, told_again};
@@ -63,7 +63,7 @@ fn admit_file<S: Source>(
     index: u64,
     file: &mut Result<S, CannotOpen>,
 ) -> Result<(), CommandFault>
-    ensures { Reads (reader S.left S.failures file.old file.new) result (λ file _. (bytes : List ℕ)
+    ensures { ReadsInput (reader S.left S.failures file.old file.new) result (λ file _. (bytes : List ℕ)
         × IsAcceptedFile bytes
         × Holds file bytes
         × (arrivals.new.came ≡ admitted arrivals.old.came (admissible bytes))

@@ -11,7 +11,7 @@ ghost use Rattle.archive_writing.specs.Apply.{apply_as_it_comes};
 ghost use Rattle.archive_writing.specs.InnerTelling.{HasNewOf, counts_of, telling};
 ghost use Rattle.archive_writing.specs.Begun.{EndsBegun};
 ghost use Rattle.command_core.specs.Ends.{EndsStreamed};
-ghost use Rattle.command_core.specs.Inputs.{IsRefusedOps, Reads, reader};
+ghost use Rattle.command_core.specs.Inputs.{IsRefusedOps, ReadsInput, reader};
 ghost use Rattle.command_core.specs.Outputs.{out_of, outs, writer};
 
 use crate::telling::tell_operations;
@@ -56,7 +56,7 @@ fn read_new<S: Source>(
     heap: Heap,
     ops: &mut Result<S, CannotOpen>,
 ) -> Result<(Vec<Operation, Heap>, u64), CommandFault>
-    ensures { Reads (reader S.left S.failures ops.old ops.new) result
+    ensures { ReadsInput (reader S.left S.failures ops.old ops.new) result
         (λ ops both. HasNewOf ops both.0.items both.1) IsRefusedOps }
 {
     let operations = read_operations(heap, ops)?;

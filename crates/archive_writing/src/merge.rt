@@ -7,7 +7,7 @@ ghost use Rattle.command_core.specs.Archives.{ReadsOthers};
 ghost use Rattle.archive_writing.specs.Begun.{EndsBegun};
 ghost use Rattle.command_core.specs.Ends.{EndsStreamed};
 ghost use Rattle.command_core.specs.declared.faults.CommandFault.TheVariants.{OutOfMemory};
-ghost use Rattle.command_core.specs.Inputs.{HoldsContent, IsRefusedArchive, Reads, reader, readers};
+ghost use Rattle.command_core.specs.Inputs.{HoldsContent, IsRefusedArchive, ReadsInput, reader, readers};
 ghost use Rattle.archive_writing.specs.Joining.{joins};
 ghost use Rattle.archive_writing.specs.Merge.{HasJoined, merge_in_turn};
 ghost use Rattle.archive_writing.specs.MergeStreams.{merge_as_it_comes, merge_of_one};
@@ -31,7 +31,7 @@ fn join_file<A: Archive + Drop, S: Source>(
     number: u64,
     file: &mut Result<S, CannotOpen>,
 ) -> Result<(), CommandFault>
-    ensures { Reads (reader S.left S.failures file.old file.new) result
+    ensures { ReadsInput (reader S.left S.failures file.old file.new) result
         (λ file _. HoldsContent file (λ o. A.content archive.new ≡ joined (A.content archive.old) o))
         (IsRefusedArchive number) }
 {

@@ -278,9 +278,9 @@ ReadsInputs (Ok value) IsTrue IsRefused NoneFailed = AreRead (IsTrue value) None
 ReadsInputs (Err fault) IsTrue IsRefused NoneFailed = IsRefusal IsRefused NoneFailed fault
 
 -- what comes of reading one input, of which, and of the value, this is true
-abbrev pub Reads : {S T : Type 0} → Reader S → Result T CommandFault → (Reader S → T → Type 0)
+abbrev pub ReadsInput : {S T : Type 0} → Reader S → Result T CommandFault → (Reader S → T → Type 0)
     → (Reader S → InputName → Why → Type 0) → Type 0
-Reads input result IsTrue IsRefused = ReadsInputs result (IsTrue input) (IsRefused input) (Unfailed input)
+ReadsInput input result IsTrue IsRefused = ReadsInputs result (IsTrue input) (IsRefused input) (Unfailed input)
 
 -- What is told where this was told of an input behind the first one: a refusal in turn, after the first input was
 -- tested; or, if memory was wanted, that, and the first input is as it was.

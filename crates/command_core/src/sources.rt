@@ -14,7 +14,7 @@ ghost use Rattle.command_core.specs.declared.faults.CommandFault.TheVariants.{In
 ghost use Rattle.command_core.specs.declared.faults.Why.TheVariants.{CannotOpen as NotOpened, Record};
 ghost use Rattle.command_core.specs.Inputs.{Gives, Holds, HoldsArchive, HoldsContent, HoldsPart, IsArchive, IsRefusal};
 ghost use Rattle.command_core.specs.Inputs.{IsRefusedArchive, IsRefusedFile, IsRefusedFrames, IsRefusedOps};
-ghost use Rattle.command_core.specs.Inputs.{IsRefusedScript, IsRefusedSummary, IsUnread, Reads, TellsInTurn, reader};
+ghost use Rattle.command_core.specs.Inputs.{IsRefusedScript, IsRefusedSummary, IsUnread, ReadsInput, TellsInTurn, reader};
 ghost use Rattle.command_core.specs.InnerSources.{LendsSource};
 
 use crate::faults::{CommandFault, InputName, Why};
@@ -59,7 +59,7 @@ pub fn read_input<A: Archive + Drop, R: Source>(
     index: u64,
     input: &mut Result<R, CannotOpen>,
 ) -> Result<A, CommandFault>
-    ensures { Reads (reader R.left R.failures input.old input.new) result
+    ensures { ReadsInput (reader R.left R.failures input.old input.new) result
         (λ input archive. IsContent (A.content archive) × HoldsArchive input (A.content archive))
         (IsRefusedArchive index) }
 {
@@ -77,7 +77,7 @@ pub fn test_input<R: Source>(
     index: u64,
     input: &mut Result<R, CannotOpen>,
 ) -> Result<(), CommandFault>
-    ensures { Reads (reader R.left R.failures input.old input.new) result (λ input _. IsArchive input)
+    ensures { ReadsInput (reader R.left R.failures input.old input.new) result (λ input _. IsArchive input)
         (IsRefusedArchive index) }
 {
     let at = InputName::Archive(index);
@@ -113,7 +113,7 @@ pub fn read_input_part<A: Archive + Drop, S: Selects, R: Source>(
     select: &S,
     input: &mut Result<R, CannotOpen>,
 ) -> Result<A, CommandFault>
-    ensures { Reads (reader R.left R.failures input.old input.new) result
+    ensures { ReadsInput (reader R.left R.failures input.old input.new) result
         (λ input archive. HoldsPart input (S.picked select.now) (A.content archive)) (IsRefusedArchive index) }
 {
     let at = InputName::Archive(index);
@@ -132,7 +132,7 @@ pub fn answer_input<A: Archive + Drop, Q: Questions + Drop, R: Source>(
 ) -> Result<Q, CommandFault>
     requires order { AreInOrder (Q.left questions) }
     requires start { (o : Operations) → Q.answered questions o questions }
-    ensures { Reads (reader R.left R.failures input.old input.new) result
+    ensures { ReadsInput (reader R.left R.failures input.old input.new) result
         (λ input told. HoldsContent input (λ o. (Q.left told ≡ []) × Q.answered questions o told))
         (IsRefusedArchive 0) }
 {
@@ -149,7 +149,7 @@ pub fn read_rows<R: Source>(
     heap: Heap,
     input: &mut Result<R, CannotOpen>,
 ) -> Result<Vec<FindRow, Heap>, CommandFault>
-    ensures { Reads (reader R.left R.failures input.old input.new) result
+    ensures { ReadsInput (reader R.left R.failures input.old input.new) result
         (λ input rows. HoldsContent input (λ o. IsList o rows.items)) (IsRefusedArchive 0) }
 {
     let at = InputName::Archive(0);
@@ -165,7 +165,7 @@ pub fn read_entries<R: Source>(
     heap: Heap,
     input: &mut Result<R, CannotOpen>,
 ) -> Result<Summary, CommandFault>
-    ensures { Reads (reader R.left R.failures input.old input.new) result
+    ensures { ReadsInput (reader R.left R.failures input.old input.new) result
         (λ input entries. HoldsContent input (λ o. entries ≡ summary o)) (IsRefusedArchive 0) }
 {
     let at = InputName::Archive(0);
@@ -182,7 +182,7 @@ fn read_bytes<S: Source>(
     at: InputName,
     input: &mut Result<S, CannotOpen>,
 ) -> Result<Vec<u8, Heap>, CommandFault>
-    ensures { Reads (reader S.left S.failures input.old input.new) result (λ input bytes. Holds input bytes.items)
+    ensures { ReadsInput (reader S.left S.failures input.old input.new) result (λ input bytes. Holds input bytes.items)
         (λ input name why. (name ≡ at) × IsUnread input why) }
 {
     let source = opened(input, at)?;
@@ -199,7 +199,7 @@ pub fn read_file<S: Source>(
     index: u64,
     file: &mut Result<S, CannotOpen>,
 ) -> Result<Vec<u8, Heap>, CommandFault>
-    ensures { Reads (reader S.left S.failures file.old file.new) result (λ file bytes. Holds file bytes.items)
+    ensures { ReadsInput (reader S.left S.failures file.old file.new) result (λ file bytes. Holds file bytes.items)
         (IsRefusedFile index) }
 {
     read_bytes(heap, InputName::File(index), file)
@@ -210,7 +210,7 @@ pub fn read_operations<S: Source>(
     heap: Heap,
     ops: &mut Result<S, CannotOpen>,
 ) -> Result<Vec<Operation, Heap>, CommandFault>
-    ensures { Reads (reader S.left S.failures ops.old ops.new) result
+    ensures { ReadsInput (reader S.left S.failures ops.old ops.new) result
         (λ ops operations. Gives ops (λ text. IsOperationsText text operations.items)) IsRefusedOps }
 {
     let at = InputName::Ops;
@@ -226,7 +226,7 @@ pub fn read_summary_input<S: Source>(
     heap: Heap,
     summary: &mut Result<S, CannotOpen>,
 ) -> Result<Summary, CommandFault>
-    ensures { Reads (reader S.left S.failures summary.old summary.new) result
+    ensures { ReadsInput (reader S.left S.failures summary.old summary.new) result
         (λ summary entries. AreEntries entries × Holds summary (summary_text entries)) IsRefusedSummary }
 {
     let at = InputName::Summary;
@@ -242,7 +242,7 @@ pub fn read_events<S: Source>(
     heap: Heap,
     script: &mut Result<S, CannotOpen>,
 ) -> Result<Script, CommandFault>
-    ensures { Reads (reader S.left S.failures script.old script.new) result
+    ensures { ReadsInput (reader S.left S.failures script.old script.new) result
         (λ script said. Gives script (λ bytes. script_of bytes ≡ Ok (said.sites, acts said.events.items)))
         IsRefusedScript }
 {
@@ -262,7 +262,7 @@ pub fn read_crash<S: Source>(
     heap: Heap,
     frames: &mut Result<S, CannotOpen>,
 ) -> Result<Vec<Frame, Heap>, CommandFault>
-    ensures { Reads (reader S.left S.failures frames.old frames.new) result
+    ensures { ReadsInput (reader S.left S.failures frames.old frames.new) result
         (λ frames said. Gives frames (λ bytes. frames_of bytes ≡ Ok said.items)) IsRefusedFrames }
 {
     let bytes = read_bytes(heap.clone()?, InputName::Frames, frames)?;

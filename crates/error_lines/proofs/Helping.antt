@@ -19,7 +19,7 @@ feedless (byte ∷ text) is =
     or_from (byte == 10) (has_line_feed text) (feed byte parts.0) (feedless text parts.1)
 
 -- no help is said of a failure whose line was
-pub without_help : (said : Writer) (asked : Line) (failure : Failure) → IsSaid said (failure_text failure) true
-    → SaysFailure said asked failure
-without_help said asked failure is =
-    inl (said.new, said.failures_new, is, inl (nothing_more said.new, refl))
+pub without_help : (standard_error : Writer) (asked : Line) (failure : Failure) → IsSaid standard_error (failure_text failure) true
+    → SaysFailure standard_error asked failure
+without_help standard_error asked failure is =
+    inl (standard_error.new, standard_error.failures_new, is, inl (nothing_more standard_error.new, refl))

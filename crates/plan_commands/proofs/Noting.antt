@@ -56,10 +56,10 @@ module _ {S D T V : Type 0} (items : V → List Note) (calls : Calls S D T) (lin
   told_done report fault ended noted (Ok both) told is = inr (told_as calls line report (command_fault_of fault ended) noted is (Ok both.0) (items both.1) told.0 told.1)
   told_done report fault ended noted (Err failure) told is = inr (told_as calls line report (command_fault_of fault ended) noted is (Err failure) [] told tt)
 
-  pub ran : (words : List Text) (told said : Writer) (status : ℕ) → error_kinds words ≡ [] → Some line ≡ line_of words → (r : Result (Status × V) Failure) → Done told r
-      → MatchResult r (λ both. SaysNotes said (items both.1)) (λ failure. SaysFailure said line failure)
-      → MatchResult r (λ both. status ≡ status_of (Ok both.0)) (λ failure. status ≡ status_of (Err failure)) → Ran calls words told said status
-  ran words told said status accepted line_is (Ok both) carried says status_is = record {
+  pub ran : (words : List Text) (told standard_error : Writer) (status : ℕ) → error_kinds words ≡ [] → Some line ≡ line_of words → (r : Result (Status × V) Failure) → Done told r
+      → MatchResult r (λ both. SaysNotes standard_error (items both.1)) (λ failure. SaysFailure standard_error line failure)
+      → MatchResult r (λ both. status ≡ status_of (Ok both.0)) (λ failure. status ≡ status_of (Err failure)) → Ran calls words told standard_error status
+  ran words told standard_error status accepted line_is (Ok both) carried says status_is = record {
     line = line;
     ended = Ok both.0;
     notes = items both.1;
@@ -69,7 +69,7 @@ module _ {S D T V : Type 0} (items : V → List Note) (calls : Calls S D T) (lin
     says = says;
     status_is = status_is;
   }
-  ran words told said status accepted line_is (Err failure) carried says status_is = record {
+  ran words told standard_error status accepted line_is (Err failure) carried says status_is = record {
     line = line;
     ended = Err failure;
     notes = [];

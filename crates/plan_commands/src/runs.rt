@@ -52,11 +52,11 @@ pub fn run<'f, F: Files, P: Sink, E: Sink>(
         ⟦<OutFile<'f, F> as Sink>⟧.failures ⟦<OutPath<'f, F> as Target>⟧.published
         ⟦<OutPath<'f, F> as Target>⟧.failures files.old files.new in
         let told = writer P.held P.failures report.old report.new in
-        let said = writer E.held E.failures errors.old errors.new in
-        MatchResult words (λ read. EndsWords calls (map string_bytes read.items) told said result)
+        let standard_error = writer E.held E.failures errors.old errors.new in
+        MatchResult words (λ read. EndsWords calls (map string_bytes read.items) told standard_error result)
         (λ error. IsIdle calls
-        × (error_kind error ≡ ErrorKind.OutOfMemory → WantsMemory told said result)
-        × (error_kind error ≢ ErrorKind.OutOfMemory → IsUnreadable told said result)) }
+        × (error_kind error ≡ ErrorKind.OutOfMemory → WantsMemory told standard_error result)
+        × (error_kind error ≢ ErrorKind.OutOfMemory → IsUnreadable told standard_error result)) }
 {
     match words {
         Ok(words) => run_words(&words, files, report, errors),
