@@ -5,7 +5,7 @@ ghost use Rattle.std.specs.Prelude.{IfSome, length, slice_index, take, drop};
 ghost use Rattle.std.specs.Int.{w32, w64, from_be_bytes, to_be_bytes};
 ghost use Rattle.archive_core.specs.Key.{IsKey, key_bytes};
 ghost use Rattle.archive_core.specs.Valid.{key_of};
-ghost use Rattle.archive_core.specs.Record.{IsOperation, lent_bytes, operation_lent};
+ghost use Rattle.archive_core.specs.Record.{IsOperation, borrowed_bytes, operation_borrowed};
 ghost use Rattle.archive_records.specs.Kind.{admission_length, end_length};
 ghost use Rattle.archive_records.specs.Layout.{head_length, admission_body, body_length, record_count};
 ghost use Rattle.archive_records.specs.Reader.{IsFound};
@@ -183,8 +183,8 @@ pub fn digest_in(bytes: &[u8]) -> Digest
 /// The record that these bytes are, by what was found out of its slice.
 pub fn record_in(bytes: &[u8], found: Option<SliceFacts>) -> Record<'_>
     requires { IsFound bytes.now found }
-    ensures bytes { lent_bytes result ≡ bytes.now }
-    ensures operation { IsOperation (operation_lent result) }
+    ensures bytes { borrowed_bytes result ≡ bytes.now }
+    ensures operation { IsOperation (operation_borrowed result) }
 {
     match found {
         None => Record::Retire(key_in(bytes), digest_in(bytes)),

@@ -33,7 +33,7 @@ use memory::Heap;
 /// The source of an input, or its refusal where it could not be opened.
 pub fn opened<S>(input: &mut Result<S, CannotOpen>, at: InputName) -> Result<&mut S, CommandFault>
     ensures* lends { sem 𝓛 (LendsSource S.row input.entry result) }
-    ensures source { MatchResult input.old (λ source. IsOkAnd result (λ lent. lent.now ≡ source))
+    ensures source { MatchResult input.old (λ source. IsOkAnd result (λ borrowed. borrowed.now ≡ source))
         (λ _. IsErrAnd result (λ fault. fault ≡ Input at NotOpened)) }
 {
     match input {

@@ -48,8 +48,8 @@ impl OwnedFound {
         before_nul(&self.names[16..32])
     }
 
-    /// The same with its names lent.
-    pub fn lent(&self) -> Found<'_>
+    /// The same with its names borrowed.
+    pub fn borrowed(&self) -> Found<'_>
         ensures { found_view result ≡ owned_view self.now }
     {
         Found {

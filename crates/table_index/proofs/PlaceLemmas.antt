@@ -148,28 +148,28 @@ offsets_rise (x ∷ xs) fields up = λ i j d le lt.
     let b : offset_in (get_or (map entry_bytes all) j d) ≡ (get_or all j x).placed.offset = ap offset_in (get_or-map entry_bytes all j x d within) ∙ (All-contains HasItsFields all (get_or all j x) fields (Contains-get_or all j x within)).offset_is in
     omega (arith, a, b, up i j x le within)
 
--- ---- entries that are lent
+-- ---- entries that are borrowed
 
-abbrev pub of_lent : Bor TableEntry → TableEntry
-of_lent e = e.now
+abbrev pub of_borrowed : Bor TableEntry → TableEntry
+of_borrowed e = e.now
 
-abbrev pub all_lent : List (Bor TableEntry) → List TableEntry
-all_lent xs = map of_lent xs
+abbrev pub all_borrowed : List (Bor TableEntry) → List TableEntry
+all_borrowed xs = map of_borrowed xs
 
 -- the one at a place
-pub lent_at : (xs : List (Bor TableEntry)) (i : ℕ) (e : Bor TableEntry) → i < length xs → e ≡ get_or xs i e → of_lent e ≡ get_or (all_lent xs) i (of_lent e)
-lent_at xs i e lt is = ap of_lent is ∙ sym (get_or-map of_lent xs i e (of_lent e) lt)
+pub borrowed_at : (xs : List (Bor TableEntry)) (i : ℕ) (e : Bor TableEntry) → i < length xs → e ≡ get_or xs i e → of_borrowed e ≡ get_or (all_borrowed xs) i (of_borrowed e)
+borrowed_at xs i e lt is = ap of_borrowed is ∙ sym (get_or-map of_borrowed xs i e (of_borrowed e) lt)
 
-pub lent_within : (xs : List (Bor TableEntry)) (i : ℕ) → i < length xs → i < length (all_lent xs)
-lent_within xs i lt = omega (arith, lt, length-map xs of_lent)
+pub borrowed_within : (xs : List (Bor TableEntry)) (i : ℕ) → i < length xs → i < length (all_borrowed xs)
+borrowed_within xs i lt = omega (arith, lt, length-map xs of_borrowed)
 
--- offsets do not fall, where they are lent and as they are
-pub lent_rise : (xs : List (Bor TableEntry)) → IsNonDecreasingBy (λ e. e.now.placed.offset) xs → IsNonDecreasingBy (λ e. e.placed.offset) (all_lent xs)
-lent_rise [] up = λ i j d le lt. absurd (omega (arith, lt))
-lent_rise (x ∷ xs) up = λ i j d le lt.
+-- offsets do not fall, where they are borrowed and as they are
+pub borrowed_rise : (xs : List (Bor TableEntry)) → IsNonDecreasingBy (λ e. e.now.placed.offset) xs → IsNonDecreasingBy (λ e. e.placed.offset) (all_borrowed xs)
+borrowed_rise [] up = λ i j d le lt. absurd (omega (arith, lt))
+borrowed_rise (x ∷ xs) up = λ i j d le lt.
     let all : List (Bor TableEntry) = x ∷ xs in
-    let within : j < length all = omega (arith, lt, length-map all of_lent) in
+    let within : j < length all = omega (arith, lt, length-map all of_borrowed) in
     let before : i < length all = omega (arith, le, within) in
-    let a : (get_or (all_lent all) i d).placed.offset ≡ (get_or all i x).now.placed.offset = ap (λ (e : TableEntry). e.placed.offset) (get_or-map of_lent all i x d before) in
-    let b : (get_or (all_lent all) j d).placed.offset ≡ (get_or all j x).now.placed.offset = ap (λ (e : TableEntry). e.placed.offset) (get_or-map of_lent all j x d within) in
+    let a : (get_or (all_borrowed all) i d).placed.offset ≡ (get_or all i x).now.placed.offset = ap (λ (e : TableEntry). e.placed.offset) (get_or-map of_borrowed all i x d before) in
+    let b : (get_or (all_borrowed all) j d).placed.offset ≡ (get_or all j x).now.placed.offset = ap (λ (e : TableEntry). e.placed.offset) (get_or-map of_borrowed all j x d within) in
     omega (arith, a, b, up i j x le within)

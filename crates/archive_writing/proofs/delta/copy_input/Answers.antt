@@ -3,17 +3,17 @@ use Rattle.archive_writing.proofs.Begun.{untouched}
 use Rattle.byte_device.proofs.Known.{Appends-none}
 use Rattle.std.proofs.lemmas.Result.{err_from_is_err_and}
 use Rattle.archive_writing.proofs.AtHand.{taken_of}
-use Rattle.command_core.proofs.BorrowedSources.{lent_from}
+use Rattle.command_core.proofs.BorrowedSources.{borrowed_from}
 use Rattle.archive_writing.proofs.Deltas.{copied_opened, stopped_copy, unfinished_copy}
 use Rattle.archive_writing.proofs.delta.copy_input.Goals as goal
 
 pub returns-in-Ok : goal.returns-in-Ok
 returns-in-Ok g c =
-    rw (lent_from c.args.archive.now _ c.in_ok-source.ensures.source) (copied_opened g.R.Source.left g.R.Source.failures _ c.copy_unnamed.new.r g.W.Sink.held g.W.Sink.failures c.args.draft.now c.copy_unnamed.new.w c.args.named.now c.in-Ok.sizes c.in-Ok.ensures)
+    rw (borrowed_from c.args.archive.now _ c.in_ok-source.ensures.source) (copied_opened g.R.Source.left g.R.Source.failures _ c.copy_unnamed.new.r g.W.Sink.held g.W.Sink.failures c.args.draft.now c.copy_unnamed.new.w c.args.named.now c.in-Ok.sizes c.in-Ok.ensures)
 
 pub returns-in-Err : goal.returns-in-Err
 returns-in-Err g c =
-    rw (lent_from c.args.archive.now _ c.in_ok-source.ensures.source) (
+    rw (borrowed_from c.args.archive.now _ c.in_ok-source.ensures.source) (
       taken_of g.W.Sink.held g.W.Sink.failures c.args.draft.now c.copy_unnamed.new.w c.in-Err.fault c.command_fault_of.result c.in-Err.ensures.count c.command_fault_of.ensures,
       stopped_copy g.R.Source.left g.R.Source.failures _ c.copy_unnamed.new.r g.W.Sink.held g.W.Sink.failures c.args.draft.now c.copy_unnamed.new.w c.args.named.now c.in-Err.fault c.command_fault_of.result c.in-Err.ensures c.command_fault_of.ensures,
       unfinished_copy g.R.Source.left g.R.Source.failures _ c.copy_unnamed.new.r g.W.Sink.held g.W.Sink.failures c.args.draft.now c.copy_unnamed.new.w c.args.named.now c.in-Err.fault c.in-Err.ensures,

@@ -3,7 +3,7 @@ use Rattle.archive_writing.proofs.Begun.{untouched}
 use Rattle.byte_device.proofs.Known.{Appends-none}
 use Rattle.std.proofs.lemmas.Result.{err_from_is_err_and}
 use Rattle.archive_writing.proofs.AtHand.{stopped_opened, taken_of, unfinished_opened}
-use Rattle.command_core.proofs.BorrowedSources.{lent_from}
+use Rattle.command_core.proofs.BorrowedSources.{borrowed_from}
 use Rattle.archive_writing.proofs.Tellings.{makes_at_hand, told_opened}
 use Rattle.archive_writing.proofs.Told.{text_in_order}
 use Rattle.sorted_archive.proofs.Held.{are_records}
@@ -12,7 +12,7 @@ use Rattle.archive_writing.proofs.telling.tell_operations.Goals as goal
 pub returns-in-Ok : goal.returns-in-Ok
 returns-in-Ok g c =
     let operations = c.args.operations.now in
-    rw (lent_from c.args.input.now _ c.in_ok-left.ensures.source)
+    rw (borrowed_from c.args.input.now _ c.in_ok-left.ensures.source)
     (told_opened _ _ c.new-text.result c.merge_telling.new.right _ (record {
       are = are_records operations c.requires.are;
       bytes = ap Some (c.new-text.ensures ∙ text_in_order operations c.requires.ascending);
@@ -30,7 +30,7 @@ returns-in-Err g c =
       unfailed_before = refl;
       unfailed = refl;
     }) in
-    rw (lent_from c.args.input.now _ c.in_ok-left.ensures.source) (
+    rw (borrowed_from c.args.input.now _ c.in_ok-left.ensures.source) (
       taken_of g.W.Sink.held g.W.Sink.failures c.args.draft.now c.merge_telling.new.w c.in-Err.fault c.command_fault_of.result c.in-Err.ensures.written c.command_fault_of.ensures,
       stopped_opened _ _ c.new-text.result c.merge_telling.new.right _ at
           _ _ _ c.merge_telling.new.left _ _ _ c.merge_telling.new.w c.in-Err.fault c.command_fault_of.result c.in-Err.ensures.merges c.command_fault_of.ensures,
