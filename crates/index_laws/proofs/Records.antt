@@ -61,7 +61,7 @@ shorter_first a b valid_a valid_b same shorter =
 -- an entry is that of a record: its first 57 bytes, its kind and its length; of an admission its table is stored where
 -- it says
 pub record IsEntryOf (text r e : List ℕ) : Type 0 where
-  pub front : take 57 e ≡ entry r
+  pub prefix : take 57 e ≡ entry r
   pub kind : get_or e 57 0 ≡ kind_byte r
   pub length_is : length_in e ≡ length r
   pub slice : is_admission r ≡ true → IsSliceOf text (drop 33 r) e
@@ -70,16 +70,16 @@ pub record IsEntryOf (text r e : List ℕ) : Type 0 where
 pub record IsEntryOfSlice (text slice e : List ℕ) : Type 0 where
   pub valid : IsValid slice
   pub is_key : IsKey (key_of slice)
-  pub front : take 57 e ≡ 2 ∷ (key_bytes (key_of slice) ++ sha256 slice)
+  pub prefix : take 57 e ≡ 2 ∷ (key_bytes (key_of slice) ++ sha256 slice)
   pub kind : is_companion e ≡ is_dsym_image slice
   pub length_is : length_in e ≡ 33 + length slice
   pub is : IsSliceOf text slice e
 
-pub tag_of : (e front : List ℕ) → take 57 e ≡ front → get_or e 0 0 ≡ get_or front 0 0
-tag_of e front same = sym (get_or-take 57 e 0 0 (omega arith)) ∙ ap (λ (l : List ℕ). get_or l 0 0) same
+pub tag_of : (e prefix : List ℕ) → take 57 e ≡ prefix → get_or e 0 0 ≡ get_or prefix 0 0
+tag_of e prefix same = sym (get_or-take 57 e 0 0 (omega arith)) ∙ ap (λ (l : List ℕ). get_or l 0 0) same
 
-pub rest_of : (e front : List ℕ) → take 57 e ≡ front → take 56 (drop 1 e) ≡ drop 1 front
-rest_of e front same = sym (drop-take 1 56 e) ∙ ap (drop 1) same
+pub rest_of : (e prefix : List ℕ) → take 57 e ≡ prefix → take 56 (drop 1 e) ≡ drop 1 prefix
+rest_of e prefix same = sym (drop-take 1 56 e) ∙ ap (drop 1) same
 
 -- the SHA-256 in an entry
 pub digest_of : (e key digest : List ℕ) → length key ≡ 24 → take 57 e ≡ 2 ∷ (key ++ digest) → take 32 (drop 25 e) ≡ digest
@@ -92,10 +92,10 @@ key_in e key digest long same =
 
 module _ (text r e : List ℕ) (of : IsEntryOf text r e) where
   front_retired : (b : Retires r) → take 57 e ≡ retirement_record b.key b.digest
-  front_retired b = of.front ∙ ap entry b.is ∙ retirement_entry b.key b.digest
+  front_retired b = of.prefix ∙ ap entry b.is ∙ retirement_entry b.key b.digest
 
   pub front_admitted : (a : Admits r) → take 57 e ≡ 2 ∷ (key_bytes (key_of a.slice) ++ sha256 a.slice)
-  front_admitted a = of.front ∙ ap entry a.is ∙ admission_entry a.slice a.valid
+  front_admitted a = of.prefix ∙ ap entry a.is ∙ admission_entry a.slice a.valid
 
   -- the tag of an entry tells what its record is
   pub admits_by_tag : IsRecord r → is_admission e ≡ true → Admits r
@@ -118,7 +118,7 @@ pub of_slice : (text slice e : List ℕ) → IsValid slice → AreBytes slice �
 of_slice text slice e valid bytes of = record {
   valid = valid;
   is_key = is_key_of slice valid bytes;
-  front = of.front ∙ admission_entry slice valid;
+  prefix = of.prefix ∙ admission_entry slice valid;
   kind = kind_admitted (is_dsym_image slice) (get_or e 57 0) (of.kind ∙ ap (λ (s : List ℕ). cond (is_dsym_image s) 1 0) (slice_of slice valid));
   length_is = of.length_is ∙ length-admission_record slice valid;
   is = subst (λ (s : List ℕ). IsSliceOf text s e) (slice_of slice valid) (of.slice refl);

@@ -45,7 +45,7 @@ no_rows (x ∷ xs) rows R none all = cc (none)
 module _ (os : List Operations) (texts : List (List ℕ)) (all : List (List (List ℕ))) (key : SliceKey) where
   row_so : (x : EntryAt) (slice : List ℕ) (row : FindRow) → IsAnsweringSlice os texts all key x slice → IsRowAt x row → IsRowOfSlice slice row
   row_so x slice row is told = record {
-    key_is = told.key_is ∙ key_in x.entry (key_bytes (key_of slice)) (sha256 slice) (length-key_of slice is.of.is.valid) is.of.is.front;
+    key_is = told.key_is ∙ key_in x.entry (key_bytes (key_of slice)) (sha256 slice) (length-key_of slice is.of.is.valid) is.of.is.prefix;
     digest_is = told.digest_is ∙ is.of.is.is.digest_is;
     state_is = told.state_is ∙ ap (λ (b : Bool). if b then Dsym else Image) is.of.is.kind;
   }
