@@ -17,7 +17,7 @@ use Rattle.symbol_tables.specs.Asked.{IsSaid}
 use Rattle.symbol_tables.specs.Table.{FitsTable, IsTableOf, head_bytes, SectionNames, TableParts, names_of, padded, section_bytes, table_bytes, zeros}
 use Rattle.symbol_tables.specs.Found.{names_at, owned_view}
 use Rattle.symbol_tables.specs.declared.found.OwnedFound.{OwnedFound}
-use Rattle.symbol_tables.proofs.NameLemmas.{before_nul, before_other}
+use Rattle.macho_symbols.proofs.Pieces.{before_nul, before_other}
 use Rattle.symbol_tables.proofs.TableLemmas.{length-head, length-padded}
 use Rattle.symbol_tables.specs.Rows.{rows_bytes}
 use Rattle.macho_symbols.proofs.ExtentLemmas.{get-take}

@@ -3,7 +3,7 @@ use Rattle.std.specs.List.{before_first, position_or_len}
 use Rattle.std.specs.Cmp.Lexicographic.{pointwise, bytes_decides}
 use Rattle.std.proofs.lemmas.Bool.{not-true, not-false}
 use Rattle.macho_symbols.proofs.Pieces.{pieces_differ, pieces_same, names_same}
-use Rattle.macho_symbols.proofs.name.Name.compare.Goals as goal
+use Rattle.macho_symbols.proofs.name.compare_to_nul.Goals as goal
 
 apart : (xs ys : List ℕ) → not (pointwise nat_eq xs ys) ≡ true → xs ≢ ys
 apart xs ys h e = cc (not-true _ h, (bytes_decides xs ys).1 e)
