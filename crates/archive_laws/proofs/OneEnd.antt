@@ -157,8 +157,8 @@ module _ {O P Q R S T : Type 0} (input : Reader O) (archive : Reader Q) (others 
   one_of_frames at name why another (inr a) (inr b) alone alone_too = one_of_archives archive others other more archives at name why another a.2 b.2 alone alone_too
 
   pub framed_fails : (lines : Bool) (status : Status) (text : List ℕ) (at : InputName) (why : Why) → MakesFramed lines input archive others status text → RefusesFrames also other more at why → IsDeviceFault why
-  framed_fails lines status text at why makes (inl b) = frames_accepted input also why alike (makes.said, makes.frames_are) b.0.1
-  framed_fails lines status text at why makes (inr b) = held_fails archive others other more archives (λ o. TellsFrames lines o makes.said status text) at why makes.tells b.2
+  framed_fails lines status text at why makes (inl b) = frames_accepted input also why alike (makes.listed, makes.frames_are) b.0.1
+  framed_fails lines status text at why makes (inr b) = held_fails archive others other more archives (λ o. TellsFrames lines o makes.listed status text) at why makes.tells b.2
 
 -- ---- one archive alone
 
@@ -180,16 +180,16 @@ listed_alike x y one alike =
 -- ---- what each query tells
 
 pub framed_alike : {O P Q R S T : Type 0} (lines : Bool) (input : Reader O) (archive : Reader Q) (others : List (Reader R)) (also : Reader P) (other : Reader S) (more : List (Reader T))
-    → ((o : Operations) (said : List Frame) → TellOne (TellsFrames lines o said) (TellsFrames lines o said))
+    → ((o : Operations) (listed : List Frame) → TellOne (TellsFrames lines o listed) (TellsFrames lines o listed))
     → HoldAlike input also → ArchivesHoldAlike archive others other more → EndAlike (frames lines input archive others) (frames lines also other more)
 framed_alike lines input archive others also other more one alike archives =
     ends_alike (frames lines input archive others) (frames lines also other more)
     (λ status other_status text other_text a b.
-    let c = carried input also (λ bytes. frames_of bytes ≡ Ok a.said) alike a.frames_are in
-    let said = is_given also c.0 (λ bytes. frames_of bytes ≡ Ok b.said) c.2 b.frames_are in
-    let same : b.said ≡ a.said = (let both = sym said ∙ c.3 in cc) in
-    let both = both_tell archive others other more archives (λ o. TellsFrames lines o a.said status text) (λ o. TellsFrames lines o b.said other_status other_text) a.tells b.tells in
-    one both.0 a.said status other_status text other_text both.1 (subst (λ (s : List Frame). TellsFrames lines both.0 s other_status other_text) same both.2))
+    let c = carried input also (λ bytes. frames_of bytes ≡ Ok a.listed) alike a.frames_are in
+    let listed = is_given also c.0 (λ bytes. frames_of bytes ≡ Ok b.listed) c.2 b.frames_are in
+    let same : b.listed ≡ a.listed = (let both = sym listed ∙ c.3 in cc) in
+    let both = both_tell archive others other more archives (λ o. TellsFrames lines o a.listed status text) (λ o. TellsFrames lines o b.listed other_status other_text) a.tells b.tells in
+    one both.0 a.listed status other_status text other_text both.1 (subst (λ (s : List Frame). TellsFrames lines both.0 s other_status other_text) same both.2))
     (one_of_frames input archive others also other more alike archives)
     (λ status text at why a b. framed_fails input archive others also other more alike archives lines status text at why a b)
     (λ status text at why a b.

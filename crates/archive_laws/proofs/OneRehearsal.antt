@@ -31,14 +31,14 @@ use Rattle.archive_laws.proofs.Given.{is_given}
 
 -- ---- a script that is refused
 
-refused_so : {S : Type 0} (left : S → Option (List ℕ)) (failures : S → ℕ) (old new : Result S CannotOpen) (bytes : List ℕ) (said : ℕ × List Act) (why : Why)
-    → IsGiven (reader left failures old new) bytes → script_of bytes ≡ Ok said → IsScriptRefused (reader left failures old new) why → IsDeviceFault why
-refused_so left failures (Ok source) new bytes said NotOpened is says refused = refused
-refused_so left failures (Err _) new bytes said NotOpened is says refused = absurd is
-refused_so left failures old new bytes said CannotRead is says refused = tt
-refused_so left failures old new bytes said (Faulty fault line flaw) is says refused =
+refused_so : {S : Type 0} (left : S → Option (List ℕ)) (failures : S → ℕ) (old new : Result S CannotOpen) (bytes : List ℕ) (listed : ℕ × List Act) (why : Why)
+    → IsGiven (reader left failures old new) bytes → script_of bytes ≡ Ok listed → IsScriptRefused (reader left failures old new) why → IsDeviceFault why
+refused_so left failures (Ok source) new bytes listed NotOpened is says refused = refused
+refused_so left failures (Err _) new bytes listed NotOpened is says refused = absurd is
+refused_so left failures old new bytes listed CannotRead is says refused = tt
+refused_so left failures old new bytes listed (Faulty fault line flaw) is says refused =
     let bad = is_given (reader left failures old new) bytes (λ b. (script_of b ≡ Err (fault, line)) × (flaw ≡ script_flaw fault (line_at b line))) is refused.1 in cc (sym bad.0 ∙ says)
-refused_so left failures old new bytes said _ is says refused = absurd refused
+refused_so left failures old new bytes listed _ is says refused = absurd refused
 
 pub script_not_refused : {S : Type 0} (script : Reader S) (bytes : List ℕ) (sites : ℕ) (events : List Act) (place : InputName) (why : Why)
     → IsGiven script bytes → script_of bytes ≡ Ok (sites, events) → IsRefusedScript script place why → IsDeviceFault why
@@ -116,10 +116,10 @@ told_alike one sites es fs text other same p q =
     ∙ ap (λ lines. lines ++ site_lines w.held sites) (same_lines _ 0 p.told q.told (outcomes sites q.seen (length q.seen)) tells q.outcomes_are)
     ∙ sym q.text_is
 
-abbrev said : ℕ → List Act → Result (ℕ × List Act) Wrong
-said sites events = Ok (sites, events)
+abbrev listed : ℕ → List Act → Result (ℕ × List Act) Wrong
+listed sites events = Ok (sites, events)
 
-same_said : (s t : ℕ) (xs ys : List Act) → said s xs ≡ said t ys → (s ≡ t) × (xs ≡ ys)
+same_said : (s t : ℕ) (xs ys : List Act) → listed s xs ≡ listed t ys → (s ≡ t) × (xs ≡ ys)
 same_said s t xs ys e =
     let one : ℕ × List Act = (s, xs) in let other : ℕ × List Act = (t, ys) in
     let both : one ≡ other = cc in (ap (λ p. p.0) both, ap (λ p. p.1) both)

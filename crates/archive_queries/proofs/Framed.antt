@@ -372,4 +372,4 @@ module _ {R S T : Type 0} (Makes : Status → List ℕ → Type 0) (frames : Rea
       together_refused Makes _ _ report fault (refusal_of _ _ _ _ fault (λ at why refused. inl (refused, untouched, each)) (λ u. (u, (ap (failures_of archive.failures) untouched, unfailed))) r)
 
   pub archives_refused : (fault : CommandFault) → IsFrames frames → Unfailed frames → IsRefusal (AreRefused archive others) (AreUnfailed archive others) fault → Takes report [] → EndsInOrder (Err fault)
-  archives_refused fault said unfailed r = together_refused Makes _ _ report fault (refusal_of _ _ _ _ fault (λ at why refused. inr (said, unfailed, refused)) (λ u. (unfailed, u)) r)
+  archives_refused fault listed unfailed r = together_refused Makes _ _ report fault (refusal_of _ _ _ _ fault (λ at why refused. inr (listed, unfailed, refused)) (λ u. (unfailed, u)) r)

@@ -31,9 +31,9 @@ pub record TellsFrames (lines : Bool) (content : Operations) (frames : List Fram
 -- frames.
 pub record MakesFramed {R S T : Type 0} (lines : Bool) (frames : Reader R) (archive : Reader S)
     (others : List (Reader T)) (status : Status) (text : List ℕ) : Type 0 where
-  pub said : List Frame
-  pub frames_are : Gives frames (λ bytes. frames_of bytes ≡ Ok said)
-  pub tells : HoldTogether archive others (λ o. TellsFrames lines o said status text)
+  pub listed : List Frame
+  pub frames_are : Gives frames (λ bytes. frames_of bytes ≡ Ok listed)
+  pub tells : HoldTogether archive others (λ o. TellsFrames lines o listed status text)
 
 -- FRAMES is refused, and no archive is touched; or FRAMES says frames, its reader does not fail, and an archive is
 -- refused

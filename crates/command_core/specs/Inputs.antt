@@ -197,7 +197,7 @@ IsAccepted input = (bytes : List ℕ) × IsAcceptedFile bytes × Holds input byt
 
 -- The input says frames.
 abbrev pub IsFrames : {S : Type 0} → Reader S → Type 0
-IsFrames input = (said : List Frame) × Gives input (λ bytes. frames_of bytes ≡ Ok said)
+IsFrames input = (listed : List Frame) × Gives input (λ bytes. frames_of bytes ≡ Ok listed)
 
 -- the archive of this number among those of the words is refused
 abbrev pub IsRefusedArchive : {S : Type 0} → ℕ → Reader S → InputName → Why → Type 0

@@ -243,12 +243,12 @@ pub fn read_events<S: Source>(
     script: &mut Result<S, CannotOpen>,
 ) -> Result<Script, CommandFault>
     ensures { ReadsInput (reader S.left S.failures script.old script.new) result
-        (λ script said. Gives script (λ bytes. script_of bytes ≡ Ok (said.sites, acts said.events.items)))
+        (λ script listed. Gives script (λ bytes. script_of bytes ≡ Ok (listed.sites, acts listed.events.items)))
         IsRefusedScript }
 {
     let bytes = read_bytes(heap.clone()?, InputName::Script, script)?;
     match read_script(heap, &bytes) {
-        Ok(said) => Ok(said),
+        Ok(listed) => Ok(listed),
         Err(ScriptError::Faulty { fault, line }) => {
             let flaw = script_flaw(fault, line_at(&bytes, line));
             Err(CommandFault::Input(InputName::Script, Why::Script { fault, line, flaw }))
@@ -263,11 +263,11 @@ pub fn read_crash<S: Source>(
     frames: &mut Result<S, CannotOpen>,
 ) -> Result<Vec<Frame, Heap>, CommandFault>
     ensures { ReadsInput (reader S.left S.failures frames.old frames.new) result
-        (λ frames said. Gives frames (λ bytes. frames_of bytes ≡ Ok said.items)) IsRefusedFrames }
+        (λ frames listed. Gives frames (λ bytes. frames_of bytes ≡ Ok listed.items)) IsRefusedFrames }
 {
     let bytes = read_bytes(heap.clone()?, InputName::Frames, frames)?;
     match read_frames(heap, &bytes) {
-        Ok(said) => Ok(said),
+        Ok(listed) => Ok(listed),
         Err(FramesError::BadFrame { line }) => {
             let flaw = frame_flaw(line_at(&bytes, line));
             Err(CommandFault::Input(InputName::Frames, Why::BadFrame { line, flaw }))

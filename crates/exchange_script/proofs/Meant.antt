@@ -134,12 +134,12 @@ script_lines bytes sites acts h = elim (either bytes) [
   | inl script ↦
       let same = one_value (script_of bytes) sites script.0 acts script.1 h (script_said bytes script.0 script.1 script.2) in
       rw (same.0, same.1) script.2
-  | inr faulty ↦ let said = fault_said bytes faulty.0 faulty.1 faulty.2 in cc (sym said ∙ h)
+  | inr faulty ↦ let listed = fault_said bytes faulty.0 faulty.1 faulty.2 in cc (sym listed ∙ h)
 ]
 
 pub fault_lines : (bytes : List ℕ) (fault : ScriptFault) (line : ℕ) → script_of bytes ≡ Err (fault, line) → IsFirstFault bytes fault line
 fault_lines bytes fault line h = elim (either bytes) [
-  | inl script ↦ let said = script_said bytes script.0 script.1 script.2 in cc (sym said ∙ h)
+  | inl script ↦ let listed = script_said bytes script.0 script.1 script.2 in cc (sym listed ∙ h)
   | inr faulty ↦
       let same = one_error (script_of bytes) fault faulty.0 line faulty.1 h (fault_said bytes faulty.0 faulty.1 faulty.2) in
       rw (same.0, same.1) faulty.2

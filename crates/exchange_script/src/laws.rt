@@ -20,7 +20,7 @@ pub fn script_of_lines()
     ensures lines { (bytes : List ℕ) (sites : ℕ) (events : List Act)
         → script_of bytes ≡ Ok (sites, events)
         → IsScript bytes sites events }
-    ensures said { (bytes : List ℕ) (sites : ℕ) (events : List Act)
+    ensures listed { (bytes : List ℕ) (sites : ℕ) (events : List Act)
         → IsScript bytes sites events
         → script_of bytes ≡ Ok (sites, events) }
 {}
@@ -30,7 +30,7 @@ pub fn fault_of_lines()
     ensures lines { (bytes : List ℕ) (fault : ScriptFault) (line : ℕ)
         → script_of bytes ≡ Err (fault, line)
         → IsFirstFault bytes fault line }
-    ensures said { (bytes : List ℕ) (fault : ScriptFault) (line : ℕ)
+    ensures listed { (bytes : List ℕ) (fault : ScriptFault) (line : ℕ)
         → IsFirstFault bytes fault line
         → script_of bytes ≡ Err (fault, line) }
 {}

@@ -129,26 +129,26 @@ pub fn answered_by_indexes<I: Placed, P: Placed>()
 /// So does `frames`. The frames that a text says have such keys as this asks.
 pub fn framed_by_indexes<I: Placed, P: Placed>()
     ensures tables { (inputs : List (Reader I)) (archives : List (Reader P)) (os : List Operations) (lines : Bool)
-        (said : List Frame) (status : Status) (text : List ℕ) → AreIndexesGiven inputs os → DigestsTell os
-        → ((frame : Frame) → Contains said frame → IsKey frame.key)
-        → TellsFramesByTables lines inputs archives said status text
-        → TellsFrames lines (all_joined os) said status text }
-    ensures alone { (input : Reader I) (archive : Reader P) (o : Operations) (lines : Bool) (said : List Frame)
+        (listed : List Frame) (status : Status) (text : List ℕ) → AreIndexesGiven inputs os → DigestsTell os
+        → ((frame : Frame) → Contains listed frame → IsKey frame.key)
+        → TellsFramesByTables lines inputs archives listed status text
+        → TellsFrames lines (all_joined os) listed status text }
+    ensures alone { (input : Reader I) (archive : Reader P) (o : Operations) (lines : Bool) (listed : List Frame)
         (status : Status) (text : List ℕ) → IsIndexGiven input o
-        → ((frame : Frame) → Contains said frame → IsKey frame.key)
-        → TellsFramesByTables lines (input ∷ []) (archive ∷ []) said status text
-        → TellsFrames lines o said status text }
+        → ((frame : Frame) → Contains listed frame → IsKey frame.key)
+        → TellsFramesByTables lines (input ∷ []) (archive ∷ []) listed status text
+        → TellsFrames lines o listed status text }
     ensures slices { (inputs : List (Reader I)) (archives : List (Reader P)) (os : List Operations) (lines : Bool)
-        (said : List Frame) (status : Status) (text : List ℕ)
-        → ((key : List ℕ) → Contains (keys_of said) key → length key ≤ 24) → AreIndexed inputs archives os
-        → TellsFramesBySlices lines inputs archives said status text
-        → TellsFrames lines (all_joined os) said status text }
+        (listed : List Frame) (status : Status) (text : List ℕ)
+        → ((key : List ℕ) → Contains (keys_of listed) key → length key ≤ 24) → AreIndexed inputs archives os
+        → TellsFramesBySlices lines inputs archives listed status text
+        → TellsFrames lines (all_joined os) listed status text }
     ensures either { (inputs : List (Reader I)) (archives : List (Reader P)) (os : List Operations) (lines : Bool)
-        (said : List Frame) (status : Status) (text : List ℕ) → AreIndexed inputs archives os → DigestsTell os
-        → ((frame : Frame) → Contains said frame → IsKey frame.key)
-        → AreToldAt lines inputs archives said status text → TellsFrames lines (all_joined os) said status text }
-    ensures keys { (bytes : List ℕ) (said : List Frame) (frame : Frame) → frames_of bytes ≡ Ok said
-        → Contains said frame → IsKey frame.key }
+        (listed : List Frame) (status : Status) (text : List ℕ) → AreIndexed inputs archives os → DigestsTell os
+        → ((frame : Frame) → Contains listed frame → IsKey frame.key)
+        → AreToldAt lines inputs archives listed status text → TellsFrames lines (all_joined os) listed status text }
+    ensures keys { (bytes : List ℕ) (listed : List Frame) (frame : Frame) → frames_of bytes ≡ Ok listed
+        → Contains listed frame → IsKey frame.key }
 {}
 
 /// What `extract` writes by the indexes of these very archives is the wanted slice of the join of the contents, if no
