@@ -1,6 +1,7 @@
 -- The printed texts of the faults of commands.
 use Rattle.std.specs.Prelude.{List, ℕ, ◌++◌, codes, Some, None}
 use Rattle.std.specs.Fmt.{decimal}
+use Rattle.byte_device.specs.Disks.{cannot_create_text}
 use Rattle.index_faults.specs.Text.{fault_text}
 use Rattle.report_text.specs.Texts.{script_fault_text}
 use Rattle.report_text.specs.Texts.{record_fault_text, take_fault_text}
@@ -13,6 +14,8 @@ use Rattle.command_core.specs.declared.faults.Why.TheVariants.{OldArchive, TooLo
 use Rattle.command_core.specs.declared.faults.Why.TheVariants.{Stale, Damaged, NoIndex, NoLines}
 use Rattle.command_core.specs.declared.faults.CommandFault.{CommandFault}
 use Rattle.command_core.specs.declared.faults.CommandFault.TheVariants.{Input, Output, Report, OutOfMemory}
+use Rattle.command_core.specs.declared.failures.Failure.{Failure}
+use Rattle.command_core.specs.declared.failures.Failure.TheVariants.{Command, CannotCreate, CannotReplace}
 
 -- an input by its kind, with its number where there may be several
 unfoldable pub name_text : InputName → List ℕ
@@ -52,3 +55,9 @@ command_fault_text (Input name why) = name_text name ++ codes ": " ++ why_text w
 command_fault_text (Output written) = codes "output: " ++ failed_after written
 command_fault_text (Report written) = codes "report: " ++ failed_after written
 command_fault_text OutOfMemory = codes "out of memory"
+
+-- the line of a failure
+unfoldable pub failure_text : Failure → List ℕ
+failure_text (Command fault) = codes "symarch: " ++ command_fault_text fault
+failure_text (CannotCreate _) = codes "symarch: " ++ cannot_create_text
+failure_text CannotReplace = codes "symarch: output: cannot replace"

@@ -3,21 +3,59 @@
 use crate::faults::CommandFault;
 use byte_device::CannotCreate;
 use memory::NoMemory;
-use thiserror::Error;
+use std::error::Error;
+use std::fmt;
 
 /// Why the program ends with a message, which is the text of what it holds behind the program's name.
-#[derive(Clone, Copy, Debug, PartialEq, Eq, Error)]
+#[derive(Clone, Copy, Debug, PartialEq, Eq)]
 pub enum Failure {
     /// A command was refused.
-    #[error("symarch: {0}")]
-    Command(#[from] CommandFault),
+    Command(CommandFault),
     /// The output was not created.
-    #[error("symarch: {0}")]
-    CannotCreate(#[from] CannotCreate),
+    CannotCreate(CannotCreate),
     /// The output was not put in place: its bytes could not be kept on the disk or renamed, or what is there is not to
     /// be replaced.
-    #[error("symarch: output: cannot replace")]
     CannotReplace,
+}
+
+impl Error for Failure {}
+
+#[tactic(auto, unfolding(crate::specs::FaultTexts::failure_text))]
+impl fmt::Display for Failure {
+    ghost use Rattle.std.specs.Prelude.{Some};
+    ghost use Rattle.command_core.specs.FaultTexts.{failure_text};
+
+    ghost output = { λ failure. Some (failure_text failure) };
+
+    fn fmt<W: fmt::Write>(&self, f: &mut fmt::Formatter<W>) -> fmt::Result {
+        match *self {
+            Failure::Command(fault) => write!(f, "symarch: {fault}"),
+            Failure::CannotCreate(refused) => write!(f, "symarch: {refused}"),
+            Failure::CannotReplace => f.write_str("symarch: output: cannot replace"),
+        }
+    }
+}
+
+impl From<CommandFault> for Failure {
+    ghost use Rattle.std.specs.Prelude.{◌≡◌};
+    ghost use Rattle.command_core.specs.declared.failures.Failure.TheVariants.{Command};
+
+    ghost from_gives = { λ fault failure. failure ≡ Command fault };
+
+    fn from(fault: CommandFault) -> Failure {
+        Failure::Command(fault)
+    }
+}
+
+impl From<CannotCreate> for Failure {
+    ghost use Rattle.std.specs.Prelude.{◌≡◌};
+    ghost use Rattle.command_core.specs.declared.failures.Failure.TheVariants.{CannotCreate};
+
+    ghost from_gives = { λ refused failure. failure ≡ CannotCreate refused };
+
+    fn from(refused: CannotCreate) -> Failure {
+        Failure::CannotCreate(refused)
+    }
 }
 
 impl From<NoMemory> for Failure {

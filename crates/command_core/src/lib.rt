@@ -12,7 +12,7 @@
 //!
 //! # Why it is so
 //!
-//! - `CommandFault` has its `Display` by hand. The texts of lower crates' faults are in `report_text`.
+//! - `CommandFault` and `Failure` have their `Display` by hand. The texts of lower crates' faults are in `report_text`.
 //! - An input in a contract is a record of two states, before and after.
 //! - An output that could not be put in place failed after all of its bytes.
 #![tactic(auto)]

@@ -5,7 +5,8 @@ use Rattle.std.specs.List.{list_any}
 use Rattle.command_core.specs.declared.failures.Failure.{Failure}
 use Rattle.command_core.specs.Outputs.{Writer}
 use Rattle.command_line.specs.Lines.{Line}
-use Rattle.error_lines.specs.StandardError.{IsSaid, SaysFailure, failure_text, has_line_feed, is_control}
+use Rattle.error_lines.specs.StandardError.{IsSaid, SaysFailure, has_line_feed, is_control}
+use Rattle.command_core.specs.FaultTexts.{failure_text}
 use Rattle.byte_device.proofs.Known.{Appends-none as nothing_more}
 
 -- what has no control character has no line feed

@@ -3,23 +3,15 @@ use Rattle.std.specs.Prelude.{◌≡◌, ◌⊎◌, ℕ, Bool, true, false, ◌|
 use Rattle.std.specs.Prelude.{if◌then◌else◌, length, nat_eq, nat_lt, take, Option, Some, Result, Ok, Err}
 use Rattle.std.specs.List.{ends_with, flat_map, list_any, starts_with}
 use Rattle.clap.specs.Words.{Text}
-use Rattle.byte_device.specs.Disks.{cannot_create_text}
 use Rattle.command_line.specs.Lines.{Line}
 use Rattle.report_text.specs.Report.{line}
 use Rattle.command_core.specs.declared.failures.Failure.{Failure}
-use Rattle.command_core.specs.declared.failures.Failure.TheVariants.{Command, CannotCreate, CannotReplace}
 use Rattle.command_core.specs.declared.faults.Status.{Status}
-use Rattle.command_core.specs.FaultTexts.{command_fault_text}
+use Rattle.command_core.specs.FaultTexts.{failure_text}
 use Rattle.command_core.specs.Outputs.{FailsBehind, Takes, Writer}
 use Rattle.archive_writing.specs.Notes.{note_text}
 use Rattle.archive_writing.specs.declared.notes.Note.{Note}
 use Rattle.error_lines.specs.Hints.{file_of, subject_of}
-
--- the line of a failure
-unfoldable pub failure_text : Failure → List ℕ
-failure_text (Command fault) = codes "symarch: " ++ command_fault_text fault
-failure_text (CannotCreate _) = codes "symarch: " ++ cannot_create_text
-failure_text CannotReplace = codes "symarch: output: cannot replace"
 
 -- the line of want of memory
 abbrev pub wanting_text : List ℕ

@@ -18,9 +18,7 @@ use archive_writing::Note;
 use byte_device::{Placed, Sink, Source, push_all};
 use command_core::{Failure, Status, Target, status_of};
 use command_line::{Line, LineFault, read_line};
-use error_lines::{
-    FailureLine, RefusedLine, Seen, help_with, say, say_help, say_notes, say_wanting,
-};
+use error_lines::{RefusedLine, Seen, help_with, say, say_help, say_notes, say_wanting};
 use memory::Heap;
 use std::alloc::Global;
 use std::io::{self, BufReader, ErrorKind};
@@ -122,7 +120,7 @@ fn end<E: Sink>(
 fn say_failure<E: Sink>(alloc: Global, line: &Line, failure: Failure, seen: Seen, errors: &mut E)
     ensures { SaysFailure (writer E.held E.failures errors.old errors.new) (line_view line.now) failure }
 {
-    if !say(alloc, &FailureLine(failure), errors) {
+    if !say(alloc, &failure, errors) {
         return;
     }
     if let Some(help) = help_with(line, &failure, seen) {
