@@ -182,8 +182,8 @@ module _ (path text : List ℕ) (replaces : Replaces) (calls : List FileCall) (i
   abbrev end : List FileCall
   end = publishing is.draft is.target (folder_of is.target)
 
-  asking : are_probes is.tests ≡ true
-  asking = tested_probes replaces is.draft is.target is.tests is.tested
+  are_probed : are_probes is.tests ≡ true
+  are_probed = tested_probes replaces is.draft is.target is.tests is.tested
 
   are_flat : calls ≡ is.probes ++ (drafting is.draft is.pieces ++ (is.tests ++ end))
   are_flat = flat is.probes (drafting is.draft is.pieces) is.tests end calls is.calls_are
@@ -195,7 +195,7 @@ module _ (path text : List ℕ) (replaces : Replaces) (calls : List FileCall) (i
       is.whole
       (behind_probes is.target (IsWhole (concat is.pieces)) is.probes (drafting is.draft is.pieces ++ (is.tests ++ end)) done
       no_draft (target_probes path is.target is.probes is.target_is)
-      (λ m. prefix is.draft is.target (folder_of is.target) is.beside.apart is.tests asking is.pieces m)))
+      (λ m. prefix is.draft is.target (folder_of is.target) is.beside.apart is.tests are_probed is.pieces m)))
 
   pub any_moment : (before left : Option (List ℕ)) (done : ℕ) → MayBeAt before (replay is.target (take done calls)) left
       → (left ≡ before) ⊎ (left ≡ Some text)
@@ -209,7 +209,7 @@ module _ (path text : List ℕ) (replaces : Replaces) (calls : List FileCall) (i
       (ap (λ cs. (replay is.target cs).kept) are_flat
       ∙ ap (λ d. d.kept) (fold_probes is.target is.probes (drafting is.draft is.pieces ++ (is.tests ++ end)) no_draft
       (target_probes path is.target is.probes is.target_is))
-      ∙ at_end is.draft is.target (folder_of is.target) is.beside.apart is.tests asking is.pieces) may
+      ∙ at_end is.draft is.target (folder_of is.target) is.beside.apart is.tests are_probed is.pieces) may
 
   pub place_is : (is.target ≡ path) ⊎ Contains calls (Leads path is.target)
   place_is = by_case is.target_is

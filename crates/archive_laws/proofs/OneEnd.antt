@@ -124,17 +124,17 @@ pub alike_too : {Q R S T : Type 0} (archive : Reader Q) (others : List (Reader R
 alike_too archive others also more alike = (swapped archive also alike.0, each_swapped others more alike.1)
 
 -- what their join tells
-abbrev pub asking : {R S : Type 0} → Reader R → List (Reader S) → (Operations → Status → List ℕ → Type 0) → Query
-asking archive others Tells = record {
+abbrev pub put_together : {R S : Type 0} → Reader R → List (Reader S) → (Operations → Status → List ℕ → Type 0) → Query
+put_together archive others Tells = record {
   Makes = λ status text. HoldTogether archive others (λ o. Tells o status text);
   Refuses = AreRefused archive others;
   Unfailed = AreUnfailed archive others;
 }
 
 pub asked_alike : {Q R S T : Type 0} (archive : Reader Q) (others : List (Reader R)) (also : Reader S) (more : List (Reader T)) (Tells : Operations → Status → List ℕ → Type 0)
-    → ((o : Operations) → TellOne (Tells o) (Tells o)) → ArchivesHoldAlike archive others also more → EndAlike (asking archive others Tells) (asking also more Tells)
+    → ((o : Operations) → TellOne (Tells o) (Tells o)) → ArchivesHoldAlike archive others also more → EndAlike (put_together archive others Tells) (put_together also more Tells)
 asked_alike archive others also more Tells one alike =
-    ends_alike (asking archive others Tells) (asking also more Tells)
+    ends_alike (put_together archive others Tells) (put_together also more Tells)
     (λ status other_status text other_text a b.
     let both = both_tell archive others also more alike (λ o. Tells o status text) (λ o. Tells o other_status other_text) a b in
     one both.0 status other_status text other_text both.1 both.2)

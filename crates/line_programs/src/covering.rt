@@ -4,7 +4,6 @@ ghost use Rattle.std.specs.Prelude.{◌≡◌, None};
 ghost use Rattle.line_programs.specs.Inner.{covers, covered};
 
 use crate::registers::Row;
-use crate::rows::Rows;
 
 /// Whether a row covers an address, if another one is next.
 pub(crate) fn covers(address: u64, row: &Row, next: &Row) -> bool

@@ -9,7 +9,7 @@
 //! - `opening`: [`LineTable::open`]; `halves`: the two halves of an address; `runs`: how many steps have a start
 //!   whose upper half is below a limit; `search`: the step that an address belongs to;
 //! - `frame`: [`OwnedFrame`]; `texts`, `files`: the texts and paths of a table by their numbers;
-//! - `asking`: [`LineTable::frames_at`], the frames of an address;
+//! - `address_frames`: [`LineTable::frames_at`], the frames of an address;
 //! - `laws`: what the definitions say of each other.
 //!
 //! Decided:
@@ -21,7 +21,7 @@
 //! - A step stores the lower half of its start alone: the upper half is that of its run, and most tables have one run.
 #![tactic(auto)]
 
-mod asking;
+mod address_frames;
 mod files;
 mod frame;
 pub mod halves;

@@ -12,10 +12,8 @@ ghost use Rattle.source_frames.specs.SectionsViews.{sections_view};
 ghost use Rattle.source_frames.specs.UnitAddresses.{AreUnitsOf};
 
 use crate::debug_info::DebugInfo;
-use crate::debug_unit::DebugUnit;
 use crate::frame::Frame;
 use crate::unit_frames::Found;
-use crate::unit_lines::UnitLines;
 use dwarf_numbers::Units;
 use macho_image::Image;
 use memory::{Heap, NoMemory};

@@ -18,7 +18,7 @@
 //! - `search`: [`row_for`], the row that an address belongs to;
 //! - `names`: [`name_from`], a name among the strings of a table;
 //! - `head`, `table`: [`Table`], a table whose head was read; `opening`: [`Table::open`];
-//! - `nearest`: [`NearestSymbol`]; `asking`: [`Table::nearest`], the nearest symbol of an address;
+//! - `nearest`: [`NearestSymbol`], and [`Table::nearest`], the nearest symbol of an address;
 //! - `found`: [`OwnedFound`], a symbol with the names of its section; [`Table::found`];
 //! - `lines`: [`open_lines`], where the lines of a table begin;
 //! - `laws`: what the definitions say of each other.
@@ -36,7 +36,6 @@
 //! - What the lines of a table are is not told here: what is asked of its symbols holds with any.
 #![tactic(auto)]
 
-mod asking;
 mod candidate;
 mod compared;
 mod found;

@@ -18,7 +18,7 @@ use crate::row::{LOCATION_LEN, Location, index_of, u32_be_at};
 use crate::table::LineTable;
 use crate::texts::handle;
 use byte_device::Placed;
-use checked_pages::{CheckFault, Claim, Pages};
+use checked_pages::{CheckFault, Pages};
 use memory::Heap;
 
 /// How many frames an address has at most.
