@@ -53,6 +53,16 @@ pub fn refusal(at: InputName, fault: RecordFault) -> CommandFault
     }
 }
 
+/// What was read of an input, or the refusal of that input.
+macro_rules! or_refused {
+    ($at:expr, $read:expr) => {
+        match $read {
+            Ok(read) => Ok(read),
+            Err(fault) => Err(refusal($at, fault)),
+        }
+    };
+}
+
 /// Reads the archive of this number among those of the words.
 pub fn read_input<A: Archive + Drop, R: Source>(
     heap: Heap,
@@ -65,10 +75,7 @@ pub fn read_input<A: Archive + Drop, R: Source>(
 {
     let at = InputName::Archive(index);
     let source = opened(input, at)?;
-    match read_archive(heap, source) {
-        Ok(archive) => Ok(archive),
-        Err(fault) => Err(refusal(at, fault)),
-    }
+    or_refused!(at, read_archive(heap, source))
 }
 
 /// Reads the archive of this number among those of the words to its end, and keeps nothing of it.
@@ -82,10 +89,7 @@ pub fn test_input<R: Source>(
 {
     let at = InputName::Archive(index);
     let source = opened(input, at)?;
-    match test_archive(heap, source) {
-        Ok(()) => Ok(()),
-        Err(fault) => Err(refusal(at, fault)),
-    }
+    or_refused!(at, test_archive(heap, source))
 }
 
 /// What is told where this was told of an input behind the archive: if that one is refused, its refusal, after the
@@ -118,10 +122,7 @@ pub fn read_input_part<A: Archive + Drop, S: Selects, R: Source>(
 {
     let at = InputName::Archive(index);
     let source = opened(input, at)?;
-    match read_part(heap, select, source) {
-        Ok(archive) => Ok(archive),
-        Err(fault) => Err(refusal(at, fault)),
-    }
+    or_refused!(at, read_part(heap, select, source))
 }
 
 /// Reads the archive that questions are put to, and answers these.
@@ -138,10 +139,7 @@ pub fn answer_input<A: Archive + Drop, Q: Questions + Drop, R: Source>(
 {
     let at = InputName::Archive(0);
     let source = opened(input, at)?;
-    match answer_by_key::<A, Q, R>(heap, questions, source) {
-        Ok(told) => Ok(told),
-        Err(fault) => Err(refusal(at, fault)),
-    }
+    or_refused!(at, answer_by_key::<A, Q, R>(heap, questions, source))
 }
 
 /// Reads the archive that is listed, and gives its rows.
@@ -154,10 +152,7 @@ pub fn read_rows<R: Source>(
 {
     let at = InputName::Archive(0);
     let source = opened(input, at)?;
-    match list_rows(heap, source) {
-        Ok(rows) => Ok(rows),
-        Err(fault) => Err(refusal(at, fault)),
-    }
+    or_refused!(at, list_rows(heap, source))
 }
 
 /// Reads the archive that is summarized, and gives its summary.
@@ -170,10 +165,7 @@ pub fn read_entries<R: Source>(
 {
     let at = InputName::Archive(0);
     let source = opened(input, at)?;
-    match summarize(heap, source) {
-        Ok(entries) => Ok(entries),
-        Err(fault) => Err(refusal(at, fault)),
-    }
+    or_refused!(at, summarize(heap, source))
 }
 
 /// Reads the bytes of an input to its end.
@@ -215,10 +207,7 @@ pub fn read_operations<S: Source>(
 {
     let at = InputName::Ops;
     let source = opened(ops, at)?;
-    match read_ops(heap, source) {
-        Ok(operations) => Ok(operations),
-        Err(fault) => Err(refusal(at, fault)),
-    }
+    or_refused!(at, read_ops(heap, source))
 }
 
 /// Reads the summary that an archive is compared with.
@@ -231,10 +220,7 @@ pub fn read_summary_input<S: Source>(
 {
     let at = InputName::Summary;
     let source = opened(summary, at)?;
-    match read_summary(heap, source) {
-        Ok(entries) => Ok(entries),
-        Err(fault) => Err(refusal(at, fault)),
-    }
+    or_refused!(at, read_summary(heap, source))
 }
 
 /// Reads the script that is carried out, to its end, and then what it says.
