@@ -96,19 +96,19 @@ by_keys asked sorted = λ j d below within. no_less_first _ _ (sorted j d below 
 
 -- ---- whether a record is under one of their keys
 
-module _ (front : List ℕ) where
+module _ (prefix : List ℕ) where
   abbrev pub place_of : AskedFrame → Ordering
-  place_of one = slice_cmp nat_cmp (key_bytes one.frame.key) front
+  place_of one = slice_cmp nat_cmp (key_bytes one.frame.key) prefix
 
   abbrev has : AskedFrame → Bool
-  has one = bytes_eq (key_bytes one.frame.key) front
+  has one = bytes_eq (key_bytes one.frame.key) prefix
 
   tied : (one : AskedFrame) → has one ≡ true → place_of one ≡ Equal
-  tied one is = ap (λ (bytes : List ℕ). slice_cmp nat_cmp bytes front) ((bytes_eq-Decides (key_bytes one.frame.key) front).0 is) ∙ tied_itself nat_list_cmp_total front
+  tied one is = ap (λ (bytes : List ℕ). slice_cmp nat_cmp bytes prefix) ((bytes_eq-Decides (key_bytes one.frame.key) prefix).0 is) ∙ tied_itself nat_list_cmp_total prefix
 
   found_at : (asked : List AskedFrame) (i : ℕ) → i < length asked → HoldsAt (λ (one : AskedFrame). place_of one ≡ Equal) asked i → list_any has asked ≡ true
   found_at [] i lt at = absurd (omega (arith, lt))
-  found_at (one ∷ asked) i lt at = list_any_at has (one ∷ asked) i one lt ((bytes_eq-Decides _ front).1 (bytes_same _ front (at one)))
+  found_at (one ∷ asked) i lt at = list_any_at has (one ∷ asked) i one lt ((bytes_eq-Decides _ prefix).1 (bytes_same _ prefix (at one)))
 
   found_nowhere : (asked : List AskedFrame) (i : ℕ) → IsPartitionPoint (λ (one : AskedFrame). place_of one ≡ Less) (λ (one : AskedFrame). place_of one ≡ Greater) asked i → list_any has asked ≡ false
   found_nowhere asked i parts = false_from_ne_true (list_any has asked) (λ is.
@@ -122,7 +122,7 @@ module _ (front : List ℕ) where
   pub found_asked : (asked : List AskedFrame) (r : Result ℕ ℕ) → IsSortedByKey (λ (one : AskedFrame). key_bytes one.frame.key) (slice_cmp nat_cmp) asked → IsSearchInRange r (length asked)
       → IsBinarySearchResult place_of asked r → is_ok r ≡ list_any has asked
   found_asked asked (Ok i) sorted lt at = sym (found_at asked i lt at)
-  found_asked asked (Err i) sorted le parted = sym (found_nowhere asked i (parted (searchable_from_sorted nat_list_cmp_total (λ (one : AskedFrame). key_bytes one.frame.key) asked front sorted)))
+  found_asked asked (Err i) sorted le parted = sym (found_nowhere asked i (parted (searchable_from_sorted nat_list_cmp_total (λ (one : AskedFrame). key_bytes one.frame.key) asked prefix sorted)))
 
 -- each record under a key of theirs is
 pub asked_picked : (asked : List AskedFrame) (key : SliceKey) → Contains (map key_of_asked asked) key → length (key_bytes key) ≡ 24 → (r : List ℕ) → is_under (key_bytes key) r ≡ true → is_asked asked r ≡ true
@@ -240,11 +240,11 @@ run_key key asked i d lt = same_key (get_or asked i d).frame.key key (prefix_len
 
 pub in_run : (key : SliceKey) (left run : List AskedFrame) (n i : ℕ) (one : AskedFrame) → n ≡ prefix_len (of_key key) left → run ≡ take n left → i < length run → one ≡ get_or run i one
     → (one.frame.key ≡ key) × Contains run one × (one ≡ get_or left i one) × (i < length left)
-in_run key left run n i one long front lt at =
-    let within : length run ≡ length (take n left) = ap length front in
+in_run key left run n i one long prefix lt at =
+    let within : length run ≡ length (take n left) = ap length prefix in
     let few : i < n = omega (arith, within, length-take n left) in
     let also : i < length left = omega (arith, within, length-take n left) in
-    let there : one ≡ get_or left i one = at ∙ ap (λ (l : List AskedFrame). get_or l i one) front ∙ get_or-take n left i one few in (
+    let there : one ≡ get_or left i one = at ∙ ap (λ (l : List AskedFrame). get_or l i one) prefix ∙ get_or-take n left i one few in (
       ap (λ (a : AskedFrame). a.frame.key) there ∙ run_key key left i one (omega (arith, long)),
       (i, lt, sym at),
       there,

@@ -20,7 +20,7 @@ use crate::sources::Sources;
 use crate::symbolicate::asked_of;
 use archive_core::{Answer, Archive, SliceKey, Where, compare_keys};
 use archive_reading::{Questions, Selects};
-use archive_records::key_front;
+use archive_records::key_prefix;
 use command_core::Status;
 use crash_frames::Frame;
 use memory::{Heap, NoMemory};
@@ -58,9 +58,9 @@ impl<'f> Selects for AskedKeys<'f> {
     ghost picked = { λ keys bytes. is_asked keys.asked.now bytes };
 
     fn picks(&self, bytes: &[u8]) -> bool {
-        let front = &bytes[1..25];
+        let prefix = &bytes[1..25];
         self.asked
-            .binary_search_by(|one| key_front(&one.frame.key)[..].cmp(front))
+            .binary_search_by(|one| key_prefix(&one.frame.key)[..].cmp(prefix))
             .is_ok()
     }
 }

@@ -41,8 +41,8 @@ pub fn run_find<A: Archive + Drop, R: Source, P: Sink>(
         (readers R.left R.failures others.old others.new) uuid.now)
         (writer P.held P.failures report.old report.new) result }
 {
-    let front = bytes_of(*uuid);
-    let kept: A = read_parts(heap.clone()?, &Under(&front), archive, others)?;
+    let prefix = bytes_of(*uuid);
+    let kept: A = read_parts(heap.clone()?, &Under(&prefix), archive, others)?;
     let rows = kept.find(uuid)?;
     let text = find_lines(heap, &rows)?;
     publish_report(found_status(&rows), &text, report)

@@ -121,8 +121,8 @@ pub fn run_symbolicate<A: Archive + Drop, R: Source, P: Sink>(
         (readers R.left R.failures others.old others.new) key.now load lines addresses.now)
         (writer P.held P.failures report.old report.new) result }
 {
-    let front = bytes_of(key);
-    let kept: A = read_parts(heap.clone()?, &Under(&front), archive, others)?;
+    let prefix = bytes_of(key);
+    let kept: A = read_parts(heap.clone()?, &Under(&prefix), archive, others)?;
     let (status, text) = answer_each(heap, &kept, key, load, lines, addresses)?;
     publish_report(status, &text, report)
 }

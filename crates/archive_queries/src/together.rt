@@ -12,7 +12,7 @@ ghost use Rattle.archive_queries.specs.Together.{AreAlikeWhere};
 
 use archive_core::{Archive, SliceKey, take_all};
 use archive_reading::{Questions, Selects};
-use archive_records::key_front;
+use archive_records::key_prefix;
 use byte_device::{CannotOpen, Source};
 use command_core::{CommandFault, answer_input, read_input_part};
 use memory::{Heap, NoMemory};
@@ -52,7 +52,7 @@ fn join_parts<A: Archive + Drop, S: Selects, R: Source>(
 }
 
 /// Reads the archives in the order of the words, each to its end, and keeps the join of what is picked of each: under a
-/// front of a key, or the whole of one, it has what the join of the archives has.
+/// prefix of a key, or the whole of one, it has what the join of the archives has.
 pub fn read_parts<A: Archive + Drop, S: Selects, R: Source>(
     heap: Heap,
     select: &S,
@@ -73,7 +73,7 @@ pub(crate) fn bytes_of(key: &SliceKey) -> [u8; 24]
     ensures bytes { result ≡ key_bytes key.now }
     ensures long { length (key_bytes key.now) ≡ 24 }
 {
-    key_front(key)
+    key_prefix(key)
 }
 
 /// The key of the next question.

@@ -13,7 +13,7 @@ ghost use Rattle.archive_records.specs.Text.{end_record};
 
 use crate::format::Format;
 use archive_core::{
-    ArchKey, CheckedSlice, Digest, RETIREMENT, Record, SliceFacts, SliceKey, key_front,
+    ArchKey, CheckedSlice, Digest, RETIREMENT, Record, SliceFacts, SliceKey, key_prefix,
 };
 use byteorder::{BigEndian, ByteOrder};
 use uuid::Uuid;
@@ -117,7 +117,7 @@ pub fn has_key(bytes: &[u8], key: &SliceKey) -> bool
     requires { 25 ≤ length bytes.now }
     ensures { IsTrue result ↔ (take 24 (drop 1 bytes.now) ≡ key_bytes key.now) }
 {
-    let whole = key_front(key);
+    let whole = key_prefix(key);
     &bytes[1..25] == &whole[..]
 }
 
@@ -128,7 +128,7 @@ pub fn admission_head(slice: &CheckedSlice<'_>) -> [u8; 33]
 {
     let mut head = [0; ADMISSION_HEAD_LEN];
     head[0] = ADMISSION;
-    head[1..25].copy_from_slice(&key_front(&slice.key()));
+    head[1..25].copy_from_slice(&key_prefix(&slice.key()));
     let length = slice.bytes().len() as u64;
     head[25..].copy_from_slice(&length.to_be_bytes());
     head

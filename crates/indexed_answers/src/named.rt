@@ -11,7 +11,7 @@ use crate::answering::answering_among;
 use crate::live::live_under;
 use crate::numbered::Numbered;
 use crate::words::is_companion;
-use archive_core::{Digest, FindRow, FindState, SliceKey, key_front};
+use archive_core::{Digest, FindRow, FindState, SliceKey, key_prefix};
 use archive_records::{digest_in, key_in};
 use memory::{Heap, NoMemory};
 use table_index::TableIndex;
@@ -125,6 +125,6 @@ pub fn named_with(
         ((x : EntryAt) → LivesAmong (key_bytes key.now) digest.now.0 indexes.now x → ⊥)
         (λ named. (x : EntryAt) × LivesAmong (key_bytes key.now) digest.now.0 indexes.now x × Names x named)) }
 {
-    let live = live_under(heap, &key_front(key), indexes)?;
+    let live = live_under(heap, &key_prefix(key), indexes)?;
     Ok(first_with(&live, digest))
 }

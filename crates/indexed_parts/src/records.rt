@@ -15,7 +15,7 @@ ghost use Rattle.indexed_parts.specs.Places.{ReadsPlaces};
 
 use archive_core::{Digest, FindState, Operation, Record, Slice, SliceKey};
 use archive_index::{PlaceFault, PlacedEntry};
-use archive_records::{ADMISSION_HEAD_LEN, key_front};
+use archive_records::{ADMISSION_HEAD_LEN, key_prefix};
 use byte_device::{Placed, ReadFault, read_at};
 use byteorder::{BigEndian, ByteOrder};
 use memory::{Heap, NoMemory};
@@ -55,7 +55,7 @@ fn has_key(bytes: &[u8], key: &SliceKey) -> bool
     requires { 25 ≤ length bytes.now }
     ensures { IsTrue result ↔ (take 24 (drop 1 bytes.now) ≡ key_bytes key.now) }
 {
-    let whole = key_front(key);
+    let whole = key_prefix(key);
     &bytes[1..25] == &whole[..]
 }
 

@@ -33,8 +33,8 @@ module _ {D : Type 0} (whole : D → Option (List ℕ)) where
   opened_at (d ∷ ds) (suc n) are lt = opened_at ds n are.1 (omega (arith, lt))
 
   -- those in which entries stand are open
-  pub opened_among : (devices : List (Result D CannotOpen)) (front : List ℕ) (all : List (List (List ℕ))) (answering : List EntryAt) → length all ≡ length devices → AreAllOpened devices → AreAnsweringAmong front all answering → AreOpened devices answering
-  opened_among devices front all answering long are among = λ k d lt.
+  pub opened_among : (devices : List (Result D CannotOpen)) (prefix : List ℕ) (all : List (List (List ℕ))) (answering : List EntryAt) → length all ≡ length devices → AreAllOpened devices → AreAnsweringAmong prefix all answering → AreOpened devices answering
+  opened_among devices prefix all answering long are among = λ k d lt.
       let x = get_or answering k d in
       let at = among.among k d lt in
       opened_at devices x.input are (omega (arith, long, slice_get_within all x.input at.entries at.index_is))

@@ -39,6 +39,6 @@ returns g c =
     let others = readers left failures c.args.others.now c.read_parts.new.others in
     wanted_so (HoldTogether archive others) (AreRefused archive others) (AreUnfailed archive others) c.args.key.now c.args.digest.now _ _
     c.publish_wanted.result (g.A.Join.content c.in_ok-kept.kept) c.in_ok-kept.ensures.unfailed
-    (λ IsTrue tells. together_tells archive others _ IsTrue (λ o alike. tells o (alike (key_bytes c.args.key.now) (omega (arith, c.bytes_of-front.ensures.long))
-    (λ r h. ap (λ front. is_under front r) c.bytes_of-front.ensures.bytes ∙ h))) c.in_ok-kept.ensures.is)
+    (λ IsTrue tells. together_tells archive others _ IsTrue (λ o alike. tells o (alike (key_bytes c.args.key.now) (omega (arith, c.bytes_of-prefix.ensures.long))
+    (λ r h. ap (λ prefix. is_under prefix r) c.bytes_of-prefix.ensures.bytes ∙ h))) c.in_ok-kept.ensures.is)
     c.publish_wanted.ensures
