@@ -66,27 +66,27 @@ file_told old key n new h =
 -- keys of locations
 abbrev pub location_cmp : LocationKey → LocationKey → Ordering
 location_cmp a b =
-    ordering_then (nat_cmp a.name b.name)
-    (ordering_then (nat_cmp a.file b.file) (ordering_then (nat_cmp a.line b.line) (ordering_then (nat_cmp a.column b.column) (nat_cmp a.caller b.caller))))
+    ordering_then (nat_cmp a.caller b.caller)
+    (ordering_then (nat_cmp a.name b.name) (ordering_then (nat_cmp a.line b.line) (ordering_then (nat_cmp a.column b.column) (nat_cmp a.file b.file))))
 
 location_exact : (a b : LocationKey) → is_eq (location_cmp a b) ≡ true → a ≡ b
 location_exact a b e =
-    let one = both_equal (nat_cmp a.name b.name) _ e in
-    let two = both_equal (nat_cmp a.file b.file) _ one.1 in
+    let one = both_equal (nat_cmp a.caller b.caller) _ e in
+    let two = both_equal (nat_cmp a.name b.name) _ one.1 in
     let three = both_equal (nat_cmp a.line b.line) _ two.1 in
-    let four = both_equal (nat_cmp a.column b.column) (nat_cmp a.caller b.caller) three.1 in
+    let four = both_equal (nat_cmp a.column b.column) (nat_cmp a.file b.file) three.1 in
     λ i. record {
-      name = same_number a.name b.name one.0 i;
-      file = same_number a.file b.file two.0 i;
+      caller = same_number a.caller b.caller one.0 i;
+      name = same_number a.name b.name two.0 i;
       line = same_number a.line b.line three.0 i;
       column = same_number a.column b.column four.0 i;
-      caller = same_number a.caller b.caller four.1 i;
+      file = same_number a.file b.file four.1 i;
     }
 
 location_same : (a b : LocationKey) → a ≡ b → is_eq (location_cmp a b) ≡ true
 location_same a b e =
     ap (λ (c : LocationKey). is_eq (location_cmp a c)) (sym e)
-    ∙ (λ i. is_eq (ordering_then (itself a.name i) (ordering_then (itself a.file i) (ordering_then (itself a.line i) (ordering_then (itself a.column i) (itself a.caller i))))))
+    ∙ (λ i. is_eq (ordering_then (itself a.caller i) (ordering_then (itself a.name i) (ordering_then (itself a.line i) (ordering_then (itself a.column i) (itself a.file i))))))
 
 pub location_told : (old : List LocationKey) (key : LocationKey) (n : ℕ) (new : List LocationKey) → IsNumbered location_cmp old key n new
     → IsNumberedIn (record { name = 0; file = 0; line = 0; column = 0; caller = 0 }) old key n new
