@@ -1,4 +1,41 @@
-//! What is kept of a file and of a location.
+//! What is kept of a text, of a file and of a location.
+
+ghost use Rattle.std.specs.Prelude.{◌≡◌};
+ghost use Rattle.line_writing.specs.Marks.{mark_of};
+
+/// A text, after a mark of it: most texts differ in it, and so are told apart by one number.
+#[derive(Clone, Copy, PartialEq, Eq, PartialOrd, Ord)]
+pub(crate) struct TextKey<'a> {
+    pub mark: u64,
+    pub text: &'a [u8],
+    ghost marked: { mark ≡ mark_of text.now },
+}
+
+/// The mark of a text.
+#[tactic(auto, unfolding(crate::specs::Marks::mark_of))]
+fn mark_of(text: &[u8]) -> u64
+    ensures { result ≡ mark_of text.now }
+{
+    let mut mark = 0u64;
+    for byte in text {
+        mark = mark
+            .wrapping_mul(0x100_0000_01b3)
+            .wrapping_add(u64::from(*byte));
+    }
+    mark
+}
+
+impl<'a> TextKey<'a> {
+    /// The key of a text.
+    pub fn of(text: &'a [u8]) -> TextKey<'a>
+        ensures { result.text.now ≡ text.now }
+    {
+        TextKey {
+            mark: mark_of(text),
+            text,
+        }
+    }
+}
 
 /// The numbers of the texts of the path of a file.
 #[derive(Clone, Copy, PartialEq, Eq, PartialOrd, Ord)]
