@@ -12,9 +12,9 @@ use case_parts::{
     tell_summary, tell_whole, tell_writing,
 };
 use command_line::Line;
+use exchange_script::read_script;
 use memory::Heap;
 use plan_commands::Plan;
-use rehearsal::read_script;
 use sorted_archive::{IndexedArchive, PlainArchive};
 
 /// A call below the commands.

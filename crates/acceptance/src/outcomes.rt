@@ -1,7 +1,7 @@
 //! How a case ended at a place of a sweep, beside the whole case.
 
 use case_parts::{End, Left};
-use command_ends::{CommandFault, Failure, Why};
+use command_core::{CommandFault, Failure, Why};
 use crash_frames::FrameFlaw;
 use std::fmt;
 

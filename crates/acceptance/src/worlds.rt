@@ -3,8 +3,8 @@
 use archive_core::Archive;
 use archive_exchange::run;
 use case_parts::{Ended, tell_text, text_of};
+use exchange_script::Script;
 use memory::Heap;
-use rehearsal::Script;
 
 /// Carries out the events of a script on so many sites, and tells how many there were, and what each site holds.
 pub fn tell_world<A: Archive + Drop>(

@@ -63,6 +63,12 @@ made_part o p is part = made_of_uncovered o (λ r h. grind (arith, part (coverin
 pub made_empty : IsMade set.empty
 made_empty = made_of_uncovered set.empty (λ r h. cc (contains-empty (slice_cmp nat_cmp) r))
 
+-- contents are united in any order
+pub union_assoc : (a b c : Operations) → union (union a b) c ≡ union a (union b c)
+union_assoc a b c = same_set nat_list_cmp_total bytes_same (union (union a b) c) (union a (union b c)) (λ r.
+    let united : (o p : Operations) → contains (union o p) r ≡ (contains o r || contains p r) = λ o p. contains-union nat_list_cmp_total o p r in
+    grind (arith, united (union a b) c, united a b, united a (union b c), united b c))
+
 -- what two sets make, joined, is what both together make
 pub joined_made : (o p : Operations) → joined (content_of o) (content_of p) ≡ content_of (union o p)
 joined_made o p =

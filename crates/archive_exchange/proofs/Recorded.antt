@@ -11,8 +11,8 @@ use Rattle.archive_core.specs.declared.keys.Digest.{Digest}
 use Rattle.exchange_model.specs.World as model
 use Rattle.archive_exchange.specs.ModelEvent.{ModelEvent, IsFile, IsSeen}
 use Rattle.archive_exchange.specs.InnerEvents.{SeenFile, IsRecorded}
-use Rattle.rehearsal.specs.declared.event.Event.{Event}
-use Rattle.rehearsal.specs.declared.event.Event.TheVariants.{Take, Retire, Full, Ask, Reply, Deliver, Save, Stop}
+use Rattle.exchange_script.specs.declared.event.Event.{Event}
+use Rattle.exchange_script.specs.declared.event.Event.TheVariants.{Take, Retire, Full, Ask, Reply, Deliver, Save, Stop}
 use Rattle.archive_exchange.proofs.Gained.{recorded_take, recorded_retire}
 
 none : (r : List ℕ) → set.contains (set.empty {R = slice_cmp nat_cmp}) r ≡ true → IsRecord r

@@ -10,8 +10,8 @@ use crate::{DeliverFault, EventFault, Outcome, ReplyFault, Site};
 use admission::TakeFault;
 use admission::laws::one_take_fault;
 use archive_core::{Archive, Digest, SliceKey};
+use exchange_script::Event;
 use memory::{Heap, NoMemory};
-use rehearsal::Event;
 
 /// Sends a text, and answers its number.
 fn send(messages: &mut Vec<Message, Heap>, text: Vec<u8, Heap>) -> Result<Outcome, NoMemory>

@@ -19,8 +19,8 @@ use archive_core::Archive;
 use exchange_model::laws::{
     answered_agree, delta_lifts, issued_and_kept, reached_is_held, same_reached,
 };
+use exchange_script::Event;
 use memory::{Heap, NoMemory};
-use rehearsal::Event;
 
 /// Empty sites.
 fn empty_sites<A: Archive + Drop>(heap: &Heap, sites: u32) -> Result<Vec<Site<A>, Heap>, NoMemory>

@@ -12,14 +12,7 @@ use Rattle.archive_files.specs.declared.input_state.AtTurn.{AtTurn}
 use Rattle.archive_files.specs.InputStates.{AreFirstAsked, IsWaiting, Open, Unopened, Waiting, bytes_at, left_in, stage_of}
 use Rattle.archive_files.specs.declared.input_state.InputState.{InputState}
 use Rattle.archive_files.specs.declared.input_state.InputState.TheVariants as state
-
--- relations hold along lists with one more element each
-zip_more : {A B : Type 0} (R : A → B → Type 0) (xs : List A) (ys : List B) (x : A) (y : B)
-    → AllZip R xs ys → R x y → AllZip R (xs ++ x ∷ []) (ys ++ y ∷ [])
-zip_more R [] [] x y all one = (one, tt)
-zip_more R [] (b ∷ ys) x y all one = absurd all
-zip_more R (a ∷ xs) [] x y all one = absurd all
-zip_more R (a ∷ xs) (b ∷ ys) x y all one = (all.0, zip_more R xs ys x y all.1 one)
+use Rattle.command_core.proofs.Readers.{pairs_more as zip_more}
 
 -- one more input is made
 pub inputs_more : {B X P : Type 0} (R : P → B → Type 0) (f : X → P) (xs : List X) (i : ℕ) (ys zs : List B) (d : X)

@@ -91,8 +91,8 @@ fault_of Settled = None
 
 -- OUT is written so, of whose path the system said this
 abbrev pub IsWayTo : List ℕ → Way → List FileCall → Type 0
-IsWayTo path way.Through looks = IsWritable path looks
-IsWayTo path (way.Beside target access) looks = IsTargetOf path (string_bytes target) looks
+IsWayTo path way.Through probes = IsWritable path probes
+IsWayTo path (way.Beside target access) probes = IsTargetOf path (string_bytes target) probes
 
 -- what was called for OUT so far, which has this path, if it has one
 abbrev pub IsSoFar : Option (List ℕ) → Stage → List FileCall → Type 0

@@ -3,7 +3,7 @@
 
 ghost use Rattle.std.specs.Prelude.{◌≡◌, ◌≢◌, ◌⊎◌, ◌≤◌, ◌<◌, ◌-◌, ◌^◌, ℕ, List, Option, None, Some, IfSome, IfOk};
 ghost use Rattle.std.specs.Prelude.{IsSome, OnErr, OnOk, length, true, false, [], option_map, string_bytes};
-ghost use Rattle.archive_files.specs.FileCalls.{are_looks, bytes_in};
+ghost use Rattle.archive_files.specs.FileCalls.{are_probes, bytes_in};
 ghost use Rattle.archive_files.specs.OutFiles.{IsSoFar, Settled, Untouched, WritesBegun, WritesTo};
 ghost use Rattle.archive_files.specs.OutFiles.{draft_account, fault_of};
 ghost use Rattle.archive_files.specs.OutFiles.{has_calls, is_drafted, is_settled, stage_of, takes_bytes};
@@ -63,7 +63,7 @@ enum OutState<T> {
 }
 
 /// What bytes go to first, where OUT has this path.
-#[tactic(auto, using(crate::proofs::Publishings::begun_drafted, crate::proofs::Publishings::looks_bytes))]
+#[tactic(auto, using(crate::proofs::Publishings::begun_drafted, crate::proofs::Publishings::probes_bytes))]
 fn begun<F: Files>(
     alloc: Global,
     files: &F,
@@ -76,7 +76,7 @@ fn begun<F: Files>(
         (λ state. IsSoFar (Some path.now) (stage_of state) calls.new.entries) }
     ensures bytes { calls.old.entries ≡ [] → bytes_in calls.new.entries ≡ [] }
     ensures begun { IfOk result (λ state. has_calls (stage_of state) ≡ true) }
-    ensures refused { calls.old.entries ≡ [] → OnErr result (are_looks calls.new.entries ≡ true) }
+    ensures refused { calls.old.entries ≡ [] → OnErr result (are_probes calls.new.entries ≡ true) }
 {
     match way_to(alloc, files, path, replaces, calls)? {
         Way::Through => {

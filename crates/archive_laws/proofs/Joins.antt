@@ -4,11 +4,11 @@ use Rattle.std.specs.List.{AllByRecursion, AllZip}
 use Rattle.archive_core.specs.Content.{Operations, IsContent, joined}
 use Rattle.archive_core.proofs.Made.{joined_content}
 use Rattle.archive_records.specs.Text.{IsArchiveOf, written}
-use Rattle.command_ends.specs.declared.faults.InputName.{InputName}
-use Rattle.command_ends.specs.declared.faults.Why.{Why}
-use Rattle.command_ends.specs.Archives.{AreRefused, HoldTogether, merged}
-use Rattle.command_ends.specs.Inputs.{Reader, HoldsArchive, HoldsContent, IsDeviceFault, IsGiven, IsGivenArchive}
-use Rattle.archive_updates.specs.Merge.{merge}
+use Rattle.command_core.specs.declared.faults.InputName.{InputName}
+use Rattle.command_core.specs.declared.faults.Why.{Why}
+use Rattle.command_core.specs.Archives.{AreRefused, HoldTogether, merged}
+use Rattle.command_core.specs.Inputs.{Reader, HoldsArchive, HoldsContent, IsDeviceFault, IsGiven, IsGivenArchive}
+use Rattle.archive_writing.specs.Merge.{merge}
 use Rattle.archive_laws.specs.Joins.{IsGivenJoin}
 use Rattle.archive_laws.proofs.Accepted.{merge_refused}
 use Rattle.archive_laws.proofs.Given.{contents_given, gives, one_given}

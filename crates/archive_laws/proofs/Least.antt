@@ -14,8 +14,8 @@ use Rattle.join_core.specs.Bound.{IsLeastAbove}
 use Rattle.archive_core.specs.Content.{Operations, IsBelow, IsMade, IsContent, content_of, joined}
 use Rattle.archive_core.proofs.Made.{bytes_same, joined_made_right}
 use Rattle.exchange_model.proofs.Content.{joined_made}
-use Rattle.command_ends.specs.Archives.{merged}
-use Rattle.archive_updates.specs.Merge.{operations_of}
+use Rattle.command_core.specs.Archives.{merged}
+use Rattle.archive_writing.specs.Merge.{operations_of}
 
 module _
     (least : (o p : Operations) → IsContent o → IsContent p → IsLeastAbove IsContent IsBelow o p (joined o p))

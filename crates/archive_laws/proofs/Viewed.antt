@@ -19,8 +19,8 @@ use Rattle.report_text.specs.Answers.{found_text, own_text, own_line, owns_lines
 use Rattle.report_text.specs.Escapes.{escaped}
 use Rattle.report_text.specs.Frames.{frame_lines}
 use Rattle.report_text.specs.Report.{line}
-use Rattle.command_ends.specs.declared.faults.Status.{Status}
-use Rattle.command_ends.specs.declared.faults.Status.TheVariants.{Done, Partial}
+use Rattle.command_core.specs.declared.faults.Status.{Status}
+use Rattle.command_core.specs.declared.faults.Status.TheVariants.{Done, Partial}
 use Rattle.source_frames.specs.AddressFrames.{AreFramesOf}
 use Rattle.source_frames.specs.Frames.{FrameRecord}
 use Rattle.archive_queries.proofs.Sourced.{answer_of, one_answering}

@@ -2,8 +2,8 @@
 use Rattle.std.specs.Prelude.{◌≡◌, List}
 use Rattle.std.specs.List.{AllByRecursion, AllZip}
 use Rattle.archive_core.specs.Content.{Operations, IsContent}
-use Rattle.command_ends.specs.Archives.{merged}
-use Rattle.command_ends.specs.Inputs.{Reader, IsGivenArchive}
+use Rattle.command_core.specs.Archives.{merged}
+use Rattle.command_core.specs.Inputs.{Reader, IsGivenArchive}
 
 -- The archives were opened, their bytes are the texts of contents, and this is the join of these.
 pub record IsGivenJoin {R S : Type 0} (archive : Reader R) (others : List (Reader S)) (join : Operations)

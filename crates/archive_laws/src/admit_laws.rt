@@ -7,10 +7,10 @@ ghost use Rattle.archive_core.specs.Record.{admission_record};
 ghost use Rattle.archive_core.specs.Content.{Operations, IsContent, IsMade, content_of, joined};
 ghost use Rattle.admission.specs.File.{parts, IsAcceptedFile};
 ghost use Rattle.admission.specs.Take.{admitted, taken_rows};
-ghost use Rattle.command_ends.specs.declared.faults.InputName.{InputName};
-ghost use Rattle.command_ends.specs.declared.faults.Why.{Why};
-ghost use Rattle.archive_updates.specs.Admit.{admit, admit_rows, file_rows, images_of};
-ghost use Rattle.command_ends.specs.Inputs.{IsDeviceFault, IsGiven, Reader, IsGivenArchive};
+ghost use Rattle.command_core.specs.declared.faults.InputName.{InputName};
+ghost use Rattle.command_core.specs.declared.faults.Why.{Why};
+ghost use Rattle.archive_writing.specs.Admit.{admit, admit_rows, file_rows, images_of};
+ghost use Rattle.command_core.specs.Inputs.{IsDeviceFault, IsGiven, Reader, IsGivenArchive};
 
 use admission::laws::one_take_fault;
 use byte_device::Source;

@@ -8,10 +8,10 @@ ghost use Rattle.archive_core.specs.Content.{changes, new_among};
 ghost use Rattle.archive_core.specs.Record.{record_bytes};
 ghost use Rattle.archive_core.specs.declared.operations.Operation.{Operation};
 ghost use Rattle.archive_records.specs.Text.{IsOperationsText, written};
-ghost use Rattle.command_ends.specs.declared.faults.InputName.{InputName};
-ghost use Rattle.command_ends.specs.declared.faults.Why.{Why};
-ghost use Rattle.archive_updates.specs.Apply.{apply};
-ghost use Rattle.command_ends.specs.Inputs.{IsDeviceFault, IsGiven, Reader, IsGivenArchive};
+ghost use Rattle.command_core.specs.declared.faults.InputName.{InputName};
+ghost use Rattle.command_core.specs.declared.faults.Why.{Why};
+ghost use Rattle.archive_writing.specs.Apply.{apply};
+ghost use Rattle.command_core.specs.Inputs.{IsDeviceFault, IsGiven, Reader, IsGivenArchive};
 
 use crate::content_laws::{new_ones_in_turn, takes_in_any_order};
 use byte_device::Source;

@@ -4,11 +4,11 @@ ghost use Rattle.archive_core.specs.Content.{Operations, IsContent};
 ghost use Rattle.archive_core.specs.Summary.{Entries};
 ghost use Rattle.archive_records.specs.Entry.{AreEntries};
 ghost use Rattle.archive_records.specs.Text.{summary_text};
-ghost use Rattle.command_ends.specs.declared.faults.InputName.{InputName};
-ghost use Rattle.command_ends.specs.declared.faults.Why.{Why};
-ghost use Rattle.archive_updates.specs.Delta.{delta};
-ghost use Rattle.command_ends.specs.Inputs.{IsDeviceFault, IsGiven, Reader, RefusesDevicesAlone, IsGivenArchive};
-ghost use Rattle.archive_updates.specs.Summary.{summary};
+ghost use Rattle.command_core.specs.declared.faults.InputName.{InputName};
+ghost use Rattle.command_core.specs.declared.faults.Why.{Why};
+ghost use Rattle.archive_writing.specs.Delta.{delta};
+ghost use Rattle.command_core.specs.Inputs.{IsDeviceFault, IsGiven, Reader, RefusesDevicesAlone, IsGivenArchive};
+ghost use Rattle.archive_writing.specs.Summary.{summary};
 
 use byte_device::Source;
 

@@ -4,12 +4,12 @@ ghost use Rattle.std.specs.Prelude.{◌≡◌, ◌↔◌, ℕ, List, [], Bool, O
 ghost use Rattle.archive_core.specs.Content.{Operations};
 ghost use Rattle.crash_frames.specs.Frames.{frames_of};
 ghost use Rattle.crash_frames.specs.declared.frame.Frame.{Frame};
-ghost use Rattle.command_ends.specs.declared.faults.InputName.{InputName};
-ghost use Rattle.command_ends.specs.declared.faults.Status.{Status};
-ghost use Rattle.command_ends.specs.declared.faults.Why.{Why};
+ghost use Rattle.command_core.specs.declared.faults.InputName.{InputName};
+ghost use Rattle.command_core.specs.declared.faults.Status.{Status};
+ghost use Rattle.command_core.specs.declared.faults.Why.{Why};
 ghost use Rattle.archive_queries.specs.Frames.{MakesFramed, SymbolicatesEach, TellsFrames, frames};
-ghost use Rattle.archive_updates.specs.Merge.{merge};
-ghost use Rattle.command_ends.specs.Inputs.{Gives, HoldsContent, IsDeviceFault, IsGiven, Reader};
+ghost use Rattle.archive_writing.specs.Merge.{merge};
+ghost use Rattle.command_core.specs.Inputs.{Gives, HoldsContent, IsDeviceFault, IsGiven, Reader};
 ghost use Rattle.archive_laws.specs.Joins.{IsGivenJoin};
 
 use crate::content_laws::one_answer;
@@ -20,20 +20,20 @@ use source_frames::laws::one_list_of_frames;
 /// are the status and the text of `symbolicate` over the same archives, asked once for each frame of FRAMES.
 pub fn each_is_symbolicated<R: Source, S: Source, T: Source>()
     ensures { (lines : Bool) (input : Reader R) (archive : Reader S) (others : List (Reader T)) (bytes : List ℕ)
-        (said : List Frame) (o : Operations) (status : Status) (text : List ℕ)
+        (listed : List Frame) (o : Operations) (status : Status) (text : List ℕ)
         → IsGiven input bytes
-        → frames_of bytes ≡ Ok said
+        → frames_of bytes ≡ Ok listed
         → IsGivenJoin archive others o
         → (MakesFramed lines input archive others status text
-        ↔ SymbolicatesEach lines archive others said status text) }
+        ↔ SymbolicatesEach lines archive others listed status text) }
 {}
 
 /// Where FRAMES says frames and the archives are the texts of contents, none is refused but for its device.
 pub fn accepted_inputs_are_not_refused<R: Source, S: Source, T: Source>()
     ensures { (lines : Bool) (input : Reader R) (archive : Reader S) (others : List (Reader T)) (bytes : List ℕ)
-        (said : List Frame) (o : Operations) (name : InputName) (why : Why)
+        (listed : List Frame) (o : Operations) (name : InputName) (why : Why)
         → IsGiven input bytes
-        → frames_of bytes ≡ Ok said
+        → frames_of bytes ≡ Ok listed
         → IsGivenJoin archive others o
         → (frames lines input archive others).Refuses name why
         → IsDeviceFault why }
@@ -72,6 +72,6 @@ pub fn asked_together<Q: Source, R: Source, S: Source, T: Source>()
 pub fn one_archive<Q: Source, R: Source, S: Source>()
     ensures { (lines : Bool) (input : Reader Q) (archive : Reader R) (status : Status) (text : List ℕ)
         → MakesFramed {T = S} lines input archive [] status text
-        ↔ ((said : List Frame) × Gives input (λ bytes. frames_of bytes ≡ Ok said)
-        × HoldsContent archive (λ o. TellsFrames lines o said status text)) }
+        ↔ ((listed : List Frame) × Gives input (λ bytes. frames_of bytes ≡ Ok listed)
+        × HoldsContent archive (λ o. TellsFrames lines o listed status text)) }
 {}

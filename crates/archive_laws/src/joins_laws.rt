@@ -4,10 +4,10 @@ ghost use Rattle.std.specs.Prelude.{◌≡◌, ◌≤◌, ◌↔◌, ℕ, List, 
 ghost use Rattle.std.specs.List.{AllByRecursion};
 ghost use Rattle.archive_core.specs.Content.{IsContent, Operations, joined};
 ghost use Rattle.archive_core.specs.Part.{AreAlikeUnder, is_under, part};
-ghost use Rattle.command_ends.specs.Archives.{AreRefused, AreUnfailed, merged};
-ghost use Rattle.command_ends.specs.declared.faults.InputName.{InputName};
-ghost use Rattle.command_ends.specs.declared.faults.Why.{Why};
-ghost use Rattle.command_ends.specs.Inputs.{IsRefusedArchive, Reader, Unfailed};
+ghost use Rattle.command_core.specs.Archives.{AreRefused, AreUnfailed, merged};
+ghost use Rattle.command_core.specs.declared.faults.InputName.{InputName};
+ghost use Rattle.command_core.specs.declared.faults.Why.{Why};
+ghost use Rattle.command_core.specs.Inputs.{IsRefusedArchive, Reader, Unfailed};
 
 use byte_device::Source;
 

@@ -2,8 +2,8 @@
 //! nothing but call laws of the crates below.
 ghost use Rattle.std.specs.Prelude.{◌≡◌, ℕ, List};
 ghost use Rattle.archive_core.specs.Content.{Operations, IsContent};
-ghost use Rattle.command_ends.specs.declared.faults.Status.{Status};
-ghost use Rattle.command_ends.specs.Inputs.{Reader, RefusesDevicesAlone, IsGivenArchive};
+ghost use Rattle.command_core.specs.declared.faults.Status.{Status};
+ghost use Rattle.command_core.specs.Inputs.{Reader, RefusesDevicesAlone, IsGivenArchive};
 ghost use Rattle.archive_queries.specs.List.{MakesListed, list};
 
 use crate::content_laws::one_list;

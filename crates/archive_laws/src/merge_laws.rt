@@ -3,21 +3,21 @@
 ghost use Rattle.std.specs.Prelude.{◌≡◌, ◌≢◌, ◌↔◌, ◌++◌, ◌∷◌, [], ℕ, List, Contains, Ok, Err};
 ghost use Rattle.std.specs.List.{AllByRecursion, AllZip};
 ghost use Rattle.archive_core.specs.Content.{Operations, IsBelow, IsContent, content_of, joined};
-ghost use Rattle.command_ends.specs.declared.faults.InputName.{InputName};
-ghost use Rattle.command_ends.specs.declared.faults.Why.{Why};
-ghost use Rattle.command_ends.specs.declared.faults.CommandFault.{CommandFault};
-ghost use Rattle.command_ends.specs.declared.faults.CommandFault.TheVariants.{Input, Report};
-ghost use Rattle.command_ends.specs.declared.faults.Status.{Status};
-ghost use Rattle.command_ends.specs.Ends.{Ends, EndsStreamed};
-ghost use Rattle.command_ends.specs.Inputs.{IsDeviceFault, Reader, IsGivenArchive};
-ghost use Rattle.archive_updates.specs.MergeStreams.{merge_of_one};
-ghost use Rattle.command_ends.specs.Outputs.{Outs, Writer, draft_of, out_of};
-ghost use Rattle.command_ends.specs.Archives.{merged};
-ghost use Rattle.archive_updates.specs.Merge.{merge, operations_of};
+ghost use Rattle.command_core.specs.declared.faults.InputName.{InputName};
+ghost use Rattle.command_core.specs.declared.faults.Why.{Why};
+ghost use Rattle.command_core.specs.declared.faults.CommandFault.{CommandFault};
+ghost use Rattle.command_core.specs.declared.faults.CommandFault.TheVariants.{Input, Report};
+ghost use Rattle.command_core.specs.declared.faults.Status.{Status};
+ghost use Rattle.command_core.specs.Ends.{Ends, EndsStreamed};
+ghost use Rattle.command_core.specs.Inputs.{IsDeviceFault, Reader, IsGivenArchive};
+ghost use Rattle.archive_writing.specs.MergeStreams.{merge_of_one};
+ghost use Rattle.command_core.specs.Outputs.{Outs, Writer, draft_of, out_of};
+ghost use Rattle.command_core.specs.Archives.{merged};
+ghost use Rattle.archive_writing.specs.Merge.{merge, operations_of};
 
 use crate::content_laws::contents_join;
 use byte_device::{Sink, Source};
-use command_ends::Target;
+use command_core::Target;
 
 /// What `merge` makes is the least content above IN and above each FILE: it holds what they hold, and nothing else.
 pub fn merged_is_least()

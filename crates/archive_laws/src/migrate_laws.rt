@@ -4,9 +4,9 @@ ghost use Rattle.std.specs.Prelude.{◌≡◌, ◌∷◌, [], ℕ, List};
 ghost use Rattle.std.specs.FinSet as set;
 ghost use Rattle.archive_core.specs.Content.{Operations, IsContent, content_of};
 ghost use Rattle.archive_records.specs.Text.{AreOperations, old_written, written};
-ghost use Rattle.command_ends.specs.Inputs.{IsGiven, Reader, RefusesDevicesAlone};
-ghost use Rattle.archive_updates.specs.Merge.{MakesMerged};
-ghost use Rattle.archive_updates.specs.Migrate.{MakesMigrated, migrate};
+ghost use Rattle.command_core.specs.Inputs.{IsGiven, Reader, RefusesDevicesAlone};
+ghost use Rattle.archive_writing.specs.Merge.{MakesMerged};
+ghost use Rattle.archive_writing.specs.Migrate.{MakesMigrated, migrate};
 
 use crate::content_laws::migrate_joins;
 use byte_device::Source;

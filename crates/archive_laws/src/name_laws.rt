@@ -2,12 +2,12 @@
 //! nothing but call laws of the crates below.
 ghost use Rattle.std.specs.Prelude.{◌≡◌, ◌↔◌, ℕ, List, []};
 ghost use Rattle.archive_core.specs.Content.{Operations};
-ghost use Rattle.command_ends.specs.declared.faults.InputName.{InputName};
-ghost use Rattle.command_ends.specs.declared.faults.Status.{Status};
-ghost use Rattle.command_ends.specs.declared.faults.Why.{Why};
-ghost use Rattle.command_ends.specs.Inputs.{HoldsContent, IsDeviceFault, IsGiven, Reader};
+ghost use Rattle.command_core.specs.declared.faults.InputName.{InputName};
+ghost use Rattle.command_core.specs.declared.faults.Status.{Status};
+ghost use Rattle.command_core.specs.declared.faults.Why.{Why};
+ghost use Rattle.command_core.specs.Inputs.{HoldsContent, IsDeviceFault, IsGiven, Reader};
 ghost use Rattle.archive_queries.specs.Name.{MakesNamed, TellsNamed, name};
-ghost use Rattle.archive_updates.specs.Merge.{merge};
+ghost use Rattle.archive_writing.specs.Merge.{merge};
 ghost use Rattle.archive_laws.specs.Joins.{IsGivenJoin};
 
 use crate::content_laws::one_find_name;

@@ -4,11 +4,11 @@ ghost use Rattle.std.specs.Prelude.{◌≡◌, ◌∷◌, [], Err};
 ghost use Rattle.std.specs.FinSet as set;
 ghost use Rattle.archive_core.specs.Content.{Operations, IsBelow, IsContent};
 ghost use Rattle.archive_records.specs.Text.{written};
-ghost use Rattle.command_ends.specs.Archives.{merged};
-ghost use Rattle.command_ends.specs.Outputs.{Out, Publishes, Writer, report_of};
-ghost use Rattle.command_ends.specs.declared.faults.CommandFault.TheVariants.{Input};
-ghost use Rattle.command_ends.specs.declared.faults.InputName.{InputName};
-ghost use Rattle.command_ends.specs.declared.faults.Why.{Why};
+ghost use Rattle.command_core.specs.Archives.{merged};
+ghost use Rattle.command_core.specs.Outputs.{Out, Publishes, Writer, report_of};
+ghost use Rattle.command_core.specs.declared.faults.CommandFault.TheVariants.{Input};
+ghost use Rattle.command_core.specs.declared.faults.InputName.{InputName};
+ghost use Rattle.command_core.specs.declared.faults.Why.{Why};
 
 /// `new` has no input, and is refused for none: where it fails OUT or the report did, or memory was wanting.
 pub fn refused_for_no_input()

@@ -3,20 +3,20 @@
 ghost use Rattle.std.specs.Prelude.{ℕ, Bool, List, Option};
 ghost use Rattle.archive_core.specs.declared.keys.Digest.{Digest};
 ghost use Rattle.archive_core.specs.declared.keys.SliceKey.{SliceKey};
-ghost use Rattle.command_ends.specs.Inputs.{Reader};
+ghost use Rattle.command_core.specs.Inputs.{Reader};
 ghost use Rattle.archive_queries.specs.Find.{find};
 ghost use Rattle.archive_queries.specs.Frames.{frames};
 ghost use Rattle.archive_queries.specs.List.{list};
 ghost use Rattle.archive_queries.specs.Name.{name};
 ghost use Rattle.archive_queries.specs.Symbolicate.{symbolicate};
 ghost use Rattle.rehearse.specs.Rehearse.{rehearse};
-ghost use Rattle.archive_updates.specs.Admit.{admit};
-ghost use Rattle.archive_updates.specs.Apply.{apply};
-ghost use Rattle.archive_updates.specs.Delta.{delta};
-ghost use Rattle.archive_updates.specs.Merge.{merge};
-ghost use Rattle.archive_updates.specs.Migrate.{migrate};
-ghost use Rattle.archive_updates.specs.Retire.{retire};
-ghost use Rattle.archive_updates.specs.Summary.{summary};
+ghost use Rattle.archive_writing.specs.Admit.{admit};
+ghost use Rattle.archive_writing.specs.Apply.{apply};
+ghost use Rattle.archive_writing.specs.Delta.{delta};
+ghost use Rattle.archive_writing.specs.Merge.{merge};
+ghost use Rattle.archive_writing.specs.Migrate.{migrate};
+ghost use Rattle.archive_writing.specs.Retire.{retire};
+ghost use Rattle.archive_writing.specs.Summary.{summary};
 ghost use Rattle.archive_laws.specs.Refusals.{ArchivesHoldAlike, EachHoldAlike, EndAlike, HoldAlike, RefuseOne};
 
 use crate::content_laws::{one_answer, one_find, one_find_name, one_list};

@@ -5,12 +5,12 @@ ghost use Rattle.archive_core.specs.Content.{content_of};
 ghost use Rattle.exchange_model.specs.Reached.{reached};
 ghost use Rattle.exchange_model.specs.World.{state};
 ghost use Rattle.archive_exchange.specs.ModelEvent.{ModelEvent};
-ghost use Rattle.rehearsal.specs.Events.{Act};
-ghost use Rattle.rehearsal.specs.Script.{script_of};
-ghost use Rattle.command_ends.specs.declared.faults.InputName.{InputName};
-ghost use Rattle.command_ends.specs.declared.faults.Status.{Status};
-ghost use Rattle.command_ends.specs.declared.faults.Why.{Why};
-ghost use Rattle.command_ends.specs.Inputs.{IsDeviceFault, IsGiven, Reader};
+ghost use Rattle.exchange_script.specs.Events.{Act};
+ghost use Rattle.exchange_script.specs.Script.{script_of};
+ghost use Rattle.command_core.specs.declared.faults.InputName.{InputName};
+ghost use Rattle.command_core.specs.declared.faults.Status.{Status};
+ghost use Rattle.command_core.specs.declared.faults.Why.{Why};
+ghost use Rattle.command_core.specs.Inputs.{IsDeviceFault, IsGiven, Reader};
 ghost use Rattle.rehearse.specs.Rehearse.{MakesRehearsed, held_line, rehearse};
 
 use admission::TakeFault;

@@ -2,8 +2,8 @@
 //! nothing.
 ghost use Rattle.archive_core.specs.declared.keys.Digest.{Digest};
 ghost use Rattle.archive_core.specs.declared.keys.SliceKey.{SliceKey};
-ghost use Rattle.command_ends.specs.Inputs.{RefusesDevicesAlone};
-ghost use Rattle.archive_updates.specs.Retire.{retire};
+ghost use Rattle.command_core.specs.Inputs.{RefusesDevicesAlone};
+ghost use Rattle.archive_writing.specs.Retire.{retire};
 
 use byte_device::Source;
 

@@ -4,13 +4,13 @@ ghost use Rattle.std.specs.Prelude.{◌≡◌, ◌↔◌, ℕ, List, [], Bool, t
 ghost use Rattle.std.specs.List.{flat_map};
 ghost use Rattle.archive_core.specs.Content.{Operations};
 ghost use Rattle.archive_core.specs.declared.keys.SliceKey.{SliceKey};
-ghost use Rattle.command_ends.specs.declared.faults.InputName.{InputName};
-ghost use Rattle.command_ends.specs.declared.faults.Status.{Status};
-ghost use Rattle.command_ends.specs.declared.faults.Why.{Why};
-ghost use Rattle.command_ends.specs.Inputs.{HoldsContent, IsDeviceFault, IsGiven, Reader};
+ghost use Rattle.command_core.specs.declared.faults.InputName.{InputName};
+ghost use Rattle.command_core.specs.declared.faults.Status.{Status};
+ghost use Rattle.command_core.specs.declared.faults.Why.{Why};
+ghost use Rattle.command_core.specs.Inputs.{HoldsContent, IsDeviceFault, IsGiven, Reader};
 ghost use Rattle.report_text.specs.Answers.{answer_lines};
 ghost use Rattle.archive_queries.specs.Symbolicate.{MakesAnswered, TellsAddresses, symbolicate};
-ghost use Rattle.archive_updates.specs.Merge.{merge};
+ghost use Rattle.archive_writing.specs.Merge.{merge};
 ghost use Rattle.archive_laws.specs.Joins.{IsGivenJoin};
 
 use crate::content_laws::one_answer;

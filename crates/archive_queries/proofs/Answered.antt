@@ -1,5 +1,5 @@
 -- What is told of addresses, one after another.
-use Rattle.std.proofs.Common.{arith, ◌≡◌, ℕ, Bool, if◌then◌else◌, List, [], ◌∷◌, ◌++◌, Option, refl, sym, ap, ◌∙◌}
+use Rattle.std.proofs.Common.{arith, ◌≡◌, ℕ, Bool, if◌then◌else◌, List, [], ◌∷◌, ◌++◌, Option, sym, ap, ◌∙◌}
 use Rattle.std.proofs.lemmas.List.{map-append, flat_map_more}
 use Rattle.std.proofs.lemmas.List.Elements.{All-from_recursion, All-weaker, recursion_from_All}
 use Rattle.std.proofs.lemmas.List.Folds.{list_all-append}
@@ -9,10 +9,10 @@ use Rattle.archive_core.specs.Key.{key_bytes}
 use Rattle.archive_core.specs.Part.{AreAlikeUnder}
 use Rattle.archive_core.specs.declared.keys.SliceKey.{SliceKey}
 use Rattle.archive_core.specs.declared.lookup.Answer.{Answer}
-use Rattle.command_ends.proofs.Readers.{all_more}
+use Rattle.command_core.proofs.Readers.{all_more}
 use Rattle.report_text.specs.Answers.{answer_lines}
-use Rattle.command_ends.specs.declared.faults.Status.{Status}
-use Rattle.command_ends.specs.declared.faults.Status.TheVariants.{Done, Partial}
+use Rattle.command_core.specs.declared.faults.Status.{Status}
+use Rattle.command_core.specs.declared.faults.Status.TheVariants.{Partial}
 use Rattle.archive_queries.proofs.Sourced.{answers_alike, sourced_as}
 use Rattle.archive_queries.specs.Sources.{IsSourced}
 use Rattle.source_frames.specs.Frames.{FrameRecord}
@@ -20,9 +20,6 @@ use Rattle.archive_queries.specs.Symbolicate.{asked_of, is_symbol, Answered, IsA
 
 pub status_more : (rows : List Answered) (row : Answered) → (if is_symbol row.answer then answers_status rows else Partial) ≡ answers_status (rows ++ row ∷ [])
 status_more rows row = grind (arith, list_all-append (λ row. is_symbol row.answer) rows (row ∷ []))
-
-pub none_told : (content : Operations) (key : SliceKey) (load : Option ℕ) (lines : Bool) → TellsAddresses content key load lines [] Done []
-none_told content key load lines = record { rows = []; addresses_are = refl; answered = tt; status_is = refl; text_is = refl }
 
 pub more_told : (content : Operations) (key : SliceKey) (load : Option ℕ) (lines : Bool) (before addresses : List ℕ) (status next : Status) (text printed : List ℕ) (address : ℕ) (answer : Answer) (frames : List (List FrameRecord))
     → TellsAddresses content key load lines before status text

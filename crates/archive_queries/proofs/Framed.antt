@@ -34,16 +34,16 @@ use Rattle.report_text.specs.Answers.{answer_lines}
 use Rattle.report_text.proofs.Grouped.{key_is_same, same_key}
 use Rattle.archive_queries.specs.declared.asked_frames.AskedFrame.{AskedFrame}
 use Rattle.archive_queries.specs.declared.asked_frames.ToldFrame.{ToldFrame}
-use Rattle.command_ends.specs.declared.faults.CommandFault.{CommandFault}
-use Rattle.command_ends.specs.declared.faults.Status.{Status}
-use Rattle.command_ends.specs.declared.faults.Status.TheVariants.{Done, Partial}
-use Rattle.command_ends.specs.Ends.{EndsReport}
+use Rattle.command_core.specs.declared.faults.CommandFault.{CommandFault}
+use Rattle.command_core.specs.declared.faults.Status.{Status}
+use Rattle.command_core.specs.declared.faults.Status.TheVariants.{Done, Partial}
+use Rattle.command_core.specs.Ends.{EndsReport}
 use Rattle.archive_queries.specs.Frames.{IsFrameAnswered, TellsFrames, RefusesFrames}
 use Rattle.archive_queries.specs.InnerFrames.{AreLines, AreNumbered, AreTold, IsFrameTold, asked_cmp, is_asked}
 use Rattle.archive_queries.proofs.Parts.{refusal_of, together_refused}
-use Rattle.command_ends.specs.Archives.{AreRefused, AreUnfailed}
-use Rattle.command_ends.specs.Inputs.{EachUnfailed, EachUntouched, IsFrames, Reader, IsRefusal, IsRefusedFrames, IsUntouched, Unfailed, failures_of}
-use Rattle.command_ends.specs.Outputs.{Writer, Takes}
+use Rattle.command_core.specs.Archives.{AreRefused, AreUnfailed}
+use Rattle.command_core.specs.Inputs.{EachUnfailed, EachUntouched, IsFrames, Reader, IsRefusal, IsRefusedFrames, IsUntouched, Unfailed, failures_of}
+use Rattle.command_core.specs.Outputs.{Writer, Takes}
 use Rattle.archive_queries.specs.Sources.{IsSourced}
 use Rattle.archive_queries.specs.Symbolicate.{Answered, asked_of, is_symbol, answers_text}
 use Rattle.source_frames.specs.Frames.{FrameRecord}
@@ -96,19 +96,19 @@ by_keys asked sorted = λ j d below within. no_less_first _ _ (sorted j d below 
 
 -- ---- whether a record is under one of their keys
 
-module _ (front : List ℕ) where
+module _ (prefix : List ℕ) where
   abbrev pub place_of : AskedFrame → Ordering
-  place_of one = slice_cmp nat_cmp (key_bytes one.frame.key) front
+  place_of one = slice_cmp nat_cmp (key_bytes one.frame.key) prefix
 
   abbrev has : AskedFrame → Bool
-  has one = bytes_eq (key_bytes one.frame.key) front
+  has one = bytes_eq (key_bytes one.frame.key) prefix
 
   tied : (one : AskedFrame) → has one ≡ true → place_of one ≡ Equal
-  tied one is = ap (λ (bytes : List ℕ). slice_cmp nat_cmp bytes front) ((bytes_eq-Decides (key_bytes one.frame.key) front).0 is) ∙ tied_itself nat_list_cmp_total front
+  tied one is = ap (λ (bytes : List ℕ). slice_cmp nat_cmp bytes prefix) ((bytes_eq-Decides (key_bytes one.frame.key) prefix).0 is) ∙ tied_itself nat_list_cmp_total prefix
 
   found_at : (asked : List AskedFrame) (i : ℕ) → i < length asked → HoldsAt (λ (one : AskedFrame). place_of one ≡ Equal) asked i → list_any has asked ≡ true
   found_at [] i lt at = absurd (omega (arith, lt))
-  found_at (one ∷ asked) i lt at = list_any_at has (one ∷ asked) i one lt ((bytes_eq-Decides _ front).1 (bytes_same _ front (at one)))
+  found_at (one ∷ asked) i lt at = list_any_at has (one ∷ asked) i one lt ((bytes_eq-Decides _ prefix).1 (bytes_same _ prefix (at one)))
 
   found_nowhere : (asked : List AskedFrame) (i : ℕ) → IsPartitionPoint (λ (one : AskedFrame). place_of one ≡ Less) (λ (one : AskedFrame). place_of one ≡ Greater) asked i → list_any has asked ≡ false
   found_nowhere asked i parts = false_from_ne_true (list_any has asked) (λ is.
@@ -122,7 +122,7 @@ module _ (front : List ℕ) where
   pub found_asked : (asked : List AskedFrame) (r : Result ℕ ℕ) → IsSortedByKey (λ (one : AskedFrame). key_bytes one.frame.key) (slice_cmp nat_cmp) asked → IsSearchInRange r (length asked)
       → IsBinarySearchResult place_of asked r → is_ok r ≡ list_any has asked
   found_asked asked (Ok i) sorted lt at = sym (found_at asked i lt at)
-  found_asked asked (Err i) sorted le parted = sym (found_nowhere asked i (parted (searchable_from_sorted nat_list_cmp_total (λ (one : AskedFrame). key_bytes one.frame.key) asked front sorted)))
+  found_asked asked (Err i) sorted le parted = sym (found_nowhere asked i (parted (searchable_from_sorted nat_list_cmp_total (λ (one : AskedFrame). key_bytes one.frame.key) asked prefix sorted)))
 
 -- each record under a key of theirs is
 pub asked_picked : (asked : List AskedFrame) (key : SliceKey) → Contains (map key_of_asked asked) key → length (key_bytes key) ≡ 24 → (r : List ℕ) → is_under (key_bytes key) r ≡ true → is_asked asked r ≡ true
@@ -134,10 +134,6 @@ asked_picked asked key there long r under =
     list_any-from_Any (has (take 24 (drop 1 r))) asked (one.1.0, one.0, one.1.1, one.1.2, same)
 
 -- ---- one question after another
-
--- the key of the next frame
-pub next_is : (asked : List AskedFrame) (one : AskedFrame) (left : List AskedFrame) → asked ≡ one ∷ left → first_key (map key_of_asked asked) ≡ Some one.frame.key
-next_is asked one left is = ap (λ (l : List AskedFrame). first_key (map key_of_asked l)) is
 
 -- none was told
 pub none_told : (wanted : Bool) (content : Operations) (frames : List Frame) (asked : List AskedFrame) (told : List ToldFrame) (text : List ℕ) → AreLines frames asked → length asked ≡ length frames → length told ≡ length asked
@@ -244,11 +240,11 @@ run_key key asked i d lt = same_key (get_or asked i d).frame.key key (prefix_len
 
 pub in_run : (key : SliceKey) (left run : List AskedFrame) (n i : ℕ) (one : AskedFrame) → n ≡ prefix_len (of_key key) left → run ≡ take n left → i < length run → one ≡ get_or run i one
     → (one.frame.key ≡ key) × Contains run one × (one ≡ get_or left i one) × (i < length left)
-in_run key left run n i one long front lt at =
-    let within : length run ≡ length (take n left) = ap length front in
+in_run key left run n i one long prefix lt at =
+    let within : length run ≡ length (take n left) = ap length prefix in
     let few : i < n = omega (arith, within, length-take n left) in
     let also : i < length left = omega (arith, within, length-take n left) in
-    let there : one ≡ get_or left i one = at ∙ ap (λ (l : List AskedFrame). get_or l i one) front ∙ get_or-take n left i one few in (
+    let there : one ≡ get_or left i one = at ∙ ap (λ (l : List AskedFrame). get_or l i one) prefix ∙ get_or-take n left i one few in (
       ap (λ (a : AskedFrame). a.frame.key) there ∙ run_key key left i one (omega (arith, long)),
       (i, lt, sym at),
       there,
@@ -376,4 +372,4 @@ module _ {R S T : Type 0} (Makes : Status → List ℕ → Type 0) (frames : Rea
       together_refused Makes _ _ report fault (refusal_of _ _ _ _ fault (λ at why refused. inl (refused, untouched, each)) (λ u. (u, (ap (failures_of archive.failures) untouched, unfailed))) r)
 
   pub archives_refused : (fault : CommandFault) → IsFrames frames → Unfailed frames → IsRefusal (AreRefused archive others) (AreUnfailed archive others) fault → Takes report [] → EndsInOrder (Err fault)
-  archives_refused fault said unfailed r = together_refused Makes _ _ report fault (refusal_of _ _ _ _ fault (λ at why refused. inr (said, unfailed, refused)) (λ u. (unfailed, u)) r)
+  archives_refused fault listed unfailed r = together_refused Makes _ _ report fault (refusal_of _ _ _ _ fault (λ at why refused. inr (listed, unfailed, refused)) (λ u. (unfailed, u)) r)

@@ -20,10 +20,10 @@ use Rattle.archive_records.specs.Reader.{set_of}
 use Rattle.archive_records.proofs.Apart.{both_true, from_set, in_set, is_false}
 use Rattle.archive_reading.specs.Names.{AddsNames}
 use Rattle.archive_reading.specs.declared.names.NamesFound.{NamesFound}
-use Rattle.command_ends.specs.Archives.{HoldTogether, merged}
-use Rattle.command_ends.specs.Inputs.{HoldsArchive, HoldsContent, IsArchive, Reader}
-use Rattle.command_ends.proofs.Archives.{each_archive, hold_more}
-use Rattle.command_ends.proofs.Readers.{all_more}
+use Rattle.command_core.specs.Archives.{HoldTogether, merged}
+use Rattle.command_core.specs.Inputs.{HoldsArchive, HoldsContent, IsArchive, Reader}
+use Rattle.command_core.proofs.Archives.{each_archive, hold_more}
+use Rattle.command_core.proofs.Readers.{all_more}
 use Rattle.archive_queries.specs.InnerNames.{HasNameRow, HasRetirement, HaveAdded}
 use Rattle.archive_queries.specs.Name.{SaysUnderscored, underscored}
 

@@ -18,39 +18,39 @@ use Rattle.archive_core.specs.declared.keys.SliceKey.{SliceKey}
 use Rattle.archive_core.proofs.Members.{in_rest}
 use Rattle.archive_reading.specs.Keys.{first_key}
 use Rattle.byte_device.specs.declared.disks.CannotOpen.{CannotOpen}
-use Rattle.command_ends.proofs.Archives.{each_archive, hold_more}
-use Rattle.command_ends.proofs.Readers.{all_more, none_failed, none_touched}
-use Rattle.command_ends.specs.Archives.{AreRefused, AreUnfailed, HoldTogether, ReadsTogether, further_name, merged}
-use Rattle.command_ends.specs.declared.faults.CommandFault.{CommandFault}
-use Rattle.command_ends.specs.declared.faults.CommandFault.TheVariants.{Input, Output, Report, OutOfMemory}
-use Rattle.command_ends.specs.declared.faults.InputName.{InputName}
-use Rattle.command_ends.specs.declared.faults.Status.{Status}
-use Rattle.command_ends.specs.declared.faults.Why.{Why}
-use Rattle.command_ends.specs.Ends.{EndsReport}
-use Rattle.command_ends.specs.Outputs.{Takes, Writer}
-use Rattle.command_ends.specs.Inputs.{EachUnfailed, EachUntouched, HoldsArchive, HoldsContent, HoldsPart, IsArchive, IsArchiveRefused, IsFirstRefused, IsRefusal, IsRefusedArchive, Reader, Reads, Unfailed, readers}
+use Rattle.command_core.proofs.Archives.{each_archive, hold_more}
+use Rattle.command_core.proofs.Readers.{all_more, none_failed, none_touched}
+use Rattle.command_core.specs.Archives.{AreRefused, AreUnfailed, HoldTogether, ReadsTogether, further_name, merged}
+use Rattle.command_core.specs.declared.faults.CommandFault.{CommandFault}
+use Rattle.command_core.specs.declared.faults.CommandFault.TheVariants.{Input, Output, Report, OutOfMemory}
+use Rattle.command_core.specs.declared.faults.InputName.{InputName}
+use Rattle.command_core.specs.declared.faults.Status.{Status}
+use Rattle.command_core.specs.declared.faults.Why.{Why}
+use Rattle.command_core.specs.Ends.{EndsReport}
+use Rattle.command_core.specs.Outputs.{Takes, Writer}
+use Rattle.command_core.specs.Inputs.{EachUnfailed, EachUntouched, HoldsArchive, HoldsContent, HoldsPart, IsArchive, IsArchiveRefused, IsFirstRefused, IsRefusal, IsRefusedArchive, Reader, ReadsInput, Unfailed, readers}
 use Rattle.archive_queries.specs.InnerTogether.{HasJoinedParts}
 use Rattle.archive_queries.specs.Together.{AreAlikeWhere}
 
--- ---- records under a front of a key
+-- ---- records under a prefix of a key
 
--- a retirement that covers a record is under the same front
-covering_under : (front r : List ℕ) → length front ≤ 24 → 33 ≤ length r → is_under front (covering r) ≡ is_under front r
+-- a retirement that covers a record is under the same prefix
+covering_under : (prefix r : List ℕ) → length prefix ≤ 24 → 33 ≤ length r → is_under prefix (covering r) ≡ is_under prefix r
 unfolding is_under key_and_digest
-covering_under front r short long =
-    let key : length front ≤ length (take 24 (drop 1 r)) = omega (arith, length-take 24 (drop 1 r), length-drop 1 r) in
-    ap (bytes_eq front) (take-append-le (length front) (take 24 (drop 1 r)) _ key ∙ take-take (length front) 24 (drop 1 r) short)
+covering_under prefix r short long =
+    let key : length prefix ≤ length (take 24 (drop 1 r)) = omega (arith, length-take 24 (drop 1 r), length-drop 1 r) in
+    ap (bytes_eq prefix) (take-append-le (length prefix) (take 24 (drop 1 r)) _ key ∙ take-take (length prefix) 24 (drop 1 r) short)
 
 -- ---- the join of two that are alike there
 
-module _ (front : List ℕ) (short : length front ≤ 24) (o p few some : Operations) (content : IsContent o) (other : IsContent p) (same : AreAlikeUnder front few o) (also : AreAlikeUnder front some p) where
+module _ (prefix : List ℕ) (short : length prefix ≤ 24) (o p few some : Operations) (content : IsContent o) (other : IsContent p) (same : AreAlikeUnder prefix few o) (also : AreAlikeUnder prefix some p) where
   abbrev whole : Operations
   whole = union o p
 
   abbrev parts : Operations
   parts = union few some
 
-  alike : (r : List ℕ) → is_under front r ≡ true → contains parts r ≡ contains whole r
+  alike : (r : List ℕ) → is_under prefix r ≡ true → contains parts r ≡ contains whole r
   alike r under =
       contains-union nat_list_cmp_total few some r
       ∙ (λ i. same r under i || also r under i)
@@ -63,25 +63,25 @@ module _ (front : List ℕ) (short : length front ≤ 24) (o p few some : Operat
   ]
 
   -- so what is covered there is, too
-  pub joined_alike : AreAlikeUnder front (joined few some) (joined o p)
+  pub joined_alike : AreAlikeUnder prefix (joined few some) (joined o p)
   joined_alike r under = elim (cases_Bool (contains whole r)) [
-    | inl there ↦ grind (arith, contains_made parts r, contains_made whole r, alike r under, alike (covering r) (covering_under front r short (long_of r there) ∙ under))
+    | inl there ↦ grind (arith, contains_made parts r, contains_made whole r, alike r under, alike (covering r) (covering_under prefix r short (long_of r there) ∙ under))
     | inr none ↦ grind (arith, contains_made parts r, contains_made whole r, alike r under)
   ]
 
-pub joins_of_parts : (o p : Operations) (picks : List ℕ → Bool) (front : List ℕ) → IsContent o → IsContent p → length front ≤ 24 → ((r : List ℕ) → is_under front r ≡ true → picks r ≡ true)
-    → AreAlikeUnder front (joined (part o picks) (part p picks)) (joined o p)
-joins_of_parts o p picks front content other short picked =
-    joined_alike front short o p (part o picks) (part p picks) content other (part_alike o picks front picked) (part_alike p picks front picked)
+pub joins_of_parts : (o p : Operations) (picks : List ℕ → Bool) (prefix : List ℕ) → IsContent o → IsContent p → length prefix ≤ 24 → ((r : List ℕ) → is_under prefix r ≡ true → picks r ≡ true)
+    → AreAlikeUnder prefix (joined (part o picks) (part p picks)) (joined o p)
+joins_of_parts o p picks prefix content other short picked =
+    joined_alike prefix short o p (part o picks) (part p picks) content other (part_alike o picks prefix picked) (part_alike p picks prefix picked)
 
 -- of more than two
-pub merged_alike : (front : List ℕ) (picks : List ℕ → Bool) → length front ≤ 24 → ((r : List ℕ) → is_under front r ≡ true → picks r ≡ true)
-    → (o few : Operations) (contents : List Operations) → IsContent o → AllByRecursion IsContent contents → AreAlikeUnder front few o
-    → AreAlikeUnder front (merged few (map (λ (p : Operations). part p picks) contents)) (merged o contents)
-merged_alike front picks short picked o few [] content each same = same
-merged_alike front picks short picked o few (p ∷ contents) content each same =
-    merged_alike front picks short picked (joined o p) (joined few (part p picks)) contents (joined_content o p content each.0) each.1
-    (joined_alike front short o p few (part p picks) content each.0 same (part_alike p picks front picked))
+pub merged_alike : (prefix : List ℕ) (picks : List ℕ → Bool) → length prefix ≤ 24 → ((r : List ℕ) → is_under prefix r ≡ true → picks r ≡ true)
+    → (o few : Operations) (contents : List Operations) → IsContent o → AllByRecursion IsContent contents → AreAlikeUnder prefix few o
+    → AreAlikeUnder prefix (merged few (map (λ (p : Operations). part p picks) contents)) (merged o contents)
+merged_alike prefix picks short picked o few [] content each same = same
+merged_alike prefix picks short picked o few (p ∷ contents) content each same =
+    merged_alike prefix picks short picked (joined o p) (joined few (part p picks)) contents (joined_content o p content each.0) each.1
+    (joined_alike prefix short o p few (part p picks) content each.0 same (part_alike p picks prefix picked))
 
 -- ---- the archives, one more at a time
 
@@ -115,8 +115,8 @@ module _ {R : Type 0} where
     are_contents = joined.are_contents;
     archive_is = kept.text;
     others_are = joined.archives_are;
-    is_true = λ front short picked.
-        rw joined.content (merged_alike front picks short picked kept.whole first joined.contents kept.is_content joined.are_contents (rw kept.kept (part_alike kept.whole picks front picked)));
+    is_true = λ prefix short picked.
+        rw joined.content (merged_alike prefix picks short picked kept.whole first joined.contents kept.is_content joined.are_contents (rw kept.kept (part_alike kept.whole picks prefix picked)));
   }
 
 -- ---- one of them is refused, or memory is wanting
@@ -179,7 +179,7 @@ pub no_others : {X : Type 0} (xs : List X) (empty : Bool) → empty ≡ nat_eq (
 no_others xs empty is holds = nil_from_length xs (eqb-true (length xs) 0 (sym is ∙ holds))
 
 pub alone_told : {R T : Type 0} (left : R → Option (List ℕ)) (failures : R → ℕ) (archive : Reader R) (others : List (Result R CannotOpen)) (IsTrue : T → Operations → Type 0) (result : Result T CommandFault) → others ≡ []
-    → Reads archive result (λ input told. HoldsContent input (IsTrue told)) (IsRefusedArchive 0) → ReadsTogether archive (readers left failures others others) result IsTrue
+    → ReadsInput archive result (λ input told. HoldsContent input (IsTrue told)) (IsRefusedArchive 0) → ReadsTogether archive (readers left failures others others) result IsTrue
 alone_told left failures archive others IsTrue (Ok told) none read = record { is = alone left failures archive others (IsTrue told) none read.is; unfailed = (read.unfailed, none_failed left failures others) }
 alone_told left failures archive others IsTrue (Err fault) none refused = first_refused archive (readers left failures others others) fault refused (none_touched left failures others) (none_failed left failures others)
 

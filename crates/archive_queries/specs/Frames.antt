@@ -4,13 +4,13 @@ use Rattle.std.specs.List.{AllZip, flat_map, list_all}
 use Rattle.archive_core.specs.Content.{Operations}
 use Rattle.crash_frames.specs.Frames.{frames_of}
 use Rattle.crash_frames.specs.declared.frame.Frame.{Frame}
-use Rattle.command_ends.specs.declared.faults.InputName.{InputName}
-use Rattle.command_ends.specs.declared.faults.Status.{Status}
-use Rattle.command_ends.specs.declared.faults.Status.TheVariants.{Done, Partial}
-use Rattle.command_ends.specs.declared.faults.Why.{Why}
-use Rattle.command_ends.specs.Archives.{AreRefused, AreUnfailed, HoldTogether}
-use Rattle.command_ends.specs.Ends.{Query}
-use Rattle.command_ends.specs.Inputs.{Reader, Gives, Unfailed, IsUntouched, EachUntouched, IsFrames, IsRefusedFrames}
+use Rattle.command_core.specs.declared.faults.InputName.{InputName}
+use Rattle.command_core.specs.declared.faults.Status.{Status}
+use Rattle.command_core.specs.declared.faults.Status.TheVariants.{Done, Partial}
+use Rattle.command_core.specs.declared.faults.Why.{Why}
+use Rattle.command_core.specs.Archives.{AreRefused, AreUnfailed, HoldTogether}
+use Rattle.command_core.specs.Ends.{Query}
+use Rattle.command_core.specs.Inputs.{Reader, Gives, Unfailed, IsUntouched, EachUntouched, IsFrames, IsRefusedFrames}
 use Rattle.archive_queries.specs.Symbolicate.{Answered, IsAnswered, answers_status, answers_text}
 use Rattle.archive_queries.specs.Symbolicate.{MakesAnswered}
 
@@ -31,9 +31,9 @@ pub record TellsFrames (lines : Bool) (content : Operations) (frames : List Fram
 -- frames.
 pub record MakesFramed {R S T : Type 0} (lines : Bool) (frames : Reader R) (archive : Reader S)
     (others : List (Reader T)) (status : Status) (text : List ℕ) : Type 0 where
-  pub said : List Frame
-  pub frames_are : Gives frames (λ bytes. frames_of bytes ≡ Ok said)
-  pub tells : HoldTogether archive others (λ o. TellsFrames lines o said status text)
+  pub listed : List Frame
+  pub frames_are : Gives frames (λ bytes. frames_of bytes ≡ Ok listed)
+  pub tells : HoldTogether archive others (λ o. TellsFrames lines o listed status text)
 
 -- FRAMES is refused, and no archive is touched; or FRAMES says frames, its reader does not fail, and an archive is
 -- refused

@@ -3,8 +3,8 @@ use Rattle.std.specs.Prelude.{◌≡◌, ℕ, List, Bool, map}
 use Rattle.std.specs.List.{AllByRecursion, AllZip}
 use Rattle.archive_core.specs.Content.{Operations, IsContent}
 use Rattle.archive_core.specs.Part.{part}
-use Rattle.command_ends.specs.Archives.{merged}
-use Rattle.command_ends.specs.Inputs.{Reader, HoldsArchive}
+use Rattle.command_core.specs.Archives.{merged}
+use Rattle.command_core.specs.Inputs.{Reader, HoldsArchive}
 
 -- These archives are the texts of contents, and the parts of these that are picked are joined to the content now.
 pub record HasJoinedParts {R : Type 0} (archives : List (Reader R)) (picks : List ℕ → Bool) (old new : Operations)

@@ -10,11 +10,11 @@ use Rattle.archive_core.specs.declared.lookup.Where.{Where}
 use Rattle.archive_core.specs.declared.lookup.Where.TheVariants.{File, Loaded}
 use Rattle.source_frames.specs.Frames.{FrameRecord}
 use Rattle.report_text.specs.Answers.{answer_lines}
-use Rattle.command_ends.specs.declared.faults.Status.{Status}
-use Rattle.command_ends.specs.declared.faults.Status.TheVariants.{Done, Partial}
-use Rattle.command_ends.specs.Archives.{AreRefused, AreUnfailed, HoldTogether}
-use Rattle.command_ends.specs.Ends.{Query}
-use Rattle.command_ends.specs.Inputs.{Reader}
+use Rattle.command_core.specs.declared.faults.Status.{Status}
+use Rattle.command_core.specs.declared.faults.Status.TheVariants.{Done, Partial}
+use Rattle.command_core.specs.Archives.{AreRefused, AreUnfailed, HoldTogether}
+use Rattle.command_core.specs.Ends.{Query}
+use Rattle.command_core.specs.Inputs.{Reader}
 use Rattle.archive_queries.specs.Sources.{IsSourced}
 
 -- the place that an address of the words means: one of the image where it was loaded, if the words say where, and else

@@ -3,8 +3,8 @@ use Rattle.std.specs.Prelude.{◌≡◌, ℕ, ◌≤◌, List, Bool, true, lengt
 use Rattle.archive_core.specs.Content.{Operations}
 use Rattle.archive_core.specs.Part.{AreAlikeUnder, is_under}
 
--- the two have the same records under each front of a key under which all records are picked
+-- the two have the same records under each prefix of a key under which all records are picked
 abbrev pub AreAlikeWhere : (List ℕ → Bool) → Operations → Operations → Type 0
 AreAlikeWhere picks o p =
-    (front : List ℕ) → length front ≤ 24 → ((r : List ℕ) → is_under front r ≡ true → picks r ≡ true)
-    → AreAlikeUnder front o p
+    (prefix : List ℕ) → length prefix ≤ 24 → ((r : List ℕ) → is_under prefix r ≡ true → picks r ≡ true)
+    → AreAlikeUnder prefix o p

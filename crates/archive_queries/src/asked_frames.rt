@@ -10,7 +10,7 @@ ghost use Rattle.archive_core.specs.Content.{Operations};
 ghost use Rattle.archive_core.specs.Find.{is_key};
 ghost use Rattle.archive_core.specs.Key.{key_bytes};
 ghost use Rattle.archive_reading.specs.Keys.{AnswersAs, AreInOrder, first_key};
-ghost use Rattle.command_ends.specs.declared.faults.Status.TheVariants.{Done, Partial};
+ghost use Rattle.command_core.specs.declared.faults.Status.TheVariants.{Done, Partial};
 ghost use Rattle.archive_queries.specs.InnerFrames.{AreLines, AreNumbered, AreTold, asked_cmp};
 ghost use Rattle.archive_queries.specs.InnerSources.{AreSourcesOf};
 ghost use Rattle.archive_queries.specs.Symbolicate.{asked_of, is_symbol};
@@ -20,8 +20,8 @@ use crate::sources::Sources;
 use crate::symbolicate::asked_of;
 use archive_core::{Answer, Archive, SliceKey, Where, compare_keys};
 use archive_reading::{Questions, Selects};
-use archive_records::key_front;
-use command_ends::Status;
+use archive_records::key_prefix;
+use command_core::Status;
 use crash_frames::Frame;
 use memory::{Heap, NoMemory};
 use report_text::push_answer;
@@ -58,9 +58,9 @@ impl<'f> Selects for AskedKeys<'f> {
     ghost picked = { λ keys bytes. is_asked keys.asked.now bytes };
 
     fn picks(&self, bytes: &[u8]) -> bool {
-        let front = &bytes[1..25];
+        let prefix = &bytes[1..25];
         self.asked
-            .binary_search_by(|one| key_front(&one.frame.key)[..].cmp(front))
+            .binary_search_by(|one| key_prefix(&one.frame.key)[..].cmp(prefix))
             .is_ok()
     }
 }

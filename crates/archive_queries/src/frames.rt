@@ -1,16 +1,16 @@
 //! `frames FRAMES [--lines] ARCHIVE...`.
 ghost use Rattle.std.specs.Prelude.{IfOk};
-ghost use Rattle.command_ends.specs.Archives.{ReadsTogether};
-ghost use Rattle.command_ends.specs.Ends.{EndsReport};
+ghost use Rattle.command_core.specs.Archives.{ReadsTogether};
+ghost use Rattle.command_core.specs.Ends.{EndsReport};
 ghost use Rattle.archive_queries.specs.Frames.{TellsFrames, frames};
-ghost use Rattle.command_ends.specs.Inputs.{reader, readers};
-ghost use Rattle.command_ends.specs.Outputs.{writer};
+ghost use Rattle.command_core.specs.Inputs.{reader, readers};
+ghost use Rattle.command_core.specs.Outputs.{writer};
 
 use crate::asked_frames::{AskedKeys, FrameQuestions, in_key_order};
 use crate::together::{answer_all, answer_archives};
 use archive_core::Archive;
 use byte_device::{CannotOpen, Sink, Source};
-use command_ends::{CommandFault, Status, publish_bytes, read_crash};
+use command_core::{CommandFault, Status, publish_bytes, read_crash};
 use crash_frames::Frame;
 use memory::{Heap, NoMemory};
 

@@ -1,9 +1,9 @@
 //! `symbolicate ARCHIVE UUID ARCH [--load HEX] [--lines] ADDRESS...`, over one archive or several.
 ghost use Rattle.std.specs.Prelude.{◌≡◌, ℕ, if◌then◌else◌, Contains, IfOk, map, string_bytes};
-ghost use Rattle.command_ends.specs.declared.faults.Status.TheVariants.{Partial};
-ghost use Rattle.command_ends.specs.Ends.{EndsReport};
-ghost use Rattle.command_ends.specs.Inputs.{reader, readers};
-ghost use Rattle.command_ends.specs.Outputs.{writer};
+ghost use Rattle.command_core.specs.declared.faults.Status.TheVariants.{Partial};
+ghost use Rattle.command_core.specs.Ends.{EndsReport};
+ghost use Rattle.command_core.specs.Inputs.{reader, readers};
+ghost use Rattle.command_core.specs.Outputs.{writer};
 ghost use Rattle.archive_queries.specs.InnerSources.{AreSourcesOf};
 ghost use Rattle.archive_queries.specs.Symbolicate.{TellsAddresses, is_symbol, asked_of, symbolicate};
 
@@ -12,7 +12,7 @@ use crate::together::{bytes_of, read_parts};
 use archive_core::{Answer, Archive, SliceKey, Where};
 use archive_reading::Under;
 use byte_device::{CannotOpen, Sink, Source};
-use command_ends::{CommandFault, Status, publish_report};
+use command_core::{CommandFault, Status, publish_report};
 use memory::{Heap, NoMemory};
 use report_text::push_answer;
 
@@ -121,8 +121,8 @@ pub fn run_symbolicate<A: Archive + Drop, R: Source, P: Sink>(
         (readers R.left R.failures others.old others.new) key.now load lines addresses.now)
         (writer P.held P.failures report.old report.new) result }
 {
-    let front = bytes_of(key);
-    let kept: A = read_parts(heap.clone()?, &Under(&front), archive, others)?;
+    let prefix = bytes_of(key);
+    let kept: A = read_parts(heap.clone()?, &Under(&prefix), archive, others)?;
     let (status, text) = answer_each(heap, &kept, key, load, lines, addresses)?;
     publish_report(status, &text, report)
 }

@@ -5,16 +5,16 @@ ghost use Rattle.archive_core.specs.Key.{key_bytes};
 ghost use Rattle.archive_core.specs.Part.{is_under, part};
 ghost use Rattle.archive_core.specs.declared.keys.SliceKey.{SliceKey};
 ghost use Rattle.archive_reading.specs.Keys.{AnswersAs, AreInOrder, first_key};
-ghost use Rattle.command_ends.specs.Archives.{ReadsOthers, ReadsTogether};
-ghost use Rattle.command_ends.specs.Inputs.{HoldsContent, IsRefusedArchive, Reads, reader, readers};
+ghost use Rattle.command_core.specs.Archives.{ReadsOthers, ReadsTogether};
+ghost use Rattle.command_core.specs.Inputs.{HoldsContent, IsRefusedArchive, ReadsInput, reader, readers};
 ghost use Rattle.archive_queries.specs.InnerTogether.{HasJoinedParts};
 ghost use Rattle.archive_queries.specs.Together.{AreAlikeWhere};
 
 use archive_core::{Archive, SliceKey, take_all};
 use archive_reading::{Questions, Selects};
-use archive_records::key_front;
+use archive_records::key_prefix;
 use byte_device::{CannotOpen, Source};
-use command_ends::{CommandFault, answer_input, read_input_part};
+use command_core::{CommandFault, answer_input, read_input_part};
 use memory::{Heap, NoMemory};
 
 /// Joins what is picked of the archive with this number among the words.
@@ -25,7 +25,7 @@ pub fn join_part<A: Archive + Drop, S: Selects, R: Source>(
     select: &S,
     archive: &mut Result<R, CannotOpen>,
 ) -> Result<(), CommandFault>
-    ensures { Reads (reader R.left R.failures archive.old archive.new) result
+    ensures { ReadsInput (reader R.left R.failures archive.old archive.new) result
         (λ archive _. HoldsContent archive
         (λ o. A.content kept.new ≡ joined (A.content kept.old) (part o (S.picked select.now))))
         (IsRefusedArchive number) }
@@ -52,7 +52,7 @@ fn join_parts<A: Archive + Drop, S: Selects, R: Source>(
 }
 
 /// Reads the archives in the order of the words, each to its end, and keeps the join of what is picked of each: under a
-/// front of a key, or the whole of one, it has what the join of the archives has.
+/// prefix of a key, or the whole of one, it has what the join of the archives has.
 pub fn read_parts<A: Archive + Drop, S: Selects, R: Source>(
     heap: Heap,
     select: &S,
@@ -73,7 +73,7 @@ pub(crate) fn bytes_of(key: &SliceKey) -> [u8; 24]
     ensures bytes { result ≡ key_bytes key.now }
     ensures long { length (key_bytes key.now) ≡ 24 }
 {
-    key_front(key)
+    key_prefix(key)
 }
 
 /// The key of the next question.

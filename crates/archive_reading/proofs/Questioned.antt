@@ -229,12 +229,12 @@ answered_next front (k ∷ keys) new Answered Next held now records key first be
 
 -- ---- one record more
 
--- a record that is lent tells which it is
-pub lent_retires : (x : List ℕ) (key : SliceKey) (digest : Digest) → IsOperation (Retire key digest) → retirement_record key digest.0 ≡ x → Retires x
-lent_retires x key digest is bytes = record { key = key; digest = digest.0; is_key = is.0; long = is.1; is = sym bytes }
+-- a record that is borrowed tells which it is
+pub borrowed_retires : (x : List ℕ) (key : SliceKey) (digest : Digest) → IsOperation (Retire key digest) → retirement_record key digest.0 ≡ x → Retires x
+borrowed_retires x key digest is bytes = record { key = key; digest = digest.0; is_key = is.0; long = is.1; is = sym bytes }
 
-pub lent_admits : (x slice : List ℕ) → IsValid slice → admission_record slice ≡ x → Admits x
-lent_admits x slice valid bytes = record { slice = slice; valid = valid; is = sym bytes }
+pub borrowed_admits : (x slice : List ℕ) → IsValid slice → admission_record slice ≡ x → Admits x
+borrowed_admits x slice valid bytes = record { slice = slice; valid = valid; is = sym bytes }
 
 -- what may come behind the record
 behind_one : (MayCome : List (List ℕ) → Type 0) (Answered : Operations → Type 0) (records : List (List ℕ)) (x : List ℕ)

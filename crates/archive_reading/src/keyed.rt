@@ -1,6 +1,6 @@
 //! Questions under keys, answered in one pass over an archive.
 
-ghost use Rattle.std.specs.Prelude.{◌≡◌, [], ℕ, List, Option, Some, OnOk, drop, false, length};
+ghost use Rattle.std.specs.Prelude.{◌≡◌, [], ℕ, List, Some, OnOk, drop, false, length};
 ghost use Rattle.std.specs.Prelude.{if◌then◌else◌, option_map};
 ghost use Rattle.std.specs.FinSet as set;
 ghost use Rattle.std.specs.Option.{ForSome};
@@ -14,7 +14,7 @@ ghost use Rattle.archive_records.specs.Reading.{ReadsInPart};
 
 use crate::reading::take_record;
 use archive_core::{Archive, Record, SliceKey};
-use archive_records::{FromRecords, RecordFault, RecordReader, TextKind, key_front, tell_text};
+use archive_records::{FromRecords, RecordFault, RecordReader, TextKind, key_prefix, tell_text};
 use byte_device::Source;
 use memory::{Heap, NoMemory};
 
@@ -51,7 +51,7 @@ fn is_next<Q: Questions>(questions: &Q, front: &[u8]) -> bool
     ensures { result ≡ is_first front.now (Q.left questions.now) }
 {
     match questions.next_key() {
-        Some(key) => &key_front(&key)[..] == front,
+        Some(key) => &key_prefix(&key)[..] == front,
         None => false,
     }
 }
@@ -61,7 +61,7 @@ fn is_passed(key: &SliceKey, front: Option<&[u8]>) -> bool
     ensures passed { result ≡ is_passed key.now (option_map (λ bytes. bytes.now) front.entry) }
     ensures long { length (key_bytes key.now) ≡ 24 }
 {
-    let key = key_front(key);
+    let key = key_prefix(key);
     match front {
         Some(front) => key[..].cmp(front).is_lt(),
         None => true,
@@ -82,7 +82,7 @@ fn answer_next<A: Archive + Drop, Q: Questions>(
         → Q.answered start o asked.old.questions → Q.answered start o asked.new.questions) }
 {
     asked.questions.answer(&asked.held)?;
-    if !is_next(&asked.questions, &key_front(key)) {
+    if !is_next(&asked.questions, &key_prefix(key)) {
         asked.held = A::empty(heap.clone()?);
     }
     Ok(())

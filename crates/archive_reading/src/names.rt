@@ -3,7 +3,7 @@
 ghost use Rattle.std.specs.Prelude.{◌≡◌, ◌↔◌, ◌++◌, [], map, Contains, OnOk, false};
 ghost use Rattle.std.specs.FinSet as set;
 ghost use Rattle.std.specs.List.{AllByRecursion};
-ghost use Rattle.archive_core.specs.Record.{IsOperation, lent_bytes, operation_lent, retirement_record};
+ghost use Rattle.archive_core.specs.Record.{IsOperation, borrowed_bytes, operation_borrowed, retirement_record};
 ghost use Rattle.archive_records.specs.Entry.{IsEntry, entry_bytes};
 ghost use Rattle.archive_reading.specs.Names.{AddsNames};
 ghost use Rattle.std.specs.List.Sorted.{IsStrictlySortedBy};
@@ -48,9 +48,9 @@ fn push_names(
     record: &Record<'_>,
     name: &[u8],
 ) -> Result<(), NoMemory>
-    requires { IsOperation (operation_lent record.now) }
+    requires { IsOperation (operation_borrowed record.now) }
     ensures { OnOk result (map owned_name_view rows.new.items
-        ≡ map owned_name_view rows.old.items ++ names_of name.now (lent_bytes record.now)) }
+        ≡ map owned_name_view rows.old.items ++ names_of name.now (borrowed_bytes record.now)) }
 {
     let Record::Admit(slice) = record else {
         return Ok(());

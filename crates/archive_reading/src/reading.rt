@@ -1,7 +1,7 @@
 //! Archives that are read from a source.
 
 ghost use Rattle.std.specs.Prelude.{◌≡◌, OnOk};
-ghost use Rattle.archive_core.specs.Record.{lent_bytes};
+ghost use Rattle.archive_core.specs.Record.{borrowed_bytes};
 ghost use Rattle.archive_core.specs.Content.{with_record};
 ghost use Rattle.archive_records.specs.declared.kind.TextKind.TheVariants.{Archive};
 ghost use Rattle.archive_records.specs.Reading.{ReadsWhole, ReadsFront};
@@ -17,7 +17,7 @@ pub(crate) fn take_record<A: Archive>(
     heap: &Heap,
     record: &Record<'_>,
 ) -> Result<(), NoMemory>
-    ensures { OnOk result (A.content archive.new ≡ with_record (A.content archive.old) (lent_bytes record.now)) }
+    ensures { OnOk result (A.content archive.new ≡ with_record (A.content archive.old) (borrowed_bytes record.now)) }
 {
     let operation = record.copy(heap.clone()?)?;
     archive.take(operation)?;

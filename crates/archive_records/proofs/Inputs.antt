@@ -91,7 +91,7 @@ IsReadTo-few a b o r =
     let long : set.len o ≤ length r.records = subst (λ (c : Operations). set.len c ≤ length r.records) (sym r.makes) (few_in r.format r.kind_is r.records r.ordered) in
     omega arith
 
-all_taken : (a b : Option (List ℕ)) (text : List ℕ) → Consumes a b text → IsAtEnd b → IfSome a (λ t. t ≡ text)
+pub all_taken : (a b : Option (List ℕ)) (text : List ℕ) → Consumes a b text → IsAtEnd b → IfSome a (λ t. t ≡ text)
 all_taken None b text k end = tt
 all_taken (Some t) None text k end = absurd k
 all_taken (Some t) (Some ys) text k end = k ∙ ap (λ (y : List ℕ). text ++ y) end ∙ append-nil text

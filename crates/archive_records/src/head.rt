@@ -5,7 +5,7 @@ ghost use Rattle.std.specs.Prelude.{IfSome, length, slice_index, take, drop};
 ghost use Rattle.std.specs.Int.{w32, w64, from_be_bytes, to_be_bytes};
 ghost use Rattle.archive_core.specs.Key.{IsKey, key_bytes};
 ghost use Rattle.archive_core.specs.Valid.{key_of};
-ghost use Rattle.archive_core.specs.Record.{IsOperation, lent_bytes, operation_lent};
+ghost use Rattle.archive_core.specs.Record.{IsOperation, borrowed_bytes, operation_borrowed};
 ghost use Rattle.archive_records.specs.Kind.{admission_length, end_length};
 ghost use Rattle.archive_records.specs.Layout.{head_length, admission_body, body_length, record_count};
 ghost use Rattle.archive_records.specs.Reader.{IsFound};
@@ -13,7 +13,7 @@ ghost use Rattle.archive_records.specs.Text.{end_record};
 
 use crate::format::Format;
 use archive_core::{
-    ArchKey, CheckedSlice, Digest, RETIREMENT, Record, SliceFacts, SliceKey, key_front,
+    ArchKey, CheckedSlice, Digest, RETIREMENT, Record, SliceFacts, SliceKey, key_prefix,
 };
 use byteorder::{BigEndian, ByteOrder};
 use uuid::Uuid;
@@ -117,7 +117,7 @@ pub fn has_key(bytes: &[u8], key: &SliceKey) -> bool
     requires { 25 ≤ length bytes.now }
     ensures { IsTrue result ↔ (take 24 (drop 1 bytes.now) ≡ key_bytes key.now) }
 {
-    let whole = key_front(key);
+    let whole = key_prefix(key);
     &bytes[1..25] == &whole[..]
 }
 
@@ -128,7 +128,7 @@ pub fn admission_head(slice: &CheckedSlice<'_>) -> [u8; 33]
 {
     let mut head = [0; ADMISSION_HEAD_LEN];
     head[0] = ADMISSION;
-    head[1..25].copy_from_slice(&key_front(&slice.key()));
+    head[1..25].copy_from_slice(&key_prefix(&slice.key()));
     let length = slice.bytes().len() as u64;
     head[25..].copy_from_slice(&length.to_be_bytes());
     head
@@ -183,8 +183,8 @@ pub fn digest_in(bytes: &[u8]) -> Digest
 /// The record that these bytes are, by what was found out of its slice.
 pub fn record_in(bytes: &[u8], found: Option<SliceFacts>) -> Record<'_>
     requires { IsFound bytes.now found }
-    ensures bytes { lent_bytes result ≡ bytes.now }
-    ensures operation { IsOperation (operation_lent result) }
+    ensures bytes { borrowed_bytes result ≡ bytes.now }
+    ensures operation { IsOperation (operation_borrowed result) }
 {
     match found {
         None => Record::Retire(key_in(bytes), digest_in(bytes)),

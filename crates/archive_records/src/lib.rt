@@ -46,7 +46,7 @@ mod retired;
 mod summary;
 mod writing;
 
-pub use archive_core::{key_front, retirement_bytes};
+pub use archive_core::{key_prefix, retirement_bytes};
 pub use entry::Entry;
 pub use fault::{MergeCause, MergeFault, RecordFault, RecordFaultKind};
 pub use format::Format;

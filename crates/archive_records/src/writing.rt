@@ -6,7 +6,7 @@ ghost use Rattle.std.specs.List.{concat};
 ghost use Rattle.join_core.specs.Listing.{listing};
 ghost use Rattle.byte_device.specs.Writes.{Puts};
 ghost use Rattle.archive_core.specs.Content.{IsContent};
-ghost use Rattle.archive_core.specs.Record.{lent_bytes};
+ghost use Rattle.archive_core.specs.Record.{borrowed_bytes};
 ghost use Rattle.archive_core.specs.Summary.{delta};
 ghost use Rattle.archive_records.specs.Entry.{entry_bytes};
 ghost use Rattle.archive_records.specs.Kind.{magic, summary_magic};
@@ -76,7 +76,7 @@ fn put_both<W: Sink>(w: &mut W, done: u128, head: &[u8], body: &[u8]) -> Result<
 /// The writer failed; it has gained the first bytes of the record, and `written` counts the `done` bytes before it too.
 pub fn put_record<W: Sink>(w: &mut W, done: u128, item: &Record<'_>) -> Result<u128, WriteFault>
     requires { done + 2 ^ 33 < 2 ^ 128 }
-    ensures puts { Puts W.held W.failures (λ n. n) w.old w.new done (lent_bytes item.now) result }
+    ensures puts { Puts W.held W.failures (λ n. n) w.old w.new done (borrowed_bytes item.now) result }
     ensures short { IfOk result (λ n. n ≤ done + 2 ^ 33) }
 {
     match item {
@@ -185,9 +185,9 @@ pub fn put_missing_record<W: Sink>(
     requires room { done.bytes + 2 ^ 33 < 2 ^ 128 }
     requires few { done.records + 1 < 2 ^ 64 }
     ensures puts { Puts W.held W.failures (λ sizes. sizes.bytes) w.old w.new done.bytes
-        (concat (missing summary.now (lent_bytes item.now ∷ []))) result }
+        (concat (missing summary.now (borrowed_bytes item.now ∷ []))) result }
     ensures records { IfOk result (λ n. n.records
-        ≡ done.records + length (missing summary.now (lent_bytes item.now ∷ []))) }
+        ≡ done.records + length (missing summary.now (borrowed_bytes item.now ∷ []))) }
     ensures short { IfOk result (λ n. n.bytes ≤ done.bytes + 2 ^ 33) }
 {
     if summary.has(&Entry::of(item)) {

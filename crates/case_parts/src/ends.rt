@@ -1,7 +1,7 @@
 //! How a case ends, and what it leaves.
 
 use crate::faults::{CallFault, Ended};
-use command_ends::{CommandFault, Failure, Status, status_of};
+use command_core::{CommandFault, Failure, Status, status_of};
 use memory::NoMemory;
 use std::fmt;
 

@@ -3,7 +3,7 @@
 use crate::ends::{End, Left};
 use archive_core::Digest;
 use archive_words::Spelled;
-use command_ends::{Failure, Status, status_of};
+use command_core::{Failure, Status, status_of};
 use command_line::LineFault;
 use memory::NoMemory;
 use sha2::{Digest as _, Sha256};

@@ -1,5 +1,5 @@
 -- What a line that `clap` refuses has for an answer, by the kinds of error that its own definition names.
-use Rattle.std.proofs.Common.{arith, ◌≡◌, ◌⊎◌, ℕ, inl, inr, true, List, [], ◌∷◌, Option, Some, None, Result, Ok, Err, IfOk}
+use Rattle.std.proofs.Common.{arith, ◌≡◌, ℕ, inl, inr, true, List, [], ◌∷◌, Option, Some, None, Result, Ok, Err, IfOk}
 use Rattle.std.proofs.Common.{Global, IfErr, IsErrAnd, MatchResult, String, ap, is_some, option_map, refl, string_bytes}
 use Rattle.std.proofs.Common.{subst, sym}
 use Rattle.std.specs.Prelude.{option_and_then}
@@ -17,7 +17,7 @@ use Rattle.clap.specs.Words.{HasKind, IsAmong, Kinds, Row, Text, kind_of}
 use Rattle.clap.specs.declared.error.Error.{Error}
 use Rattle.clap.specs.declared.error.kind.ErrorKind.{ErrorKind}
 use Rattle.clap.specs.declared.error.kind.ErrorKind.TheVariants as kind
-use Rattle.command_line.specs.LineFaults.{IsHelpUnlessMemory, IsRefusalUnlessMemory, IsRefusedAs, IsRefusedBy, first_other}
+use Rattle.command_line.specs.LineFaults.{IsHelpUnlessMemory, IsRefusalUnlessMemory, IsRefusedBy, first_other}
 use Rattle.command_line.specs.LineFaults.{form_refusal, other_form, other_in, other_word, out_refusal, refusal_among}
 use Rattle.command_line.specs.LineFaults.{refusal_at, refusal_in, refusal_of}
 use Rattle.command_line.specs.declared.line_faults.LineFault.{LineFault}
@@ -47,13 +47,6 @@ other_is_refusal e fault kinds same has is no_help no_version memory refusal =
           (λ is_version. no_version (subst (λ k. IsAmong k same) is_version among))
     ]
 
--- a refusal with a text that was made
-pub refused_as : {E : Type 0} (made : Result (String Global) E) (fault : LineFault) (text : List ℕ)
-    → IfOk made (λ t. string_bytes t ≡ text)
-    → MatchResult made (λ t. fault ≡ Refused t) (λ _. fault ≡ OutOfMemory) → IsRefusedAs text fault
-refused_as (Ok t) fault text is told = subst (IsRefusedAs text) (sym told) is
-refused_as (Err e) fault text is told = subst (IsRefusedAs text) (sym told) tt
-
 pub refused_by : {E : Type 0} (made : Result (String Global) E) (fault : LineFault) (text : List ℕ)
     → IfOk made (λ t. string_bytes t ≡ text)
     → MatchResult made (λ t. fault ≡ Refused t) (λ _. fault ≡ OutOfMemory) → IsRefusedBy (Some text) fault
@@ -63,15 +56,6 @@ refused_by (Err e) fault text is told = subst (IsRefusedBy (Some text)) (sym tol
 -- want of memory is told at any words
 pub memory_told : (told : Option Text) (fault : LineFault) → fault ≡ OutOfMemory → IsRefusedBy told fault
 memory_told told fault is = subst (IsRefusedBy told) (sym is) tt
-
--- the first word that is refused
-pub first_told : {X : Type 0} (form : Text → Option X) (a : Argument) (word : Text) (rest : List Text)
-    (fault : LineFault) → (fault ≡ OutOfMemory) ⊎ (form word ≡ None) → IsRefusedAs (other_form a word) fault
-    → IsRefusedBy (option_map (other_form a) (first_other form (word ∷ rest))) fault
-first_told form a word rest fault (inl wants) told = memory_told _ fault wants
-first_told form a word rest (Refused text) (inr other) told = rw other told
-first_told form a word rest OutOfMemory (inr other) told = tt
-first_told form a word rest (Help text) (inr other) told = absurd told
 
 -- what is told first
 either : (o p : Option Text) (fault : LineFault) → IsRefusedBy o fault → IsRefusedBy (option_or o p) fault

@@ -37,14 +37,14 @@ front_said (line ∷ front) further (frame ∷ frames) h =
     let others : map (λ l. line_frame l.1) front ≡ map Some frames = cc in
     ap₂ (λ o r. frame_then line.0 o r) first (front_said front further frames others) ∙ behind-cons frame frames (frames_in further)
 
-said : (lines : List (ℕ × Line)) (frames : List Frame) → AreFrames lines frames → frames_in lines ≡ Ok frames
-said lines frames h = ap frames_in (sym (append-nil lines)) ∙ front_said lines [] frames h ∙ ap Ok (append-nil frames)
+listed : (lines : List (ℕ × Line)) (frames : List Frame) → AreFrames lines frames → frames_in lines ≡ Ok frames
+listed lines frames h = ap frames_in (sym (append-nil lines)) ∙ front_said lines [] frames h ∙ ap Ok (append-nil frames)
 
 pub frames_lines : (bytes : List ℕ) (frames : List Frame) → frames_of bytes ≡ Ok frames → IsFrames bytes frames
 frames_lines bytes frames h = meant (counting bytes) frames h
 
 pub frames_said : (bytes : List ℕ) (frames : List Frame) → IsFrames bytes frames → frames_of bytes ≡ Ok frames
-frames_said bytes frames is = said (counting bytes) frames is
+frames_said bytes frames is = listed (counting bytes) frames is
 
 -- ---- the first line that is none
 

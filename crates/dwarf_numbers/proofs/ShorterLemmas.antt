@@ -1,5 +1,5 @@
 -- Fewer bytes are left after a value.
-use Rattle.std.proofs.Common.{◌≡◌, ℕ, ◌+◌, ◌<◌, ◌≤◌, Bool, true, false, List, [], ◌∷◌, length, take, drop, cond, Option, Some, None, refl, ap, inl, inr, arith, length-drop, nat_lt}
+use Rattle.std.proofs.Common.{◌≡◌, ℕ, ◌+◌, ◌<◌, ◌≤◌, Bool, true, false, List, [], ◌∷◌, length, take, drop, cond, Option, Some, None, ap, inl, inr, arith, length-drop, nat_lt}
 use Rattle.std.specs.List.{position_or_len, before_first, after_first}
 use Rattle.std.specs.Option.{option_map, option_and_then}
 use Rattle.std.proofs.lemmas.Bool.{cases_Bool, ltb-true}
@@ -8,11 +8,7 @@ use Rattle.dwarf_numbers.specs.Leb128.{onto, leb128_at, last_unsigned, last_sign
 use Rattle.dwarf_numbers.specs.Text.{is_nul, text_at}
 use Rattle.dwarf_numbers.specs.Values.{ValueRecord, Constant as Constant_, InlineString as InlineString_, Other as Other_}
 use Rattle.dwarf_numbers.specs.Forms.{class_value, class_of, split_at, number_of_size, after_block, variable_value_at, fixed_size, sized_value_at, value_at}
-
--- what is made of an option is made of what it has
-pub mapped_some : {A B : Type 0} (f : A → B) (o : Option A) (y : B) → option_map f o ≡ Some y → (x : A) × (o ≡ Some x) × (f x ≡ y)
-mapped_some f None y e = cc e
-mapped_some f (Some x) y e = (x, refl, cc e)
+use Rattle.dwarf_numbers.proofs.SequenceLemmas.{mapped as mapped_some}
 
 -- a number has a byte
 pub leb128_shorter : (last : ℕ → ℕ) (bytes : List ℕ) (x : ℕ × List ℕ) → leb128_at last bytes ≡ Some x → length x.1 < length bytes

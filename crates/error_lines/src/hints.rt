@@ -2,10 +2,10 @@
 //! it contracts say what it is of, the path, the faulty line, and what is noted of a stale index.
 
 ghost use Rattle.std.specs.Prelude.{◌≡◌, ℕ, codes, IfSome, None, Option, Some};
-ghost use Rattle.command_ends.specs.declared.failures.Failure.TheVariants.{Command};
-ghost use Rattle.command_ends.specs.declared.faults.CommandFault.TheVariants.{Input};
-ghost use Rattle.command_ends.specs.declared.faults.InputName.{InputName};
-ghost use Rattle.command_ends.specs.declared.faults.Why.TheVariants.{Damaged, NoLines, Stale};
+ghost use Rattle.command_core.specs.declared.failures.Failure.TheVariants.{Command};
+ghost use Rattle.command_core.specs.declared.faults.CommandFault.TheVariants.{Input};
+ghost use Rattle.command_core.specs.declared.faults.InputName.{InputName};
+ghost use Rattle.command_core.specs.declared.faults.Why.TheVariants.{Damaged, NoLines, Stale};
 ghost use Rattle.command_line.specs.LineView.{line_view};
 ghost use Rattle.command_line.specs.Lines.{out_of};
 ghost use Rattle.error_lines.specs.declared.hints.Hint.TheVariants.{Lineless, Torn};
@@ -16,7 +16,7 @@ use crate::file_kinds::FileKind;
 use crate::flaws::FaultyLine;
 use crate::line_inputs::input_at;
 use archive_files::{Obstacle, OutFile, SystemInput, Unopened};
-use command_ends::{CommandFault, Failure, InputName, Status, Why};
+use command_core::{CommandFault, Failure, InputName, Status, Why};
 use command_line::Line;
 use std::fmt::{self, Display, Write};
 use std::io::{self, ErrorKind};

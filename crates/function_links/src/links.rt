@@ -1,6 +1,6 @@
 //! The functions that contain each address of a unit, as links that addresses share.
 
-ghost use Rattle.std.specs.Prelude.{◌≡◌, ◌≤◌, ◌<◌, ◌+◌, ◌^◌, ◌↔◌, ℕ, IfOk, OnOk, length};
+ghost use Rattle.std.specs.Prelude.{◌≤◌, ◌<◌, ◌↔◌, ℕ, IfOk, length};
 ghost use Rattle.std.specs.List.{Contains};
 ghost use Rattle.function_links.specs.Links.{AreLinkSteps, ends_of_ranges};
 ghost use Rattle.function_links.specs.LinkViews.{links_view};

@@ -202,7 +202,7 @@ module _ (o : Operations) (text : List ℕ) (file : IsIndexFile o text) where
 
     entry_here : IsEntryOf text r (table_entry before at r t)
     entry_here = record {
-      front = entry_begins before at r t is_record;
+      prefix = entry_begins before at r t is_record;
       kind = kind_there before at r t is_record;
       length_is = length_there before at r t is_record;
       slice = λ admitted. slice_stored (admits_record r is_record admitted) admitted;

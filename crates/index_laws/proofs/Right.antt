@@ -214,33 +214,33 @@ module _ (os : List Operations) (texts : List (List ℕ)) (indexes : List (List 
   module _ (all : AreIndexes os texts indexes) where
     -- ---- nothing is damaged
 
-    tagged : (front : List ℕ) (x : EntryAt) → answers_among front (all_of indexes) x.entry ≡ true → is_admission x.entry ≡ true
-    tagged front x h =
-        let lives = (and_parts (lives_under front (all_of indexes) x.entry) _ h).0 in
+    tagged : (prefix : List ℕ) (x : EntryAt) → answers_among prefix (all_of indexes) x.entry ≡ true → is_admission x.entry ≡ true
+    tagged prefix x h =
+        let lives = (and_parts (lives_under prefix (all_of indexes) x.entry) _ h).0 in
         (and_parts (is_admission x.entry) _ (and_parts _ _ lives).0).0
 
-    pub undamaged : (front text : List ℕ) (x : EntryAt) → IsAmong indexes x → answers_among front (all_of indexes) x.entry ≡ true → slice_get texts x.input ≡ Some text → HasNoTable text x.entry → ⊥
-    undamaged front text x among h here none =
+    pub undamaged : (prefix text : List ℕ) (x : EntryAt) → IsAmong indexes x → answers_among prefix (all_of indexes) x.entry ≡ true → slice_get texts x.input ≡ Some text → HasNoTable text x.entry → ⊥
+    undamaged prefix text x among h here none =
         let r = find os texts indexes all x among in
-        let s = slice_of_entry os texts indexes x r.0 r.1 (tagged front x h) in
+        let s = slice_of_entry os texts indexes x r.0 r.1 (tagged prefix x h) in
         let same : s.1.of.text ≡ text = cc (s.1.of.file.text_at, here) in
         let is : IsSliceOf text s.0 x.entry = subst (λ (t : List ℕ). IsSliceOf t s.0 x.entry) same s.1.is.is in
         none (subst (λ (t : List ℕ). length t < 2 ^ 64) same s.1.of.file.are.short) s.0 is.table is.is_table is.stored
 
-    pub none_damaged : (front : List ℕ) (answering : List EntryAt) (input number : ℕ) → AreAnsweringAmong front indexes answering → IsDamagedAt texts answering input number → ⊥
-    none_damaged front answering input number are damaged =
+    pub none_damaged : (prefix : List ℕ) (answering : List EntryAt) (input number : ℕ) → AreAnsweringAmong prefix indexes answering → IsDamagedAt texts answering input number → ⊥
+    none_damaged prefix answering input number are damaged =
         let x : EntryAt = record { input = input; number = number; entry = damaged.entry } in
-        let answers : answers_among front (all_of indexes) x.entry ≡ true = All-contains (λ y. answers_among front (all_of indexes) y.entry ≡ true) answering x are.each damaged.answers in
-        undamaged front damaged.text x (All-contains (IsAmong indexes) answering x are.among damaged.answers) answers damaged.text_is damaged.absent
+        let answers : answers_among prefix (all_of indexes) x.entry ≡ true = All-contains (λ y. answers_among prefix (all_of indexes) y.entry ≡ true) answering x are.each damaged.answers in
+        undamaged prefix damaged.text x (All-contains (IsAmong indexes) answering x are.among damaged.answers) answers damaged.text_is damaged.absent
 
     -- ---- where there are no lines
 
-    pub lineless : (front : List ℕ) (answering : List EntryAt) (input number : ℕ) → AreAnsweringAmong front indexes answering → IsLinelessAt texts answering input number → (slice : List ℕ) × AnswersUnder os front slice × HasNoLines slice
-    lineless front answering input number are lacking =
+    pub lineless : (prefix : List ℕ) (answering : List EntryAt) (input number : ℕ) → AreAnsweringAmong prefix indexes answering → IsLinelessAt texts answering input number → (slice : List ℕ) × AnswersUnder os prefix slice × HasNoLines slice
+    lineless prefix answering input number are lacking =
         let x : EntryAt = record { input = input; number = number; entry = lacking.entry } in
-        let answers : answers_among front (all_of indexes) x.entry ≡ true = All-contains (λ y. answers_among front (all_of indexes) y.entry ≡ true) answering x are.each lacking.answers in
+        let answers : answers_among prefix (all_of indexes) x.entry ≡ true = All-contains (λ y. answers_among prefix (all_of indexes) y.entry ≡ true) answering x are.each lacking.answers in
         let r = find os texts indexes all x (All-contains (IsAmong indexes) answering x are.among lacking.answers) in
-        let s = slice_of_entry os texts indexes x r.0 r.1 (tagged front x answers) in
+        let s = slice_of_entry os texts indexes x r.0 r.1 (tagged prefix x answers) in
         let same : s.1.of.text ≡ lacking.text = cc (s.1.of.file.text_at, lacking.text_is) in
         let is : IsSliceOf lacking.text s.0 x.entry = subst (λ (t : List ℕ). IsSliceOf t s.0 x.entry) same s.1.is.is in
         let within : input < length os = slice_get_within os input s.1.of.o s.1.of.file.content_at in (
@@ -285,7 +285,7 @@ module _ (os : List Operations) (texts : List (List ℕ)) (indexes : List (List 
             other_is = record { o = b.1.of.of.o; there = b.1.of.of.file.content_at; has = held os texts indexes t.other (admission_record b.0) b.1.of.of; answers = b.1.answers };
             places = t.unordered.inputs;
             lengths = omega (arith, a.1.of.is.length_is, b.1.of.is.length_is, t.unordered.same_length);
-            differ = λ same. t.unordered.slices (a.1.of.is.front ∙ ap (λ (s : List ℕ). 2 ∷ (key_bytes (key_of s) ++ sha256 s)) same ∙ sym b.1.of.is.front);
+            differ = λ same. t.unordered.slices (a.1.of.is.prefix ∙ ap (λ (s : List ℕ). 2 ∷ (key_bytes (key_of s) ++ sha256 s)) same ∙ sym b.1.of.is.prefix);
           }
 
       -- ---- the answer
@@ -293,7 +293,7 @@ module _ (os : List Operations) (texts : List (List ℕ)) (indexes : List (List 
       -- two entries of one slice of different indexes are of the same slice, as far as digests tell
       one_of_two : (x y : EntryAt) (a b : List ℕ) → DigestsTell os → IsOfSlice os texts indexes x a → IsOfSlice os texts indexes y b → IsRepeatOf y x → a ≡ b
       one_of_two x y a b tell of_x of_y repeat =
-          let fronts : key_bytes (key_of a) ++ sha256 a ≡ key_bytes (key_of b) ++ sha256 b = ap (drop 1) (sym of_x.is.front ∙ sym repeat.slices ∙ of_y.is.front) in
+          let fronts : key_bytes (key_of a) ++ sha256 a ≡ key_bytes (key_of b) ++ sha256 b = ap (drop 1) (sym of_x.is.prefix ∙ sym repeat.slices ∙ of_y.is.prefix) in
           let digests = (same_parts (key_bytes (key_of a)) (key_bytes (key_of b)) (sha256 a) (sha256 b) (length-key_of a of_x.is.valid ∙ sym (length-key_of b of_y.is.valid)) fronts).1 in
           let lt_x : x.input < length os = slice_get_within os x.input of_x.of.o of_x.of.file.content_at in
           let lt_y : y.input < length os = slice_get_within os y.input of_y.of.o of_y.of.file.content_at in

@@ -45,9 +45,9 @@ pub record IsAnsweringOf (os : List Operations) (key : SliceKey) (place : ℕ) (
   pub answers : IsAnswering (all_joined os) key slice
 
 -- one of these contents has the slice, and it answers under the key with these bytes in the content that all make
-pub record AnswersUnder (os : List Operations) (front slice : List ℕ) : Type 0 where
+pub record AnswersUnder (os : List Operations) (prefix slice : List ℕ) : Type 0 where
   pub is_held : IsHeld os slice
-  pub answers : (key : SliceKey) → IsKey key → key_bytes key ≡ front → IsAnswering (all_joined os) key slice
+  pub answers : (key : SliceKey) → IsKey key → key_bytes key ≡ prefix → IsAnswering (all_joined os) key slice
 
 -- two different slices of one length answer under a key, which two contents have
 pub record AreTiedSlices (os : List Operations) (key : SliceKey) : Type 0 where

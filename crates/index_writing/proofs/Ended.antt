@@ -6,12 +6,12 @@ use Rattle.byte_device.specs.declared.disks.CannotOpen.{CannotOpen}
 use Rattle.archive_records.specs.declared.writing.Sizes.{Sizes}
 use Rattle.indexed_tables.specs.declared.fault.MakingFault.{MakingFault}
 use Rattle.indexed_tables.specs.declared.fault.MakingFault.TheVariants.{Archive as Refused, Write as Wrote}
-use Rattle.command_ends.specs.Ends.{Carries, EndsStreamed, HasTaken, IsStopped}
-use Rattle.command_ends.specs.Inputs.{Reader, Unfailed, reader}
-use Rattle.command_ends.specs.Outputs.{Out, PlacesNothing, Publishes, Takes, Writer}
-use Rattle.command_ends.specs.declared.faults.CommandFault.{CommandFault}
-use Rattle.command_ends.specs.declared.faults.CommandFault.TheVariants.{Input, Output, Report, OutOfMemory}
-use Rattle.command_ends.specs.declared.faults.Status.{Status}
+use Rattle.command_core.specs.Ends.{Carries, EndsStreamed, HasTaken, IsStopped}
+use Rattle.command_core.specs.Inputs.{Reader, Unfailed, reader}
+use Rattle.command_core.specs.Outputs.{Out, PlacesNothing, Publishes, Takes, Writer}
+use Rattle.command_core.specs.declared.faults.CommandFault.{CommandFault}
+use Rattle.command_core.specs.declared.faults.CommandFault.TheVariants.{Input, Output, Report, OutOfMemory}
+use Rattle.command_core.specs.declared.faults.Status.{Status}
 use Rattle.index_writing.specs.Index.{MakesIndex, StopsIndex, TellsStop, index, index_line}
 use Rattle.index_writing.specs.InnerIndexing.{IsIndexed}
 

@@ -1,11 +1,11 @@
 //! The end of the command: OUT, which is put in place, and then the report.
 ghost use Rattle.std.specs.Prelude.{◌≡◌, ℕ, List, IfOk, length, string_bytes};
-ghost use Rattle.command_ends.specs.Outputs.{Publishes, Takes, out_of, outs, writer};
+ghost use Rattle.command_core.specs.Outputs.{Publishes, Takes, out_of, outs, writer};
 ghost use Rattle.index_writing.specs.Index.{index_line};
 
 use archive_records::Sizes;
 use byte_device::Sink;
-use command_ends::{CommandFault, Output, Status, Target, publish_report, put_in_place};
+use command_core::{CommandFault, Output, Status, Target, publish_report, put_in_place};
 use memory::{Heap, NoMemory};
 
 /// The line of `index`: how many entries were written, and how many bytes.

@@ -150,9 +150,6 @@ module _ {D : Type 0} (whole : D → Option (List ℕ)) (failures : D → ℕ) (
   abbrev pub HaveTold : ℕ → List (Result D CannotOpen) → List (Result D CannotOpen) → List EntryAnswers → Type 0
   HaveTold i old new columns = AsksAmong whole failures lines answering old new (Ok columns) (λ texts cs. AllZip (IsColumnAt texts lines asked) (take i answering) cs)
 
-  pub none_told : (devices : List (Result D CannotOpen)) → HaveTold 0 devices devices []
-  none_told devices = record { says = λ texts have. tt; keeps = refl; counts = refl }
-
   have_texts : (old mid : List (Result D CannotOpen)) (texts : List (List ℕ)) → each_known whole mid ≡ each_known whole old → HaveTexts whole old texts → HaveTexts whole mid texts
   have_texts old mid texts same have = subst (λ ks. AllZip HasText ks texts) (sym same) have
 

@@ -52,10 +52,10 @@ pub told_each : (texts : List (List ℕ)) (answering : List EntryAt) (lines : Bo
     → AllZip (IsColumnAt texts lines asked) answering columns → number < length asked → IsToldOfAmong texts (get_or asked number none) answering (answer_of (map (row_at number) columns))
 told_each texts answering lines asked columns number none all lt = told_of texts (get_or asked number none) answering (map (row_at number) columns) (rows_told texts lines asked number none answering columns lt all)
 
-pub answer_each : (texts : List (List ℕ)) (indexes : List (List (List ℕ))) (front : List ℕ) (answering : List EntryAt) (lines : Bool) (asked : List Where) (columns : List EntryAnswers) (number : ℕ) (none : Where)
-    → AreAnsweringAmong front indexes answering → AllZip (IsColumnAt texts lines asked) answering columns → number < length asked
-    → IsAnswerAmong texts indexes front lines (get_or asked number none) (answer_of (map (row_at number) columns)) (shown_of lines number columns)
-answer_each texts indexes front answering lines asked columns number none are all lt = record {
+pub answer_each : (texts : List (List ℕ)) (indexes : List (List (List ℕ))) (prefix : List ℕ) (answering : List EntryAt) (lines : Bool) (asked : List Where) (columns : List EntryAnswers) (number : ℕ) (none : Where)
+    → AreAnsweringAmong prefix indexes answering → AllZip (IsColumnAt texts lines asked) answering columns → number < length asked
+    → IsAnswerAmong texts indexes prefix lines (get_or asked number none) (answer_of (map (row_at number) columns)) (shown_of lines number columns)
+answer_each texts indexes prefix answering lines asked columns number none are all lt = record {
   answering = answering;
   are = are;
   answer_is = told_each texts answering lines asked columns number none all lt;

@@ -44,12 +44,12 @@ fields_at xs start stop i e fields there = rw there.is (fields (start + i) e the
 
 -- ---- what lives
 
-module _ (front : List ℕ) (retired : List (List ℕ)) where
+module _ (prefix : List ℕ) (retired : List (List ℕ)) where
   -- none lives that is no admission here
-  pub none_lives : (input : ℕ) (es : List (List ℕ)) (low high : ℕ) → high ≤ length es → AllWithin (λ e. admits_under front e ≡ false) es low high → AllWithin (λ x. lives_by front retired x.entry ≡ false) (entries_at input 0 es) low high
+  pub none_lives : (input : ℕ) (es : List (List ℕ)) (low high : ℕ) → high ≤ length es → AllWithin (λ e. admits_under prefix e ≡ false) es low high → AllWithin (λ x. lives_by prefix retired x.entry ≡ false) (entries_at input 0 es) low high
   none_lives input es low high within none k d le lt =
-      ap (λ (x : EntryAt). lives_by front retired x.entry) (get_or-entries_at input 0 es k d [] (omega (arith, within, lt))) ∙ ap (λ (b : Bool). b && not (is_retired retired (get_or es k []))) (none k [] le lt)
+      ap (λ (x : EntryAt). lives_by prefix retired x.entry) (get_or-entries_at input 0 es k d [] (omega (arith, within, lt))) ∙ ap (λ (b : Bool). b && not (is_retired retired (get_or es k []))) (none k [] le lt)
 
   -- an admission here lives where it is not retired
-  pub lives_here : (e : List ℕ) (r : Bool) → admits_under front e ≡ true → r ≡ is_retired retired e → lives_by front retired e ≡ not r
+  pub lives_here : (e : List ℕ) (r : Bool) → admits_under prefix e ≡ true → r ≡ is_retired retired e → lives_by prefix retired e ≡ not r
   lives_here e r admits is = (λ i. admits i && not (is_retired retired e)) ∙ ap not (sym is)

@@ -7,7 +7,7 @@ ghost use Rattle.indexed_answers.specs.Among.{AreAnsweringAmong, AreTied};
 use crate::live::answering_under;
 use crate::numbered::Numbered;
 use crate::order::{are_tied, keep_once, put_by_place};
-use archive_core::{SliceKey, key_front};
+use archive_core::{SliceKey, key_prefix};
 use memory::{Heap, NoMemory};
 use std::marker::Model;
 use table_index::TableIndex;
@@ -62,7 +62,7 @@ pub fn answering_among(
     ensures { IfOk result (λ found. MatchOption found (AreTied (key_bytes key.now) indexes.now)
         (λ answering. AreAnsweringAmong (key_bytes key.now) indexes.now answering)) }
 {
-    let mut entries = answering_under(heap, &key_front(key), indexes)?;
+    let mut entries = answering_under(heap, &key_prefix(key), indexes)?;
     put_by_place(&mut entries);
     if are_tied(&entries) {
         return Ok(None);

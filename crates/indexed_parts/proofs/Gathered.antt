@@ -109,9 +109,9 @@ read_at p entries k x n lt is passes h = record {
   offset_is = h.1 ∙ ap offset_in is;
 }
 
--- one that has a tag besides is under the front
-pub read_tagged : (tag : ℕ) (front : List ℕ) (entries : List (List ℕ)) (n : ℕ) → IsReadAmong (is_tagged tag front) entries n → IsReadAmong (is_under front) entries n
-read_tagged tag front entries n h = record {
+-- one that has a tag besides is under the prefix
+pub read_tagged : (tag : ℕ) (prefix : List ℕ) (entries : List (List ℕ)) (n : ℕ) → IsReadAmong (is_tagged tag prefix) entries n → IsReadAmong (is_under prefix) entries n
+read_tagged tag prefix entries n h = record {
   number = h.number;
   within = h.within;
   passing = and_right _ _ h.passing;
@@ -136,24 +136,24 @@ stale_at whole now p entries i x old new fault lt is passes keeps before none =
     by (Device offset) text zip h = tt
     by OutOfMemory text zip h = tt
 
--- ---- the retirements under a front, and then the admissions
+-- ---- the retirements under a prefix, and then the admissions
 
 join : (R : List ℕ → List ℕ → Type 0) (xs ys us vs : List (List ℕ)) → AllZip R xs us → AllZip R ys vs → AllZip R (xs ++ ys) (us ++ vs)
 join R [] ys us vs a b = grind arith
 join R (x ∷ xs) ys us vs a b = grind (arith, join R xs ys)
 
-module _ (whole : Option (List ℕ)) (front : List ℕ) (entries : List (List ℕ)) (are : AreIndexed entries) (n : ℕ) (all : length entries ≤ n) where
+module _ (whole : Option (List ℕ)) (prefix : List ℕ) (entries : List (List ℕ)) (are : AreIndexed entries) (n : ℕ) (all : length entries ≤ n) where
   -- together those under it
-  pub gathered_both : (now : Option (List ℕ)) (old mid new : List (List ℕ)) → now ≡ whole → AreGathered whole (is_tagged 1 front) entries n old mid → AreGathered now (is_tagged 2 front) entries n mid new → AreGathered whole (is_under front) entries n old new
+  pub gathered_both : (now : Option (List ℕ)) (old mid new : List (List ℕ)) → now ≡ whole → AreGathered whole (is_tagged 1 prefix) entries n old mid → AreGathered now (is_tagged 2 prefix) entries n mid new → AreGathered whole (is_under prefix) entries n old new
   gathered_both now old mid new keeps first behind =
-      let second = subst (λ (w : Option (List ℕ)). AreGathered w (is_tagged 2 front) entries n mid new) keeps behind in
-      let both : filter (is_tagged 1 front) (take n entries) ++ filter (is_tagged 2 front) (take n entries) ≡ filter (is_under front) (take n entries) =
-      subst (λ (xs : List (List ℕ)). filter (is_tagged 1 front) xs ++ filter (is_tagged 2 front) xs ≡ filter (is_under front) xs) (sym (take_all n entries all)) (two_runs front entries are.ascending are.are) in
+      let second = subst (λ (w : Option (List ℕ)). AreGathered w (is_tagged 2 prefix) entries n mid new) keeps behind in
+      let both : filter (is_tagged 1 prefix) (take n entries) ++ filter (is_tagged 2 prefix) (take n entries) ≡ filter (is_under prefix) (take n entries) =
+      subst (λ (xs : List (List ℕ)). filter (is_tagged 1 prefix) xs ++ filter (is_tagged 2 prefix) xs ≡ filter (is_under prefix) xs) (sym (take_all n entries all)) (two_runs prefix entries are.ascending are.are) in
       record {
         records = first.records ++ second.records;
-        named = along_both (Named whole (is_tagged 1 front) entries n first.records) (Named whole (is_tagged 2 front) entries n second.records) (Named whole (is_under front) entries n (first.records ++ second.records)) whole
+        named = along_both (Named whole (is_tagged 1 prefix) entries n first.records) (Named whole (is_tagged 2 prefix) entries n second.records) (Named whole (is_under prefix) entries n (first.records ++ second.records)) whole
             (λ text a b. subst (λ (xs : List (List ℕ)). AllZip (IsNamedBy text) xs (first.records ++ second.records)) both
-            (join (IsNamedBy text) (filter (is_tagged 1 front) (take n entries)) (filter (is_tagged 2 front) (take n entries)) first.records second.records a b))
+            (join (IsNamedBy text) (filter (is_tagged 1 prefix) (take n entries)) (filter (is_tagged 2 prefix) (take n entries)) first.records second.records a b))
             first.named second.named;
         behind = second.behind ∙ ap (λ (l : List (List ℕ)). l ++ second.records) first.behind ∙ append_assoc old first.records second.records;
       }
@@ -162,54 +162,54 @@ module _ (whole : Option (List ℕ)) (front : List ℕ) (entries : List (List �
   entry_at k lt = All-from_recursion IsPlacedEntry entries are.are k [] lt
 
   -- the first that names no record, among the retirements
-  pub stale_first : (fault : PlaceFault) → IfSome whole (λ text. IsStaleAmong (is_tagged 1 front) entries text fault) → IfSome whole (λ text. IsStaleAmong (is_under front) entries text fault)
+  pub stale_first : (fault : PlaceFault) → IfSome whole (λ text. IsStaleAmong (is_tagged 1 prefix) entries text fault) → IfSome whole (λ text. IsStaleAmong (is_under prefix) entries text fault)
   stale_first fault h = IfSome_then whole h (by fault)
     where
-      by : (f : PlaceFault) (text : List ℕ) → IsStaleAmong (is_tagged 1 front) entries text f → IsStaleAmong (is_under front) entries text f
+      by : (f : PlaceFault) (text : List ℕ) → IsStaleAmong (is_tagged 1 prefix) entries text f → IsStaleAmong (is_under prefix) entries text f
       by (Stale None) text t = t
       by (Stale (Some k)) text t = (
         t.0,
         and_right _ _ t.1,
         t.2,
-        λ j below under. one_of_two front _ (get_or entries j []) (entry_at j (omega (arith, t.0, below))) under (t.3 j below) (λ two. absurd (not_second front entries j k are below t.0 two t.1)),
+        λ j below under. one_of_two prefix _ (get_or entries j []) (entry_at j (omega (arith, t.0, below))) under (t.3 j below) (λ two. absurd (not_second prefix entries j k are below t.0 two t.1)),
       )
       by (Device offset) text t = tt
       by OutOfMemory text t = tt
 
   -- and among the admissions, where each retirement names one
-  pub stale_second : (now : Option (List ℕ)) (old mid : List (List ℕ)) (fault : PlaceFault) → now ≡ whole → AreGathered whole (is_tagged 1 front) entries n old mid
-      → IfSome now (λ text. IsStaleAmong (is_tagged 2 front) entries text fault) → IfSome whole (λ text. IsStaleAmong (is_under front) entries text fault)
+  pub stale_second : (now : Option (List ℕ)) (old mid : List (List ℕ)) (fault : PlaceFault) → now ≡ whole → AreGathered whole (is_tagged 1 prefix) entries n old mid
+      → IfSome now (λ text. IsStaleAmong (is_tagged 2 prefix) entries text fault) → IfSome whole (λ text. IsStaleAmong (is_under prefix) entries text fault)
   stale_second now old mid fault keeps first h =
-      along_both (Named whole (is_tagged 1 front) entries n first.records) (λ text. IsStaleAmong (is_tagged 2 front) entries text fault) (λ text. IsStaleAmong (is_under front) entries text fault) whole (by fault)
-      first.named (subst (λ (w : Option (List ℕ)). IfSome w (λ text. IsStaleAmong (is_tagged 2 front) entries text fault)) keeps h)
+      along_both (Named whole (is_tagged 1 prefix) entries n first.records) (λ text. IsStaleAmong (is_tagged 2 prefix) entries text fault) (λ text. IsStaleAmong (is_under prefix) entries text fault) whole (by fault)
+      first.named (subst (λ (w : Option (List ℕ)). IfSome w (λ text. IsStaleAmong (is_tagged 2 prefix) entries text fault)) keeps h)
     where
-      by : (f : PlaceFault) (text : List ℕ) → Named whole (is_tagged 1 front) entries n first.records text → IsStaleAmong (is_tagged 2 front) entries text f → IsStaleAmong (is_under front) entries text f
+      by : (f : PlaceFault) (text : List ℕ) → Named whole (is_tagged 1 prefix) entries n first.records text → IsStaleAmong (is_tagged 2 prefix) entries text f → IsStaleAmong (is_under prefix) entries text f
       by (Stale None) text zip t = t
       by (Stale (Some k)) text zip t = (
         t.0,
         and_right _ _ t.1,
         t.2,
-        λ j below under. one_of_two front _ (get_or entries j []) (entry_at j (omega (arith, t.0, below))) under
-            (λ one. partner (IsNamedBy text) (is_tagged 1 front) entries first.records n j zip (omega (arith, t.0, below, all)) (omega (arith, t.0, below)) one)
+        λ j below under. one_of_two prefix _ (get_or entries j []) (entry_at j (omega (arith, t.0, below))) under
+            (λ one. partner (IsNamedBy text) (is_tagged 1 prefix) entries first.records n j zip (omega (arith, t.0, below, all)) (omega (arith, t.0, below)) one)
             (t.3 j below),
       )
       by (Device offset) text zip t = tt
       by OutOfMemory text zip t = tt
 
-  -- ---- under a front of an index
+  -- ---- under a prefix of an index
 
-  pub under_front : (s : Entries) (old new : List (List ℕ)) → entries ≡ listing s → AreGathered whole (is_under front) entries n old new → AreGatheredUnder whole front s old new
+  pub under_front : (s : Entries) (old new : List (List ℕ)) → entries ≡ listing s → AreGathered whole (is_under prefix) entries n old new → AreGatheredUnder whole prefix s old new
   under_front s old new is h = record {
     records = h.records;
-    named = IfSome_then whole h.named (λ text zip. subst (λ (xs : List (List ℕ)). AllZip (IsNamedBy text) (filter (is_under front) xs) h.records) (take_all n entries all ∙ is) zip);
+    named = IfSome_then whole h.named (λ text zip. subst (λ (xs : List (List ℕ)). AllZip (IsNamedBy text) (filter (is_under prefix) xs) h.records) (take_all n entries all ∙ is) zip);
     behind = h.behind;
   }
 
-  pub fault_under : (s : Entries) (fault : PlaceFault) → entries ≡ listing s → IfSome whole (λ text. IsStaleAmong (is_under front) entries text fault) → IfSome whole (λ text. IsEntryFault front s text fault)
+  pub fault_under : (s : Entries) (fault : PlaceFault) → entries ≡ listing s → IfSome whole (λ text. IsStaleAmong (is_under prefix) entries text fault) → IfSome whole (λ text. IsEntryFault prefix s text fault)
   fault_under s fault is h =
-      IfSome_then whole (subst (λ (xs : List (List ℕ)). IfSome whole (λ text. IsStaleAmong (is_under front) xs text fault)) is h) (by fault)
+      IfSome_then whole (subst (λ (xs : List (List ℕ)). IfSome whole (λ text. IsStaleAmong (is_under prefix) xs text fault)) is h) (by fault)
     where
-      by : (f : PlaceFault) (text : List ℕ) → IsStaleAmong (is_under front) (listing s) text f → IsEntryFault front s text f
+      by : (f : PlaceFault) (text : List ℕ) → IsStaleAmong (is_under prefix) (listing s) text f → IsEntryFault prefix s text f
       by (Stale None) text t = t
       by (Stale (Some k)) text t = (omega (arith, t.0, length_written s), t.1, t.2, t.3)
       by (Device offset) text t = tt

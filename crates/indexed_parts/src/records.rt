@@ -4,7 +4,7 @@ ghost use Rattle.std.specs.Prelude.{◌≡◌, ◌≢◌, ◌+◌, ◌≤◌, �
 ghost use Rattle.std.specs.Prelude.{slice_index, IfNone, IfOk, IfSome, IsTrue, MatchOption, OnOk};
 ghost use Rattle.std.specs.Int.{w64, from_be_bytes};
 ghost use Rattle.archive_core.specs.Key.{IsKey, key_bytes};
-ghost use Rattle.archive_core.specs.Record.{Admits, lent_bytes, record_bytes, retirement_record};
+ghost use Rattle.archive_core.specs.Record.{Admits, borrowed_bytes, record_bytes, retirement_record};
 ghost use Rattle.archive_core.specs.declared.find.FindState.TheVariants.{Retired};
 ghost use Rattle.byte_device.specs.Devices.{FailedIn};
 ghost use Rattle.byte_device.specs.Places.{EndsBefore, HasSize, Stands};
@@ -15,7 +15,7 @@ ghost use Rattle.indexed_parts.specs.Places.{ReadsPlaces};
 
 use archive_core::{Digest, FindState, Operation, Record, Slice, SliceKey};
 use archive_index::{PlaceFault, PlacedEntry};
-use archive_records::{ADMISSION_HEAD_LEN, key_front};
+use archive_records::{ADMISSION_HEAD_LEN, key_prefix};
 use byte_device::{Placed, ReadFault, read_at};
 use byteorder::{BigEndian, ByteOrder};
 use memory::{Heap, NoMemory};
@@ -55,13 +55,13 @@ fn has_key(bytes: &[u8], key: &SliceKey) -> bool
     requires { 25 ≤ length bytes.now }
     ensures { IsTrue result ↔ (take 24 (drop 1 bytes.now) ≡ key_bytes key.now) }
 {
-    let whole = key_front(key);
+    let whole = key_prefix(key);
     &bytes[1..25] == &whole[..]
 }
 
 /// The record of an admission, if these bytes are one.
 fn admission_in(bytes: &[u8]) -> Option<Record<'_>>
-    ensures found { IfSome result (λ lent. lent_bytes lent ≡ bytes.now) }
+    ensures found { IfSome result (λ borrowed. borrowed_bytes borrowed ≡ bytes.now) }
     ensures admits { IfSome result (λ _. Admits bytes.now) }
     ensures none { IfNone result (Admits bytes.now → ⊥) }
 {
@@ -82,7 +82,7 @@ fn admission_in(bytes: &[u8]) -> Option<Record<'_>>
 
 /// Whether a record, which is these bytes, is the one that the entry is of. Its slice is hashed.
 fn is_of(entry: &PlacedEntry, bytes: &[u8], record: &Record<'_>) -> bool
-    requires { lent_bytes record.now ≡ bytes.now }
+    requires { borrowed_bytes record.now ≡ bytes.now }
     ensures { IsTrue result ↔ (placed_bytes entry.now ≡ placed_entry entry.now.offset bytes.now) }
 {
     let made = PlacedEntry::of_record(record, entry.offset, bytes.len() as u64);

@@ -13,9 +13,9 @@ use Rattle.archive_core.specs.Summary.{Entries}
 use Rattle.archive_index.specs.Places.{BlamesPlaced, HasIndexedLength, IsNamedBy, IsReadUnder, IsStale, entries_under}
 use Rattle.archive_index.specs.declared.fault.PlaceFault.{PlaceFault}
 use Rattle.archive_index.specs.declared.fault.PlaceFault.TheVariants.{Stale, Device, OutOfMemory}
-use Rattle.command_ends.specs.Archives.{merged}
-use Rattle.command_ends.specs.Inputs.{Reader, IsRefusal, Unfailed, reader}
-use Rattle.command_ends.proofs.Readers.{pairs_more}
+use Rattle.command_core.specs.Archives.{merged}
+use Rattle.command_core.specs.Inputs.{Reader, IsRefusal, Unfailed, reader}
+use Rattle.command_core.proofs.Readers.{pairs_more}
 use Rattle.indexed_parts.specs.Places.{AreGatheredUnder, IsEntryFault}
 use Rattle.indexed_parts.proofs.Gathered.{along_both, known}
 use Rattle.indexed_queries.specs.declared.prefixes.KeyPrefix.{KeyPrefix}

@@ -1,18 +1,17 @@
 -- What is refused, from what reading an index and its archive came to.
-use Rattle.std.proofs.Common.{arith, ◌≡◌, ◌≢◌, ℕ, List, [], Option, Some, None, Result, Ok, Err, inr, refl, subst}
-use Rattle.std.specs.Prelude.{IfSome, MatchResult}
+use Rattle.std.proofs.Common.{arith, ◌≡◌, ◌≢◌, ℕ, List, [], Option, Some, None, Ok, Err, inr, refl, subst}
+use Rattle.std.specs.Prelude.{IfSome}
 use Rattle.archive_core.specs.Summary.{Entries}
-use Rattle.byte_device.specs.declared.disks.CannotOpen.{CannotOpen}
-use Rattle.command_ends.specs.Ends.{EndsReport}
-use Rattle.command_ends.specs.Inputs.{AreRead, Reader, IsRefusal, Unfailed, reader}
-use Rattle.command_ends.specs.Outputs.{Takes, Writer}
-use Rattle.command_ends.specs.declared.faults.CommandFault.{CommandFault}
-use Rattle.command_ends.specs.declared.faults.CommandFault.TheVariants.{Input, Output, Report, OutOfMemory}
-use Rattle.command_ends.specs.declared.faults.InputName.{InputName}
-use Rattle.command_ends.specs.declared.faults.InputName.TheVariants.{Index}
-use Rattle.command_ends.specs.declared.faults.Status.{Status}
-use Rattle.command_ends.specs.declared.faults.Why.{Why}
-use Rattle.command_ends.specs.declared.faults.Why.TheVariants.{Index as IndexFaulty}
+use Rattle.command_core.specs.Ends.{EndsReport}
+use Rattle.command_core.specs.Inputs.{AreRead, Reader, IsRefusal, Unfailed, reader}
+use Rattle.command_core.specs.Outputs.{Takes, Writer}
+use Rattle.command_core.specs.declared.faults.CommandFault.{CommandFault}
+use Rattle.command_core.specs.declared.faults.CommandFault.TheVariants.{Input, Output, Report, OutOfMemory}
+use Rattle.command_core.specs.declared.faults.InputName.{InputName}
+use Rattle.command_core.specs.declared.faults.InputName.TheVariants.{Index}
+use Rattle.command_core.specs.declared.faults.Status.{Status}
+use Rattle.command_core.specs.declared.faults.Why.{Why}
+use Rattle.command_core.specs.declared.faults.Why.TheVariants.{Index as IndexFaulty}
 use Rattle.index_faults.specs.declared.fault.IndexFault.{IndexFault}
 use Rattle.index_faults.specs.declared.fault.IndexFaultKind.{IndexFaultKind}
 use Rattle.index_faults.specs.declared.fault.IndexFaultKind.TheVariants.{OutOfMemory as IndexOutOfMemory}
@@ -22,10 +21,6 @@ use Rattle.indexed_queries.specs.Indexes.{HoldsIndex, HoldsTables, IsOfOtherLeng
 use Rattle.indexed_queries.specs.Together.{IsKept}
 
 -- ---- INDEX
-
--- what an input was whose source was lent
-pub lent_from : {S : Type 0} (old : Result S CannotOpen) (lent : S) → MatchResult old (λ source. lent ≡ source) (λ _. ⊥) → old ≡ Ok lent
-lent_from = grind arith
 
 -- what is true of the text that bytes are known to be is true where they are known
 where_known : (whole : Option (List ℕ)) (P : List ℕ → Type 0) → ((text : List ℕ) → whole ≡ Some text → P text) → IfSome whole P

@@ -7,14 +7,14 @@ use Rattle.index_faults.specs.declared.fault.IndexFault.{IndexFault}
 use Rattle.index_faults.specs.declared.fault.IndexFaultKind.TheVariants.{OutOfMemory as IndexOutOfMemory}
 use Rattle.table_index.specs.Reading.{ReadsIndex}
 use Rattle.table_index.specs.Text.{IsIndexText, placed_of}
-use Rattle.command_ends.specs.Inputs.{Reader, Gives, IsUnread, IsUntouched, Unfailed}
-use Rattle.command_ends.specs.declared.faults.InputName.{InputName}
-use Rattle.command_ends.specs.declared.faults.InputName.TheVariants.{Archive, Index}
-use Rattle.command_ends.specs.declared.faults.Why.{Why}
+use Rattle.command_core.specs.Inputs.{Reader, Gives, IsUnread, IsUntouched, Unfailed}
+use Rattle.command_core.specs.declared.faults.InputName.{InputName}
+use Rattle.command_core.specs.declared.faults.InputName.TheVariants.{Archive, Index}
+use Rattle.command_core.specs.declared.faults.Why.{Why}
 use Rattle.archive_records.specs.declared.fault.RecordFaultKind.TheVariants.{Device as DeviceFailed}
-use Rattle.command_ends.specs.declared.faults.Why.TheVariants.{CannotOpen as NotOpened, Device as CannotRead, Record}
-use Rattle.command_ends.specs.declared.faults.Why.TheVariants.{Take, Script, BadFrame, OldArchive, TooLong}
-use Rattle.command_ends.specs.declared.faults.Why.TheVariants.{Index as IndexFaulty, Stale, Damaged, NoArchive, NoIndex, NoLines}
+use Rattle.command_core.specs.declared.faults.Why.TheVariants.{CannotOpen as NotOpened, Device as CannotRead, Record}
+use Rattle.command_core.specs.declared.faults.Why.TheVariants.{Take, Script, BadFrame, OldArchive, TooLong}
+use Rattle.command_core.specs.declared.faults.Why.TheVariants.{Index as IndexFaulty, Stale, Damaged, NoArchive, NoIndex, NoLines}
 
 -- The input is an index with these entries, where its bytes are known.
 abbrev pub HoldsTables : {S : Type 0} → Reader S → List (List ℕ) → Type 0

@@ -7,12 +7,12 @@ use Rattle.archive_index.specs.declared.fault.PlaceFault.{PlaceFault}
 use Rattle.archive_index.specs.declared.fault.PlaceFault.TheVariants.{Stale, Device, OutOfMemory}
 use Rattle.archive_index.specs.Places.{IsNamedBy, entries_under}
 use Rattle.archive_records.specs.declared.fault.RecordFaultKind.TheVariants.{Device as DeviceFailed}
-use Rattle.command_ends.specs.Archives.{merged}
-use Rattle.command_ends.specs.Inputs.{Reader}
-use Rattle.command_ends.specs.declared.faults.CommandFault.{CommandFault}
-use Rattle.command_ends.specs.declared.faults.CommandFault.TheVariants as command
-use Rattle.command_ends.specs.declared.faults.InputName.TheVariants as place
-use Rattle.command_ends.specs.declared.faults.Why.TheVariants as why
+use Rattle.command_core.specs.Archives.{merged}
+use Rattle.command_core.specs.Inputs.{Reader}
+use Rattle.command_core.specs.declared.faults.CommandFault.{CommandFault}
+use Rattle.command_core.specs.declared.faults.CommandFault.TheVariants as command
+use Rattle.command_core.specs.declared.faults.InputName.TheVariants as place
+use Rattle.command_core.specs.declared.faults.Why.TheVariants as why
 use Rattle.indexed_queries.specs.Prefixes.{AreNamedUnder, HoldsNamed, IsStaleUnder, IsUnnamedUnder}
 use Rattle.indexed_queries.specs.Together.{AreNamedBy, merged_each}
 

@@ -5,7 +5,7 @@ use Rattle.archive_core.specs.Content.{Operations}
 use Rattle.archive_core.specs.Key.{key_bytes}
 use Rattle.archive_core.specs.Summary.{Entries}
 use Rattle.archive_index.specs.Places.{AreNamed, HasIndexedLength, IsReadUnder, IsStale}
-use Rattle.command_ends.specs.Inputs.{Reader, Gives}
+use Rattle.command_core.specs.Inputs.{Reader, Gives}
 use Rattle.indexed_queries.specs.declared.prefixes.KeyPrefix.{KeyPrefix}
 use Rattle.indexed_queries.specs.declared.prefixes.KeyPrefix.TheVariants.{Uuid, Key}
 

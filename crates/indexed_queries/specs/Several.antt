@@ -1,11 +1,11 @@
 -- What commands tell of archives that are asked together by their indexes.
 use Rattle.std.specs.Prelude.{ℕ, List, ◌⊎◌}
 use Rattle.archive_core.specs.Content.{Operations}
-use Rattle.command_ends.specs.Ends.{Query}
-use Rattle.command_ends.specs.Inputs.{Reader, EachUnfailed}
-use Rattle.command_ends.specs.declared.faults.InputName.{InputName}
-use Rattle.command_ends.specs.declared.faults.Status.{Status}
-use Rattle.command_ends.specs.declared.faults.Why.{Why}
+use Rattle.command_core.specs.Ends.{Query}
+use Rattle.command_core.specs.Inputs.{Reader, EachUnfailed}
+use Rattle.command_core.specs.declared.faults.InputName.{InputName}
+use Rattle.command_core.specs.declared.faults.Status.{Status}
+use Rattle.command_core.specs.declared.faults.Why.{Why}
 use Rattle.indexed_queries.specs.Together.{AreLater, AreReadWith, HoldNamed, IsFirstRefusedAtPlaces}
 use Rattle.indexed_queries.specs.Together.{IsFirstRefusedByIndex}
 

@@ -6,12 +6,12 @@ use Rattle.archive_core.specs.Content.{Operations}
 use Rattle.archive_index.specs.Places.{HasIndexedLength}
 use Rattle.byte_device.specs.declared.disks.CannotOpen.{CannotOpen}
 use Rattle.table_index.specs.Text.{placed_of}
-use Rattle.command_ends.specs.Archives.{merged}
-use Rattle.command_ends.specs.Inputs.{Reader, Gives, EachUnfailed, EachUntouched, Unfailed}
-use Rattle.command_ends.specs.declared.faults.InputName.{InputName}
-use Rattle.command_ends.specs.declared.faults.InputName.TheVariants.{Archive, Index}
-use Rattle.command_ends.specs.declared.faults.Why.{Why}
-use Rattle.command_ends.specs.declared.faults.Why.TheVariants.{Stale}
+use Rattle.command_core.specs.Archives.{merged}
+use Rattle.command_core.specs.Inputs.{Reader, Gives, EachUnfailed, EachUntouched, Unfailed}
+use Rattle.command_core.specs.declared.faults.InputName.{InputName}
+use Rattle.command_core.specs.declared.faults.InputName.TheVariants.{Archive, Index}
+use Rattle.command_core.specs.declared.faults.Why.{Why}
+use Rattle.command_core.specs.declared.faults.Why.TheVariants.{Stale}
 use Rattle.indexed_queries.specs.Prefixes.{HoldsNamed, IsReadFor, IsStaleFor}
 use Rattle.indexed_queries.specs.Indexes.{HoldsTables, IsRefusedByIndex, IsUnreadAt}
 

@@ -1,8 +1,8 @@
 //! `find ARCHIVE UUID --index INDEX`, over one archive, and over several.
 ghost use Rattle.std.specs.Prelude.{◌≡◌, length};
-ghost use Rattle.command_ends.specs.Ends.{EndsReport};
-ghost use Rattle.command_ends.specs.Inputs.{reader, readers};
-ghost use Rattle.command_ends.specs.Outputs.{writer};
+ghost use Rattle.command_core.specs.Ends.{EndsReport};
+ghost use Rattle.command_core.specs.Inputs.{reader, readers};
+ghost use Rattle.command_core.specs.Outputs.{writer};
 ghost use Rattle.indexed_queries.specs.Find.{find_at, find_together};
 
 use crate::inputs::read_index_of;
@@ -11,7 +11,7 @@ use crate::rows::rows_under;
 use crate::together::read_together;
 use archive_core::Archive;
 use byte_device::{CannotOpen, Placed, Sink};
-use command_ends::{CommandFault, Status, found_status, publish_report};
+use command_core::{CommandFault, Status, found_status, publish_report};
 use memory::Heap;
 use report_text::find_lines;
 use uuid::Uuid;

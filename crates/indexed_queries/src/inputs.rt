@@ -5,11 +5,11 @@ ghost use Rattle.archive_index.specs.Index.{AreIndexEntries};
 ghost use Rattle.archive_index.specs.Places.{HasIndexedLength};
 ghost use Rattle.index_faults.specs.declared.fault.IndexFaultKind.TheVariants.{OutOfMemory as IndexOutOfMemory};
 ghost use Rattle.table_index.specs.Text.{placed_of};
-ghost use Rattle.command_ends.specs.Inputs.{Gives, IsRefusal, Reads, ReadsInputs, Unfailed, reader};
+ghost use Rattle.command_core.specs.Inputs.{Gives, IsRefusal, ReadsInput, ReadsInputs, Unfailed, reader};
 ghost use Rattle.archive_records.specs.declared.fault.RecordFaultKind.TheVariants.{Device as DeviceFailed};
-ghost use Rattle.command_ends.specs.declared.faults.CommandFault.TheVariants.{Input};
-ghost use Rattle.command_ends.specs.declared.faults.InputName.TheVariants.{Archive as ArchivePlace, Index as IndexPlace};
-ghost use Rattle.command_ends.specs.declared.faults.Why.TheVariants.{Index as IndexFaulty, Record};
+ghost use Rattle.command_core.specs.declared.faults.CommandFault.TheVariants.{Input};
+ghost use Rattle.command_core.specs.declared.faults.InputName.TheVariants.{Archive as ArchivePlace, Index as IndexPlace};
+ghost use Rattle.command_core.specs.declared.faults.Why.TheVariants.{Index as IndexFaulty, Record};
 ghost use Rattle.indexed_queries.specs.Indexes.{HoldsTables, IsIndexOf, IsOfOtherLength, IsRefusedByIndex};
 ghost use Rattle.indexed_queries.specs.Indexes.{IsUnreadIndex};
 ghost use Rattle.indexed_queries.specs.Together.{IsKept, IsReadWith};
@@ -17,7 +17,7 @@ ghost use Rattle.indexed_queries.specs.Together.{IsKept, IsReadWith};
 use archive_index::Index;
 use archive_records::{RecordFault, RecordFaultKind};
 use byte_device::{CannotOpen, Failed, Placed};
-use command_ends::{CommandFault, InputName, Why, opened};
+use command_core::{CommandFault, InputName, Why, opened};
 use index_faults::{IndexFault, IndexFaultKind};
 use indexed_parts::has_size;
 use memory::Heap;
@@ -51,7 +51,7 @@ fn read_tables<I: Placed>(
     number: u64,
     index: &mut Result<I, CannotOpen>,
 ) -> Result<TableIndex, CommandFault>
-    ensures read { Reads (reader I.whole I.failures index.old index.new) result HoldsTables
+    ensures read { ReadsInput (reader I.whole I.failures index.old index.new) result HoldsTables
         (λ index at why. (at ≡ IndexPlace number) × IsUnreadIndex index why) }
     ensures kept { OnOk result (IsKept I.whole I.failures index.old index.new) }
 {
@@ -69,7 +69,7 @@ fn test_length<P: Placed>(
     archive: &mut Result<P, CannotOpen>,
 ) -> Result<(), CommandFault>
     ensures entries { AreIndexEntries (placed_of tables.now) }
-    ensures tests { Reads (reader P.whole P.failures archive.old archive.new) result
+    ensures tests { ReadsInput (reader P.whole P.failures archive.old archive.new) result
         (λ archive _. Gives archive (HasIndexedLength (placed_of tables.now)))
         (λ archive. IsOfOtherLength number archive (placed_of tables.now)) }
     ensures kept { OnOk result (IsKept P.whole P.failures archive.old archive.new) }

@@ -7,7 +7,7 @@ ghost use Rattle.archive_core.specs.Record.{record_bytes};
 ghost use Rattle.byte_device.specs.Places.{HasSize};
 ghost use Rattle.archive_index.specs.Places.{HasIndexedLength, IsReadUnder};
 ghost use Rattle.table_index.specs.Text.{placed_of};
-ghost use Rattle.command_ends.specs.Inputs.{Reads, reader};
+ghost use Rattle.command_core.specs.Inputs.{ReadsInput, reader};
 ghost use Rattle.indexed_parts.specs.Places.{AreGatheredUnder, IsEntryFault, ReadsPlaces};
 ghost use Rattle.indexed_queries.specs.Prefixes.{IsReadFor, IsReadUnderOne, prefix_bytes};
 ghost use Rattle.indexed_queries.specs.InnerParts.{HasJoinedNamed, HaveGathered, IsFaultAmong, IsFaultUnder, IsNamedIn};
@@ -19,7 +19,7 @@ use crate::prefixes::{KeyPrefix, key_of, uuid_bytes};
 use archive_core::{Archive, Operation, take_all};
 use archive_index::{Index, PlaceFault};
 use byte_device::{CannotOpen, Placed};
-use command_ends::{CommandFault, InputName, Why, opened};
+use command_core::{CommandFault, InputName, Why, opened};
 use indexed_parts::{archive_of, gather_at, indexed_size};
 use memory::{Heap, NoMemory};
 use table_index::TableIndex;
@@ -135,7 +135,7 @@ pub(crate) fn join_archive<A: Archive + Drop, P: Placed>(
     archive: &mut Result<P, CannotOpen>,
 ) -> Result<(), CommandFault>
     ensures { let sought = map prefix_bytes prefixes.now in
-        Reads (reader P.whole P.failures archive.old archive.new) result
+        ReadsInput (reader P.whole P.failures archive.old archive.new) result
         (λ archive _. IsNamedIn archive sought (placed_of tables.now) (A.content kept.old) (A.content kept.new))
         (λ archive. IsRefusedAtPlaces sought number archive tables.now) }
 {

@@ -4,7 +4,7 @@ ghost use Rattle.std.specs.Prelude.{◌≡◌, length};
 ghost use Rattle.archive_core.specs.Key.{key_bytes};
 
 use archive_core::SliceKey;
-use archive_records::key_front;
+use archive_records::key_prefix;
 use uuid::Uuid;
 
 /// What a key begins with.
@@ -29,5 +29,5 @@ pub(crate) fn key_of(key: SliceKey) -> [u8; 24]
     ensures bytes { result ≡ key_bytes key }
     ensures long { length (key_bytes key) ≡ 24 }
 {
-    key_front(&key)
+    key_prefix(&key)
 }

@@ -1,7 +1,7 @@
 //! Archives that are asked together by their indexes.
 
 ghost use Rattle.std.specs.Prelude.{◌≡◌, OnOk, length, map};
-ghost use Rattle.command_ends.specs.Inputs.{EachUnfailed, ReadsInputs, readers};
+ghost use Rattle.command_core.specs.Inputs.{EachUnfailed, ReadsInputs, readers};
 ghost use Rattle.indexed_queries.specs.Prefixes.{prefix_bytes};
 ghost use Rattle.indexed_queries.specs.InnerParts.{HaveJoinedGroups};
 ghost use Rattle.indexed_queries.specs.Several.{AreRefusedTogether, AreUnfailedTogether, HoldTogether};
@@ -13,7 +13,7 @@ use crate::parts::join_archive;
 use crate::prefixes::KeyPrefix;
 use archive_core::Archive;
 use byte_device::{CannotOpen, Placed};
-use command_ends::CommandFault;
+use command_core::CommandFault;
 use memory::Heap;
 use table_index::TableIndex;
 

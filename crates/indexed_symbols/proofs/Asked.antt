@@ -8,9 +8,9 @@ use Rattle.archive_core.specs.declared.keys.SliceKey.{SliceKey}
 use Rattle.archive_core.specs.declared.lookup.Where.{Where}
 use Rattle.archive_core.proofs.Members.{in_map, to_map}
 use Rattle.crash_frames.specs.declared.frame.Frame.{Frame}
-use Rattle.command_ends.specs.Inputs.{IsRefusal}
-use Rattle.command_ends.specs.declared.faults.CommandFault.{CommandFault}
-use Rattle.command_ends.specs.declared.faults.CommandFault.TheVariants.{Input, Output, Report, OutOfMemory}
+use Rattle.command_core.specs.Inputs.{IsRefusal}
+use Rattle.command_core.specs.declared.faults.CommandFault.{CommandFault}
+use Rattle.command_core.specs.declared.faults.CommandFault.TheVariants.{Input, Output, Report, OutOfMemory}
 use Rattle.indexed_answers.specs.Among.{AreAnsweringAmong, EntryAt}
 use Rattle.indexed_answers.specs.AmongAsked.{AsksAmong, BlamesAmong, HasText, HaveTexts, each_known}
 use Rattle.indexed_answers.specs.AmongTold.{IsAnswerAmong}
@@ -43,9 +43,9 @@ module _ {D : Type 0} (whole : D → Option (List ℕ)) (failures : D → ℕ) (
 
   -- each column tells of each place
   pub told_of : (answers : Answers) → AsksAmong whole failures lines answering old new (Ok answers) AreColumns
-      → ((texts : List (List ℕ)) (indexes : List (List (List ℕ))) (front : List ℕ) (answering : List EntryAt) (lines : Bool) (asked : List Where) (columns : List EntryAnswers) (number : ℕ) (none : Where)
-      → AreAnsweringAmong front indexes answering → AllZip (IsColumnAt texts lines asked) answering columns → number < length asked
-      → IsAnswerAmong texts indexes front lines (get_or asked number none) (answer_of (map (row_at number) columns)) (shown_of lines number columns))
+      → ((texts : List (List ℕ)) (indexes : List (List (List ℕ))) (prefix : List ℕ) (answering : List EntryAt) (lines : Bool) (asked : List Where) (columns : List EntryAnswers) (number : ℕ) (none : Where)
+      → AreAnsweringAmong prefix indexes answering → AllZip (IsColumnAt texts lines asked) answering columns → number < length asked
+      → IsAnswerAmong texts indexes prefix lines (get_or asked number none) (answer_of (map (row_at number) columns)) (shown_of lines number columns))
       → AreToldOf (HaveTexts whole old) all key lines places answers
   told_of answers asks law = λ texts have number place at.
       let is : get_or places number place ≡ place = get_or_from_slice_get places number place place at in

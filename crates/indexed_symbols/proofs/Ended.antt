@@ -4,14 +4,14 @@ use Rattle.std.specs.Prelude.{slice_get, slice_set}
 use Rattle.std.specs.List.{AllZip}
 use Rattle.byte_device.specs.declared.disks.CannotOpen.{CannotOpen}
 use Rattle.archive_core.specs.Content.{HaveSameMembers, Operations}
-use Rattle.command_ends.specs.Ends.{EndsReport, Query}
-use Rattle.command_ends.specs.Inputs.{Reader, readers, EachUnfailed, IsRefusal}
-use Rattle.command_ends.specs.Outputs.{Takes, Writer}
-use Rattle.command_ends.specs.declared.faults.CommandFault.{CommandFault}
-use Rattle.command_ends.specs.declared.faults.CommandFault.TheVariants.{Input, Output, Report, OutOfMemory}
-use Rattle.command_ends.specs.declared.faults.InputName.{InputName}
-use Rattle.command_ends.specs.declared.faults.Status.{Status}
-use Rattle.command_ends.specs.declared.faults.Why.{Why}
+use Rattle.command_core.specs.Ends.{EndsReport, Query}
+use Rattle.command_core.specs.Inputs.{Reader, readers, EachUnfailed, IsRefusal}
+use Rattle.command_core.specs.Outputs.{Takes, Writer}
+use Rattle.command_core.specs.declared.faults.CommandFault.{CommandFault}
+use Rattle.command_core.specs.declared.faults.CommandFault.TheVariants.{Input, Output, Report, OutOfMemory}
+use Rattle.command_core.specs.declared.faults.InputName.{InputName}
+use Rattle.command_core.specs.declared.faults.Status.{Status}
+use Rattle.command_core.specs.declared.faults.Why.{Why}
 use Rattle.indexed_answers.specs.Among.{EntryAt}
 use Rattle.indexed_answers.specs.AmongAsked.{BlamesAmong, HasText, HaveTexts, IsUntoldAmong, each_known}
 use Rattle.indexed_answers.specs.declared.fault.AnswerFault.{AnswerFault}
@@ -48,14 +48,6 @@ module _ {D P : Type 0} (lines : Bool) (IsSought : List (List ℕ) → Type 0) (
   IsEitherRefused at why =
       (EachUnfailed archives × IsUntoldBy whole failures lines keys all old new at why)
       ⊎ (AreTiedUnder keys all × NoneFailed failures old new × AreRefusedUnder IsSought all archives at why)
-
-  -- slices were asked after tables were not
-  pub slices_refused : (fault : CommandFault) → AreTiedUnder keys all → NoneFailed failures old new → IsRefusal (AreRefusedUnder IsSought all archives) (EachUnfailed archives) fault
-      → IsRefusal IsEitherRefused (NoneFailed failures old new × EachUnfailed archives) fault
-  slices_refused (Input at why) tied none r = inr (tied, none, r)
-  slices_refused (Output n) tied none r = absurd r
-  slices_refused (Report n) tied none r = absurd r
-  slices_refused OutOfMemory tied none r = (none, r)
 
   -- tables are refused, before slices were asked
   pub tables_refused : (fault : CommandFault) → EachUnfailed archives → IsRefusal (IsUntoldBy whole failures lines keys all old new) (NoneFailed failures old new) fault

@@ -7,12 +7,12 @@ use Rattle.archive_queries.specs.Frames.{TellsFrames}
 use Rattle.archive_queries.specs.Symbolicate.{Answered}
 use Rattle.crash_frames.specs.Frames.{frames_of}
 use Rattle.crash_frames.specs.declared.frame.Frame.{Frame}
-use Rattle.command_ends.specs.Ends.{EndsReport}
-use Rattle.command_ends.specs.Inputs.{Reader, readers, EachUnfailed, EachUntouched, Gives, IsRefusal, IsRefusedFrames, Unfailed}
-use Rattle.command_ends.specs.Outputs.{Takes, Writer}
-use Rattle.command_ends.specs.declared.faults.CommandFault.{CommandFault}
-use Rattle.command_ends.specs.declared.faults.CommandFault.TheVariants.{Input, Output, Report, OutOfMemory}
-use Rattle.command_ends.specs.declared.faults.Status.{Status}
+use Rattle.command_core.specs.Ends.{EndsReport}
+use Rattle.command_core.specs.Inputs.{Reader, readers, EachUnfailed, EachUntouched, Gives, IsRefusal, IsRefusedFrames, Unfailed}
+use Rattle.command_core.specs.Outputs.{Takes, Writer}
+use Rattle.command_core.specs.declared.faults.CommandFault.{CommandFault}
+use Rattle.command_core.specs.declared.faults.CommandFault.TheVariants.{Input, Output, Report, OutOfMemory}
+use Rattle.command_core.specs.declared.faults.Status.{Status}
 use Rattle.indexed_answers.specs.AmongAsked.{HaveTexts}
 use Rattle.indexed_queries.specs.Several.{AreUnfailedTogether}
 use Rattle.indexed_queries.specs.Together.{AreAllKept, AreReadWith, IsFirstRefusedByIndex}
@@ -33,23 +33,23 @@ module _ {C I P : Type 0} (lines : Bool) (frames : Reader C) (indexes : List (Re
   frames_first OutOfMemory r named known unfailed t = ((r, unfailed), t)
 
   -- after the frames were read another is refused
-  pub refused_after : (said : List Frame) (fault : CommandFault) → Gives frames (λ bytes. frames_of bytes ≡ Ok said) → Unfailed frames → IsRefusal (AreRefusedAt lines indexes archives said) (AreUnfailedTogether indexes archives) fault → Takes report []
+  pub refused_after : (listed : List Frame) (fault : CommandFault) → Gives frames (λ bytes. frames_of bytes ≡ Ok listed) → Unfailed frames → IsRefusal (AreRefusedAt lines indexes archives listed) (AreUnfailedTogether indexes archives) fault → Takes report []
       → EndsReport (frames_at lines frames indexes archives) report (Err fault)
-  refused_after said (Input at why) gives unfailed r t = (inr (said, gives, unfailed, r), t)
-  refused_after said (Output n) gives unfailed r t = absurd r
-  refused_after said (Report n) gives unfailed r t = absurd r
-  refused_after said OutOfMemory gives unfailed r t = ((unfailed, r), t)
+  refused_after listed (Input at why) gives unfailed r t = (inr (listed, gives, unfailed, r), t)
+  refused_after listed (Output n) gives unfailed r t = absurd r
+  refused_after listed (Report n) gives unfailed r t = absurd r
+  refused_after listed OutOfMemory gives unfailed r t = ((unfailed, r), t)
 
 same_members : (keys : List (List ℕ)) → HaveSameMembers keys keys
 same_members keys = λ b. (λ there. there, λ there. there)
 
 -- an index is refused, whatever the frames
-pub index_refused_at : {I P : Type 0} (lines : Bool) (indexes : List (Reader I)) (archives : List (Reader P)) (said : List Frame) (fault : CommandFault)
-    → IsRefusal (IsFirstRefusedByIndex indexes archives) (AreUnfailedTogether indexes archives) fault → IsRefusal (AreRefusedAt lines indexes archives said) (AreUnfailedTogether indexes archives) fault
-index_refused_at lines indexes archives said (Input at why) r = (keys_of said, same_members (keys_of said), inl r)
-index_refused_at lines indexes archives said (Output n) r = absurd r
-index_refused_at lines indexes archives said (Report n) r = absurd r
-index_refused_at lines indexes archives said OutOfMemory r = r
+pub index_refused_at : {I P : Type 0} (lines : Bool) (indexes : List (Reader I)) (archives : List (Reader P)) (listed : List Frame) (fault : CommandFault)
+    → IsRefusal (IsFirstRefusedByIndex indexes archives) (AreUnfailedTogether indexes archives) fault → IsRefusal (AreRefusedAt lines indexes archives listed) (AreUnfailedTogether indexes archives) fault
+index_refused_at lines indexes archives listed (Input at why) r = (keys_of listed, same_members (keys_of listed), inl r)
+index_refused_at lines indexes archives listed (Output n) r = absurd r
+index_refused_at lines indexes archives listed (Report n) r = absurd r
+index_refused_at lines indexes archives listed OutOfMemory r = r
 
 -- ---- told
 
@@ -76,31 +76,31 @@ module _ {I P : Type 0} (left : I → Option (List ℕ)) (failures : I → ℕ) 
     (read : AreReadWith (readers left failures old mid) (readers whole failures_at before seen) all)
     (unfailed : EachUnfailed (readers left failures old mid) × EachUnfailed (readers whole failures_at before seen))
     (kept : AreAllKept left failures old mid × AreAllKept whole failures_at before seen)
-    (lines : Bool) (said : List Frame) where
+    (lines : Bool) (listed : List Frame) where
   abbrev IsSought : List (List ℕ) → Type 0
-  IsSought keys = HaveSameMembers keys (keys_of said)
+  IsSought keys = HaveSameMembers keys (keys_of listed)
 
-  still_tied : (others : List (List ℕ)) → IsSought others → AreTiedUnder (keys_of said) all → AreTiedUnder others all
-  still_tied others sought tied = tied_same (keys_of said) others all sought tied
+  still_tied : (others : List (List ℕ)) → IsSought others → AreTiedUnder (keys_of listed) all → AreTiedUnder others all
+  still_tied others sought tied = tied_same (keys_of listed) others all sought tied
 
   pub told_at : (status : Status) (text : List ℕ)
-      → TellTablesOfFrames (HaveTexts left mid) all lines said status text
-      ⊎ (AreTiedUnder (keys_of said) all × AreHeldUnder IsSought all (readers whole failures_at seen after) (λ content. TellsFrames lines content said status text))
-      → AreToldAt lines (readers left failures old new) (readers whole failures_at before after) said status text
+      → TellTablesOfFrames (HaveTexts left mid) all lines listed status text
+      ⊎ (AreTiedUnder (keys_of listed) all × AreHeldUnder IsSought all (readers whole failures_at seen after) (λ content. TellsFrames lines content listed status text))
+      → AreToldAt lines (readers left failures old new) (readers whole failures_at before after) listed status text
   told_at status text (inl told) = inl (
       record {
         all = all;
         read = read_all left failures whole failures_at old mid new before seen after all long more long_at more_at read unfailed kept;
-        tells = tell_from _ _ (given_texts left failures whole failures_at old mid new before seen after all long more long_at more_at read unfailed kept) all lines said status text told;
+        tells = tell_from _ _ (given_texts left failures whole failures_at old mid new before seen after all long more long_at more_at read unfailed kept) all lines listed status text told;
       }
       )
   told_at status text (inr (tied, held)) =
-      let made = slices_make left failures whole failures_at old mid new before seen after all long more long_at more_at read unfailed kept lines (keys_of said) IsSought (same_members (keys_of said)) still_tied
-      (λ o s t. TellsFrames lines o said s t) status text tied held in
+      let made = slices_make left failures whole failures_at old mid new before seen after all long more long_at more_at read unfailed kept lines (keys_of listed) IsSought (same_members (keys_of listed)) still_tied
+      (λ o s t. TellsFrames lines o listed s t) status text tied held in
       inr (record { keys = made.0; are_keys = made.1; makes = made.2.0; tied = made.2.1 })
 
   pub refused_at : (fault : CommandFault)
-      → IsRefusal (IsEitherRefused lines IsSought left failures (keys_of said) all mid new (readers whole failures_at seen after)) (NoneFailed failures mid new × EachUnfailed (readers whole failures_at seen after)) fault
-      → IsRefusal (AreRefusedAt lines (readers left failures old new) (readers whole failures_at before after) said) (AreUnfailedTogether (readers left failures old new) (readers whole failures_at before after)) fault
+      → IsRefusal (IsEitherRefused lines IsSought left failures (keys_of listed) all mid new (readers whole failures_at seen after)) (NoneFailed failures mid new × EachUnfailed (readers whole failures_at seen after)) fault
+      → IsRefusal (AreRefusedAt lines (readers left failures old new) (readers whole failures_at before after) listed) (AreUnfailedTogether (readers left failures old new) (readers whole failures_at before after)) fault
   refused_at fault r =
-      asked_refused left failures whole failures_at old mid new before seen after all long more long_at more_at read unfailed kept lines (keys_of said) IsSought (same_members (keys_of said)) still_tied fault r
+      asked_refused left failures whole failures_at old mid new before seen after all long more long_at more_at read unfailed kept lines (keys_of listed) IsSought (same_members (keys_of listed)) still_tied fault r

@@ -14,9 +14,9 @@ use Rattle.archive_core.specs.declared.lookup.Answer.{Answer}
 use Rattle.archive_core.specs.declared.lookup.Where.{Where}
 use Rattle.crash_frames.specs.declared.frame.Frame.{Frame}
 use Rattle.report_text.specs.Answers.{answer_lines}
-use Rattle.command_ends.specs.declared.faults.Status.{Status}
-use Rattle.command_ends.specs.declared.faults.Status.TheVariants.{Done, Partial}
-use Rattle.command_ends.proofs.Readers.{pairs_more}
+use Rattle.command_core.specs.declared.faults.Status.{Status}
+use Rattle.command_core.specs.declared.faults.Status.TheVariants.{Done, Partial}
+use Rattle.command_core.proofs.Readers.{pairs_more}
 use Rattle.archive_queries.proofs.Answered.{status_more}
 use Rattle.archive_queries.specs.Symbolicate.{Answered, asked_of, is_symbol}
 use Rattle.indexed_answers.specs.AmongTold.{IsAnswerAmong}
@@ -94,9 +94,6 @@ module _ (AreTexts : List (List ℕ) → Type 0) (all : List (List (List ℕ))) 
   }
 
 -- ---- addresses
-
-pub no_addresses : (answers : Answers) (lines : Bool) → ShowsAddresses answers lines [] Done []
-no_addresses answers lines = record { rows = []; addresses_are = refl; numbered = λ number row at. absurd (cc at); status_is = refl; text_is = refl }
 
 -- what stands in a list with one more
 pushed : (rows : List Answered) (row : Answered) (n : ℕ) (one : Answered) → slice_get (rows ++ row ∷ []) n ≡ Some one → (slice_get rows n ≡ Some one) ⊎ ((n ≡ length rows) × (row ≡ one))

@@ -4,18 +4,12 @@ use Rattle.std.specs.Prelude.{IsOk, slice_get, slice_set}
 use Rattle.std.proofs.lemmas.Option.{slice_get_within}
 use Rattle.byte_device.specs.Devices.{FailedIn}
 use Rattle.byte_device.specs.declared.disks.CannotOpen.{CannotOpen}
-use Rattle.command_ends.specs.Inputs.{Reader, reader, readers, EachUnfailed, Gives, IsGiven, failures_of}
+use Rattle.command_core.specs.Inputs.{Reader, reader, readers, EachUnfailed, Gives, IsGiven, failures_of}
 use Rattle.indexed_answers.specs.Among.{AreAnsweringAmong, EntryAt}
 use Rattle.indexed_answers.specs.AmongAsked.{AreOpened, HasText, HaveTexts, IsOpenedAt, each_known, known_of}
 use Rattle.indexed_queries.specs.Together.{AreAllKept, AreReadWith, IsKept}
 use Rattle.indexed_symbols.specs.Asking.{AreGiven, FailsAlone}
 use Rattle.indexed_symbols.specs.InnerAsking.{AreAllOpened}
-
-module _ {D V : Type 0} (known : D → V) where
-  -- of a device that was opened, the same is known of one that was
-  ok_known : (x : Result D CannotOpen) (v : V) → known_of known x ≡ Ok v → (d : D) × (x ≡ Ok d) × (known d ≡ v)
-  ok_known (Ok d) v e = (d, refl, cc)
-  ok_known (Err r) v e = absurd (cc e)
 
 module _ {D : Type 0} (whole : D → Option (List ℕ)) where
   opened_one : (x y : Result D CannotOpen) → known_of whole y ≡ known_of whole x → IsOk x → IsOk y
@@ -39,8 +33,8 @@ module _ {D : Type 0} (whole : D → Option (List ℕ)) where
   opened_at (d ∷ ds) (suc n) are lt = opened_at ds n are.1 (omega (arith, lt))
 
   -- those in which entries stand are open
-  pub opened_among : (devices : List (Result D CannotOpen)) (front : List ℕ) (all : List (List (List ℕ))) (answering : List EntryAt) → length all ≡ length devices → AreAllOpened devices → AreAnsweringAmong front all answering → AreOpened devices answering
-  opened_among devices front all answering long are among = λ k d lt.
+  pub opened_among : (devices : List (Result D CannotOpen)) (prefix : List ℕ) (all : List (List (List ℕ))) (answering : List EntryAt) → length all ≡ length devices → AreAllOpened devices → AreAnsweringAmong prefix all answering → AreOpened devices answering
+  opened_among devices prefix all answering long are among = λ k d lt.
       let x = get_or answering k d in
       let at = among.among k d lt in
       opened_at devices x.input are (omega (arith, long, slice_get_within all x.input at.entries at.index_is))

@@ -19,7 +19,7 @@ use crate::tables::tell_key;
 use archive_core::{SliceKey, Where, compare_keys};
 use archive_queries::status_behind;
 use byte_device::{CannotOpen, Placed};
-use command_ends::{CommandFault, Status};
+use command_core::{CommandFault, Status};
 use crash_frames::Frame;
 use indexed_answers::Answers;
 use memory::{Heap, NoMemory};

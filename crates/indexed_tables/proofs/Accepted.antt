@@ -37,6 +37,7 @@ use Rattle.table_index.proofs.Entries.{byte_kept, claim_read, long_with, number_
 use Rattle.table_index.proofs.Checks.{long_entries}
 use Rattle.indexed_tables.proofs.Apart.{apart, moved, near_all}
 use Rattle.indexed_tables.proofs.Contents.{claim_admitted, claim_retired, stored_long}
+use Rattle.archive_index.proofs.Ascending.{along_list}
 
 -- ---- the claim of a table
 
@@ -197,10 +198,6 @@ pass_sorted end low (x ∷ xs) sound above sorted = (sound.0.long, sound_passes 
 above_empty : (end : ℕ) (x : List ℕ) → IsSound end x → order [] x ≡ Less
 above_empty end [] s = absurd (omega (arith, s.long))
 above_empty end (b ∷ bs) s = refl
-
-along_list : (P Q : List ℕ → Type 0) → ((x : List ℕ) → P x → Q x) → (xs : List (List ℕ)) → AllByRecursion P xs → AllByRecursion Q xs
-along_list P Q f [] h = tt
-along_list P Q f (x ∷ xs) h = (f x h.0, along_list P Q f xs h.1)
 
 -- ---- the index of a content
 

@@ -8,8 +8,9 @@ use Rattle.dwarf_numbers.specs.Leb128.{last_unsigned, unsigned_leb128_at}
 use Rattle.dwarf_numbers.specs.Text.{text_at}
 use Rattle.dwarf_numbers.specs.Values.{ValueRecord, InlineString}
 use Rattle.dwarf_numbers.specs.Sequences.{Shortens}
-use Rattle.dwarf_numbers.proofs.ShorterLemmas.{mapped_some, text_shorter, leb128_shorter}
+use Rattle.dwarf_numbers.proofs.ShorterLemmas.{text_shorter, leb128_shorter}
 use Rattle.line_programs.specs.Names.{NameRecord, FieldsRecord, include_directory_at, directory_index_at, file_name_at, name_value_at, with_value, fields_from}
+use Rattle.dwarf_numbers.proofs.SequenceLemmas.{mapped as mapped_some}
 
 -- a directory has a byte
 pub include_directory_shortens : Shortens include_directory_at

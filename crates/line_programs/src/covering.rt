@@ -1,11 +1,9 @@
-//! The row that covers an address.
+//! Whether a row covers an address.
 
 ghost use Rattle.std.specs.Prelude.{◌≡◌, None};
-ghost use Rattle.line_programs.specs.Covering.{IsCovering};
-ghost use Rattle.line_programs.specs.Inner.{covers, covered, covering_with};
+ghost use Rattle.line_programs.specs.Inner.{covers, covered};
 
 use crate::registers::Row;
-use crate::rows::Rows;
 
 /// Whether a row covers an address, if another one is next.
 pub(crate) fn covers(address: u64, row: &Row, next: &Row) -> bool
@@ -22,25 +20,4 @@ fn covered(address: u64, before: Option<Row>, next: &Row) -> Option<Row>
         Some(row) if covers(address, &row, next) => Some(row),
         _ => None,
     }
-}
-
-/// The first of the rows that covers an address, as the search finds it.
-fn search(rows: Rows<'_>, address: u64) -> Option<Row>
-    ensures { result ≡ covering_with address None rows.entry }
-{
-    let mut before: Option<Row> = None;
-    for row in rows {
-        if let Some(found) = covered(address, before, &row) {
-            return Some(found);
-        }
-        before = Some(row);
-    }
-    None
-}
-
-/// The first of the rows that covers an address; `None` if none does.
-pub fn covering_row(rows: Rows<'_>, address: u64) -> Option<Row>
-    ensures { IsCovering rows.entry address result }
-{
-    search(rows, address)
 }

@@ -1,6 +1,6 @@
 //! Directories and files as the versions 2 to 4 list them.
 
-ghost use Rattle.std.specs.Prelude.{◌≡◌, ◌<◌, IfOk, IfSome, length, map};
+ghost use Rattle.std.specs.Prelude.{◌≡◌, ◌<◌, IfOk, length, map};
 ghost use Rattle.std.specs.Option.{option_map};
 ghost use Rattle.dwarf_numbers.specs.Sequences.{ended};
 ghost use Rattle.line_programs.specs.Names.{include_directory_at, directory_index_at, file_name_at};

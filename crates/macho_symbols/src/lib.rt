@@ -41,6 +41,7 @@ mod table;
 
 pub use fault::SymbolFault;
 pub use found::Found;
+pub use name::{before_nul, compare_to_nul};
 pub use named::Named;
 pub use symbols::Symbols;
 pub use table::AddressTable;

@@ -13,7 +13,7 @@ use std::cmp::Ordering;
 
 /// What stands before the first NUL, or all.
 #[tactic(auto, using(crate::proofs::Names::parts_at_nul))]
-pub(crate) fn before_nul(bytes: &[u8]) -> &[u8]
+pub fn before_nul(bytes: &[u8]) -> &[u8]
     ensures { result.now ≡ before_first (λ b. b == 0) bytes.now }
 {
     match memchr(0, bytes) {
@@ -43,6 +43,28 @@ fn split_piece(bytes: &[u8], size: usize) -> (&[u8], &[u8])
     ensures rest { result.1.now ≡ drop size bytes.now }
 {
     bytes.split_at(bytes.len().min(size))
+}
+
+/// Compares bytes, each up to its first NUL, piece by piece: it reads no more than some times the bytes that they
+/// share.
+pub fn compare_to_nul(name: &[u8], other: &[u8]) -> Ordering
+    ensures { result ≡ slice_cmp nat_cmp (before_first (λ b. b == 0) name.now) (before_first (λ b. b == 0) other.now) }
+{
+    let (mut own, mut others) = (name, other);
+    let mut size = FIRST_PIECE;
+    'pieces: loop {
+        let (piece, rest) = split_piece(own, size);
+        let (other_piece, other_rest) = split_piece(others, size);
+        if piece != other_piece {
+            return before_nul(piece).cmp(&before_nul(other_piece));
+        }
+        if before_nul(piece).len() < size {
+            return Ordering::Equal;
+        }
+        own = rest;
+        others = other_rest;
+        size = LARGEST_PIECE.min(2 * size);
+    }
 }
 
 /// A name: the string table from its first byte on. It ends before the first NUL, or with the table, and
@@ -103,26 +125,11 @@ impl<'a> Name<'a> {
         before_nul(self.from)
     }
 
-    /// Compares two names in byte order, piece by piece: it reads no more than some times the bytes that they
-    /// share.
+    /// Compares two names in byte order.
     pub(crate) fn compare(&self, other: &Name<'_>) -> Ordering
         ensures { result ≡ slice_cmp nat_cmp (name_view self.now) (name_view other.now) }
     {
-        let (mut own, mut others) = (self.from, other.from);
-        let mut size = FIRST_PIECE;
-        'pieces: loop {
-            let (piece, rest) = split_piece(own, size);
-            let (other_piece, other_rest) = split_piece(others, size);
-            if piece != other_piece {
-                return before_nul(piece).cmp(&before_nul(other_piece));
-            }
-            if before_nul(piece).len() < size {
-                return Ordering::Equal;
-            }
-            own = rest;
-            others = other_rest;
-            size = LARGEST_PIECE.min(2 * size);
-        }
+        compare_to_nul(self.from, other.from)
     }
 
     /// Whether these are its bytes. It reads no more than these, and one byte behind them.

@@ -7,16 +7,16 @@ use Rattle.std.specs.Io.KnownBytes.{Appends}
 use Rattle.archive_core.specs.declared.keys.Digest.{Digest}
 use Rattle.archive_core.specs.declared.keys.SliceKey.{SliceKey}
 use Rattle.byte_device.specs.declared.disks.CannotOpen.{CannotOpen}
-use Rattle.command_ends.specs.Inputs.{Reader, reader, readers}
-use Rattle.command_ends.specs.Outputs.{Outs, Takes, Writer, out_of}
-use Rattle.command_ends.specs.declared.faults.CommandFault.{CommandFault}
-use Rattle.command_ends.specs.declared.faults.CommandFault.TheVariants.{Input}
-use Rattle.command_ends.specs.declared.faults.InputName.{InputName}
-use Rattle.command_ends.specs.declared.faults.InputName.TheVariants.{Archive, Index}
-use Rattle.command_ends.specs.declared.faults.Why.{Why}
-use Rattle.command_ends.specs.declared.faults.Why.TheVariants.{NoArchive, NoIndex}
-use Rattle.command_ends.specs.declared.faults.Status.{Status}
-use Rattle.command_ends.specs.declared.outputs.Output.{Output as Out}
+use Rattle.command_core.specs.Inputs.{Reader, reader, readers}
+use Rattle.command_core.specs.Outputs.{Outs, Takes, Writer, out_of}
+use Rattle.command_core.specs.declared.faults.CommandFault.{CommandFault}
+use Rattle.command_core.specs.declared.faults.CommandFault.TheVariants.{Input}
+use Rattle.command_core.specs.declared.faults.InputName.{InputName}
+use Rattle.command_core.specs.declared.faults.InputName.TheVariants.{Archive, Index}
+use Rattle.command_core.specs.declared.faults.Why.{Why}
+use Rattle.command_core.specs.declared.faults.Why.TheVariants.{NoArchive, NoIndex}
+use Rattle.command_core.specs.declared.faults.Status.{Status}
+use Rattle.command_core.specs.declared.outputs.Output.{Output as Out}
 use Rattle.slice_extraction.specs.Extract.{Extraction, Extracts, extract}
 use Rattle.slice_extraction.specs.Indexed.{extract_at}
 use Rattle.plan_commands.specs.QueryDispatch.{IsAlone, extract_of, extraction_if_paired, paired}

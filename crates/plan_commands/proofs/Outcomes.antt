@@ -8,20 +8,20 @@ use Rattle.std.specs.Prelude.{option_and_then, slice_get}
 use Rattle.command_line.specs.Lines.{Line}
 use Rattle.archive_records.specs.Text.{written}
 use Rattle.byte_device.specs.declared.disks.CannotOpen.{CannotOpen}
-use Rattle.command_ends.specs.declared.faults.CommandFault.{CommandFault}
-use Rattle.command_ends.specs.declared.faults.CommandFault.TheVariants.{Input, Output, Report, OutOfMemory}
-use Rattle.command_ends.specs.declared.outputs.Output.{Output as Out}
-use Rattle.command_ends.specs.declared.faults.InputName.{InputName}
-use Rattle.command_ends.specs.declared.faults.Status.{Status}
-use Rattle.command_ends.specs.declared.faults.Why.{Why}
-use Rattle.command_ends.specs.Ends.{Command, Ends, EndsStreamed, Query, Streamed}
-use Rattle.command_ends.specs.Inputs.{readers}
-use Rattle.command_ends.specs.Outputs.{FailsAt, IsKept, Outs, Publishes, Writer, out_of, report_of}
+use Rattle.command_core.specs.declared.faults.CommandFault.{CommandFault}
+use Rattle.command_core.specs.declared.faults.CommandFault.TheVariants.{Input, Output, Report, OutOfMemory}
+use Rattle.command_core.specs.declared.outputs.Output.{Output as Out}
+use Rattle.command_core.specs.declared.faults.InputName.{InputName}
+use Rattle.command_core.specs.declared.faults.Status.{Status}
+use Rattle.command_core.specs.declared.faults.Why.{Why}
+use Rattle.command_core.specs.Ends.{Command, Ends, EndsStreamed, Query, Streamed}
+use Rattle.command_core.specs.Inputs.{readers}
+use Rattle.command_core.specs.Outputs.{FailsAt, IsKept, Outs, Publishes, Writer, out_of, report_of}
 use Rattle.archive_files.specs.InputStates.{Told}
-use Rattle.archive_updates.specs.declared.notes.Note.{Note}
+use Rattle.archive_writing.specs.declared.notes.Note.{Note}
 use Rattle.archive_files.specs.declared.input_state.Unopened.{Unopened}
 use Rattle.archive_files.specs.declared.input_state.Unopened.TheVariants as unopened
-use Rattle.command_ends.specs.declared.faults.Why.TheVariants.{CannotOpen as NotOpened}
+use Rattle.command_core.specs.declared.faults.Why.TheVariants.{CannotOpen as NotOpened}
 use Rattle.plan_commands.specs.Disks.{Carried, Tells, fault_at, unopened_of}
 use Rattle.plan_commands.specs.Plans.{Deed, EndsDeed, EndsQuery, answers, changes, deed_of, empties, extracts, none}
 use Rattle.plan_commands.specs.Plans.{streams}

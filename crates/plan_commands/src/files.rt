@@ -2,7 +2,7 @@
 
 ghost use Rattle.std.specs.Prelude.{◌≡◌, ◌≢◌, ◌++◌, [], Err, IfOk, MatchResult, None, Ok, OnOk};
 ghost use Rattle.std.specs.Prelude.{option_map, string_bytes};
-ghost use Rattle.command_ends.specs.Outputs.{writer};
+ghost use Rattle.command_core.specs.Outputs.{writer};
 ghost use Rattle.archive_files.specs.AtTurns.{told as told_of, told_by};
 ghost use Rattle.archive_files.specs.Fresh.{AreFresh};
 ghost use Rattle.archive_files.specs.OutFiles.{Untouched, stage_of};
@@ -19,9 +19,9 @@ use archive_files::{
     Disk, OpenedFile, OutFault, OutFile, OutPath, PlacedFile, Replaces, SystemDisk, SystemFiles,
     SystemInput,
 };
-use archive_updates::Note;
+use archive_writing::Note;
 use byte_device::{CannotCreate, Placed, Sink, Source};
-use command_ends::{CommandFault, Failure, Status, Target};
+use command_core::{CommandFault, Failure, Status, Target};
 use command_line::Line;
 use error_lines::Seen;
 use memory::{Heap, NoMemory};

@@ -26,12 +26,12 @@ use Rattle.table_index.specs.Text.{placed_of}
 use Rattle.table_index.proofs.Faults.{no_fault}
 use Rattle.indexed_tables.specs.Content.{entries_of}
 use Rattle.indexed_tables.proofs.Accepted.{accepted}
-use Rattle.command_ends.specs.Inputs.{IsDeviceFault, IsGiven, IsUnread, Reader, reader}
-use Rattle.command_ends.specs.declared.faults.InputName.{InputName}
-use Rattle.command_ends.specs.declared.faults.Why.{Why}
-use Rattle.command_ends.specs.declared.faults.Why.TheVariants.{CannotOpen as NotOpened, Device as CannotRead, Record, Take}
-use Rattle.command_ends.specs.declared.faults.Why.TheVariants.{Script, BadFrame, OldArchive, TooLong}
-use Rattle.command_ends.specs.declared.faults.Why.TheVariants.{Index as IndexFaulty, Stale, Damaged, NoArchive, NoIndex, NoLines}
+use Rattle.command_core.specs.Inputs.{IsDeviceFault, IsGiven, IsUnread, Reader, reader}
+use Rattle.command_core.specs.declared.faults.InputName.{InputName}
+use Rattle.command_core.specs.declared.faults.Why.{Why}
+use Rattle.command_core.specs.declared.faults.Why.TheVariants.{CannotOpen as NotOpened, Device as CannotRead, Record, Take}
+use Rattle.command_core.specs.declared.faults.Why.TheVariants.{Script, BadFrame, OldArchive, TooLong}
+use Rattle.command_core.specs.declared.faults.Why.TheVariants.{Index as IndexFaulty, Stale, Damaged, NoArchive, NoIndex, NoLines}
 use Rattle.index_laws.specs.Indexes.{IsIndexFile}
 use Rattle.indexed_queries.specs.Prefixes.{IsReadFor, IsStaleFor, IsStaleUnder, IsUnnamedUnder}
 use Rattle.indexed_queries.specs.Indexes.{HasOtherLength, IsOfOtherLength, IsRefusedByIndex, IsUnreadAt, IsUnreadIndex}

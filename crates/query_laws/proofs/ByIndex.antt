@@ -24,9 +24,9 @@ use Rattle.archive_queries.specs.Symbolicate.{Answered, asked_of}
 use Rattle.archive_queries.proofs.Parts.{joined_alike}
 use Rattle.archive_queries.proofs.Sourced.{answers_alike, sourced_as}
 use Rattle.crash_frames.specs.declared.frame.Frame.{Frame}
-use Rattle.command_ends.specs.Archives.{merged}
-use Rattle.command_ends.specs.Inputs.{IsGiven, Reader}
-use Rattle.command_ends.specs.declared.faults.Status.{Status}
+use Rattle.command_core.specs.Archives.{merged}
+use Rattle.command_core.specs.Inputs.{IsGiven, Reader}
+use Rattle.command_core.specs.declared.faults.Status.{Status}
 use Rattle.index_laws.specs.Indexes.{IsIndexFile, all_joined}
 use Rattle.index_laws.proofs.Right.{zip_right}
 use Rattle.indexed_queries.specs.Prefixes.{AreNamedUnder, HoldsNamed}
@@ -37,6 +37,7 @@ use Rattle.query_laws.specs.Contents.{AreIndexed, DigestsTellOver, IsIndexed}
 use Rattle.query_laws.proofs.Accepted.{still_given}
 use Rattle.query_laws.proofs.OfIndex.{held_tables, of_given}
 use Rattle.query_laws.proofs.Three.{for_first, third_fourth, with_fourth}
+use Rattle.archive_core.proofs.Made.{union_assoc}
 
 -- a record is under one of these prefixes
 abbrev is_under_any : List (List ℕ) → List ℕ → Bool
@@ -98,11 +99,6 @@ module _ (o : Operations) (content : IsContent o) where
   parts_told prefixes parts bytes tells short named = zip_along (λ f q. AreNamed f (index o) bytes q) (λ f q. q ≡ part o (is_under f)) prefixes parts short (λ f q le n. of_the_index f bytes o q le content n (found_tells o f bytes (index o) q tells n)) named
 
 -- ---- joined to others
-
-union_assoc : (a b c : Operations) → set.union (set.union a b) c ≡ set.union a (set.union b c)
-union_assoc a b c = same_set nat_list_cmp_total bytes_same (set.union (set.union a b) c) (set.union a (set.union b c)) (λ r.
-    contains-union nat_list_cmp_total (set.union a b) c r ∙ ap (λ (x : Bool). x || set.contains c r) (contains-union nat_list_cmp_total a b r) ∙ or_assoc (set.contains a r) (set.contains b r) (set.contains c r)
-    ∙ sym (contains-union nat_list_cmp_total a (set.union b c) r ∙ ap (λ (x : Bool). set.contains a r || x) (contains-union nat_list_cmp_total b c r)))
 
 joined_assoc : (a b c : Operations) → joined (joined a b) c ≡ joined a (joined b c)
 joined_assoc a b c =

@@ -20,8 +20,8 @@ use Rattle.archive_core.proofs.Records.{length-admission_record}
 use Rattle.archive_records.specs.Kind.{magic}
 use Rattle.archive_records.specs.Text.{end_record, written}
 use Rattle.archive_index.specs.Entry.{offset_in}
-use Rattle.command_ends.specs.Inputs.{IsGiven, Reader}
-use Rattle.command_ends.specs.Outputs.{Writer}
+use Rattle.command_core.specs.Inputs.{IsGiven, Reader}
+use Rattle.command_core.specs.Outputs.{Writer}
 use Rattle.index_laws.specs.Indexes.{AreIndexes, DigestsTell, all_joined}
 use Rattle.index_laws.proofs.Among.{IsOfSlice, admission_if, find, lives_if, slice_of_entry}
 use Rattle.index_laws.proofs.Joined.{joined_alone}

@@ -15,7 +15,6 @@ use Rattle.std.proofs.Math.Seq.{take-append_seam}
 use Rattle.std.proofs.lemmas.Slice.Eq.{bytes_eq-Decides}
 use Rattle.std.proofs.lemmas.List.Elements.{All-cons}
 use Rattle.std.proofs.lemmas.List.Sorted.{list_any-IsPermutation}
-use Rattle.index_laws.proofs.Records.{same_key}
 use Rattle.sha2.specs.Sha256.{sha256}
 use Rattle.sha2.proofs.Facts256.{length-sha256}
 use Rattle.macho_image.specs.Contents.{is_dsym_image}
@@ -41,7 +40,7 @@ use Rattle.archive_core.proofs.Compare.{length_key_bytes}
 use Rattle.archive_core.proofs.Entries.{admission_entry, retirement_entry, slice_of}
 use Rattle.archive_core.proofs.Made.{bytes_same, and_right}
 use Rattle.archive_core.proofs.Picked.{contains_part, finds_alike, part_alike, part_content}
-use Rattle.archive_core.proofs.Records.{length-key_of}
+use Rattle.archive_core.proofs.Records.{length-key_of, one_key as same_key}
 use Rattle.archive_core.proofs.Told.{found_under}
 use Rattle.archive_records.specs.Text.{written}
 use Rattle.archive_records.proofs.Contents.{order, along}

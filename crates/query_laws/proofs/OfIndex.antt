@@ -26,7 +26,7 @@ use Rattle.table_index.proofs.Faults.{one_list}
 use Rattle.indexed_tables.specs.Content.{IsTableOf, claim_of, entries_of, table_entries, table_entry}
 use Rattle.indexed_tables.proofs.Accepted.{accepted}
 use Rattle.byte_device.specs.declared.disks.CannotOpen.{CannotOpen}
-use Rattle.command_ends.specs.Inputs.{Gives, IsGiven, Reader, reader}
+use Rattle.command_core.specs.Inputs.{Gives, IsGiven, Reader, reader}
 use Rattle.index_laws.specs.Indexes.{IsIndexFile}
 use Rattle.index_laws.proofs.Records.{is_key_of}
 use Rattle.indexed_queries.specs.Indexes.{HoldsIndex, HoldsTables}

@@ -13,14 +13,14 @@ use Rattle.archive_core.specs.declared.keys.Digest.{Digest}
 use Rattle.archive_core.specs.declared.keys.SliceKey.{SliceKey}
 use Rattle.archive_core.proofs.Compare.{length_key_bytes}
 use Rattle.archive_core.proofs.Members.{in_front, in_rest}
-use Rattle.archive_core.proofs.Records.{length-key_of}
-use Rattle.command_ends.specs.Inputs.{Reader}
-use Rattle.command_ends.specs.Outputs.{Writer}
+use Rattle.archive_core.proofs.Records.{length-key_of, one_key as same_key}
+use Rattle.command_core.specs.Inputs.{Reader}
+use Rattle.command_core.specs.Outputs.{Writer}
 use Rattle.report_text.specs.Finds.{find_lines}
 use Rattle.index_laws.specs.Indexes.{AreIndexes, DigestsTell, all_joined}
 use Rattle.index_laws.proofs.Among.{entry_if_live, lives_then}
 use Rattle.index_laws.proofs.Joined.{joined_alone}
-use Rattle.index_laws.proofs.Records.{key_in, same_key}
+use Rattle.index_laws.proofs.Records.{key_in}
 use Rattle.index_laws.proofs.Right.{IsAnsweringSlice, slices_right}
 use Rattle.indexed_answers.specs.Among.{EntryAt}
 use Rattle.indexed_answers.specs.Named.{IsRowAt, LivesAmong}
@@ -45,7 +45,7 @@ no_rows (x ∷ xs) rows R none all = cc (none)
 module _ (os : List Operations) (texts : List (List ℕ)) (all : List (List (List ℕ))) (key : SliceKey) where
   row_so : (x : EntryAt) (slice : List ℕ) (row : FindRow) → IsAnsweringSlice os texts all key x slice → IsRowAt x row → IsRowOfSlice slice row
   row_so x slice row is told = record {
-    key_is = told.key_is ∙ key_in x.entry (key_bytes (key_of slice)) (sha256 slice) (length-key_of slice is.of.is.valid) is.of.is.front;
+    key_is = told.key_is ∙ key_in x.entry (key_bytes (key_of slice)) (sha256 slice) (length-key_of slice is.of.is.valid) is.of.is.prefix;
     digest_is = told.digest_is ∙ is.of.is.is.digest_is;
     state_is = told.state_is ∙ ap (λ (b : Bool). if b then Dsym else Image) is.of.is.kind;
   }

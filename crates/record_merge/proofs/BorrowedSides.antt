@@ -21,7 +21,7 @@ use Rattle.archive_records.specs.Kind.{kind_of, may_follow}
 use Rattle.archive_records.specs.Layout.{framed}
 use Rattle.archive_records.specs.Fault.{next, next_by, tested}
 use Rattle.archive_records.specs.Text.{end_record, last_of}
-use Rattle.archive_records.specs.Reader.{Finishes, HasReadAll, HasWhole, Keeps, Passes, Position, StoppedWith, StopsAt, beside}
+use Rattle.archive_records.specs.Reader.{Finishes, HasReadAll, HasWhole, Position, StoppedWith, StopsAt, beside}
 use Rattle.archive_records.proofs.Forms.{item-framed, item-no_end}
 use Rattle.record_merge.specs.declared.side.Lookahead.{Lookahead}
 use Rattle.record_merge.specs.declared.side.Lookahead.TheVariants.{Unread, Held, Ended}
@@ -126,10 +126,6 @@ module _ (last : List ℕ) (count offset : ℕ) (retired : List (List ℕ)) (dro
       λ truncated. cc,
       λ _. inl (item, refl),
     )
-
-    -- it is the last one then
-    pub goes_to : may_follow OldArchive last x ≡ true → (long : ℕ) → long ≡ offset + length x → (kept : List (List ℕ)) (drops : Bool) → Keeps retired kept drops x → Passes (Some (x ++ rest)) (Some rest) (stood last count offset retired dropped) (stood x (count + 1) long kept drops)
-    goes_to above long is kept drops keeps = record { taken = refl; item = item; follows = above; file_is = refl; count_is = refl; offset_is = is; few = few; kept = keeps }
 
 -- ---- what a merge is told of it
 

@@ -1,13 +1,13 @@
 //! Operations that stand in memory, read as the text that they would be.
 
 ghost use Rattle.std.specs.Prelude.{◌≡◌, ◌+◌, ◌<◌, ◌^◌, ◌++◌, ℕ, List, [], length, map, true, false};
-ghost use Rattle.std.specs.Prelude.{Option, Some, None, IfOk, IfSome};
+ghost use Rattle.std.specs.Prelude.{Some, None, IfOk, IfSome};
 ghost use Rattle.std.specs.Ordering.{nat_cmp};
 ghost use Rattle.std.specs.Cmp.Lexicographic.{slice_cmp};
 ghost use Rattle.archive_core.specs.Content.{is_covered};
 ghost use Rattle.archive_core.specs.Key.{IsKey};
 ghost use Rattle.archive_core.specs.Valid.{IsCheckedOf};
-ghost use Rattle.archive_core.specs.Record.{IsOperation, admission_record, lent_bytes, operation_lent, record_bytes};
+ghost use Rattle.archive_core.specs.Record.{IsOperation, admission_record, borrowed_bytes, operation_borrowed, record_bytes};
 ghost use Rattle.archive_records.specs.declared.format.Format.TheVariants.{OldArchive};
 ghost use Rattle.archive_records.specs.Kind.{may_follow, old_magic};
 ghost use Rattle.archive_records.specs.Reader.{Keeps, beside, set_of};
@@ -80,7 +80,7 @@ impl<'a> BorrowedText<'a> {
     fn take_next(&mut self) -> Option<Record<'a>>
         requires taken { self.old.taken ≡ Part.Records }
         requires few { self.old.count < 2 ^ 63 }
-        ensures some { IfSome result (λ item. left_of self.old ≡ lent_bytes item ++ left_of self.new) }
+        ensures some { IfSome result (λ item. left_of self.old ≡ borrowed_bytes item ++ left_of self.new) }
         ensures none { result ≡ None → left_of self.old ≡ end_record self.old.count }
         ensures all { result ≡ None → left_of self.new ≡ [] }
     {
@@ -107,9 +107,9 @@ fn show_parts(key: SliceKey, digest: Digest)
     let _digest = digest;
 }
 
-/// Shows that an operation that is lent is one.
+/// Shows that an operation that is borrowed is one.
 fn show_operation(item: &Record<'_>)
-    ensures { IsOperation (operation_lent item.now) }
+    ensures { IsOperation (operation_borrowed item.now) }
 {
     match item {
         Record::Admit(slice) => {
@@ -121,7 +121,7 @@ fn show_operation(item: &Record<'_>)
 
 /// How many bytes the record of an operation has.
 fn length_of(item: &Record<'_>) -> u64
-    ensures { result ≡ length (lent_bytes item.now) }
+    ensures { result ≡ length (borrowed_bytes item.now) }
 {
     match item {
         Record::Admit(slice) => admission_head(slice).len() as u64 + slice.bytes().len() as u64,
@@ -142,7 +142,7 @@ fn compare_parts(item: &[u8], front: &[u8], rest: &[u8]) -> Ordering
 
 /// Compares a record with that of an operation.
 fn compare_record(item: &[u8], last: &Record<'_>) -> Ordering
-    ensures { result ≡ slice_cmp nat_cmp item.now (lent_bytes last.now) }
+    ensures { result ≡ slice_cmp nat_cmp item.now (borrowed_bytes last.now) }
 {
     match last {
         Record::Admit(slice) => compare_parts(item, &admission_head(slice), slice.bytes()),
@@ -153,7 +153,7 @@ fn compare_record(item: &[u8], last: &Record<'_>) -> Ordering
 /// Whether a record may stand behind the last one, if there is one.
 #[tactic(auto, unfolding(archive_records::specs::Kind::may_follow, archive_records::specs::Kind::allows))]
 fn may_follow(last: &Option<Record<'_>>, next: &Record<'_>) -> bool
-    ensures { result ≡ may_follow OldArchive (last_bytes last.now) (lent_bytes next.now) }
+    ensures { result ≡ may_follow OldArchive (last_bytes last.now) (borrowed_bytes next.now) }
 {
     match last {
         Some(last) => last.compare(next) == Ordering::Less,
@@ -194,7 +194,7 @@ fn either_covers(
 
 /// Whether one of these retirements covers the record.
 fn covers(shared: &Retirements, retired: &Retirements, item: &mut Record<'_>) -> bool
-    ensures covered { result ≡ is_covered (set_of (shared.now ++ retired.now)) (lent_bytes item.old) }
+    ensures covered { result ≡ is_covered (set_of (shared.now ++ retired.now)) (borrowed_bytes item.old) }
     ensures same { item.new ≡ item.old }
 {
     match item {
@@ -216,7 +216,7 @@ fn keep(
     next: &mut Record<'_>,
 ) -> Result<bool, NoMemory>
     ensures kept { IfOk result (λ dropped. Keeps (shared.now ++ retired.old) (shared.now ++ retired.new) dropped
-        (lent_bytes next.old)) }
+        (borrowed_bytes next.old)) }
     ensures same { next.new ≡ next.old }
 {
     if let Record::Retire(key, digest) = next {
@@ -249,7 +249,7 @@ impl<'a> BorrowedSide<'a> {
     /// Takes the next record over the last one.
     fn take(&mut self, next: Record<'a>, shared: &Retirements) -> Result<(), RecordFault>
         requires few { self.old.count + 1 < 2 ^ 63 }
-        ensures { (rest : List ℕ) → AdvancesTo (Some (lent_bytes next.entry ++ rest)) (Some rest)
+        ensures { (rest : List ℕ) → AdvancesTo (Some (borrowed_bytes next.entry ++ rest)) (Some rest)
             (beside (Some shared.now) (seen_of self.old).reader) (beside (Some shared.now) (seen_of self.new).reader)
             self.new.ahead result }
     {

@@ -2,9 +2,9 @@
 ghost use Rattle.std.specs.Prelude.{◌≡◌, ◌++◌, IfOk, OnOk, length, string_bytes};
 ghost use Rattle.exchange_model.specs.World.{World as WorldModel};
 ghost use Rattle.archive_exchange.specs.Rehearsal.{Represents};
-ghost use Rattle.command_ends.specs.Ends.{EndsReport};
-ghost use Rattle.command_ends.specs.Inputs.{reader};
-ghost use Rattle.command_ends.specs.Outputs.{writer};
+ghost use Rattle.command_core.specs.Ends.{EndsReport};
+ghost use Rattle.command_core.specs.Inputs.{reader};
+ghost use Rattle.command_core.specs.Outputs.{writer};
 ghost use Rattle.rehearse.specs.Rehearse.{TellsEvents, held_line, rehearse, site_lines};
 
 use crate::{push_events, push_site};
@@ -13,9 +13,9 @@ use archive_exchange::laws::one_meaning;
 use archive_exchange::{Site, World, run};
 use archive_records::Sizes;
 use byte_device::{CannotOpen, Sink, Source};
-use command_ends::{CommandFault, Status, publish_report, read_events};
+use command_core::{CommandFault, Status, publish_report, read_events};
+use exchange_script::Script;
 use memory::{Heap, NoMemory};
-use rehearsal::Script;
 use sha2::{Digest as _, Sha256};
 
 /// Adds the line of a site, of which the archive's text is made for its sizes and its SHA-256.

@@ -1,5 +1,5 @@
 -- The rows that cover starts, and the addresses after them.
-use Rattle.std.proofs.Common.{◌≡◌, ◌≢◌, ℕ, zero, suc, ◌+◌, ◌<◌, ◌≤◌, ◌⊎◌, Bool, true, false, cond, nat_lt, List, [], ◌∷◌, length, map, get_or, slice_get, Option, Some, None, refl, sym, ap, subst, ◌∙◌, inl, inr, arith}
+use Rattle.std.proofs.Common.{◌≡◌, ℕ, zero, suc, ◌+◌, ◌<◌, ◌≤◌, ◌⊎◌, true, false, nat_lt, List, [], ◌∷◌, length, map, get_or, slice_get, Option, Some, None, refl, sym, ap, subst, ◌∙◌, inl, inr, arith}
 use Rattle.std.specs.Prelude.{◌↔◌}
 use Rattle.std.specs.List.{Contains}
 use Rattle.std.proofs.lemmas.Bool.{cases_Bool, cases_eq, cases_lt, ltb-true, ltb-false}
@@ -45,9 +45,6 @@ known_same starts next rows before row left all none known =
       waits = λ i h w. sym (step_none (get_or starts i 0) before row left (none i h)) ∙ known.waits i h w;
       found = known.found;
     }
-
-pub none_first : (starts : List ℕ) (row : Row) → (i : ℕ) → i < length starts → covered (get_or starts i 0) None row ≡ None
-none_first starts row i h = refl
 
 pub none_ended : (starts : List ℕ) (last row : Row) → last.end_sequence ≡ true → (i : ℕ) → i < length starts → covered (get_or starts i 0) (Some last) row ≡ None
 none_ended starts last row ends i h = covered_none (get_or starts i 0) last row (λ is. cc (sym ends ∙ is.inside))
@@ -134,7 +131,7 @@ known_step starts now old new rows after last row left all first end e low high 
 
 -- ---- all addresses
 
-above_first : (a start : ℕ) (starts : List ℕ) → AreRising (start ∷ starts) → a < start → (i : ℕ) → i < length (start ∷ starts) → a < get_or (start ∷ starts) i 0
+pub above_first : (a start : ℕ) (starts : List ℕ) → AreRising (start ∷ starts) → a < start → (i : ℕ) → i < length (start ∷ starts) → a < get_or (start ∷ starts) i 0
 above_first a start starts rising less zero h = less
 above_first a start starts rising less (suc i) h = let r : start < get_or starts i 0 = rising 0 (suc i) 0 (omega arith) h in omega (arith, r, less)
 
@@ -142,7 +139,7 @@ later_above : (a start : ℕ) (starts : List ℕ) (n : ℕ) → ((j : ℕ) → n
 later_above a start starts n all zero less within = absurd (omega (arith, less))
 later_above a start starts n all (suc j) less within = all j (omega (arith, less)) (omega (arith, within))
 
-rising_rest : (start : ℕ) (starts : List ℕ) → AreRising (start ∷ starts) → AreRising starts
+pub rising_rest : (start : ℕ) (starts : List ℕ) → AreRising (start ∷ starts) → AreRising starts
 rising_rest start starts rising = λ i j d less within. rising (suc i) (suc j) d (omega (arith, less)) (omega (arith, within))
 
 -- what is found at the last start that is not above an address

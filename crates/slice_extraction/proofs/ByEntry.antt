@@ -10,16 +10,16 @@ use Rattle.archive_core.specs.declared.find.FindRow.{FindRow}
 use Rattle.archive_core.specs.declared.keys.Digest.{Digest}
 use Rattle.archive_core.specs.declared.keys.SliceKey.{SliceKey}
 use Rattle.report_text.specs.Finds.{find_lines}
-use Rattle.command_ends.specs.Ends.{IsStopped}
-use Rattle.command_ends.specs.Inputs.{EachUnfailed, IsRefusal, Reader, Unfailed, reader, readers}
-use Rattle.command_ends.specs.Outputs.{Outs, PlacesNothing, Takes, Writer, out_of}
-use Rattle.command_ends.specs.declared.faults.CommandFault.{CommandFault}
-use Rattle.command_ends.specs.declared.faults.CommandFault.TheVariants.{Input, Output, Report, OutOfMemory}
-use Rattle.command_ends.specs.declared.faults.InputName.{InputName}
-use Rattle.command_ends.specs.declared.faults.Status.{Status}
-use Rattle.command_ends.specs.declared.faults.Why.{Why}
-use Rattle.command_ends.specs.declared.outputs.Output.{Output as Out_value}
-use Rattle.command_ends.proofs.Readers.{none_failed, readers_long, unfailed_more}
+use Rattle.command_core.specs.Ends.{IsStopped}
+use Rattle.command_core.specs.Inputs.{EachUnfailed, IsRefusal, Reader, Unfailed, reader, readers}
+use Rattle.command_core.specs.Outputs.{Outs, PlacesNothing, Takes, Writer, out_of}
+use Rattle.command_core.specs.declared.faults.CommandFault.{CommandFault}
+use Rattle.command_core.specs.declared.faults.CommandFault.TheVariants.{Input, Output, Report, OutOfMemory}
+use Rattle.command_core.specs.declared.faults.InputName.{InputName}
+use Rattle.command_core.specs.declared.faults.Status.{Status}
+use Rattle.command_core.specs.declared.faults.Why.{Why}
+use Rattle.command_core.specs.declared.outputs.Output.{Output as Out_value}
+use Rattle.command_core.proofs.Readers.{none_failed, readers_long, unfailed_more}
 use Rattle.indexed_answers.specs.Among.{AreTied, EntryAt, IsAmong}
 use Rattle.indexed_answers.specs.Named.{IsRowAt}
 use Rattle.indexed_queries.specs.Several.{AreRefusedLater, AreUnfailedTogether, HoldTogether}

@@ -9,15 +9,15 @@ use Rattle.archive_core.specs.declared.keys.Digest.{Digest}
 use Rattle.archive_core.specs.declared.keys.SliceKey.{SliceKey}
 use Rattle.archive_core.proofs.Picked.{alike_back}
 use Rattle.archive_queries.proofs.Sourced.{answers_alike}
-use Rattle.command_ends.specs.Ends.{IsStopped}
-use Rattle.command_ends.specs.Inputs.{IsRefusal}
-use Rattle.command_ends.specs.Outputs.{Outs, Publishes, Takes, Writer, out_of}
-use Rattle.command_ends.specs.declared.faults.CommandFault.{CommandFault}
-use Rattle.command_ends.specs.declared.faults.CommandFault.TheVariants.{Input, Output, Report, OutOfMemory}
-use Rattle.command_ends.specs.declared.faults.InputName.{InputName}
-use Rattle.command_ends.specs.declared.outputs.Output.{Output as Out_value}
-use Rattle.command_ends.specs.declared.faults.Status.{Status}
-use Rattle.command_ends.specs.declared.faults.Why.{Why}
+use Rattle.command_core.specs.Ends.{IsStopped}
+use Rattle.command_core.specs.Inputs.{IsRefusal}
+use Rattle.command_core.specs.Outputs.{Outs, Publishes, Takes, Writer, out_of}
+use Rattle.command_core.specs.declared.faults.CommandFault.{CommandFault}
+use Rattle.command_core.specs.declared.faults.CommandFault.TheVariants.{Input, Output, Report, OutOfMemory}
+use Rattle.command_core.specs.declared.faults.InputName.{InputName}
+use Rattle.command_core.specs.declared.outputs.Output.{Output as Out_value}
+use Rattle.command_core.specs.declared.faults.Status.{Status}
+use Rattle.command_core.specs.declared.faults.Why.{Why}
 use Rattle.slice_extraction.proofs.Held.{live_alike}
 use Rattle.slice_extraction.specs.Extract.{Extraction, Extracts, Held, extraction}
 use Rattle.slice_extraction.specs.InnerChoice.{PublishesWanted}

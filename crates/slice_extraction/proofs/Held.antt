@@ -26,9 +26,9 @@ use Rattle.archive_core.proofs.Picked.{admission_under, retirement_under}
 slice_in : (slice : List ℕ) → length (key_bytes (key_of slice)) ≡ 24 → drop 33 (admission_record slice) ≡ slice
 unfolding admission
 slice_in slice long =
-    let front : List ℕ = key_bytes (key_of slice) ++ to_be_bytes w64 (length slice) in
+    let prefix : List ℕ = key_bytes (key_of slice) ++ to_be_bytes w64 (length slice) in
     ap (drop 32) (sym (append_assoc (key_bytes (key_of slice)) (to_be_bytes w64 (length slice)) slice))
-    ∙ drop_at front slice 32 (omega (arith, length-append (key_bytes (key_of slice)) (to_be_bytes w64 (length slice)), long))
+    ∙ drop_at prefix slice 32 (omega (arith, length-append (key_bytes (key_of slice)) (to_be_bytes w64 (length slice)), long))
 
 -- one record is of one slice
 pub same_slice : (a b : List ℕ) → length (key_bytes (key_of a)) ≡ 24 → length (key_bytes (key_of b)) ≡ 24

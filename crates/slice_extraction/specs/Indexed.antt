@@ -7,11 +7,11 @@ use Rattle.archive_core.specs.declared.find.FindRow.{FindRow}
 use Rattle.archive_core.specs.declared.keys.Digest.{Digest}
 use Rattle.archive_core.specs.declared.keys.SliceKey.{SliceKey}
 use Rattle.report_text.specs.Finds.{find_lines}
-use Rattle.command_ends.specs.Inputs.{EachUnfailed, IsRefusal, Reader}
-use Rattle.command_ends.specs.Outputs.{Takes, Writer}
-use Rattle.command_ends.specs.declared.faults.CommandFault.{CommandFault}
-use Rattle.command_ends.specs.declared.faults.InputName.{InputName}
-use Rattle.command_ends.specs.declared.faults.Why.{Why}
+use Rattle.command_core.specs.Inputs.{EachUnfailed, IsRefusal, Reader}
+use Rattle.command_core.specs.Outputs.{Takes, Writer}
+use Rattle.command_core.specs.declared.faults.CommandFault.{CommandFault}
+use Rattle.command_core.specs.declared.faults.InputName.{InputName}
+use Rattle.command_core.specs.declared.faults.Why.{Why}
 use Rattle.indexed_answers.specs.Among.{AreTied, EntryAt}
 use Rattle.indexed_answers.specs.Named.{IsRowAt}
 use Rattle.indexed_queries.specs.Several.{AreRefusedLater, AreUnfailedTogether, HoldTogether}

@@ -1,8 +1,8 @@
 //! `extract ARCHIVE UUID ARCH OUT [--digest DIGEST] --index INDEX`, over one archive or several.
 
 ghost use Rattle.std.specs.Prelude.{◌≡◌, ◌<◌, length};
-ghost use Rattle.command_ends.specs.Inputs.{readers};
-ghost use Rattle.command_ends.specs.Outputs.{out_of, outs, writer};
+ghost use Rattle.command_core.specs.Inputs.{readers};
+ghost use Rattle.command_core.specs.Outputs.{out_of, outs, writer};
 ghost use Rattle.indexed_answers.specs.Among.{EntryAt};
 ghost use Rattle.indexed_answers.specs.Named.{Names};
 ghost use Rattle.slice_extraction.specs.Extract.{Extracts};
@@ -15,7 +15,7 @@ use crate::publishing::{publish_rows, publish_wanted};
 use crate::sending::publish_named;
 use archive_core::{Archive, Digest, SliceKey};
 use byte_device::{CannotOpen, Placed, Sink};
-use command_ends::{CommandFault, Output, Status, Target};
+use command_core::{CommandFault, Output, Status, Target};
 use indexed_answers::NamedSlice;
 use indexed_queries::{KeyPrefix, read_indexes, read_prefixes};
 use memory::Heap;

@@ -2,7 +2,7 @@
 
 ghost use Rattle.std.specs.Prelude.{◌≡◌, IfOk, length, string_bytes};
 ghost use Rattle.archive_core.specs.Key.{key_bytes};
-ghost use Rattle.command_ends.specs.Outputs.{Publishes, out_of, outs, writer};
+ghost use Rattle.command_core.specs.Outputs.{Publishes, out_of, outs, writer};
 ghost use Rattle.slice_extraction.specs.InnerChoice.{PublishesRows, PublishesWanted};
 ghost use Rattle.slice_extraction.specs.Wanted.{slice_line};
 
@@ -10,7 +10,7 @@ use crate::choosing::{Choice, choose};
 use crate::sending::line_of;
 use archive_core::{Archive, CheckedSlice, Digest, FindRow, SliceKey};
 use byte_device::{Sink, push_all};
-use command_ends::{CommandFault, Output, Status, Target, publish_report, put_in_place};
+use command_core::{CommandFault, Output, Status, Target, publish_report, put_in_place};
 use memory::{Heap, NoMemory};
 use report_text::find_lines;
 

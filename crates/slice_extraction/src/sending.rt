@@ -3,8 +3,8 @@
 ghost use Rattle.std.specs.Prelude.{◌≡◌, ◌+◌, ◌<◌, IfOk, length, string_bytes};
 ghost use Rattle.byte_device.specs.Devices.{stream};
 ghost use Rattle.placed_passes.specs.Sending.{SendsAt};
-ghost use Rattle.command_ends.specs.Inputs.{reader};
-ghost use Rattle.command_ends.specs.Outputs.{outs, writer};
+ghost use Rattle.command_core.specs.Inputs.{reader};
+ghost use Rattle.command_core.specs.Outputs.{outs, writer};
 ghost use Rattle.indexed_answers.specs.Among.{EntryAt};
 ghost use Rattle.indexed_answers.specs.Named.{Names};
 ghost use Rattle.slice_extraction.specs.InnerEntries.{PublishesSlice, SendsSlice, told_fault, unread_record};
@@ -14,7 +14,7 @@ use archive_core::{Digest, SliceKey};
 use archive_records::{RecordFault, RecordFaultKind};
 use archive_words::Spelled;
 use byte_device::{CannotOpen, Placed, Sink};
-use command_ends::{
+use command_core::{
     CommandFault, InputName, Output, Status, Target, Why, opened, publish_report, put_in_place,
 };
 use indexed_answers::NamedSlice;

@@ -1,6 +1,5 @@
 -- Lists that a test parts, and what holds along a list.
-use Rattle.std.proofs.Common.{◌≡◌, ℕ, ◌+◌, ◌-◌, ◌<◌, ◌≤◌, ◌==◌, Bool, true, false, cond, get_or, List, [], ◌∷◌, ◌++◌, length, take, drop, filter, refl, sym, ap, ◌∙◌, arith}
-use Rattle.std.proofs.lemmas.Bool.Decides.{Decides-eqb}
+use Rattle.std.proofs.Common.{◌≡◌, ℕ, ◌+◌, ◌-◌, ◌<◌, ◌≤◌, Bool, true, false, cond, get_or, List, [], ◌∷◌, ◌++◌, length, take, drop, filter, refl, sym, ap, ◌∙◌, arith}
 use Rattle.std.specs.declared.cmp.Ordering.{Ordering}
 use Rattle.std.specs.Ordering.{is_lt, is_le, is_eq}
 use Rattle.std.specs.List.{AllByRecursion, AllWithin}
@@ -19,10 +18,6 @@ eq_of_both : (r : Ordering) → is_lt r ≡ false → is_le r ≡ true → is_eq
 eq_of_both r h g = grind arith
 
 module _ {X : Type 0} where
-  -- a list of no elements is empty
-  pub empty_of : (xs : List X) → (length xs == 0) ≡ true → xs ≡ []
-  empty_of xs h = nil_from_length xs ((Decides-eqb (length xs) 0).0 h)
-
   -- what is written back to the front of a list, as it was there, leaves it as it was
   pub written_back : (old new : List X) (n : ℕ) → new ≡ old → length old ≤ n → take n (new ++ drop (length new) old) ≡ old
   written_back old new n same long = rw same (ap (λ rest. take n (old ++ rest)) (drop_all (length old) old (omega arith)) ∙ ap (take n) (append-nil old) ∙ take_all n old long)

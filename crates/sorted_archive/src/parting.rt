@@ -36,9 +36,9 @@ impl Parts {
             self.new.admissions.items self.new.retirements.items (set.from_list seen.now)) }
     {
         let _bytes = slice.bytes();
-        let mut lent = slice.lend();
-        let covered = seen.covers(&mut lent);
-        let facts = lent.facts();
+        let mut borrowed = slice.lend();
+        let covered = seen.covers(&mut borrowed);
+        let facts = borrowed.facts();
         if covered {
             return Ok(());
         }

@@ -191,9 +191,9 @@ impl PlainArchive {
         self.lend().keep_digest_of(operation, &mut 0);
     }
 
-    // The operations, lent.
+    // The operations, borrowed.
     fn lend(&self) -> BorrowedOperations<'_>
-        ensures lent { result ≡ self.now }
+        ensures borrowed { result ≡ self.now }
         ensures content { IsContent self.now }
     {
         BorrowedOperations::of(&self.operations)
@@ -216,10 +216,10 @@ impl PlainArchive {
             operations.now }
         ensures content { IsContent self.now }
     {
-        let lent = self.lend();
+        let borrowed = self.lend();
         operations
             .iter()
-            .all(|operation| lent.knows(operation, &mut 0))
+            .all(|operation| borrowed.knows(operation, &mut 0))
     }
 
     /// The operations, in the order of their records.
@@ -238,9 +238,9 @@ impl PlainArchive {
         ensures valid { IsValid slice }
         ensures refused { OnErr result (self.new ≡ self.old) }
     {
-        let lent = BorrowedOperations::of(&self.operations);
-        lent.keep_digest(&mut slice, &mut self.near);
-        if lent.retires(&slice, &mut self.near) {
+        let borrowed = BorrowedOperations::of(&self.operations);
+        borrowed.keep_digest(&mut slice, &mut self.near);
+        if borrowed.retires(&slice, &mut self.near) {
             return Ok(None);
         }
         let admission = Operation::Admit(slice);
@@ -422,10 +422,10 @@ impl PlainArchive {
     {
         let heap = self.operations.allocator();
         let mut missing = Vec::new(heap.clone()?);
-        let lent = self.lend();
+        let borrowed = self.lend();
         let mut near = 0;
         'operations: for operation in operations {
-            if !lent.knows(operation, &mut near) {
+            if !borrowed.knows(operation, &mut near) {
                 let copy = operation.copy(heap.clone()?)?;
                 missing.push(copy)?;
             }

@@ -9,7 +9,6 @@ use Rattle.dwarf_numbers.specs.Units.{unit_of, IsUnitWith}
 use Rattle.debug_entries.specs.Entries.{EntryRecord}
 use Rattle.line_programs.specs.Paths.{PathRecord}
 use Rattle.line_programs.specs.declared.registers.Row.{Row}
-use Rattle.line_programs.specs.Covering.{IsCovering}
 use Rattle.source_frames.specs.AddressFrames.{rows_of, AreFramesInUnit, AreFramesIn, AreFramesBy}
 use Rattle.source_frames.specs.DebugSections.{DebugSectionsRecord}
 use Rattle.source_frames.specs.DebugUnits.{UnitRecord, UnitEntryRecord, unit_of_bytes, entry_with, IsEntryAt}
@@ -20,6 +19,7 @@ use Rattle.source_frames.specs.UnitAddresses.{read_unit}
 use Rattle.source_frames.specs.UnitLines.{LinesRecord, lines_of}
 use Rattle.source_frames.specs.declared.frame.Place.{Place}
 use Rattle.source_frames.proofs.UnitAddressLemmas.{one_place}
+use Rattle.line_programs.proofs.RunLemmas.{one_covering}
 
 -- of two places one is first, or they are one
 order : (a b : ℕ) → (a < b) ⊎ ((b < a) ⊎ (a ≡ b))
@@ -28,19 +28,6 @@ order a b = elim (cases_Bool (nat_lt a b)) [
   | inr f ↦ elim (cases_Bool (nat_lt b a)) [
     | inl t ↦ inr (inl (ltb-true b a t))
     | inr g ↦ inr (inr (omega (arith, ltb-false a b f, ltb-false b a g)))
-  ]
-]
-
--- one row
-one_covering : (rows : List Row) (a : ℕ) (one other : Option Row) → IsCovering rows a one → IsCovering rows a other → one ≡ other
-one_covering rows a None None p q = refl
-one_covering rows a None (Some row) p q = absurd (p q.0 row q.1)
-one_covering rows a (Some row) None p q = absurd (q p.0 row p.1)
-one_covering rows a (Some row) (Some other) p q = elim (order p.0 q.0) [
-  | inl less ↦ absurd (q.2 p.0 row less p.1)
-  | inr more ↦ elim more [
-    | inl less ↦ absurd (p.2 q.0 other less q.1)
-    | inr same ↦ sym p.1.stands ∙ ap (slice_get rows) same ∙ q.1.stands
   ]
 ]
 

@@ -1,6 +1,6 @@
 //! The frames of the entries of an address.
 
-ghost use Rattle.std.specs.Prelude.{◌≡◌, IfOk, map};
+ghost use Rattle.std.specs.Prelude.{IfOk, map};
 ghost use Rattle.debug_entries.specs.EntryViews.{entry_view};
 ghost use Rattle.source_frames.specs.FrameViews.{frame_view, lines_view};
 ghost use Rattle.source_frames.specs.Frames.{AreFramesFrom, AreFramesOfChain};

@@ -1,6 +1,6 @@
 //! The frames of an address, of which the entries and the row are known.
 
-ghost use Rattle.std.specs.Prelude.{◌≡◌, IfOk, map};
+ghost use Rattle.std.specs.Prelude.{◌≡◌};
 ghost use Rattle.std.specs.Option.{option_map};
 ghost use Rattle.debug_entries.specs.EntryViews.{entry_view};
 ghost use Rattle.dwarf_numbers.specs.Views.{value_view};

@@ -1,8 +1,7 @@
 -- The table of an image, out of what was collected.
-use Rattle.std.proofs.Common.{◌≡◌, ℕ, zero, suc, ◌==◌, ◌+◌, ◌-◌, ◌<◌, ◌≤◌, ◌^◌, inl, inr, List, [], ◌∷◌, ◌++◌, length, map, take, drop, refl, sym, ap, ◌∙◌, subst, append_assoc, arith, length-append, length-take, Option}
+use Rattle.std.proofs.Common.{◌≡◌, ℕ, zero, suc, ◌+◌, ◌-◌, ◌<◌, ◌≤◌, ◌^◌, inl, inr, List, [], ◌∷◌, ◌++◌, length, map, take, drop, refl, sym, ap, ◌∙◌, subst, append_assoc, arith, length-append, length-take, Option}
 use Rattle.std.specs.Prelude.{All, flat_map}
 use Rattle.std.specs.Int.{w64, to_be_bytes}
-use Rattle.std.specs.List.{before_first}
 use Rattle.std.proofs.Math.Seq.{drop-append-add, take-append-add, take-nil}
 use Rattle.std.proofs.lemmas.Bool.{cases_lt}
 use Rattle.std.proofs.lemmas.List.{append-nil, drop-append-le, drop_all, length-map, take-append-le, take_all}
@@ -21,14 +20,12 @@ use Rattle.symbol_tables.specs.InnerCandidates.{AreSectionsOf}
 use Rattle.symbol_tables.specs.declared.row.Row.{Row}
 use Rattle.symbol_tables.proofs.RowLemmas.{length-rows_bytes}
 use Rattle.symbol_tables.proofs.TableLemmas.{length-head, length-names}
+use Rattle.symbol_tables.proofs.FoundLemmas.{short_first as shorter}
 
 -- ---- names of sections are short
 
 Short : SectionRecord → Type 0
 Short s = (length s.segment ≤ 16) × (length s.section ≤ 16)
-
-shorter : (xs : List ℕ) → length (before_first (λ b. b == 0) xs) ≤ length xs
-shorter xs = omega (arith, length-take {A = ℕ})
 
 short_name : (bytes : List ℕ) (at : ℕ) → length (name_at bytes at) ≤ 16
 short_name bytes at = omega (arith, shorter (take 16 (drop at bytes)), length-take 16 (drop at bytes))

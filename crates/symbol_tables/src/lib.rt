@@ -18,8 +18,7 @@
 //! - `search`: [`row_for`], the row that an address belongs to;
 //! - `names`: [`name_from`], a name among the strings of a table;
 //! - `head`, `table`: [`Table`], a table whose head was read; `opening`: [`Table::open`];
-//! - `nearest`: [`NearestSymbol`]; `asking`: [`Table::nearest`], the nearest symbol of an address, and
-//!   [`nearest_by_claim`], of a table that is opened for it;
+//! - `nearest`: [`NearestSymbol`], and [`Table::nearest`], the nearest symbol of an address;
 //! - `found`: [`OwnedFound`], a symbol with the names of its section; [`Table::found`];
 //! - `lines`: [`open_lines`], where the lines of a table begin;
 //! - `laws`: what the definitions say of each other.
@@ -37,7 +36,6 @@
 //! - What the lines of a table are is not told here: what is asked of its symbols holds with any.
 #![tactic(auto)]
 
-mod asking;
 mod candidate;
 mod compared;
 mod found;
@@ -57,7 +55,6 @@ mod table;
 mod text;
 mod turns;
 
-pub use asking::nearest_by_claim;
 pub use found::OwnedFound;
 pub use lines::open_lines;
 pub use making::TableText;

@@ -9,22 +9,11 @@ ghost use Rattle.symbol_tables.specs.Stored.{Stands};
 
 use byte_device::Placed;
 use checked_pages::{CheckFault, Pages};
-use memchr::memchr;
+use macho_symbols::before_nul;
 use memory::Heap;
 
 /// How many bytes are read at once.
 const PIECE: usize = 64;
-
-/// What stands before the first NUL, or all.
-#[tactic(auto, using(crate::proofs::NameLemmas::parts_at_nul))]
-pub(crate) fn before_nul(bytes: &[u8]) -> &[u8]
-    ensures { result.now ≡ before_first (λ b. b == 0) bytes.now }
-{
-    match memchr(0, bytes) {
-        Some(end) => &bytes[..end],
-        None => bytes,
-    }
-}
 
 /// Adds bytes to a name.
 fn push_all(name: &mut Vec<u8, Heap>, bytes: &[u8]) -> Result<(), CheckFault>

@@ -1,20 +1,14 @@
 //! The tables of an image: where they lie, and the names in the string table.
 
-ghost use Rattle.std.specs.Prelude.{◌≡◌, ◌==◌, ◌<◌, ◌^◌, drop, length, nat_lt, take};
+ghost use Rattle.std.specs.Prelude.{◌≡◌, ◌==◌, ◌<◌, ◌^◌, length, nat_lt};
 ghost use Rattle.std.specs.List.{before_first};
 ghost use Rattle.std.specs.Ordering.{nat_cmp};
 ghost use Rattle.std.specs.Cmp.Lexicographic.{slice_cmp};
 ghost use Rattle.macho_symbols.specs.Symbols.{name_of, strings_of, table_of};
 
-use crate::names::before_nul;
 use macho_image::{Image, Symtab};
+use macho_symbols::{before_nul, compare_to_nul};
 use std::cmp::Ordering;
-
-/// How many bytes of two names are compared first.
-const FIRST_PIECE: usize = 64;
-
-/// How many are compared at once at most.
-const LARGEST_PIECE: usize = 4096;
 
 /// Where the tables of an image lie; nowhere, where it has no LC_SYMTAB.
 #[tactic(auto, unfolding(macho_symbols::specs::Symbols::table_of))]
@@ -52,41 +46,11 @@ fn from_place(strings: &[u8], n_strx: u32) -> &[u8]
     strings.split_at(place).1
 }
 
-/// The first bytes, so many or all that there are, and those after them.
-fn split_piece(bytes: &[u8], size: usize) -> (&[u8], &[u8])
-    ensures piece { result.0.now ≡ take size bytes.now }
-    ensures rest { result.1.now ≡ drop size bytes.now }
-{
-    bytes.split_at(bytes.len().min(size))
-}
-
-/// Compares two names in byte order, each up to the first NUL of its bytes, piece by piece: it reads no more than some
-/// times the bytes that they share.
-fn compare_from(name: &[u8], other: &[u8]) -> Ordering
-    ensures { result ≡ slice_cmp nat_cmp (before_first (λ b. b == 0) name.now) (before_first (λ b. b == 0) other.now) }
-{
-    let (mut own, mut others) = (name, other);
-    let mut size = FIRST_PIECE;
-    'pieces: loop {
-        let (piece, rest) = split_piece(own, size);
-        let (other_piece, other_rest) = split_piece(others, size);
-        if piece != other_piece {
-            return before_nul(piece).cmp(before_nul(other_piece));
-        }
-        if before_nul(piece).len() < size {
-            return Ordering::Equal;
-        }
-        own = rest;
-        others = other_rest;
-        size = LARGEST_PIECE.min(2 * size);
-    }
-}
-
 /// Compares the names from two places of the string table in byte order.
 pub(crate) fn compare_names(strings: &[u8], n_strx: u32, other: u32) -> Ordering
     ensures { result ≡ slice_cmp nat_cmp (name_of strings.now n_strx) (name_of strings.now other) }
 {
-    compare_from(from_place(strings, n_strx), from_place(strings, other))
+    compare_to_nul(from_place(strings, n_strx), from_place(strings, other))
 }
 
 /// How many bytes the name from a place of the string table has.

@@ -17,7 +17,6 @@ use Rattle.archive_core.specs.Content.{is_admission}
 use Rattle.archive_records.specs.Layout.{largest_slice}
 use Rattle.archive_records.proofs.Ascending.{cons_cases, here, later}
 use Rattle.archive_index.specs.Entry.{length_in, offset_in}
-use Rattle.checked_pages.specs.Views.{claim_view}
 use Rattle.table_index.specs.Entry.{HasItsFields, claim_in, entry_bytes, stored_size}
 use Rattle.table_index.specs.declared.entry.TableEntry.{TableEntry}
 use Rattle.table_index.specs.Text.{AreLaid, FollowOn, PassChecks}
@@ -138,12 +137,6 @@ bytes_at entries i e lt is = ap entry_bytes is ∙ sym (get_or-map entry_bytes e
 pub fields_at : (entries : List TableEntry) (i : ℕ) (e : TableEntry) → All HasItsFields entries → i < length entries → e ≡ get_or entries i e → HasItsFields e
 fields_at entries i e fields lt is = All-contains HasItsFields entries e fields (i, lt, sym is)
 
--- what the entry at a place claims
-pub claim_at_place : (entries : List TableEntry) (index : List (List ℕ)) (i : ℕ) (e : TableEntry) → map entry_bytes entries ≡ index → All HasItsFields entries → i < length index → e ≡ get_or entries i e → claim_in (get_or index i []) ≡ claim_view e.claim
-claim_at_place entries index i e are fields lt is =
-    let within : i < length entries = omega (arith, lt, ap length are, length-map entries entry_bytes) in
-    ap (λ (xs : List (List ℕ)). claim_in (get_or xs i [])) (sym are) ∙ ap claim_in (sym (bytes_at entries i e within is)) ∙ (fields_at entries i e fields within is).claim_is
-
 -- offsets do not fall, by their fields and by their bytes
 pub offsets_rise : (xs : List TableEntry) → All HasItsFields xs → IsNonDecreasingBy (λ e. e.placed.offset) xs → IsNonDecreasingBy offset_in (map entry_bytes xs)
 offsets_rise [] fields up = λ i j d le lt. absurd (omega (arith, lt))
@@ -155,28 +148,28 @@ offsets_rise (x ∷ xs) fields up = λ i j d le lt.
     let b : offset_in (get_or (map entry_bytes all) j d) ≡ (get_or all j x).placed.offset = ap offset_in (get_or-map entry_bytes all j x d within) ∙ (All-contains HasItsFields all (get_or all j x) fields (Contains-get_or all j x within)).offset_is in
     omega (arith, a, b, up i j x le within)
 
--- ---- entries that are lent
+-- ---- entries that are borrowed
 
-abbrev pub of_lent : Bor TableEntry → TableEntry
-of_lent e = e.now
+abbrev pub of_borrowed : Bor TableEntry → TableEntry
+of_borrowed e = e.now
 
-abbrev pub all_lent : List (Bor TableEntry) → List TableEntry
-all_lent xs = map of_lent xs
+abbrev pub all_borrowed : List (Bor TableEntry) → List TableEntry
+all_borrowed xs = map of_borrowed xs
 
 -- the one at a place
-pub lent_at : (xs : List (Bor TableEntry)) (i : ℕ) (e : Bor TableEntry) → i < length xs → e ≡ get_or xs i e → of_lent e ≡ get_or (all_lent xs) i (of_lent e)
-lent_at xs i e lt is = ap of_lent is ∙ sym (get_or-map of_lent xs i e (of_lent e) lt)
+pub borrowed_at : (xs : List (Bor TableEntry)) (i : ℕ) (e : Bor TableEntry) → i < length xs → e ≡ get_or xs i e → of_borrowed e ≡ get_or (all_borrowed xs) i (of_borrowed e)
+borrowed_at xs i e lt is = ap of_borrowed is ∙ sym (get_or-map of_borrowed xs i e (of_borrowed e) lt)
 
-pub lent_within : (xs : List (Bor TableEntry)) (i : ℕ) → i < length xs → i < length (all_lent xs)
-lent_within xs i lt = omega (arith, lt, length-map xs of_lent)
+pub borrowed_within : (xs : List (Bor TableEntry)) (i : ℕ) → i < length xs → i < length (all_borrowed xs)
+borrowed_within xs i lt = omega (arith, lt, length-map xs of_borrowed)
 
--- offsets do not fall, where they are lent and as they are
-pub lent_rise : (xs : List (Bor TableEntry)) → IsNonDecreasingBy (λ e. e.now.placed.offset) xs → IsNonDecreasingBy (λ e. e.placed.offset) (all_lent xs)
-lent_rise [] up = λ i j d le lt. absurd (omega (arith, lt))
-lent_rise (x ∷ xs) up = λ i j d le lt.
+-- offsets do not fall, where they are borrowed and as they are
+pub borrowed_rise : (xs : List (Bor TableEntry)) → IsNonDecreasingBy (λ e. e.now.placed.offset) xs → IsNonDecreasingBy (λ e. e.placed.offset) (all_borrowed xs)
+borrowed_rise [] up = λ i j d le lt. absurd (omega (arith, lt))
+borrowed_rise (x ∷ xs) up = λ i j d le lt.
     let all : List (Bor TableEntry) = x ∷ xs in
-    let within : j < length all = omega (arith, lt, length-map all of_lent) in
+    let within : j < length all = omega (arith, lt, length-map all of_borrowed) in
     let before : i < length all = omega (arith, le, within) in
-    let a : (get_or (all_lent all) i d).placed.offset ≡ (get_or all i x).now.placed.offset = ap (λ (e : TableEntry). e.placed.offset) (get_or-map of_lent all i x d before) in
-    let b : (get_or (all_lent all) j d).placed.offset ≡ (get_or all j x).now.placed.offset = ap (λ (e : TableEntry). e.placed.offset) (get_or-map of_lent all j x d within) in
+    let a : (get_or (all_borrowed all) i d).placed.offset ≡ (get_or all i x).now.placed.offset = ap (λ (e : TableEntry). e.placed.offset) (get_or-map of_borrowed all i x d before) in
+    let b : (get_or (all_borrowed all) j d).placed.offset ≡ (get_or all j x).now.placed.offset = ap (λ (e : TableEntry). e.placed.offset) (get_or-map of_borrowed all j x d within) in
     omega (arith, a, b, up i j x le within)

@@ -1,6 +1,6 @@
 //! The functions of a unit, and the ranges of their code.
 
-ghost use Rattle.std.specs.Prelude.{◌≡◌, ◌≤◌, ◌++◌, IfOk, OnOk, length, true};
+ghost use Rattle.std.specs.Prelude.{◌≡◌, ◌≤◌, ◌++◌, IfOk, OnOk, length};
 ghost use Rattle.code_ranges.specs.UnitViews.{unit_view as ranges_view};
 ghost use Rattle.debug_entries.specs.EntryViews.{entry_view, unread_view};
 ghost use Rattle.source_frames.specs.ChainSteps.{scope_of};

@@ -1,5 +1,5 @@
 -- Numbers that are sorted, each once.
-use Rattle.std.proofs.Common.{◌≡◌, ℕ, ◌<◌, ◌≤◌, ◌+◌, nat_cmp, nat_lt, true, false, List, length, get_or, sym, subst, inl, inr, arith}
+use Rattle.std.proofs.Common.{◌≡◌, ℕ, ◌<◌, ◌≤◌, nat_cmp, nat_lt, true, false, List, length, get_or, sym, subst, inl, inr, arith}
 use Rattle.std.specs.Prelude.{eqb, ◌↔◌}
 use Rattle.std.specs.List.{Contains, dedup}
 use Rattle.std.specs.List.Sorted.{IsPartitionPoint, IsPartitionedBy, IsPermutation, IsSorted}

@@ -1,4 +1,4 @@
-use Rattle.archive_updates.specs.Admit.{images_of}
+use Rattle.archive_writing.specs.Admit.{images_of}
 use Rattle.archive_laws.proofs.Orders.{admitted_joined, admitted_alike}
 use Rattle.archive_laws.proofs.admit_laws.admitted_in_any_order.Goals as goal
 

@@ -1,4 +1,4 @@
-use Rattle.command_ends.specs.Found.{TellsFound}
+use Rattle.command_core.specs.Found.{TellsFound}
 use Rattle.archive_laws.proofs.Joins.{as_merged}
 use Rattle.archive_laws.proofs.find_laws.asked_together.Goals as goal
 

@@ -1,4 +1,4 @@
-use Rattle.command_ends.specs.Found.{TellsFound}
+use Rattle.command_core.specs.Found.{TellsFound}
 use Rattle.archive_laws.proofs.Joins.{alone_held}
 use Rattle.archive_laws.proofs.find_laws.one_archive.Goals as goal
 

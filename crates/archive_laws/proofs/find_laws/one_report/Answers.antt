@@ -1,4 +1,4 @@
-use Rattle.command_ends.specs.Found.{TellsFound}
+use Rattle.command_core.specs.Found.{TellsFound}
 use Rattle.archive_laws.proofs.Joins.{told_of_join}
 use Rattle.archive_laws.proofs.find_laws.one_report.Goals as goal
 

@@ -3,7 +3,7 @@ use Rattle.archive_core.specs.Content.{Operations}
 use Rattle.archive_core.specs.Lists.{IsList}
 use Rattle.archive_records.specs.Text.{IsArchiveOf}
 use Rattle.report_text.specs.Finds.{list_lines}
-use Rattle.command_ends.specs.Found.{found_status}
+use Rattle.command_core.specs.Found.{found_status}
 use Rattle.archive_laws.proofs.Given.{is_given}
 use Rattle.archive_laws.proofs.list_laws.one_report.Goals as goal
 

@@ -1,5 +1,5 @@
-use Rattle.command_ends.specs.Outputs.{draft_of}
-use Rattle.archive_updates.proofs.Streamed.{one_device}
+use Rattle.command_core.specs.Outputs.{draft_of}
+use Rattle.archive_writing.proofs.Streamed.{one_device}
 use Rattle.archive_laws.proofs.merge_laws.two_accepted_archives_are_not_refused.Goals as goal
 
 pub returns : goal.returns

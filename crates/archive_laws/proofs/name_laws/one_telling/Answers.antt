@@ -1,6 +1,6 @@
 use Rattle.std.proofs.Common.{◌∙◌, sym, ap}
 use Rattle.report_text.specs.Names.{name_lines}
-use Rattle.command_ends.specs.Found.{found_status}
+use Rattle.command_core.specs.Found.{found_status}
 use Rattle.archive_laws.proofs.name_laws.one_telling.Goals as goal
 
 pub returns : goal.returns

@@ -3,8 +3,8 @@ use Rattle.std.proofs.lemmas.Result.{err_from_is_err_and}
 use Rattle.byte_device.proofs.Known.{Appends-none}
 use Rattle.archive_queries.proofs.Framed.{archives_refused, frames_refused}
 use Rattle.archive_queries.proofs.Parts.{together_tells}
-use Rattle.command_ends.proofs.Endings.{reported}
-use Rattle.command_ends.proofs.Readers.{none_failed, none_touched}
+use Rattle.command_core.proofs.Endings.{reported}
+use Rattle.command_core.proofs.Readers.{none_failed, none_touched}
 use Rattle.archive_queries.proofs.frames.run_frames.Goals as goal
 
 pub returns-in_err-clone : goal.returns-in_err-clone
@@ -21,16 +21,16 @@ returns-in_err-frames g c =
 pub returns-in_err-status : goal.returns-in_err-status
 returns-in_err-status g c =
     let p = err_from_is_err_and c.from_residual-in_err-status.result c.from_residual-in_err-status.ensures.1 in
-    let said = c.in_ok-frames.ensures in
-    rw (p.1, p.2) (archives_refused _ _ _ _ _ c.in_err-status.field-0.0 (c.in_ok-frames.frames.items, said.is) said.unfailed c.in_err-status.ensures (Appends-none _, refl))
+    let listed = c.in_ok-frames.ensures in
+    rw (p.1, p.2) (archives_refused _ _ _ _ _ c.in_err-status.field-0.0 (c.in_ok-frames.frames.items, listed.is) listed.unfailed c.in_err-status.ensures (Appends-none _, refl))
 
 pub returns : goal.returns
 returns g c =
-    let said = c.in_ok-frames.ensures in
-    reported _ _ _ _ c.publish_bytes.result _ _ (said.unfailed, c.in_ok-status.ensures.unfailed)
+    let listed = c.in_ok-frames.ensures in
+    reported _ _ _ _ c.publish_bytes.result _ _ (listed.unfailed, c.in_ok-status.ensures.unfailed)
     (record {
-      said = c.in_ok-frames.frames.items;
-      frames_are = said.is;
+      listed = c.in_ok-frames.frames.items;
+      frames_are = listed.is;
       tells = together_tells _ _ _ _ (λ o tells. rw c.deref-2.ensures.value (rw c.deref.ensures.value at tells)) c.in_ok-status.ensures.is;
     })
     c.publish_bytes.ensures

@@ -4,8 +4,8 @@ use Rattle.byte_device.proofs.Known.{Appends-none}
 use Rattle.archive_core.specs.Key.{key_bytes}
 use Rattle.archive_core.specs.Part.{is_under}
 use Rattle.archive_queries.proofs.Answered.{told_alike}
-use Rattle.command_ends.proofs.Endings.{reported}
-use Rattle.command_ends.proofs.Readers.{none_failed}
+use Rattle.command_core.proofs.Endings.{reported}
+use Rattle.command_core.proofs.Readers.{none_failed}
 use Rattle.archive_queries.proofs.Parts.{together_refused, together_tells}
 use Rattle.archive_queries.proofs.symbolicate.run_symbolicate.Goals as goal
 
@@ -24,5 +24,5 @@ returns g c =
     reported _ _ _ _ c.publish_report.result _ _ c.in_ok-kept.ensures.unfailed
     (together_tells _ _ _ _ (λ o alike.
     told_alike (g.A.Join.content c.in_ok-kept.kept) o c.args.key.now _ _ _ _ _
-    (alike (key_bytes c.args.key.now) (omega (arith, c.bytes_of-front.ensures.long)) (λ r h. ap (λ front. is_under front r) c.bytes_of-front.ensures.bytes ∙ h)) (rw c.deref.ensures c.in_ok-status.ensures)) c.in_ok-kept.ensures.is)
+    (alike (key_bytes c.args.key.now) (omega (arith, c.bytes_of-prefix.ensures.long)) (λ r h. ap (λ prefix. is_under prefix r) c.bytes_of-prefix.ensures.bytes ∙ h)) (rw c.deref.ensures c.in_ok-status.ensures)) c.in_ok-kept.ensures.is)
     c.publish_report.ensures

@@ -1,6 +1,6 @@
 use Rattle.std.proofs.Common.{refl}
 use Rattle.std.proofs.lemmas.Result.{err_from_is_err_and}
-use Rattle.command_ends.proofs.Readers.{none_failed, none_touched}
+use Rattle.command_core.proofs.Readers.{none_failed, none_touched}
 use Rattle.archive_queries.proofs.Parts.{first_refused, held_together, other_refused, wanting_first}
 use Rattle.archive_queries.proofs.together.read_parts.Goals as goal
 

@@ -1,6 +1,6 @@
 use Rattle.std.proofs.Common.{subst, sym}
 use Rattle.archive_index.specs.Places.{HasIndexedLength}
-use Rattle.command_ends.specs.Inputs.{Gives, reader}
+use Rattle.command_core.specs.Inputs.{Gives, reader}
 use Rattle.indexed_queries.proofs.inputs.read_index_of.Goals as goal
 
 pub returns : goal.returns

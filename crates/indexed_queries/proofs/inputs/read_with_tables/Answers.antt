@@ -1,7 +1,7 @@
 use Rattle.std.proofs.Common.{refl}
 use Rattle.std.proofs.lemmas.Result.{err_from_is_err_and}
 use Rattle.table_index.specs.Text.{placed_of}
-use Rattle.command_ends.specs.Inputs.{reader}
+use Rattle.command_core.specs.Inputs.{reader}
 use Rattle.indexed_queries.proofs.Refused.{archive_refused}
 use Rattle.indexed_queries.proofs.inputs.read_with_tables.Goals as goal
 

@@ -1,8 +1,8 @@
 use Rattle.std.proofs.Common.{◌≡◌, ◌<◌, ◌∙◌, [], ◌∷◌, ◌++◌, map, length, take, arith, ap, sym, refl, subst}
 use Rattle.std.proofs.lemmas.List.{take_all, take_more}
 use Rattle.std.proofs.lemmas.Result.{err_from_is_err_and}
-use Rattle.command_ends.specs.Inputs.{reader, readers}
-use Rattle.command_ends.proofs.Readers.{all_read, none_failed, one_more, rest_kept, same_at, unfailed_more}
+use Rattle.command_core.specs.Inputs.{reader, readers}
+use Rattle.command_core.proofs.Readers.{all_read, none_failed, one_more, rest_kept, same_at, unfailed_more}
 use Rattle.indexed_queries.specs.Prefixes.{prefix_bytes}
 use Rattle.indexed_queries.specs.InnerParts.{HaveJoinedGroups}
 use Rattle.indexed_queries.proofs.Groups.{groups_more, groups_none, one_refused}

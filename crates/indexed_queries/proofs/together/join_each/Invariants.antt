@@ -1,5 +1,5 @@
 use Rattle.std.proofs.Common.{◌≡◌, map, take, drop}
-use Rattle.command_ends.specs.Inputs.{EachUnfailed, readers}
+use Rattle.command_core.specs.Inputs.{EachUnfailed, readers}
 use Rattle.indexed_queries.specs.Prefixes.{prefix_bytes}
 use Rattle.indexed_queries.specs.InnerParts.{HaveJoinedGroups}
 use Rattle.indexed_queries.proofs.together.join_each.Given as goal

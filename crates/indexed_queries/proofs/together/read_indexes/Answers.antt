@@ -1,7 +1,7 @@
 use Rattle.std.proofs.Common.{◌≡◌, ◌<◌, ◌∙◌, length, take, arith, ap, refl, subst}
 use Rattle.std.proofs.lemmas.Result.{err_from_is_err_and}
-use Rattle.command_ends.specs.Inputs.{reader, readers}
-use Rattle.command_ends.proofs.Readers.{all_read, none_failed, one_more, rest_kept, same_at, unfailed_more}
+use Rattle.command_core.specs.Inputs.{reader, readers}
+use Rattle.command_core.proofs.Readers.{all_read, none_failed, one_more, rest_kept, same_at, unfailed_more}
 use Rattle.indexed_queries.specs.Together.{AreReadWith}
 use Rattle.indexed_queries.proofs.Groups.{kept_more, kept_none, pair_refused, read_more}
 use Rattle.indexed_queries.proofs.together.read_indexes.Goals as goal

@@ -1,5 +1,5 @@
 use Rattle.std.proofs.Common.{◌≡◌, take, drop}
-use Rattle.command_ends.specs.Inputs.{EachUnfailed, readers}
+use Rattle.command_core.specs.Inputs.{EachUnfailed, readers}
 use Rattle.indexed_queries.specs.Together.{AreAllKept, AreReadWith}
 use Rattle.indexed_queries.proofs.together.read_indexes.Given as goal
 

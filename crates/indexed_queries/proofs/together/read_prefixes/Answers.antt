@@ -1,7 +1,7 @@
 use Rattle.std.proofs.Common.{map}
 use Rattle.std.proofs.lemmas.Result.{err_from_is_err_and}
-use Rattle.command_ends.specs.Inputs.{readers}
-use Rattle.command_ends.proofs.Readers.{none_failed}
+use Rattle.command_core.specs.Inputs.{readers}
+use Rattle.command_core.proofs.Readers.{none_failed}
 use Rattle.indexed_queries.specs.Prefixes.{prefix_bytes}
 use Rattle.indexed_queries.proofs.Groups.{all_held}
 use Rattle.indexed_queries.proofs.together.read_prefixes.Goals as goal

@@ -1,7 +1,7 @@
 use Rattle.std.proofs.Common.{◌∙◌, map, length, ap, sym, subst}
 use Rattle.std.proofs.lemmas.Result.{err_from_is_err_and}
-use Rattle.command_ends.specs.Inputs.{EachUnfailed, ReadsInputs, readers}
-use Rattle.command_ends.proofs.Readers.{readers_long}
+use Rattle.command_core.specs.Inputs.{EachUnfailed, ReadsInputs, readers}
+use Rattle.command_core.proofs.Readers.{readers_long}
 use Rattle.indexed_queries.specs.Prefixes.{prefix_bytes}
 use Rattle.indexed_queries.specs.Together.{HoldNamed, IsFirstRefusedAtPlaces, IsReadWith}
 use Rattle.indexed_queries.proofs.Groups.{first_refused, reads_later, three_long}

@@ -1,9 +1,9 @@
 use Rattle.std.proofs.Common.{◌∙◌, length, ap, refl, sym, subst}
 use Rattle.std.proofs.lemmas.Result.{err_from_is_err_and}
 use Rattle.byte_device.proofs.Known.{Appends-none}
-use Rattle.command_ends.specs.Inputs.{readers}
-use Rattle.command_ends.proofs.Endings.{reported}
-use Rattle.command_ends.proofs.Readers.{readers_long}
+use Rattle.command_core.specs.Inputs.{readers}
+use Rattle.command_core.proofs.Endings.{reported}
+use Rattle.command_core.proofs.Readers.{readers_long}
 use Rattle.indexed_queries.specs.Together.{AreReadWith, IsReadWith}
 use Rattle.indexed_queries.proofs.Groups.{three_long}
 use Rattle.indexed_symbols.specs.Symbolicate.{symbolicate_at}

@@ -12,10 +12,11 @@ use Rattle.command_line.specs.Lines.{inputs_of}
 use Rattle.plan_commands.specs.Files.{command_fault_of}
 use Rattle.plan_commands.proofs.OutPublished.{draft_took, first_from, none_asked, nothing_taken, nothing_there}
 use Rattle.plan_commands.proofs.OutPublished.{published_there, settled_of, settled_without_calls}
-use Rattle.plan_commands.proofs.Noting.{on_any, told_done}
+use Rattle.plan_commands.proofs.Noting.{told_done}
 use Rattle.plan_commands.proofs.Outcomes.{carried_outcome}
 use Rattle.plan_commands.proofs.Saying.{none_called}
 use Rattle.plan_commands.proofs.files.execute.Goals as goal
+use Rattle.archive_writing.proofs.Taking.{always as on_any}
 
 pub returns-in_err-heap : goal.returns-in_err-heap
 returns-in_err-heap g c =

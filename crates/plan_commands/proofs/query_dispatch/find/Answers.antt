@@ -1,4 +1,4 @@
-use Rattle.std.proofs.Common.{◌∙◌, arith, length, refl, sym}
+use Rattle.std.proofs.Common.{◌∙◌, length, refl, sym}
 use Rattle.std.proofs.lemmas.Result.{err_from_is_err_and}
 use Rattle.indexed_queries.specs.Find.{find_together}
 use Rattle.plan_commands.proofs.Dispatched.{alone_refused, apart, as_many_readers, find_by, not_none, paired_kept, some_read}

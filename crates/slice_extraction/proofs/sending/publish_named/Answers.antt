@@ -1,9 +1,9 @@
 use Rattle.std.proofs.Common.{◌∙◌, inl, refl, sym}
 use Rattle.std.proofs.lemmas.Result.{err_from_is_err_and}
 use Rattle.byte_device.proofs.Known.{Appends-none}
-use Rattle.command_ends.specs.Inputs.{reader}
-use Rattle.command_ends.specs.Outputs.{outs, writer}
-use Rattle.command_ends.specs.declared.faults.CommandFault.TheVariants.{OutOfMemory}
+use Rattle.command_core.specs.Inputs.{reader}
+use Rattle.command_core.specs.Outputs.{outs, writer}
+use Rattle.command_core.specs.declared.faults.CommandFault.TheVariants.{OutOfMemory}
 use Rattle.slice_extraction.specs.Wanted.{written_line}
 use Rattle.slice_extraction.proofs.Placed.{not_placed, placed_so, same_line, unsent_so}
 use Rattle.slice_extraction.proofs.Sent.{unbegun}

@@ -1,6 +1,6 @@
 use Rattle.std.proofs.Common.{◌≡◌, if◌then◌else◌, flat_map, slice_range, string_bytes, take}
 use Rattle.std.specs.List.{list_all}
-use Rattle.command_ends.specs.declared.faults.Status.TheVariants.{Done, Partial}
+use Rattle.command_core.specs.declared.faults.Status.TheVariants.{Done, Partial}
 use Rattle.archive_queries.proofs.asked_frames.FrameQuestions.in_line_order.Given as goal
 
 abbrev pub invariant-frames : goal.invariant-frames

@@ -6,8 +6,8 @@ use Rattle.checked_pages.proofs.ReadLemmas.{after_ok, passed_on}
 use Rattle.line_tables.specs.Inner.{run_halves}
 use Rattle.line_tables.specs.Runs.{runs_of}
 use Rattle.line_tables.proofs.OpenedLemmas.{kept}
-use Rattle.line_tables.proofs.RunLemmas.{uppers_rise}
-use Rattle.line_tables.proofs.SearchLemmas.{below_to, halved, others_from, runs_long, upper_of_row}
+use Rattle.line_tables.proofs.RunLemmas.{uppers_rise, uppers_long as runs_long}
+use Rattle.line_tables.proofs.SearchLemmas.{below_to, halved, others_from, upper_of_row}
 use Rattle.line_tables.proofs.table.LineTable.runs_below.Goals as goal
 
 pub halving-init : goal.halving-init

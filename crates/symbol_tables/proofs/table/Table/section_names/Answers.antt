@@ -1,4 +1,4 @@
-use Rattle.std.proofs.Common.{◌≡◌, List, ℕ, length, Err, ap, sym, refl, ◌∙◌, arith}
+use Rattle.std.proofs.Common.{Err, ap, sym, refl, ◌∙◌, arith}
 use Rattle.std.proofs.lemmas.Result.{err_from_is_err_and}
 use Rattle.checked_pages.proofs.ReadLemmas.{passed_on}
 use Rattle.symbol_tables.specs.Table.{table_bytes}
