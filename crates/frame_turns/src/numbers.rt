@@ -106,11 +106,26 @@ pub(crate) struct Linked {
     pub callers: Option<u32>,
 }
 
+/// The number of the name of a link, which is kept under the number that the unit has for it.
+fn name_of_link<'a, T: FrameTaker<'a>>(
+    names: &mut Vec<Option<u32>, Heap>,
+    link: &Link<'a>,
+    taker: &mut T,
+) -> Result<u32, NoMemory> {
+    if let Some(known) = names[link.name_number] {
+        return Ok(known);
+    }
+    let number = taker.name(link.name)?;
+    names[link.name_number] = Some(number);
+    Ok(number)
+}
+
 /// Adds the numbers of the next link, those of the links before it being known.
 fn push_linked<'a, T: FrameTaker<'a>>(
     lines: &UnitLines<'a>,
     paths: &mut Paths,
     links: &Links<'a>,
+    names: &mut Vec<Option<u32>, Heap>,
     all: &mut Vec<Linked, Heap>,
     taker: &mut T,
 ) -> Result<(), NoMemory>
@@ -126,7 +141,7 @@ fn push_linked<'a, T: FrameTaker<'a>>(
     ensures taken { Takes (T.has_taken taker.old) (T.has_taken taker.new) [] }
 {
     let link: Link<'a> = links.links[all.len()];
-    let name = taker.name(link.name)?;
+    let name = name_of_link(names, &link, taker)?;
     if link.caller == 0 {
         let callers = taker.no_frames();
         all.push(Linked { name, callers })?;
@@ -160,9 +175,10 @@ pub(crate) fn all_linked<'a, T: FrameTaker<'a>>(
     ensures kept { OnOk result (ArePathNumbers (T.tells_path taker.new) (lines_view lines.now) paths.new) }
     ensures taken { OnOk result (Takes (T.has_taken taker.old) (T.has_taken taker.new) []) }
 {
+    let mut names = vec![in heap.clone()?; None; links.name_count]?;
     let mut all: Vec<Linked, Heap> = Vec::new(heap);
     'links: while all.len() < links.links.len() {
-        push_linked(lines, paths, links, &mut all, taker)?;
+        push_linked(lines, paths, links, &mut names, &mut all, taker)?;
     }
     Ok(all)
 }

@@ -25,6 +25,8 @@ use waiting_indexes::{Waiting, sorted_once};
 pub struct Link<'a> {
     /// The name of the function.
     pub name: Option<&'a [u8]>,
+    /// The number of the name: links of one number have the same name.
+    pub name_number: usize,
     /// The place of the call that it is.
     pub call: Place,
     /// The number of the link that it stands in, from 1 on, or 0.
@@ -44,6 +46,8 @@ pub struct Links<'a> {
     pub links: Vec<Link<'a>, Heap>,
     pub starts: Vec<u64, Heap>,
     pub numbers: Vec<usize, Heap>,
+    /// How many numbers the names have.
+    pub name_count: usize,
 }
 
 /// Where ranges begin and end, ascending, each once.
@@ -86,6 +90,7 @@ impl<'a> Links<'a> {
             links: taking.making.links,
             starts: taking.starts,
             numbers: taking.numbers,
+            name_count: all.name_count(),
         })
     }
 

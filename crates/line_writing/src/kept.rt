@@ -3,7 +3,7 @@
 ghost use Rattle.std.specs.Prelude.{map};
 ghost use Rattle.line_writing.specs.Kept.{IsKept};
 
-use crate::keys::{FileKey, LocationKey};
+use crate::keys::{FileKey, LocationKey, TextKey};
 use crate::numbers::Numbers;
 use line_programs::PathParts;
 use memory::{Heap, NoMemory};
@@ -12,10 +12,10 @@ use source_frames::Frame;
 /// The texts, files and locations of frames.
 #[derive(Drop)]
 pub(crate) struct Kept<'a> {
-    pub texts: Numbers<&'a [u8]>,
+    pub texts: Numbers<TextKey<'a>>,
     pub files: Numbers<FileKey>,
     pub locations: Numbers<LocationKey>,
-    ghost right: { IsKept (record { texts = map (λ t. t.now) texts; files = files; locations = locations }) },
+    ghost right: { IsKept (record { texts = map (λ t. t.text.now) texts; files = files; locations = locations }) },
 }
 
 impl<'a> Kept<'a> {
@@ -43,7 +43,7 @@ impl<'a> Kept<'a> {
         ensures grows { Grows (kept_view self.old) (kept_view self.new) }
         ensures is { IfOk result (λ number. IsText (kept_view self.new) number text.now) }
     {
-        self.texts.number(text)
+        self.texts.number(TextKey::of(text))
     }
 
     /// The number of a name, or 0.

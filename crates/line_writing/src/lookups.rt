@@ -14,7 +14,7 @@ impl<'a> Kept<'a> {
         requires { IsNumber (length (kept_view self.now).texts) number }
         ensures { result.now ≡ text_at (kept_view self.now) number }
     {
-        self.texts.key(number)
+        self.texts.key(number).text
     }
 
     /// The file of a number.

@@ -10,16 +10,19 @@ ghost use Rattle.source_frames.specs.UnitViews.{unit_view};
 ghost use Rattle.unit_functions.specs.OpenFunctions.{Adds, AreAmong, Closes, Takes};
 ghost use Rattle.unit_functions.specs.UnitFunctions.{AreFunctions};
 
+use crate::origins::Origins;
 use code_ranges::{CodeRange, Ranges, UnitRanges};
 use debug_entries::{Entries, Entry, UnreadEntry};
 use memory::{Heap, NoMemory};
-use source_frames::{DebugInfo, DebugUnit, Place, UnitEntry, is_function, scope_ranges};
+use source_frames::{DebugInfo, DebugUnit, Place, is_function, scope_ranges};
 
 /// A function of a unit.
 #[derive(Clone, Copy)]
 pub struct Function<'a> {
     /// Its name.
     pub name: Option<&'a [u8]>,
+    /// The number of its name: functions of one number have the same name.
+    pub name_number: usize,
     /// The place of the call that it is.
     pub call: Place,
     /// How many functions there are up to the last that stands in it.
@@ -40,6 +43,8 @@ pub(crate) struct Open {
 pub struct Functions<'a> {
     pub functions: Vec<Function<'a>, Heap>,
     pub ranges: Vec<CodeRange, Heap>,
+    /// The names of the entries that others lead to.
+    pub(crate) origins: Origins<'a>,
 }
 
 /// Adds ranges.
@@ -53,6 +58,11 @@ fn push_ranges(all: &mut Vec<CodeRange, Heap>, ranges: Ranges<'_>) -> Result<(),
 }
 
 impl<'a> Functions<'a> {
+    /// How many numbers the names have.
+    pub fn name_count(&self) -> usize {
+        self.origins.count
+    }
+
     /// Closes the functions in which an entry of a depth does not stand.
     fn close(&mut self, opened: &mut Vec<Open, Heap>, depth: usize)
         requires { AreAmong (length self.old.functions.items) opened.old.items }
@@ -76,12 +86,12 @@ impl<'a> Functions<'a> {
         unit: &DebugUnit<'a>,
         opened: &mut Vec<Open, Heap>,
         depth: usize,
-        entry: Entry<'a>,
+        entry: &Entry<'a>,
         ranges: Ranges<'a>,
     ) -> Result<(), NoMemory>
         ensures ranges { OnOk result (self.new.ranges.items ≡ self.old.ranges.items ++ ranges.entry) }
         ensures added { OnOk result (Adds (sections_view info.now.sections) (unit_view unit.now)
-            (record { depth = depth; entry = entry_view entry.entry; ranges = ranges.entry })
+            (record { depth = depth; entry = entry_view entry.now; ranges = ranges.entry })
             (length self.new.ranges.items) opened.old.items opened.new.items
             self.old.functions.items self.new.functions.items) }
     {
@@ -91,11 +101,11 @@ impl<'a> Functions<'a> {
             return Ok(());
         }
         let index = self.functions.len();
-        let call = Place::of_call(&entry);
-        let of = UnitEntry { unit: *unit, entry };
+        let named = self.origins.name_of(info, unit, entry);
         self.functions.push(Function {
-            name: info.name_of(&of),
-            call,
+            name: named.name,
+            name_number: named.number,
+            call: Place::of_call(entry),
             end: index + 1,
             ranges_end: self.ranges.len(),
         })?;
@@ -131,7 +141,7 @@ impl<'a> Functions<'a> {
         }
         let entry = entry.read();
         let own = scope_ranges(ranges, &entry, left);
-        self.push_entry(info, unit, opened, depth, entry, own)
+        self.push_entry(info, unit, opened, depth, &entry, own)
     }
 
     /// The functions of a unit. It takes the time of the unit, which is read once, and of their names, and the memory
@@ -150,6 +160,7 @@ impl<'a> Functions<'a> {
         let mut all = Functions {
             functions: Vec::new(heap.clone()?),
             ranges: Vec::new(heap.clone()?),
+            origins: Origins::new(heap.clone()?)?,
         };
         let mut opened = Vec::new(heap);
         for placed in Entries::of(&info.abbreviations, unit.header, unit.bytes) {
