@@ -19,9 +19,9 @@ use Rattle.command_core.specs.declared.faults.Status.{Status}
 use Rattle.command_core.specs.declared.faults.Status.TheVariants.{Done, Partial}
 use Rattle.command_core.specs.declared.faults.Why.{Why}
 use Rattle.command_core.specs.declared.faults.Why.TheVariants.{Device as CannotRead, BadFrame, CannotOpen as NotOpened}
-use Rattle.archive_queries.specs.Frames.{IsFrameAnswered, TellsFrames, MakesFramed, RefusesFrames, Told, IsToldAlone, SymbolicatesEach, is_done}
+use Rattle.address_queries.specs.Frames.{IsFrameAnswered, TellsFrames, MakesFramed, RefusesFrames, Told, IsToldAlone, SymbolicatesEach, is_done}
 use Rattle.command_core.specs.Inputs.{Reader, reader, Gives, HoldsContent, IsDeviceFault, IsFramesRefused, IsGiven}
-use Rattle.archive_queries.specs.Symbolicate.{Answered, IsAnswered, TellsAddresses, is_symbol, answers_status, answers_text}
+use Rattle.address_queries.specs.Symbolicate.{Answered, IsAnswered, TellsAddresses, is_symbol, answers_status, answers_text}
 use Rattle.archive_writing.specs.Merge.{merge}
 use Rattle.archive_laws.specs.Joins.{IsGivenJoin}
 use Rattle.archive_laws.proofs.Joins.{alone_held, as_merged, holds_join, join_refused, told_of_join}

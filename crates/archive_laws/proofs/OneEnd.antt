@@ -28,8 +28,8 @@ use Rattle.exchange_script.specs.declared.event.Event.{Event}
 use Rattle.rehearse.specs.Rehearse.{rehearse}
 use Rattle.archive_queries.specs.Find.{find}
 use Rattle.archive_queries.specs.Name.{TellsNamed, name}
-use Rattle.archive_queries.specs.Symbolicate.{TellsAddresses, symbolicate}
-use Rattle.archive_queries.specs.Frames.{MakesFramed, RefusesFrames, TellsFrames, frames}
+use Rattle.address_queries.specs.Symbolicate.{TellsAddresses, symbolicate}
+use Rattle.address_queries.specs.Frames.{MakesFramed, RefusesFrames, TellsFrames, frames}
 use Rattle.archive_queries.specs.List.{list}
 use Rattle.archive_laws.specs.Joins.{IsGivenJoin}
 use Rattle.archive_laws.specs.Refusals.{ArchivesHoldAlike, EachHoldAlike, EndAlike, HoldAlike, RefuseOne}

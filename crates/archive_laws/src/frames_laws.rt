@@ -7,7 +7,7 @@ ghost use Rattle.crash_frames.specs.declared.frame.Frame.{Frame};
 ghost use Rattle.command_core.specs.declared.faults.InputName.{InputName};
 ghost use Rattle.command_core.specs.declared.faults.Status.{Status};
 ghost use Rattle.command_core.specs.declared.faults.Why.{Why};
-ghost use Rattle.archive_queries.specs.Frames.{MakesFramed, SymbolicatesEach, TellsFrames, frames};
+ghost use Rattle.address_queries.specs.Frames.{MakesFramed, SymbolicatesEach, TellsFrames, frames};
 ghost use Rattle.archive_writing.specs.Merge.{merge};
 ghost use Rattle.command_core.specs.Inputs.{Gives, HoldsContent, IsDeviceFault, IsGiven, Reader};
 ghost use Rattle.archive_laws.specs.Joins.{IsGivenJoin};

@@ -9,7 +9,7 @@ ghost use Rattle.command_core.specs.declared.faults.Status.{Status};
 ghost use Rattle.command_core.specs.declared.faults.Why.{Why};
 ghost use Rattle.command_core.specs.Inputs.{HoldsContent, IsDeviceFault, IsGiven, Reader};
 ghost use Rattle.report_text.specs.Answers.{answer_lines};
-ghost use Rattle.archive_queries.specs.Symbolicate.{MakesAnswered, TellsAddresses, symbolicate};
+ghost use Rattle.address_queries.specs.Symbolicate.{MakesAnswered, TellsAddresses, symbolicate};
 ghost use Rattle.archive_writing.specs.Merge.{merge};
 ghost use Rattle.archive_laws.specs.Joins.{IsGivenJoin};
 

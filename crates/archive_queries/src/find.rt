@@ -5,11 +5,11 @@ ghost use Rattle.archive_queries.specs.Find.{find};
 ghost use Rattle.command_core.specs.Inputs.{reader, readers};
 ghost use Rattle.command_core.specs.Outputs.{writer};
 
-use crate::together::read_parts;
 use archive_core::Archive;
 use archive_reading::Under;
 use byte_device::{CannotOpen, Sink, Source};
 use command_core::{CommandFault, Status, found_status, publish_report};
+use command_inputs::read_parts;
 use memory::Heap;
 use report_text::find_lines;
 use uuid::Uuid;

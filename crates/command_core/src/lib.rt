@@ -1,4 +1,4 @@
-//! What all commands have: how one reads its inputs, and how it ends.
+//! What all commands have: the words for what they read, and how one ends.
 //!
 //! A command reads its inputs, each opened beforehand and refused in the order of the words, and writes OUT, as its
 //! first input comes or after all were read. OUT is put in place when it is whole, and after that comes the report.
@@ -6,7 +6,6 @@
 //! - `faults`: how a command ends, and why one is refused;
 //! - `failures`: the line that the program says where it fails;
 //! - `statuses`: how a search ends, and the exit status of what was carried out;
-//! - `sources`: the inputs;
 //! - `outputs`: OUT, which takes bytes and is then put in place;
 //! - `publishing`: the end of each command.
 //!
@@ -21,16 +20,10 @@ mod failures;
 mod faults;
 mod outputs;
 mod publishing;
-mod sources;
 mod statuses;
 
 pub use failures::Failure;
 pub use faults::{CommandFault, InputName, Status, Why};
 pub use outputs::{Output, Target, put_in_place};
 pub use publishing::{publish, publish_bytes, publish_draft, publish_report, publish_summary};
-pub use sources::{
-    answer_input, opened, read_crash, read_entries, read_events, read_file, read_input,
-    read_input_part, read_operations, read_rows, read_summary_input, refusal, refused_behind,
-    test_input,
-};
 pub use statuses::{found_status, status_of};

@@ -16,9 +16,9 @@ use Rattle.indexed_answers.specs.Among.{EntryAt}
 use Rattle.indexed_answers.specs.AmongAsked.{BlamesAmong, HasText, HaveTexts, IsUntoldAmong, each_known}
 use Rattle.indexed_answers.specs.declared.fault.AnswerFault.{AnswerFault}
 use Rattle.indexed_answers.specs.declared.fault.AnswerFault.TheVariants as answer
-use Rattle.indexed_queries.specs.Several.{AreRefusedLater, AreUnfailedTogether, MakesTogether}
-use Rattle.indexed_queries.specs.Together.{AreAllKept, AreReadWith, IsFirstRefusedAtPlaces}
-use Rattle.indexed_queries.proofs.Groups.{later_readers, read_earlier, unfailed_through}
+use Rattle.index_inputs.specs.Several.{AreRefusedLater, AreUnfailedTogether, MakesTogether}
+use Rattle.index_inputs.specs.Together.{AreAllKept, AreReadWith, IsFirstRefusedAtPlaces}
+use Rattle.index_inputs.proofs.Groups.{later_readers, read_earlier, unfailed_through}
 use Rattle.indexed_symbols.specs.Asking.{AreGiven, AreRefusedAsking, AreTiedUnder, AreUntold, IsChanged, IsLineless, IsUntoldUnder, IsUnreadTable}
 use Rattle.indexed_symbols.specs.InnerAsking.{AreHeldUnder, AreRefusedUnder, IsUntoldBy, NoneFailed, command_fault}
 use Rattle.indexed_symbols.proofs.States.{fails_alone, kept_counts, kept_texts, none_failed_of, read_before, texts_of}

@@ -3,8 +3,8 @@ use Rattle.std.proofs.Common.{◌≡◌, ℕ, ◌⊎◌, Bool, List, [], ◌∷�
 use Rattle.std.specs.List.{AllZip}
 use Rattle.byte_device.specs.declared.disks.CannotOpen.{CannotOpen}
 use Rattle.archive_core.specs.Content.{HaveSameMembers}
-use Rattle.archive_queries.specs.Frames.{TellsFrames}
-use Rattle.archive_queries.specs.Symbolicate.{Answered}
+use Rattle.address_queries.specs.Frames.{TellsFrames}
+use Rattle.address_queries.specs.Symbolicate.{Answered}
 use Rattle.crash_frames.specs.Frames.{frames_of}
 use Rattle.crash_frames.specs.declared.frame.Frame.{Frame}
 use Rattle.command_core.specs.Ends.{EndsReport}
@@ -14,8 +14,8 @@ use Rattle.command_core.specs.declared.faults.CommandFault.{CommandFault}
 use Rattle.command_core.specs.declared.faults.CommandFault.TheVariants.{Input, Output, Report, OutOfMemory}
 use Rattle.command_core.specs.declared.faults.Status.{Status}
 use Rattle.indexed_answers.specs.AmongAsked.{HaveTexts}
-use Rattle.indexed_queries.specs.Several.{AreUnfailedTogether}
-use Rattle.indexed_queries.specs.Together.{AreAllKept, AreReadWith, IsFirstRefusedByIndex}
+use Rattle.index_inputs.specs.Several.{AreUnfailedTogether}
+use Rattle.index_inputs.specs.Together.{AreAllKept, AreReadWith, IsFirstRefusedByIndex}
 use Rattle.indexed_symbols.specs.Asking.{AreTiedUnder}
 use Rattle.indexed_symbols.specs.Frames.{AreRefusedAt, AreToldAt, IsFrameByTables, TellTablesOfFrames, frames_at, keys_of}
 use Rattle.indexed_symbols.specs.InnerAsking.{AreHeldUnder, NoneFailed}

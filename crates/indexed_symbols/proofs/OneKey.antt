@@ -3,14 +3,14 @@ use Rattle.std.proofs.Common.{◌≡◌, ℕ, ◌⊎◌, Bool, List, [], ◌∷�
 use Rattle.byte_device.specs.declared.disks.CannotOpen.{CannotOpen}
 use Rattle.archive_core.specs.Key.{key_bytes}
 use Rattle.archive_core.specs.declared.keys.SliceKey.{SliceKey}
-use Rattle.archive_queries.specs.Symbolicate.{TellsAddresses}
+use Rattle.address_queries.specs.Symbolicate.{TellsAddresses}
 use Rattle.command_core.specs.Inputs.{Reader, readers, EachUnfailed, IsRefusal}
 use Rattle.command_core.specs.declared.faults.CommandFault.{CommandFault}
 use Rattle.command_core.specs.declared.faults.CommandFault.TheVariants.{Input, Output, Report, OutOfMemory}
 use Rattle.command_core.specs.declared.faults.Status.{Status}
 use Rattle.indexed_answers.specs.AmongAsked.{HaveTexts}
-use Rattle.indexed_queries.specs.Several.{AreUnfailedTogether, MakesTogether}
-use Rattle.indexed_queries.specs.Together.{AreAllKept, AreReadWith}
+use Rattle.index_inputs.specs.Several.{AreUnfailedTogether, MakesTogether}
+use Rattle.index_inputs.specs.Together.{AreAllKept, AreReadWith}
 use Rattle.indexed_symbols.specs.Asking.{AreRefusedAsking, AreTiedUnder, TellTables}
 use Rattle.indexed_symbols.specs.InnerAsking.{AreHeldUnder, NoneFailed}
 use Rattle.indexed_symbols.specs.Symbolicate.{symbolicate_at}

@@ -19,7 +19,7 @@ use Rattle.archive_core.proofs.Members.{in_front, in_map, in_rest, to_map}
 use Rattle.indexed_symbols.proofs.Halved.{each_there, found, first_ascend, last_ascend, more_ascend, none_ascend}
 use Rattle.archive_core.specs.Content.{HaveSameMembers}
 use Rattle.archive_core.specs.Key.{key_bytes}
-use Rattle.archive_queries.specs.Symbolicate.{asked_of}
+use Rattle.address_queries.specs.Symbolicate.{asked_of}
 use Rattle.archive_core.specs.declared.keys.SliceKey.{SliceKey}
 use Rattle.crash_frames.specs.declared.frame.Frame.{Frame}
 use Rattle.archive_core.specs.declared.lookup.Where.{Where}

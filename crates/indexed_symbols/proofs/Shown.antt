@@ -17,8 +17,8 @@ use Rattle.report_text.specs.Answers.{answer_lines}
 use Rattle.command_core.specs.declared.faults.Status.{Status}
 use Rattle.command_core.specs.declared.faults.Status.TheVariants.{Done, Partial}
 use Rattle.command_core.proofs.Readers.{pairs_more}
-use Rattle.archive_queries.proofs.Answered.{status_more}
-use Rattle.archive_queries.specs.Symbolicate.{Answered, asked_of, is_symbol}
+use Rattle.address_queries.proofs.Answered.{status_more}
+use Rattle.address_queries.specs.Symbolicate.{Answered, asked_of, is_symbol}
 use Rattle.indexed_answers.specs.AmongTold.{IsAnswerAmong}
 use Rattle.indexed_answers.specs.declared.answers.Answers.{Answers}
 use Rattle.indexed_symbols.specs.Asking.{TellTables}

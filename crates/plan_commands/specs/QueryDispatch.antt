@@ -12,10 +12,10 @@ use Rattle.command_core.specs.Ends.{Query}
 use Rattle.command_core.specs.Inputs.{Reader}
 use Rattle.command_core.specs.Outputs.{Takes, Writer}
 use Rattle.archive_queries.specs.Find.{find}
-use Rattle.archive_queries.specs.Frames.{frames}
+use Rattle.address_queries.specs.Frames.{frames}
 use Rattle.archive_queries.specs.List.{list}
 use Rattle.archive_queries.specs.Name.{SaysUnderscored}
-use Rattle.archive_queries.specs.Symbolicate.{symbolicate}
+use Rattle.address_queries.specs.Symbolicate.{symbolicate}
 use Rattle.archive_writing.specs.declared.notes.Note.{Note}
 use Rattle.archive_writing.specs.declared.notes.Note.TheVariants.{Retired, Missing, Underscored}
 use Rattle.indexed_queries.specs.Find.{find_at, find_together}

@@ -33,9 +33,9 @@ use Rattle.command_core.specs.declared.faults.Why.TheVariants.{CannotOpen as Not
 use Rattle.command_core.specs.declared.faults.Why.TheVariants.{Script, BadFrame, OldArchive, TooLong}
 use Rattle.command_core.specs.declared.faults.Why.TheVariants.{Index as IndexFaulty, Stale, Damaged, NoArchive, NoIndex, NoLines}
 use Rattle.index_laws.specs.Indexes.{IsIndexFile}
-use Rattle.indexed_queries.specs.Prefixes.{IsReadFor, IsStaleFor, IsStaleUnder, IsUnnamedUnder}
-use Rattle.indexed_queries.specs.Indexes.{HasOtherLength, IsOfOtherLength, IsRefusedByIndex, IsUnreadAt, IsUnreadIndex}
-use Rattle.indexed_queries.specs.Together.{IsKept, IsLater, IsRefusedAtPlaces}
+use Rattle.index_inputs.specs.Prefixes.{IsReadFor, IsStaleFor, IsStaleUnder, IsUnnamedUnder}
+use Rattle.index_inputs.specs.Indexes.{HasOtherLength, IsOfOtherLength, IsRefusedByIndex, IsUnreadAt, IsUnreadIndex}
+use Rattle.index_inputs.specs.Together.{IsKept, IsLater, IsRefusedAtPlaces}
 use Rattle.query_laws.specs.Contents.{IsIndexGiven}
 use Rattle.query_laws.proofs.OfIndex.{entries_are, of_given}
 

@@ -27,7 +27,7 @@ use Rattle.index_laws.proofs.Among.{IsOfSlice, admission_if, find, lives_if, sli
 use Rattle.index_laws.proofs.Joined.{joined_alone}
 use Rattle.index_laws.proofs.Right.{IsAnsweringSlice, slices_right}
 use Rattle.indexed_answers.specs.Among.{EntryAt}
-use Rattle.indexed_queries.specs.Together.{AreLater, IsOneOf}
+use Rattle.index_inputs.specs.Together.{AreLater, IsOneOf}
 use Rattle.slice_extraction.specs.Entries.{HoldsSlice, IsChosen, StandFor}
 use Rattle.slice_extraction.specs.Indexed.{MakesEntry, extract_at}
 use Rattle.slice_extraction.specs.Wanted.{IsWanted, slice_line, written_line}

@@ -29,7 +29,7 @@ use Rattle.byte_device.specs.declared.disks.CannotOpen.{CannotOpen}
 use Rattle.command_core.specs.Inputs.{Gives, IsGiven, Reader, reader}
 use Rattle.index_laws.specs.Indexes.{IsIndexFile}
 use Rattle.index_laws.proofs.Records.{is_key_of}
-use Rattle.indexed_queries.specs.Indexes.{HoldsIndex, HoldsTables}
+use Rattle.index_inputs.specs.Indexes.{HoldsIndex, HoldsTables}
 use Rattle.query_laws.specs.Contents.{HaveKeys, IsIndexGiven}
 
 -- ---- bytes that an input has

@@ -8,8 +8,8 @@ use Rattle.command_core.specs.Inputs.{IsDeviceFault, IsGiven, Reader}
 use Rattle.command_core.specs.declared.faults.InputName.{InputName}
 use Rattle.command_core.specs.declared.faults.Why.{Why}
 use Rattle.index_laws.specs.Indexes.{IsIndexFile}
-use Rattle.indexed_queries.specs.Several.{AreRefusedLater, AreRefusedTogether}
-use Rattle.indexed_queries.specs.Together.{IsFirstRefusedByIndex, IsLater, IsReadWith}
+use Rattle.index_inputs.specs.Several.{AreRefusedLater, AreRefusedTogether}
+use Rattle.index_inputs.specs.Together.{IsFirstRefusedByIndex, IsLater, IsReadWith}
 use Rattle.query_laws.specs.Contents.{AreOwnIndexes, IsOwnIndex}
 use Rattle.query_laws.proofs.Accepted.{at_places, by_device, still_given}
 use Rattle.query_laws.proofs.OfIndex.{held_tables}

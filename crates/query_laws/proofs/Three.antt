@@ -3,7 +3,7 @@ use Rattle.std.proofs.Common.{◌≡◌, ℕ, zero, suc, List, [], ◌∷◌, So
 use Rattle.std.specs.Prelude.{slice_get}
 use Rattle.std.specs.List.{AllZip}
 use Rattle.std.proofs.lemmas.Option.{same_Some}
-use Rattle.indexed_queries.specs.Together.{AllThree}
+use Rattle.index_inputs.specs.Together.{AllThree}
 
 module _ {X Y Z : Type 0} (R : X → Y → Z → Type 0) where
   -- what is at one place

@@ -22,9 +22,9 @@ use Rattle.command_core.specs.declared.outputs.Output.{Output as Out_value}
 use Rattle.command_core.proofs.Readers.{none_failed, readers_long, unfailed_more}
 use Rattle.indexed_answers.specs.Among.{AreTied, EntryAt, IsAmong}
 use Rattle.indexed_answers.specs.Named.{IsRowAt}
-use Rattle.indexed_queries.specs.Several.{AreRefusedLater, AreUnfailedTogether, HoldTogether}
-use Rattle.indexed_queries.specs.Together.{AreAllKept, AreLater, AreReadWith, HoldNamed, IsFirstRefusedAtPlaces, IsFirstRefusedByIndex, IsOneOf, IsReadWith}
-use Rattle.indexed_queries.proofs.Groups.{later_readers, one_of, read_earlier, three_long, unfailed_through}
+use Rattle.index_inputs.specs.Several.{AreRefusedLater, AreUnfailedTogether, HoldTogether}
+use Rattle.index_inputs.specs.Together.{AreAllKept, AreLater, AreReadWith, HoldNamed, IsFirstRefusedAtPlaces, IsFirstRefusedByIndex, IsOneOf, IsReadWith}
+use Rattle.index_inputs.proofs.Groups.{later_readers, one_of, read_earlier, three_long, unfailed_through}
 use Rattle.slice_extraction.specs.Entries.{AreUnchosen, IsChosen, StopsSlice}
 use Rattle.slice_extraction.specs.Extract.{Extraction, Extracts}
 use Rattle.slice_extraction.specs.Indexed.{HoldTied, IsChosenFrom, LacksEntry, MakesEntry, StopsEntry, extract_at}

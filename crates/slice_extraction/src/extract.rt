@@ -1,27 +1,16 @@
 //! `extract ARCHIVE UUID ARCH OUT [--digest DIGEST]`, over one archive or several.
 
-ghost use Rattle.std.specs.Prelude.{◌≡◌, length};
-ghost use Rattle.archive_core.specs.Key.{key_bytes};
 ghost use Rattle.command_core.specs.Inputs.{reader, readers};
 ghost use Rattle.command_core.specs.Outputs.{out_of, outs, writer};
 ghost use Rattle.slice_extraction.specs.Extract.{Extracts, extract};
 
 use crate::publishing::publish_wanted;
 use archive_core::{Archive, Digest, SliceKey};
-use archive_queries::read_parts;
 use archive_reading::Under;
-use archive_records::key_prefix;
 use byte_device::{CannotOpen, Sink, Source};
 use command_core::{CommandFault, Output, Status, Target};
+use command_inputs::{bytes_of, read_parts};
 use memory::Heap;
-
-/// The bytes of a key.
-pub(crate) fn bytes_of(key: &SliceKey) -> [u8; 24]
-    ensures bytes { result ≡ key_bytes key.now }
-    ensures long { length (key_bytes key.now) ≡ 24 }
-{
-    key_prefix(key)
-}
 
 /// Writes the bytes of the one slice that answers under the key in the join of the archives to OUT, or of a held one
 /// with the digest, and its line to the report. The archives are read one after another, each to its end, before OUT is

@@ -10,14 +10,13 @@ ghost use Rattle.slice_extraction.specs.Indexed.{extract_at};
 ghost use Rattle.slice_extraction.specs.InnerEntries.{PublishesFrom, PublishesTied};
 
 use crate::entries::{EntryChoice, choose_entry};
-use crate::extract::bytes_of;
 use crate::publishing::{publish_rows, publish_wanted};
 use crate::sending::publish_named;
 use archive_core::{Archive, Digest, SliceKey};
 use byte_device::{CannotOpen, Placed, Sink};
 use command_core::{CommandFault, Output, Status, Target};
+use index_inputs::{KeyPrefix, read_indexes, read_prefixes};
 use indexed_answers::NamedSlice;
-use indexed_queries::{KeyPrefix, read_indexes, read_prefixes};
 use memory::Heap;
 use table_index::TableIndex;
 

@@ -15,8 +15,9 @@ use archive_records::{RecordFault, RecordFaultKind};
 use archive_words::Spelled;
 use byte_device::{CannotOpen, Placed, Sink};
 use command_core::{
-    CommandFault, InputName, Output, Status, Target, Why, opened, publish_report, put_in_place,
+    CommandFault, InputName, Output, Status, Target, Why, publish_report, put_in_place,
 };
+use command_inputs::opened;
 use indexed_answers::NamedSlice;
 use memory::{Heap, NoMemory};
 use placed_passes::{SendFault, send_at};

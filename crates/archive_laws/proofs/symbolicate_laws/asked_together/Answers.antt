@@ -1,4 +1,4 @@
-use Rattle.archive_queries.specs.Symbolicate.{TellsAddresses}
+use Rattle.address_queries.specs.Symbolicate.{TellsAddresses}
 use Rattle.archive_laws.proofs.Joins.{as_merged}
 use Rattle.archive_laws.proofs.symbolicate_laws.asked_together.Goals as goal
 

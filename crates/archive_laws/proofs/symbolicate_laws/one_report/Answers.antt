@@ -1,4 +1,4 @@
-use Rattle.archive_queries.specs.Symbolicate.{TellsAddresses}
+use Rattle.address_queries.specs.Symbolicate.{TellsAddresses}
 use Rattle.archive_laws.proofs.Joins.{told_of_join}
 use Rattle.archive_laws.proofs.symbolicate_laws.one_report.Goals as goal
 

@@ -3,7 +3,7 @@ use Rattle.archive_writing.proofs.Begun.{untouched}
 use Rattle.byte_device.proofs.Known.{Appends-none}
 use Rattle.std.proofs.lemmas.Result.{err_from_is_err_and}
 use Rattle.archive_writing.proofs.AtHand.{stopped_opened, taken_of, unfinished_opened}
-use Rattle.command_core.proofs.BorrowedSources.{borrowed_from}
+use Rattle.command_inputs.proofs.BorrowedSources.{borrowed_from}
 use Rattle.archive_writing.proofs.Tellings.{makes_at_hand, told_opened}
 use Rattle.archive_writing.proofs.Told.{text_in_order}
 use Rattle.sorted_archive.proofs.Held.{are_records}

@@ -7,8 +7,8 @@ use Rattle.command_core.proofs.Endings.{reported}
 use Rattle.command_core.proofs.Readers.{none_failed, none_touched, readers_long}
 use Rattle.command_core.specs.Inputs.{Gives, reader, readers}
 use Rattle.command_core.specs.Outputs.{writer}
-use Rattle.indexed_queries.proofs.Groups.{three_long}
-use Rattle.indexed_queries.specs.Together.{AreReadWith, IsReadWith}
+use Rattle.index_inputs.proofs.Groups.{three_long}
+use Rattle.index_inputs.specs.Together.{AreReadWith, IsReadWith}
 use Rattle.indexed_symbols.specs.Frames.{AreToldAt}
 use Rattle.indexed_symbols.proofs.Ended.{unfailed_all}
 use Rattle.indexed_symbols.proofs.FramesEnded.{frames_first, index_refused_at, refused_after, refused_at, told_at}

@@ -4,8 +4,8 @@ use Rattle.byte_device.proofs.Known.{Appends-none}
 use Rattle.command_core.specs.Inputs.{readers}
 use Rattle.command_core.proofs.Endings.{reported}
 use Rattle.command_core.proofs.Readers.{readers_long}
-use Rattle.indexed_queries.specs.Together.{AreReadWith, IsReadWith}
-use Rattle.indexed_queries.proofs.Groups.{three_long}
+use Rattle.index_inputs.specs.Together.{AreReadWith, IsReadWith}
+use Rattle.index_inputs.proofs.Groups.{three_long}
 use Rattle.indexed_symbols.specs.Symbolicate.{symbolicate_at}
 use Rattle.indexed_symbols.proofs.Ended.{refused_ends, unfailed_all}
 use Rattle.indexed_symbols.proofs.OneKey.{key_refused, key_told}

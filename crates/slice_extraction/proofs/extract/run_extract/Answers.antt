@@ -3,7 +3,7 @@ use Rattle.std.proofs.lemmas.Result.{err_from_is_err_and}
 use Rattle.byte_device.proofs.Known.{Appends-none}
 use Rattle.archive_core.specs.Key.{key_bytes}
 use Rattle.archive_core.specs.Part.{is_under}
-use Rattle.archive_queries.proofs.Parts.{together_tells}
+use Rattle.command_inputs.proofs.Parts.{together_tells}
 use Rattle.command_core.specs.Archives.{AreRefused, AreUnfailed, HoldTogether}
 use Rattle.command_core.specs.Inputs.{reader, readers}
 use Rattle.command_core.specs.declared.faults.CommandFault.TheVariants.{OutOfMemory}

@@ -12,7 +12,7 @@ use Rattle.slice_extraction.specs.Extract.{Extracts}
 use Rattle.slice_extraction.specs.Indexed.{extract_at}
 use Rattle.slice_extraction.specs.InnerEntries.{IsEntryChoice}
 use Rattle.command_core.proofs.Readers.{none_failed}
-use Rattle.indexed_queries.specs.Together.{AreReadWith}
+use Rattle.index_inputs.specs.Together.{AreReadWith}
 use Rattle.slice_extraction.specs.InnerChoice.{PublishesRows}
 use Rattle.slice_extraction.proofs.ByEntry.{archive_there, as_many, refused_first, rows_so, sent_so, tied_so, wanting}
 use Rattle.slice_extraction.proofs.indexed.run_extract_at.Goals as goal
