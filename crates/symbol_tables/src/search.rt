@@ -2,7 +2,7 @@
 
 ghost use Rattle.std.specs.Prelude.{◌≡◌, ◌+◌, ◌*◌, ◌<◌, ◌≤◌, ◌^◌, ℕ, List, Some, length, slice_get};
 ghost use Rattle.checked_pages.specs.Pages.{AreStored};
-ghost use Rattle.checked_pages.specs.Views.{ArePagesOf, claim_view};
+ghost use Rattle.checked_pages.specs.Views.{ArePagesOf, KeepsPages, claim_view};
 ghost use Rattle.checked_pages.specs.Reading.{ReadsStored};
 ghost use Rattle.symbol_tables.specs.Rows.{AreRows, IsRowFor, rows_bytes};
 ghost use Rattle.symbol_tables.specs.Stored.{Stands};
@@ -21,8 +21,7 @@ fn row_at<P: Placed>(
 ) -> Result<Row, CheckFault>
     requires { first + 21 * index < 2 ^ 64 }
     ensures claim { table.new.claim ≡ table.old.claim }
-    ensures keeps { (text all : List ℕ) → P.whole device.old ≡ Some text → ArePagesOf table.old text all
-        → ArePagesOf table.new text all }
+    ensures keeps { KeepsPages P.whole device.old table.old table.new }
     ensures read { ReadsStored P.whole P.failures device.old device.new result
         (λ text row. (all : List ℕ) (rows : List Row) → ArePagesOf table.old text all → AreRows rows
         → Stands all first (rows_bytes rows) → index < length rows → slice_get rows index ≡ Some row)
@@ -49,8 +48,7 @@ pub fn row_for<P: Placed>(
 ) -> Result<Option<Row>, CheckFault>
     requires { first + 21 * count < 2 ^ 64 }
     ensures claim { table.new.claim ≡ table.old.claim }
-    ensures keeps { (text all : List ℕ) → P.whole device.old ≡ Some text → ArePagesOf table.old text all
-        → ArePagesOf table.new text all }
+    ensures keeps { KeepsPages P.whole device.old table.old table.new }
     ensures read { ReadsStored P.whole P.failures device.old device.new result
         (λ text found. (all : List ℕ) (rows : List Row) → ArePagesOf table.old text all → AreRows rows
         → length rows ≡ count → Stands all first (rows_bytes rows) → IsRowFor rows address found)
