@@ -5,7 +5,7 @@
 //!
 //! Made:
 //!
-//! - `strings`, `candidate`: the string table and its names; an entry that counts, and the order of those;
+//! - `candidate`: an entry that counts, and the order of those;
 //! - `compared`: how names that tie in all that counts more are compared;
 //! - `scan`: the entries of an image that are candidates;
 //! - `turns`: the addresses at which the nearest candidate may change;
@@ -49,7 +49,6 @@ mod opening;
 mod row;
 mod scan;
 mod search;
-mod strings;
 mod sweep;
 mod table;
 mod text;
