@@ -36,7 +36,7 @@ pub(crate) fn cmd(command: &[u8]) -> u32
 
 /// The bytes of the load command that begins some bytes, and those behind it. Any `cmdsize` that fits will
 /// do, a multiple of 8 or not.
-#[tactic(auto, using(crate::proofs::Fronts::commands_in_front))]
+#[tactic(auto, using(crate::proofs::FirstCommands::commands_in_front))]
 pub(crate) fn split_command(bytes: &[u8]) -> Option<(&[u8], &[u8])>
     ensures { MatchOption result (HasNoCommand bytes.now) (λ p. IsCommand p.0.now × (bytes.now ≡ p.0.now ++ p.1.now)) }
 {

@@ -19,7 +19,7 @@ pub enum CopyFault {
     Sink(u128),
 }
 
-/// Takes bytes from the place on into the front of a buffer, no more than so many.
+/// Takes bytes from the place on into the first bytes of a buffer, no more than so many.
 fn take_piece<P: Placed>(
     device: &mut P,
     at: u64,

@@ -10,7 +10,9 @@ ghost use Rattle.symbol_tables.specs.InnerCandidates.{AreCandidates, AreSections
 
 use crate::candidate::Candidate;
 use macho_image::{Image, Section};
-use macho_symbols::nlist::{MAX_SECT, N_EXT, N_SECT, N_STAB, N_TYPE, NLIST_64_LEN, n_strx, n_value};
+use macho_symbols::nlist::{
+    MAX_SECT, N_EXT, N_SECT, N_STAB, N_TYPE, NLIST_64_LEN, n_strx, n_value,
+};
 use macho_symbols::{Name, strings_of, table_of};
 use memory::{Heap, NoMemory};
 use std::marker::Model;
