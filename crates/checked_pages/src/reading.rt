@@ -132,10 +132,6 @@ impl Pages {
     }
 
     /// Fills a buffer with the bytes from an offset on.
-    ///
-    /// # Errors
-    ///
-    /// `Changed` also where the bytes end before the buffer does.
     pub fn read<P: Placed>(
         &mut self,
         device: &mut P,

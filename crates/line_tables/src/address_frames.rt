@@ -14,11 +14,11 @@ ghost use Rattle.line_tables.specs.Steps.{AreFrameSteps, StepRecord};
 
 use crate::frame::OwnedFrame;
 use crate::laws::frames_by_step;
-use crate::row::{LOCATION_LEN, Location, index_of, u32_be_at};
+use crate::row::{LOCATION_LEN, Location, index_of};
 use crate::table::LineTable;
 use crate::texts::handle;
 use byte_device::Placed;
-use checked_pages::{CheckFault, Pages};
+use checked_pages::{CheckFault, Pages, u32_be_at};
 use memory::Heap;
 
 /// How many frames an address has at most.
@@ -137,10 +137,6 @@ impl LineTable {
 
     /// The frames of an address of the file, the innermost first: a halving over the runs and one over the steps, and
     /// one location for each frame.
-    ///
-    /// # Errors
-    ///
-    /// Those of [`Pages::read`], and `Changed` also where what was read is no part of a line table.
     pub fn frames_at<P: Placed>(
         &self,
         heap: Heap,

@@ -10,11 +10,11 @@ ghost use Rattle.line_tables.specs.LineText.{parts_of};
 ghost use Rattle.line_tables.specs.Opened.{ReadsPart};
 
 use crate::frame::OwnedPath;
-use crate::row::{FILE_LEN, File, index_of, u32_be_at};
+use crate::row::{FILE_LEN, File, index_of};
 use crate::table::LineTable;
 use crate::texts::handle;
 use byte_device::Placed;
-use checked_pages::{CheckFault, Pages};
+use checked_pages::{CheckFault, Pages, u32_be_at};
 use memory::Heap;
 
 impl LineTable {

@@ -10,10 +10,10 @@ ghost use Rattle.line_tables.specs.LineTable.{IsLineTable, no_lines};
 ghost use Rattle.line_tables.specs.Opened.{IsOpened, StandsAt};
 ghost use Rattle.line_tables.specs.Steps.{AreFrameSteps, StepRecord};
 
-use crate::row::{FILE_LEN, LOCATION_LEN, RUN_LEN, STEP_LEN, TEXT_LEN, u64_be_at};
+use crate::row::{FILE_LEN, LOCATION_LEN, RUN_LEN, STEP_LEN, TEXT_LEN};
 use crate::table::{HEAD_LEN, LineTable};
 use byte_device::Placed;
-use checked_pages::{CheckFault, Pages};
+use checked_pages::{CheckFault, Pages, u64_be_at};
 
 /// What a head says: whether there are lines, and how many there are of each part.
 #[derive(Clone, Copy)]
@@ -92,10 +92,6 @@ impl Head {
 
 impl LineTable {
     /// The line table that stands among stored bytes from an offset on, and ends them; none where it has no lines.
-    ///
-    /// # Errors
-    ///
-    /// Those of [`Pages::read`], and `Changed` also where the head is that of no table that ends there.
     pub fn open<P: Placed>(
         device: &mut P,
         pages: &mut Pages,

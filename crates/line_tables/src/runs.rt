@@ -7,10 +7,10 @@ ghost use Rattle.line_tables.specs.Inner.{AreBelow, IsRunRow, run_halves, step_h
 ghost use Rattle.line_tables.specs.Opened.{IsOpened, IsUnstored, ReadsTable};
 ghost use Rattle.line_tables.specs.Steps.{AreAscending, StepRecord, starts_of};
 
-use crate::row::{RUN_LEN, Run, u32_be_at};
+use crate::row::{RUN_LEN, Run};
 use crate::table::LineTable;
 use byte_device::Placed;
-use checked_pages::{CheckFault, Pages};
+use checked_pages::{CheckFault, Pages, u32_be_at};
 
 impl LineTable {
     /// The run of an index.

@@ -9,10 +9,10 @@ ghost use Rattle.line_tables.specs.Opened.{IsOpened, IsUnstored, ReadsTable};
 ghost use Rattle.line_tables.specs.Steps.{AreAscending, IsStepFor, StepRecord, frames_at, starts_of};
 
 use crate::halves::{lower_half, upper_half};
-use crate::row::{STEP_LEN, Step, u32_be_at};
+use crate::row::{STEP_LEN, Step};
 use crate::table::LineTable;
 use byte_device::Placed;
-use checked_pages::{CheckFault, Pages};
+use checked_pages::{CheckFault, Pages, u32_be_at};
 
 impl LineTable {
     /// The step of an index.

@@ -10,10 +10,10 @@ ghost use Rattle.line_tables.specs.LineText.{parts_of};
 ghost use Rattle.line_tables.specs.Opened.{IsOpened, ReadsPart, ReadsTable};
 ghost use Rattle.line_tables.specs.Steps.{StepRecord};
 
-use crate::row::{TEXT_LEN, Text, index_of, u32_be_at};
+use crate::row::{TEXT_LEN, Text, index_of};
 use crate::table::LineTable;
 use byte_device::Placed;
-use checked_pages::{CheckFault, Pages};
+use checked_pages::{CheckFault, Pages, u32_be_at};
 use memory::Heap;
 
 /// A handle to the memory.

@@ -13,10 +13,6 @@ use checked_pages::{CheckFault, Claim, Pages};
 use memory::Heap;
 
 /// The bytes of the table that a claim names, and the offset among them from which on they are its lines.
-///
-/// # Errors
-///
-/// Those of [`Table::open`].
 pub fn open_lines<P: Placed>(
     heap: Heap,
     device: &mut P,

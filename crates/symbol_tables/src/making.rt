@@ -128,10 +128,6 @@ impl<'a> TableText<'a> {
 
     /// Writes the table as it is stored, after the first `done` bytes of a text, and says how many there are then. The
     /// digests are those of its pages.
-    ///
-    /// # Errors
-    ///
-    /// The writer failed; it has so many first bytes of the text as `written` says.
     pub fn write<W: Sink>(&self, digests: &[u8], w: &mut W, done: u128) -> Result<u128, WriteFault>
         requires digests { digests.now ≡ page_digests self.now }
         requires fits { done < 2 ^ 127 }

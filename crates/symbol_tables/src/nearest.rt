@@ -48,10 +48,6 @@ impl Table {
     }
 
     /// The nearest symbol of an address of the file.
-    ///
-    /// # Errors
-    ///
-    /// Those of [`checked_pages::Pages::read`].
     pub fn nearest<P: Placed>(
         &mut self,
         heap: Heap,

@@ -9,10 +9,10 @@ ghost use Rattle.symbol_tables.specs.Table.{FitsTable, TableParts, base_flag, ba
 ghost use Rattle.symbol_tables.specs.Opened.{IsHeadOf, IsOpened};
 
 use crate::head::Head;
-use crate::row::{ROW_LEN, u64_be_at};
+use crate::row::ROW_LEN;
 use crate::table::Table;
 use byte_device::Placed;
-use checked_pages::{CheckFault, Claim, Pages};
+use checked_pages::{CheckFault, Claim, Pages, u64_be_at};
 use memory::Heap;
 
 /// How many bytes the head has.
@@ -55,10 +55,6 @@ fn has_size(head: &Head, size: u64) -> bool
 
 impl Table {
     /// The table that a claim names, with its head read.
-    ///
-    /// # Errors
-    ///
-    /// `Changed` also where the head says of another size than the claim.
     pub fn open<P: Placed>(heap: Heap, device: &mut P, claim: Claim) -> Result<Table, CheckFault>
         ensures claim { IfOk result (λ table. table.pages.claim ≡ claim) }
         ensures read { ReadsStored P.whole P.failures device.old device.new result
