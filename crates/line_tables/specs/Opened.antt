@@ -1,8 +1,9 @@
 -- A line table that was opened, among the bytes of stored pages.
-use Rattle.std.specs.Prelude.{◌≡◌, ◌<◌, ◌≤◌, ◌^◌, ℕ, List, Option, Result, All, length, drop}
+use Rattle.std.specs.Prelude.{◌≡◌, ◌<◌, ◌^◌, ℕ, List, Option, Result, All, length}
 use Rattle.std.specs.List.{concat}
 use Rattle.checked_pages.specs.Pages.{AreStored}
 use Rattle.checked_pages.specs.Reading.{ReadsStored}
+use Rattle.checked_pages.specs.Standing.{IsRestFrom}
 use Rattle.checked_pages.specs.Views.{ArePagesOf, claim_view}
 use Rattle.checked_pages.specs.declared.fault.CheckFault.{CheckFault}
 use Rattle.checked_pages.specs.declared.pages.Pages.{Pages}
@@ -11,10 +12,6 @@ use Rattle.line_tables.specs.LineText.{LineParts, line_text, parts_of}
 use Rattle.line_tables.specs.Runs.{runs_of}
 use Rattle.line_tables.specs.Steps.{StepRecord}
 use Rattle.line_tables.specs.declared.table.LineTable.{LineTable}
-
--- these bytes stand among others from an offset on, and end them
-abbrev pub StandsAt : List ℕ → ℕ → List ℕ → Type 0
-StandsAt all offset bytes = (offset ≤ length all) × (drop offset all ≡ bytes)
 
 -- the numbers of a head are those of the parts of a table
 pub record IsHeadOf (table : LineTable) (parts : LineParts) : Type 0 where
@@ -34,7 +31,7 @@ pub record HaveWidths (steps : List StepRecord) : Type 0 where
 -- The bytes of these pages end with the table of these steps, which was opened.
 pub record IsOpened (table : LineTable) (pages : Pages) (text all : List ℕ) (steps : List StepRecord) : Type 0 where
   pub are_pages : ArePagesOf pages text all
-  pub stands : StandsAt all table.offset (line_text steps)
+  pub stands : IsRestFrom all table.offset (line_text steps)
   pub widths : HaveWidths steps
   pub head : IsHeadOf table (parts_of steps)
 

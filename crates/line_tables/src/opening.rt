@@ -4,10 +4,11 @@ ghost use Rattle.std.specs.Prelude.{◌≡◌, ◌+◌, ◌*◌, ℕ, List, IfSo
 ghost use Rattle.std.specs.Prelude.{take, drop};
 ghost use Rattle.std.specs.Int.{w64, from_be_bytes};
 ghost use Rattle.checked_pages.specs.Pages.{AreStored};
+ghost use Rattle.checked_pages.specs.Standing.{IsRestFrom};
 ghost use Rattle.checked_pages.specs.Views.{ArePagesOf, KeepsPages, claim_view};
 ghost use Rattle.checked_pages.specs.Reading.{ReadsStored};
 ghost use Rattle.line_tables.specs.LineTable.{IsLineTable, no_lines};
-ghost use Rattle.line_tables.specs.Opened.{IsOpened, StandsAt};
+ghost use Rattle.line_tables.specs.Opened.{IsOpened};
 ghost use Rattle.line_tables.specs.Steps.{AreFrameSteps, StepRecord};
 
 use crate::row::{FILE_LEN, LOCATION_LEN, RUN_LEN, STEP_LEN, TEXT_LEN};
@@ -100,11 +101,11 @@ impl LineTable {
         ensures claim { pages.new.claim ≡ pages.old.claim }
         ensures keeps { KeepsPages P.whole device.old pages.old pages.new }
         ensures read { ReadsStored P.whole P.failures device.old device.new result
-            (λ text found. (image all bytes : List ℕ) → ArePagesOf pages.old text all → StandsAt all offset bytes
+            (λ text found. (image all bytes : List ℕ) → ArePagesOf pages.old text all → IsRestFrom all offset bytes
             → IsLineTable image bytes → MatchOption found (bytes ≡ no_lines)
             (λ table. (steps : List StepRecord) × AreFrameSteps image steps × IsOpened table pages.new text all steps))
             (λ text. (image all bytes : List ℕ) → AreStored text (claim_view pages.old.claim) all
-            → ArePagesOf pages.old text all → StandsAt all offset bytes → IsLineTable image bytes → ⊥) }
+            → ArePagesOf pages.old text all → IsRestFrom all offset bytes → IsLineTable image bytes → ⊥) }
     {
         let mut bytes = [0; HEAD_LEN];
         pages.read(device, offset, &mut bytes)?;

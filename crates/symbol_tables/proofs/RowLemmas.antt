@@ -3,7 +3,7 @@ use Rattle.std.proofs.Common.{◌≡◌, ℕ, zero, suc, ◌+◌, ◌*◌, ◌-�
 use Rattle.std.specs.Prelude.{slice_index_or, All}
 use Rattle.std.specs.Int.{w32, w64, from_be_bytes}
 use Rattle.std.proofs.lemmas.List.{append-nil, take_at, drop_at, drop-drop, drop-take, take-take}
-use Rattle.symbol_tables.specs.Stored.{Stands}
+use Rattle.checked_pages.specs.Standing.{Stands}
 use Rattle.std.proofs.lemmas.Nat.{from_be_bytes-to_be_bytes_4, from_be_bytes-to_be_bytes_8}
 use Rattle.symbol_tables.specs.Rows.{row_bytes, rows_bytes, IsRow, AreRows}
 use Rattle.symbol_tables.specs.declared.row.Row.{Row}

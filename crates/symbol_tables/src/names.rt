@@ -5,7 +5,7 @@ ghost use Rattle.std.specs.List.{before_first};
 ghost use Rattle.checked_pages.specs.Pages.{AreStored};
 ghost use Rattle.checked_pages.specs.Views.{ArePagesOf, KeepsPages, claim_view};
 ghost use Rattle.checked_pages.specs.Reading.{ReadsStored};
-ghost use Rattle.symbol_tables.specs.Stored.{Stands};
+ghost use Rattle.checked_pages.specs.Standing.{Stands};
 
 use byte_device::Placed;
 use checked_pages::{CheckFault, Pages};

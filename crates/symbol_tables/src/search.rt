@@ -5,7 +5,7 @@ ghost use Rattle.checked_pages.specs.Pages.{AreStored};
 ghost use Rattle.checked_pages.specs.Views.{ArePagesOf, KeepsPages, claim_view};
 ghost use Rattle.checked_pages.specs.Reading.{ReadsStored};
 ghost use Rattle.symbol_tables.specs.Rows.{AreRows, IsRowFor, rows_bytes};
-ghost use Rattle.symbol_tables.specs.Stored.{Stands};
+ghost use Rattle.checked_pages.specs.Standing.{Stands};
 ghost use Rattle.symbol_tables.specs.declared.row.Row.{Row};
 
 use crate::row::{ROW_LEN, Row, row_of};

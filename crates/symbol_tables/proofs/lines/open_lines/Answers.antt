@@ -3,7 +3,7 @@ use Rattle.std.proofs.lemmas.Result.{err_from_is_err_and}
 use Rattle.checked_pages.specs.Pages.{AreStored, MayBeStored}
 use Rattle.checked_pages.specs.Views.{ArePagesOf, claim_view}
 use Rattle.checked_pages.proofs.ReadLemmas.{passed_on}
-use Rattle.symbol_tables.specs.Stored.{IsRestFrom}
+use Rattle.checked_pages.specs.Standing.{IsRestFrom}
 use Rattle.symbol_tables.proofs.TableLemmas.{lines_stand}
 use Rattle.symbol_tables.proofs.lines.open_lines.Goals as goal
 
