@@ -31,7 +31,7 @@ fn digests_len(claim: &Claim) -> Option<u64>
 {
     let len = DIGEST_LEN * pages_in(claim.size);
     let first = claim.offset.checked_add(len)?;
-    let _end = first.checked_add(claim.size)?;
+    first.checked_add(claim.size)?;
     Some(len)
 }
 

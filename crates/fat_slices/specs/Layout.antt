@@ -6,11 +6,11 @@ use Rattle.fat_slices.specs.declared.fat_arch.FatArch.{FatArch}
 use Rattle.fat_slices.specs.declared.file_kind.FileKind.{FileKind}
 use Rattle.fat_slices.specs.declared.file_kind.FileKind.TheVariants.{Thin, Universal, Universal64, Other}
 
--- uint32_t: the number in the four bytes from a place
+-- uint32_t: the number in the four bytes from an offset
 unfoldable pub u32_be_at : List ℕ → ℕ → ℕ
 u32_be_at bytes offset = big_number 4 (drop offset bytes)
 
--- uint64_t: the number in the eight bytes from a place
+-- uint64_t: the number in the eight bytes from an offset
 unfoldable pub u64_be_at : List ℕ → ℕ → ℕ
 u64_be_at bytes offset = big_number 8 (drop offset bytes)
 

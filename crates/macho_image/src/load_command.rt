@@ -51,7 +51,7 @@ pub(crate) fn split_command(bytes: &[u8]) -> Option<(&[u8], &[u8])>
 }
 
 impl<'a> LoadCommand<'a> {
-    /// The command of these bytes, which stand at a place of the image.
+    /// The command of these bytes, which stand at an offset of the image.
     #[tactic(auto, unfolding(crate::specs::Kinds::load_command))]
     pub(crate) fn of(offset: u32, bytes: &'a [u8]) -> LoadCommand<'a>
         requires room { HasRoom bytes.now }

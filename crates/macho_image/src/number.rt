@@ -5,7 +5,7 @@ ghost use Rattle.macho_image.specs.Layout.{u32_le_at, u64_le_at};
 
 use byteorder::{ByteOrder, LittleEndian};
 
-/// The number in the four bytes from a place.
+/// The number in the four bytes from an offset.
 #[tactic(auto, unfolding(crate::specs::Layout::u32_le_at))]
 pub(crate) fn number32(bytes: &[u8], offset: usize) -> u32
     requires { offset + 4 ≤ length bytes.now }

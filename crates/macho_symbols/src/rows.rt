@@ -76,7 +76,7 @@ fn collect_rows(heap: Heap, symbols: &Symbols<'_>) -> Result<Vec<Candidate, Heap
     rows_of_keys(heap, &scan, &keys)
 }
 
-/// The place behind the row at a place and those beside it.
+/// The index after the row of an index and those beside it.
 fn group_end(rows: &[Candidate], index: usize) -> usize
     requires { index < length rows.now }
     ensures behind { index < result }
@@ -125,7 +125,7 @@ pub(crate) fn sorted_rows(
     Ok(rows)
 }
 
-/// The place of the first row that is not before those that may answer.
+/// The index of the first row that is not before those that may answer.
 fn row_index(rows: &[Candidate], number: usize, address: u64) -> usize
     requires { AreFalling rows.now }
     ensures { IsPartitionPoint (λ r. is_before number address r ≡ true) (λ r. is_before number address r ≡ false)
