@@ -41,13 +41,13 @@ arch_size Universal64 = 32
 arch_size Other = 20
 
 -- where entry i of the table stands: the table directly follows its fat_header
-abbrev pub arch_place : List ℕ → ℕ → ℕ
-arch_place file i = 8 + arch_size (kind_of file) * i
+abbrev pub arch_offset : List ℕ → ℕ → ℕ
+arch_offset file i = 8 + arch_size (kind_of file) * i
 
 -- where the table ends
 abbrev pub table_end : List ℕ → ℕ
-table_end file = arch_place file (nfat_arch file)
+table_end file = arch_offset file (nfat_arch file)
 
 -- entry i of the table
 unfoldable pub arch_at : List ℕ → ℕ → FatArch
-arch_at file i = arch_of (kind_of file) (drop (arch_place file i) file)
+arch_at file i = arch_of (kind_of file) (drop (arch_offset file i) file)

@@ -1,7 +1,6 @@
 -- The names of directories and files in the header of a line number program (DWARF 5, section 6.2.4). What cannot be
 -- read leaves the header without names.
-use Rattle.std.specs.Prelude.{ℕ, List, [], ◌∷◌, ◌==◌, length}
-use Rattle.std.specs.Prelude.{Option, Some, None, if◌then◌else◌}
+use Rattle.std.specs.Prelude.{ℕ, List, [], ◌∷◌, ◌==◌, length, Option, Some, None, if◌then◌else◌}
 use Rattle.std.specs.Option.{option_map, option_and_then, option_or, unwrap_or}
 use Rattle.dwarf_numbers.specs.Leb128.{unsigned_leb128_at}
 use Rattle.dwarf_numbers.specs.Text.{text_at}

@@ -14,7 +14,7 @@ pub(crate) fn number32(bytes: &[u8], offset: usize) -> u32
     LittleEndian::read_u32(&bytes[offset..])
 }
 
-/// The number in the eight bytes from a place.
+/// The number in the eight bytes from an offset.
 #[tactic(auto, unfolding(crate::specs::Layout::u64_le_at))]
 pub(crate) fn number64(bytes: &[u8], offset: usize) -> u64
     requires { offset + 8 ≤ length bytes.now }

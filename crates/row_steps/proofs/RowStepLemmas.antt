@@ -11,9 +11,8 @@ use Rattle.line_programs.specs.Inner.{covers, covered, covering_with}
 use Rattle.line_programs.specs.declared.registers.Row.{Row}
 use Rattle.row_steps.specs.AddressSteps.{at_step}
 use Rattle.row_steps.specs.RowCover.{AreKnown, Covers}
-use Rattle.waiting_indexes.specs.Rising.{IsCountBelow}
+use Rattle.waiting_indexes.specs.Rising.{IsCountBelow, AreRising}
 use Rattle.row_steps.specs.RowSteps.{AreRowSteps}
-use Rattle.waiting_indexes.specs.Rising.{AreRising}
 use Rattle.line_programs.proofs.CoveringLemmas.{IsCovered, covering_with-is, step_end, step_none, step_some}
 
 test_true : (a : ℕ) (last row : Row) → covers a last row ≡ true → IsCovered a last row

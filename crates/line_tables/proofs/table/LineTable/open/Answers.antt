@@ -1,8 +1,7 @@
-use Rattle.std.proofs.Common.{length, Err, ap, sym, ◌∙◌, arith}
+use Rattle.std.proofs.Common.{length, Err, ap, sym, ◌∙◌, arith, length-drop}
 use Rattle.std.proofs.lemmas.Result.{err_from_is_err_and}
 use Rattle.checked_pages.proofs.ReadLemmas.{passed_on}
 use Rattle.line_tables.proofs.OpeningLemmas.{head_read, opens_none, opens_not, opens_some, table_long}
-use Rattle.std.proofs.Common.{length-drop}
 use Rattle.line_tables.proofs.table.LineTable.open.Goals as goal
 
 pub returns-in_err-read-clause-read : goal.returns-in_err-read-clause-read
