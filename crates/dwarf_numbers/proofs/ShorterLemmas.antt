@@ -36,29 +36,29 @@ text_shorter bytes x e = elim (cases_Bool (nat_lt (position_or_len is_nul bytes)
 ]
 
 -- what is read leaves at most so many bytes
-pub record Leaves (count : ℕ) (read : Option (ValueRecord × List ℕ)) : Type 0 where
-  pub most : (x : ValueRecord × List ℕ) → read ≡ Some x → length x.1 ≤ count
+pub record Leaves {A : Type 0} (count : ℕ) (read : Option (A × List ℕ)) : Type 0 where
+  pub most : (x : A × List ℕ) → read ≡ Some x → length x.1 ≤ count
 
-leaves_nothing : (count : ℕ) → Leaves count None
+pub leaves_nothing : {A : Type 0} (count : ℕ) → Leaves {A = A} count None
 leaves_nothing count = record { most = λ x e. absurd (none-some x e) }
 
-leaves_some : (v : ValueRecord) (count : ℕ) (rest : List ℕ) → length rest ≤ count → Leaves count (Some (v, rest))
+pub leaves_some : {A : Type 0} (v : A) (count : ℕ) (rest : List ℕ) → length rest ≤ count → Leaves count (Some (v, rest))
 leaves_some v count rest h = record {
   most = λ x e.
       let same : (v, rest) ≡ x = cc e in
-      omega (arith, ap (λ (z : ValueRecord × List ℕ). length z.1) same);
+      omega (arith, ap (λ z. length z.1) same);
 }
 
-leaves_either : (b : Bool) (count : ℕ) (read other : Option (ValueRecord × List ℕ)) → Leaves count read → Leaves count other → Leaves count (cond b read other)
+pub leaves_either : {A : Type 0} (b : Bool) (count : ℕ) (read other : Option (A × List ℕ)) → Leaves count read → Leaves count other → Leaves count (cond b read other)
 leaves_either true count read other h k = h
 leaves_either false count read other h k = k
 
 -- a value that is made of a number
-leaves_number : (last : ℕ → ℕ) (f : ℕ → ValueRecord) (bytes : List ℕ) → Leaves (length bytes) (option_map (λ x. (f x.0, x.1)) (leb128_at last bytes))
+pub leaves_number : {A : Type 0} (last : ℕ → ℕ) (f : ℕ → A) (bytes : List ℕ) → Leaves (length bytes) (option_map (λ x. (f x.0, x.1)) (leb128_at last bytes))
 leaves_number last f bytes = record {
   most = λ x e.
       let y = mapped_some (λ (z : ℕ × List ℕ). (f z.0, z.1)) (leb128_at last bytes) x e in
-      omega (arith, leb128_shorter last bytes y.0 y.1, ap (λ (z : ValueRecord × List ℕ). length z.1) y.2);
+      omega (arith, leb128_shorter last bytes y.0 y.1, ap (λ z. length z.1) y.2);
 }
 
 leaves_text : (bytes : List ℕ) → Leaves (length bytes) (option_map (λ x. (InlineString_ x.0, x.1)) (text_at bytes))

@@ -32,7 +32,7 @@ use Rattle.function_links.proofs.ChainLemmas.{entries_of, is_chain}
 use Rattle.function_links.proofs.MakingLemmas.{get_there}
 use Rattle.function_links.proofs.PartLemmas.{all_ranges}
 use Rattle.function_links.proofs.TakingLemmas.{after_not}
-use Rattle.row_steps.proofs.RowStepLemmas.{rising_rest}
+use Rattle.waiting_indexes.proofs.RisingLists.{rising_rest}
 use Rattle.row_steps.proofs.RowStepLemmas.{above_first}
 
 -- ---- where ranges begin and end

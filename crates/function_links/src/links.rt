@@ -16,7 +16,7 @@ use crate::making::Making;
 use crate::taking::Taking;
 use code_ranges::CodeRange;
 use memory::{Heap, NoMemory};
-use source_frames::{DebugInfo, DebugUnit, Place};
+use source_frames::{DebugInfo, DebugUnit, SourceLocation};
 use unit_functions::Functions;
 use waiting_indexes::{Waiting, sorted_once};
 
@@ -28,7 +28,7 @@ pub struct Link<'a> {
     /// The number of the name: links of one number have the same name.
     pub name_number: usize,
     /// The place of the call that it is.
-    pub call: Place,
+    pub call: SourceLocation,
     /// The number of the link that it stands in, from 1 on, or 0.
     pub caller: usize,
     /// The index of the function.

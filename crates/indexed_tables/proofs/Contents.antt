@@ -8,7 +8,7 @@ use Rattle.std.proofs.lemmas.List.Concat.{flat_map-append}
 use Rattle.join_core.specs.Listing.{listing}
 use Rattle.checked_pages.specs.Pages.{AreStored, page_digests, pages_in, stored}
 use Rattle.checked_pages.proofs.PageLemmas.{length-digests, may_be}
-use Rattle.symbol_tables.specs.Asked.{IsSaid}
+use Rattle.symbol_tables.specs.Found.{IsSaid}
 use Rattle.symbol_tables.specs.Steps.{AreBytes}
 use Rattle.symbol_tables.specs.Table.{IsTableText}
 use Rattle.symbol_tables.specs.declared.nearest.NearestSymbol.{NearestSymbol}

@@ -2,7 +2,7 @@
 use Rattle.std.specs.Prelude.{◌≡◌, ◌<◌, ◌*◌, ℕ, List, Option}
 use Rattle.sha2.specs.Sha256.{sha256}
 use Rattle.checked_pages.specs.Pages.{Claim, MayBeStored, digests_in, page_digests, page_in, page_of}
-use Rattle.symbol_tables.specs.Asked.{IsSaid}
+use Rattle.symbol_tables.specs.Found.{IsSaid}
 use Rattle.symbol_tables.specs.Steps.{AreBytes}
 use Rattle.symbol_tables.specs.Table.{IsTableText}
 use Rattle.symbol_tables.specs.declared.nearest.NearestSymbol.{NearestSymbol}

@@ -4,12 +4,10 @@
 //!
 //! The modules in reading order: `opcodes`, the constants; `header`; `names`, the names of directories and files, as
 //! `name_lists` (versions 2 to 4) and `name_entries` (version 5) read them; `path`, the paths of files; `instruction`,
-//! and `reading`, how an instruction is written; `registers`; `rows`, one after another; `covering`, whether a
-//! row covers an address, and `one_pass`, the rows of many addresses in one pass; `laws`, what the definitions say of each
-//! other.
+//! and `reading`, how an instruction is written; `registers`; `rows`, one after another; `one_pass`, the rows of
+//! many addresses in one pass; `laws`, what the definitions say of each other.
 #![tactic(auto)]
 
-mod covering;
 mod header;
 mod instruction;
 pub mod laws;

@@ -2,7 +2,7 @@
 
 ghost use Rattle.std.specs.Prelude.{◌≡◌, ◌<◌, ◌≤◌, ◌++◌, ◌∷◌, [], ℕ, List, Some, IfErr, OnOk, length};
 ghost use Rattle.checked_pages.specs.Pages.{AreStored};
-ghost use Rattle.checked_pages.specs.Views.{ArePagesOf, claim_view};
+ghost use Rattle.checked_pages.specs.Views.{KeepsPages, claim_view};
 ghost use Rattle.checked_pages.specs.Reading.{ReadsStored};
 ghost use Rattle.source_frames.specs.AddressFrames.{AreFramesOf};
 ghost use Rattle.source_frames.specs.Frames.{FrameRecord};
@@ -14,11 +14,11 @@ ghost use Rattle.line_tables.specs.Steps.{AreFrameSteps, StepRecord};
 
 use crate::frame::OwnedFrame;
 use crate::laws::frames_by_step;
-use crate::row::{LOCATION_LEN, Location, index_of, u32_be_at};
+use crate::row::{LOCATION_LEN, Location, index_of};
 use crate::table::LineTable;
 use crate::texts::handle;
 use byte_device::Placed;
-use checked_pages::{CheckFault, Pages};
+use checked_pages::{CheckFault, Pages, u32_be_at};
 use memory::Heap;
 
 /// How many frames an address has at most.
@@ -44,8 +44,7 @@ impl LineTable {
         number: u32,
     ) -> Result<Location, CheckFault>
         ensures claim { pages.new.claim ≡ pages.old.claim }
-        ensures keeps { (text all : List ℕ) → P.whole device.old ≡ Some text → ArePagesOf pages.old text all
-            → ArePagesOf pages.new text all }
+        ensures keeps { KeepsPages P.whole device.old pages.old pages.new }
         ensures read { ReadsStored P.whole P.failures device.old device.new result
             (λ text row. (all : List ℕ) (steps : List StepRecord) (frame : FrameRecord) (callers : List FrameRecord)
             → IsOpened self.now pages.old text all steps
@@ -79,8 +78,7 @@ impl LineTable {
         row: Location,
     ) -> Result<OwnedFrame, CheckFault>
         ensures claim { pages.new.claim ≡ pages.old.claim }
-        ensures keeps { (text all : List ℕ) → P.whole device.old ≡ Some text → ArePagesOf pages.old text all
-            → ArePagesOf pages.new text all }
+        ensures keeps { KeepsPages P.whole device.old pages.old pages.new }
         ensures read { ReadsStored P.whole P.failures device.old device.new result
             (λ text frame. (all : List ℕ) (steps : List StepRecord) (told : FrameRecord) (callers : List FrameRecord)
             → IsOpened self.now pages.old text all steps → IsLocation (parts_of steps) row told callers
@@ -109,8 +107,7 @@ impl LineTable {
         location: u32,
     ) -> Result<Vec<OwnedFrame, Heap>, CheckFault>
         ensures claim { pages.new.claim ≡ pages.old.claim }
-        ensures keeps { (text all : List ℕ) → P.whole device.old ≡ Some text → ArePagesOf pages.old text all
-            → ArePagesOf pages.new text all }
+        ensures keeps { KeepsPages P.whole device.old pages.old pages.new }
         ensures read { ReadsStored P.whole P.failures device.old device.new result
             (λ text frames. (all : List ℕ) (steps : List StepRecord) (chain : List FrameRecord)
             → IsOpened self.now pages.old text all steps → IsMaybeChain (parts_of steps) location chain
@@ -140,10 +137,6 @@ impl LineTable {
 
     /// The frames of an address of the file, the innermost first: a halving over the runs and one over the steps, and
     /// one location for each frame.
-    ///
-    /// # Errors
-    ///
-    /// Those of [`Pages::read`], and `Changed` also where what was read is no part of a line table.
     pub fn frames_at<P: Placed>(
         &self,
         heap: Heap,
@@ -152,8 +145,7 @@ impl LineTable {
         address: u64,
     ) -> Result<Vec<OwnedFrame, Heap>, CheckFault>
         ensures claim { pages.new.claim ≡ pages.old.claim }
-        ensures keeps { (text all : List ℕ) → P.whole device.old ≡ Some text → ArePagesOf pages.old text all
-            → ArePagesOf pages.new text all }
+        ensures keeps { KeepsPages P.whole device.old pages.old pages.new }
         ensures read { ReadsStored P.whole P.failures device.old device.new result
             (λ text frames. (image all : List ℕ) (steps : List StepRecord) → AreFrameSteps image steps
             → IsOpened self.now pages.old text all steps → AreFramesOf image address (owned_frames frames.items))

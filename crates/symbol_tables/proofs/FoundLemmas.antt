@@ -13,9 +13,8 @@ use Rattle.macho_image.specs.Kinds.{segments}
 use Rattle.macho_image.specs.Sections.{SectionRecord, section_record, section_records, sections, sections_in, section_of}
 use Rattle.macho_symbols.specs.Symbols.{Tuple}
 use Rattle.macho_symbols.specs.Found.{FindsNearest, found_of}
-use Rattle.symbol_tables.specs.Asked.{IsSaid}
+use Rattle.symbol_tables.specs.Found.{IsSaid, names_at, owned_view}
 use Rattle.symbol_tables.specs.Table.{FitsTable, IsTableOf, head_bytes, SectionNames, TableParts, names_of, padded, section_bytes, table_bytes, zeros}
-use Rattle.symbol_tables.specs.Found.{names_at, owned_view}
 use Rattle.symbol_tables.specs.declared.found.OwnedFound.{OwnedFound}
 use Rattle.macho_symbols.proofs.Pieces.{before_nul, before_other}
 use Rattle.symbol_tables.proofs.TableLemmas.{length-head, length-padded}

@@ -72,14 +72,14 @@ head_along t base n r s l b p q e f = λ i. head_of_numbers (b i) (p i) (q i) (e
 abbrev parts_for : List ℕ → List Row → List ℕ → TableParts
 parts_for image rows lines = record { base = text_base_of image; names = map names_of (take 255 (sections image)); rows = rows; strings = strings_of image; lines = lines }
 
-pub text_is : (image : List ℕ) (ss : List Section) (rows : List Row) (base : Option ℕ) (n r s l : ℕ) (none one two front strings lines : List ℕ) → AreSectionsOf image ss → AreSteps image rows
+pub text_is : (image : List ℕ) (ss : List Section) (rows : List Row) (base : Option ℕ) (n r s l : ℕ) (none one two own strings lines : List ℕ) → AreSectionsOf image ss → AreSteps image rows
     → base ≡ text_base_of image → strings ≡ strings_of image → n ≡ length ss → r ≡ length rows → s ≡ length strings → l ≡ length lines → base_or_zero base < 2 ^ 64 → All IsRow rows
     → none ≡ []
     → one ≡ none ++ (to_be_bytes w64 (base_flag base) ++ (to_be_bytes w64 (base_or_zero base) ++ (to_be_bytes w64 n ++ (to_be_bytes w64 r ++ (to_be_bytes w64 s ++ to_be_bytes w64 l)))))
     → two ≡ one ++ flat_map (λ s. section_bytes (names_of (section_view s))) ss
-    → front ≡ two ++ rows_bytes rows → length front + length strings + length lines < 2 ^ 64 → IsTableWith image lines (front ++ (strings ++ lines))
+    → own ≡ two ++ rows_bytes rows → length own + length strings + length lines < 2 ^ 64 → IsTableWith image lines (own ++ (strings ++ lines))
 unfolding head_of_numbers table_bytes
-text_is image ss rows base n r s l none one two front strings lines of are b str long_n long_r long_s long_l fits each empty first second third small =
+text_is image ss rows base n r s l none one two own strings lines of are b str long_n long_r long_s long_l fits each empty first second third small =
     (parts_for image rows lines, record { base = refl; names = refl; rows = are; strings = refl }, fitting, same, refl)
   where
     t : TableParts
@@ -91,17 +91,17 @@ text_is image ss rows base n r s l none one two front strings lines of are b str
     long_names : length ss ≡ length t.names
     long_names = omega (arith, ap length names_are, length-map (map section_view ss) names_of, length-map ss section_view)
 
-    front_is : front ≡ (head_bytes t ++ flat_map section_bytes t.names) ++ rows_bytes rows
-    front_is =
+    own_is : own ≡ (head_bytes t ++ flat_map section_bytes t.names) ++ rows_bytes rows
+    own_is =
         let head : one ≡ head_bytes t =
         first ∙ ap (λ x. x ++ head_of_numbers base n r s l) empty ∙ head_along t base n r s l b (long_n ∙ long_names) long_r (long_s ∙ ap length str) long_l in
         let names : flat_map (λ s. section_bytes (names_of (section_view s))) ss ≡ flat_map section_bytes t.names = names_along ss ∙ ap (flat_map section_bytes) names_are in
         third ∙ (λ i. (second ∙ (λ j. head j ++ names j)) i ++ rows_bytes rows)
 
-    same : front ++ (strings ++ lines) ≡ table_bytes t
+    same : own ++ (strings ++ lines) ≡ table_bytes t
     same =
         let names : List ℕ = flat_map section_bytes t.names in
-        (λ i. front_is i ++ (str i ++ lines)) ∙ append_assoc (head_bytes t ++ names) (rows_bytes rows) (strings_of image ++ lines)
+        (λ i. own_is i ++ (str i ++ lines)) ∙ append_assoc (head_bytes t ++ names) (rows_bytes rows) (strings_of image ++ lines)
         ∙ append_assoc (head_bytes t) names (rows_bytes rows ++ (strings_of image ++ lines))
 
     fitting : FitsTable t
@@ -115,7 +115,7 @@ text_is image ss rows base n r s l none one two front strings lines of are b str
               omega (
                 arith,
                 small,
-                ap length front_is,
+                ap length own_is,
                 ap length str,
                 length-append (head_bytes t ++ names) (rows_bytes rows),
                 length-append (head_bytes t) names,
@@ -147,7 +147,7 @@ part_of_both a b from n = elim (cases_lt (length a) from) [
       let nothing : take n (drop from a) ≡ [] = ap (take n) past ∙ take-nil n in
       let whole : n ≡ n - length (take n (drop from a)) = omega (arith, ap length nothing) in
       ap (λ k. take n (drop k (a ++ b))) rest ∙ ap (take n) (drop-append-add a b (from - length a)) ∙ ap (λ k. take k (drop (from - length a) b)) whole
-      ∙ ap (λ front. front ++ take (n - length (take n (drop from a))) (drop (from - length a) b)) (sym nothing)
+      ∙ ap (λ own. own ++ take (n - length (take n (drop from a))) (drop (from - length a) b)) (sym nothing)
   | inr l ↦
       let here : 0 ≡ from - length a = omega (arith, l) in
       ap (take n) (drop-append-le from a b l) ∙ take_of_both (drop from a) b n ∙ ap (λ k. take n (drop from a) ++ take (n - length (take n (drop from a))) (drop k b)) here

@@ -1,20 +1,17 @@
 -- Rows in the bytes of a table.
-use Rattle.std.proofs.Common.{◌≡◌, ℕ, zero, suc, ◌+◌, ◌*◌, ◌-◌, ◌<◌, ◌≤◌, List, [], ◌∷◌, ◌++◌, length, take, drop, get_or, refl, sym, ap, ◌∙◌, subst, arith, length-append, append_assoc, slice_get, Some}
-use Rattle.std.specs.Prelude.{slice_index_or, All}
+use Rattle.std.proofs.Common.{◌≡◌, ℕ, zero, suc, ◌+◌, ◌*◌, ◌-◌, ◌<◌, ◌≤◌, List, [], ◌∷◌, ◌++◌, length, take, drop, get_or, refl, sym, ap, ◌∙◌, subst, arith, length-append, append_assoc, slice_get, Some, inl, inr, true, false, nat_le}
+use Rattle.std.specs.Prelude.{slice_index_or, All, Option, None, MatchOption}
 use Rattle.std.specs.Int.{w32, w64, from_be_bytes}
 use Rattle.std.proofs.lemmas.List.{append-nil, take_at, drop_at, drop-drop, drop-take, take-take}
-use Rattle.symbol_tables.specs.Stored.{Stands}
+use Rattle.checked_pages.specs.Standing.{Stands}
 use Rattle.std.proofs.lemmas.Nat.{from_be_bytes-to_be_bytes_4, from_be_bytes-to_be_bytes_8}
-use Rattle.symbol_tables.specs.Rows.{row_bytes, rows_bytes, IsRow, AreRows}
+use Rattle.symbol_tables.specs.Rows.{row_bytes, rows_bytes, IsRow, AreRows, IsRowFor, IsLastNotAbove, AreAbove}
 use Rattle.symbol_tables.specs.declared.row.Row.{Row}
-use Rattle.std.specs.Prelude.{Option, None, MatchOption}
 use Rattle.std.proofs.lemmas.Option.{slice_get_within, get_or_from_slice_get, slice_get-get_or}
 use Rattle.std.proofs.lemmas.Bool.{cases_lt}
 use Rattle.std.proofs.lemmas.List.Elements.{All-get_or, All-head, All-tail}
-use Rattle.std.proofs.Common.{inl, inr, true, false, nat_le}
 use Rattle.std.specs.List.Sorted.{IsPartitionPoint}
 use Rattle.std.proofs.lemmas.Bool.Decides.{nat_tests}
-use Rattle.symbol_tables.specs.Rows.{IsRowFor, IsLastNotAbove, AreAbove}
 
 pub length-row_bytes : (r : Row) → length (row_bytes r) ≡ 21
 unfolding row_bytes

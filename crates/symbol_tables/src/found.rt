@@ -91,10 +91,6 @@ impl Table {
     }
 
     /// What is found for an address of the file.
-    ///
-    /// # Errors
-    ///
-    /// Those of [`checked_pages::Pages::read`].
     pub fn found<P: Placed>(
         &mut self,
         heap: Heap,

@@ -6,7 +6,7 @@ ghost use Rattle.checked_pages.specs.Views.{claim_view};
 ghost use Rattle.checked_pages.specs.Reading.{ReadsStored};
 ghost use Rattle.symbol_tables.specs.Steps.{AreBytes};
 ghost use Rattle.symbol_tables.specs.Table.{IsTableOf, TableParts, table_bytes};
-ghost use Rattle.symbol_tables.specs.Asked.{IsSaid};
+ghost use Rattle.symbol_tables.specs.Found.{IsSaid};
 ghost use Rattle.symbol_tables.specs.Opened.{IsOpened};
 
 use crate::opening::{HEAD_LEN, SECTION_LEN};
@@ -48,10 +48,6 @@ impl Table {
     }
 
     /// The nearest symbol of an address of the file.
-    ///
-    /// # Errors
-    ///
-    /// Those of [`checked_pages::Pages::read`].
     pub fn nearest<P: Placed>(
         &mut self,
         heap: Heap,

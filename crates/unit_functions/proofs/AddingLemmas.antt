@@ -8,7 +8,7 @@ use Rattle.debug_entries.specs.Entries.{EntryRecord}
 use Rattle.source_frames.specs.ChainSteps.{scope_of}
 use Rattle.source_frames.specs.DebugSections.{DebugSectionsRecord}
 use Rattle.source_frames.specs.DebugUnits.{UnitRecord}
-use Rattle.source_frames.specs.Frames.{place_of_call}
+use Rattle.source_frames.specs.Frames.{location_of_call}
 use Rattle.source_frames.specs.Names.{IsName}
 use Rattle.source_frames.specs.Scopes.{ScopeRecord, is_function, scope_ranges}
 use Rattle.unit_functions.specs.OpenFunctions.{Adds, Closes, Takes}
@@ -18,7 +18,7 @@ use Rattle.source_frames.proofs.SettledLemmas.{no_ranges}
 
 -- a function of the entry
 pub adds_one : (s : DebugSectionsRecord) (unit : UnitRecord) (scope : ScopeRecord) (ranges next : List CodeRange) (opened now_open : List Open) (functions after : List Function) (f : Function) (index : ℕ) → next ≡ ranges ++ scope.ranges → length next ≢ length ranges → index ≡ length functions
-    → IsName s (record { unit = unit; entry = scope.entry }) (option_map (λ n. n.now) f.name) → f.call ≡ place_of_call scope.entry → f.end ≡ index + 1 → f.ranges_end ≡ length next
+    → IsName s (record { unit = unit; entry = scope.entry }) (option_map (λ n. n.now) f.name) → f.call ≡ location_of_call scope.entry → f.end ≡ index + 1 → f.ranges_end ≡ length next
     → after ≡ functions ++ f ∷ [] → now_open ≡ opened ++ record { depth = scope.depth; index = index } ∷ [] → Adds s unit scope (length next) opened now_open functions after
 adds_one s unit scope ranges next opened now_open functions after f index more other last name call end ranges_end pushed opens = record {
   without = λ none. absurd (other (ap (λ (rs : List CodeRange). length rs) (more ∙ ap (λ (rs : List CodeRange). ranges ++ rs) none ∙ append-nil ranges)));

@@ -14,7 +14,7 @@ use crate::origins::Origins;
 use code_ranges::{CodeRange, Ranges, UnitRanges};
 use debug_entries::{Entries, Entry, UnreadEntry};
 use memory::{Heap, NoMemory};
-use source_frames::{DebugInfo, DebugUnit, Place, is_function, scope_ranges};
+use source_frames::{DebugInfo, DebugUnit, SourceLocation, is_function, scope_ranges};
 
 /// A function of a unit.
 #[derive(Clone, Copy)]
@@ -24,7 +24,7 @@ pub struct Function<'a> {
     /// The number of its name: functions of one number have the same name.
     pub name_number: usize,
     /// The place of the call that it is.
-    pub call: Place,
+    pub call: SourceLocation,
     /// How many functions there are up to the last that stands in it.
     pub end: usize,
     /// How many ranges there are up to its last.
@@ -105,7 +105,7 @@ impl<'a> Functions<'a> {
         self.functions.push(Function {
             name: named.name,
             name_number: named.number,
-            call: Place::of_call(entry),
+            call: SourceLocation::of_call(entry),
             end: index + 1,
             ranges_end: self.ranges.len(),
         })?;

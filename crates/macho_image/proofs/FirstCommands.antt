@@ -6,7 +6,7 @@ use Rattle.std.proofs.Math.Seq.{take-append_seam}
 use Rattle.byteorder.specs.Endian.{little_number}
 use Rattle.byteorder.specs.Numbers.{little_from-append}
 use Rattle.macho_image.specs.Layout.{u32_le_at}
-use Rattle.macho_image.specs.Commands.{IsCommand, IsFront}
+use Rattle.macho_image.specs.Commands.{IsCommand, AreFirst}
 use Rattle.macho_image.specs.Inner.{HasNoCommand}
 
 -- a number is that of the bytes in front, whatever follows them
@@ -38,8 +38,8 @@ fronts_agree (x ∷ xs) (y ∷ ys) r t px py e h =
     (tails.0, cc (heads.0, tails.1), tails.2, tails.3)
 
 -- there is at most one front of a length
-pub one_front : (bytes : List ℕ) (count : ℕ) (xs ys : List (List ℕ)) → IsFront bytes count xs → IsFront bytes count ys → xs ≡ ys
-one_front bytes count xs ys px py =
+pub one_list_of_commands : (bytes : List ℕ) (count : ℕ) (xs ys : List (List ℕ)) → AreFirst bytes count xs → AreFirst bytes count ys → xs ≡ ys
+one_list_of_commands bytes count xs ys px py =
     let found = fronts_agree xs ys px.rest py.rest px.each py.each (sym px.begins ∙ py.begins) (omega (arith, px.number, py.number)) in
     let none : length found.0 ≡ 0 = omega (arith, px.number, py.number, ap length found.1, length-append xs found.0) in
     let empty : found.0 ≡ [] = nil_from_length found.0 none in

@@ -1,4 +1,4 @@
--- What is read of a stored table.
+-- Where bytes stand among stored ones.
 use Rattle.std.specs.Prelude.{◌≡◌, ◌+◌, ◌≤◌, ℕ, List, length, take, drop}
 
 -- these bytes stand among others from an offset on

@@ -2,7 +2,7 @@ use Rattle.std.proofs.Common.{rules}
 use Rattle.std.proofs.lemmas.List.Sorted.{IsPartitionPoint-from_clause}
 use Rattle.macho_symbols.specs.Halving.{is_before}
 use Rattle.macho_symbols.proofs.RowLemmas.{partitioned}
-use Rattle.macho_symbols.proofs.rows.place_of.Goals as goal
+use Rattle.macho_symbols.proofs.rows.row_index.Goals as goal
 
 pub returns : goal.returns
 returns c =
