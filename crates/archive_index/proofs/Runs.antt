@@ -20,6 +20,7 @@ use Rattle.archive_core.specs.Part.{is_under}
 use Rattle.archive_core.proofs.Compare.{slice_cmp-append}
 use Rattle.archive_core.proofs.Made.{and_left, and_right, bytes_same, by_test}
 use Rattle.archive_index.specs.Runs.{IsRun, is_tagged}
+use Rattle.join_core.proofs.Search.{eq_of_lt, eq_of_gt, eq_of_both}
 
 abbrev order : List ℕ → List ℕ → Ordering
 order = slice_cmp nat_cmp
@@ -73,16 +74,6 @@ tagged tag front (x ∷ xs) some =
     let tag_is : x ≡ tag = eqb-true x tag (and_left _ _ h) in
     let front_is : front ≡ take (length front) xs = (bytes_eq-Decides front (take (length front) xs)).0 (and_right (eqb x tag) _ h) in
     ap (λ (l : List ℕ). is_eq (order l (tag ∷ front))) (first ∙ (λ i. tag_is i ∷ sym front_is i)) ∙ ap is_eq (tied_itself nat_list_cmp_total (tag ∷ front)))
-
--- the three tests of a comparison
-eq_of_lt : (r : Ordering) → is_lt r ≡ true → is_eq r ≡ false
-eq_of_lt r h = grind arith
-
-eq_of_gt : (r : Ordering) → is_le r ≡ false → is_eq r ≡ false
-eq_of_gt r h = grind arith
-
-eq_of_both : (r : Ordering) → is_lt r ≡ false → is_le r ≡ true → is_eq r ≡ true
-eq_of_both r h g = grind arith
 
 le_of_lt : (r : Ordering) → is_lt r ≡ true → is_le r ≡ true
 le_of_lt r h = grind arith

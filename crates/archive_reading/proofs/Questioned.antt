@@ -11,7 +11,7 @@ use Rattle.std.specs.Cmp.{tied_itself}
 use Rattle.std.specs.Cmp.Lexicographic.{nat_list_cmp_total}
 use Rattle.std.specs.FinSet as set
 use Rattle.std.specs.FinSet.{contains, contains-empty, same_set}
-use Rattle.std.proofs.lemmas.Bool.{false≢true, eqb-true}
+use Rattle.std.proofs.lemmas.Bool.{false≢true, eqb-true, and_from}
 use Rattle.std.proofs.lemmas.List.{append-nil, take_at, drop_at, drop-drop}
 use Rattle.std.proofs.lemmas.List.Elements.{Contains-append_cases, Contains-append_left, Contains-push_cases}
 use Rattle.std.proofs.lemmas.List.Sorted.{ranks_by}
@@ -25,7 +25,7 @@ use Rattle.archive_core.specs.Part.{part}
 use Rattle.archive_core.specs.declared.keys.SliceKey.{SliceKey}
 use Rattle.archive_core.specs.declared.keys.Digest.{Digest}
 use Rattle.archive_core.specs.declared.operations.Operation.TheVariants.{Retire}
-use Rattle.archive_core.proofs.Made.{and_false, uncovered_of_made}
+use Rattle.archive_core.proofs.Made.{and_false, uncovered_of_made, and_left, and_right, bytes_same}
 use Rattle.archive_core.proofs.Picked.{contains_part}
 use Rattle.archive_records.specs.declared.format.Format.TheVariants.{Archive}
 use Rattle.archive_records.specs.declared.kind.TextKind.TheVariants.{Archive as Archive_text}
@@ -33,8 +33,7 @@ use Rattle.archive_records.specs.Text.{InOrder}
 use Rattle.archive_reading.specs.InnerKeys.{AreAsked, Begins, IsHeldUnder, admits_under, front_of, is_first, is_passed}
 use Rattle.archive_reading.specs.Keys.{AnswersAs, AreInOrder, first_key}
 use Rattle.archive_records.specs.Reader.{MakeThemselves, set_of}
-use Rattle.archive_records.proofs.Puts.{bytes_same}
-use Rattle.archive_records.proofs.Apart.{and_first, and_second, both_true, from_set, in_set, is_false}
+use Rattle.archive_records.proofs.Apart.{from_set, in_set, is_false}
 use Rattle.archive_records.proofs.Ascending.{InOrder-behind, all_above, cons_cases, less_of}
 use Rattle.archive_records.proofs.Contents.{order}
 use Rattle.archive_core.proofs.Retired.{begins_below}
@@ -123,12 +122,12 @@ module _ (records behind : List (List ℕ)) (key : SliceKey) (held : Operations)
   in_whole : (slice : List ℕ) → contains held (admission_record slice) ≡ true → contains whole (admission_record slice) ≡ true
   in_whole slice h =
       let r = admission_record slice in
-      in_set (records ++ behind) r (Contains-append_left records behind r (from_set records r (and_first _ _ (sym (held_has r) ∙ h))))
+      in_set (records ++ behind) r (Contains-append_left records behind r (from_set records r (and_left _ _ (sym (held_has r) ∙ h))))
 
   in_held : (slice : List ℕ) → key_of slice ≡ key → contains whole (admission_record slice) ≡ true → contains held (admission_record slice) ≡ true
   in_held slice of h =
       let r = admission_record slice in
-      held_has r ∙ both_true _ _ (elim (Contains-append_cases records behind r (from_set (records ++ behind) r h)) [
+      held_has r ∙ and_from _ _ (elim (Contains-append_cases records behind r (from_set (records ++ behind) r h)) [
         | inl c ↦ in_set records r c
         | inr c ↦ absurd (none r c refl (sym (parts slice key long of).0))
       ]) (under slice of)
@@ -190,10 +189,10 @@ held_behind records key next held not_below is = by (bytes_eq (key_bytes next) (
     nothing : bytes_eq (key_bytes next) (key_bytes key) ≡ false → set.empty ≡ part (set_of records) (admits_under (key_bytes next))
     nothing other = same_set nat_list_cmp_total bytes_same set.empty (part (set_of records) (admits_under (key_bytes next))) (λ r.
         contains-empty order r ∙ sym (contains_part (set_of records) (admits_under (key_bytes next)) r ∙ is_false _ (λ h.
-        let there = from_set records r (and_first _ _ h) in
-        let admits = and_second _ _ h in
-        let a = and_first _ _ admits in
-        let front : key_bytes next ≡ front_of r = same _ _ (and_second _ _ admits) in
+        let there = from_set records r (and_left _ _ h) in
+        let admits = and_right _ _ h in
+        let a = and_left _ _ admits in
+        let front : key_bytes next ≡ front_of r = same _ _ (and_right _ _ admits) in
         let above : lt (key_bytes key) (key_bytes next) ≡ false = ap (lt (key_bytes key)) front ∙ is.none_above r there a in
         false≢true (sym other ∙ (bytes_eq-Decides (key_bytes next) (key_bytes key)).1 (neither (key_bytes next) (key_bytes key) not_below above)))))
 
@@ -301,7 +300,7 @@ module _ (left : List SliceKey) (Answered : Operations → Type 0) (held : Opera
     in_order = asked.in_order;
     holds = λ key first.
         let h = asked.holds key first in
-        let under = both_true _ _ (admission_is x is) (sym (is_first_of (front_of x) left key first) ∙ next) in
+        let under = and_from _ _ (admission_is x is) (sym (is_first_of (front_of x) left key first) ∙ next) in
         held_more (key_bytes key) records x held now h (picked_more (admits_under (key_bytes key)) records x held h.held_is under apart now more) (λ _. passed key first);
     answered = behind;
   }

@@ -5,6 +5,7 @@ use Rattle.std.proofs.lemmas.List.{append-nil}
 use Rattle.std.proofs.lemmas.List.Elements.{Contains-append_left, Contains-append_cases, filter-append}
 use Rattle.std.specs.List.{Contains, filter}
 use Rattle.std.specs.FinSet.{contains}
+use Rattle.std.specs.Cmp.{both_ways}
 use Rattle.archive_core.specs.Content.{is_admission, covering, is_covered}
 use Rattle.archive_core.specs.Record.{IsRecord}
 use Rattle.archive_core.proofs.Members.{in_filter}
@@ -13,7 +14,6 @@ use Rattle.archive_records.specs.Kind.{may_follow}
 use Rattle.archive_records.specs.Text.{InOrder, last_of, kept}
 use Rattle.archive_records.specs.Reader.{set_of}
 use Rattle.archive_records.proofs.Forms.{long-retirement, long-admission}
-use Rattle.archive_records.proofs.Contents.{one_test}
 use Rattle.archive_records.proofs.Apart.{in_set, from_set, and_same, covering_below}
 use Rattle.archive_records.proofs.Ascending.{below-trans, all_above, up_to_last, InOrder-behind, InOrder-front, here, later}
 
@@ -42,7 +42,7 @@ from_kept out z c = (in_filter (free_in out) out z c).0
 -- what stands behind covers none of them
 module _ (out more : List (List ℕ)) (a : InOrder Archive [] (out ++ more)) (o : InOrder Archive [] out) where
   covers_alike : (r : List ℕ) → Contains out r → is_covered (set_of (out ++ more)) r ≡ is_covered (set_of out) r
-  covers_alike r c = and_same (is_admission r) (contains (set_of (out ++ more)) (covering r)) (contains (set_of out) (covering r)) (λ a'. one_test (contains (set_of (out ++ more)) (covering r)) (contains (set_of out) (covering r))
+  covers_alike r c = and_same (is_admission r) (contains (set_of (out ++ more)) (covering r)) (contains (set_of out) (covering r)) (λ a'. both_ways (contains (set_of (out ++ more)) (covering r)) (contains (set_of out) (covering r))
       (λ h. elim (Contains-append_cases out more (covering r) (from_set (out ++ more) (covering r) h)) [
         | inl d ↦ in_set out (covering r) d
         | inr d ↦ absurd (false≢true (sym (up_to_last [] r out o c) ∙ below-trans (last_of [] out) (covering r) r (all_above (last_of [] out) (covering r) more (InOrder-behind [] out more a) d) (covering_below r a')))

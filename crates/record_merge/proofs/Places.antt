@@ -15,6 +15,7 @@ use Rattle.join_core.proofs.Unions.{union_members}
 use Rattle.join_core.proofs.Retain.{listing_retain}
 use Rattle.archive_core.specs.Record.{IsRecord}
 use Rattle.archive_core.specs.Content.{Operations, is_covered}
+use Rattle.archive_core.proofs.Made.{bytes_same}
 use Rattle.archive_records.specs.declared.fault.RecordFaultKind.TheVariants.{Truncated}
 use Rattle.archive_records.specs.declared.fault.RecordFault.{RecordFault}
 use Rattle.archive_records.specs.declared.format.Format.{Format}
@@ -28,7 +29,6 @@ use Rattle.record_merge.specs.Merging.{HasMagic, IsArchiveText, AreGoodRecords, 
 use Rattle.record_merge.specs.MergeSteps.{Both, Stands, Joins, StopsBeforeRecords, LeftStopped, RightStopped, WriteStopped, IsFull}
 use Rattle.archive_records.proofs.Contents.{listing_is, members_listed, sorted-InOrder, InOrder-set, are_records, content_is, written_text}
 use Rattle.archive_records.specs.Reader.{set_of, Stopped}
-use Rattle.archive_records.proofs.Puts.{bytes_same}
 use Rattle.archive_records.proofs.KeptRecords.{kept_more, behind, behind_above, from_kept}
 use Rattle.archive_records.proofs.Exact.{no_magic_fault}
 use Rattle.archive_records.proofs.Inputs.{magic_stop, grown_magic}

@@ -8,6 +8,7 @@ use Rattle.std.specs.FinSet.{contains}
 use Rattle.std.specs.List.{concat, list_any, Contains}
 use Rattle.std.specs.Io.KnownBytes.{Appends, Consumes}
 use Rattle.archive_core.specs.Content.{covering, is_admission, is_covered}
+use Rattle.archive_core.proofs.Made.{bytes_same}
 use Rattle.archive_records.specs.declared.fault.MergeCause.TheVariants.{Right}
 use Rattle.archive_records.specs.declared.fault.MergeFault.{MergeFault}
 use Rattle.archive_records.specs.declared.fault.RecordFault.{RecordFault}
@@ -26,7 +27,6 @@ use Rattle.archive_records.proofs.Ascending.{below-greater, below-less, below-tr
 use Rattle.archive_records.proofs.Ends.{length-end_record}
 use Rattle.archive_records.proofs.Framed.{framed-empty}
 use Rattle.archive_records.proofs.KeptRecords.{long_record}
-use Rattle.archive_records.proofs.Puts.{bytes_same}
 use Rattle.archive_records.proofs.Undecided.{cut_off}
 use Rattle.record_merge.specs.Sides.{Sides}
 use Rattle.record_merge.specs.declared.side.Lookahead.TheVariants.{Unread}

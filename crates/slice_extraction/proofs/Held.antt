@@ -76,9 +76,3 @@ live_alike o p key same slice live =
       under = live.under;
       kept = sym (same (retirement_record key (sha256 slice)) (retirement_under (key_bytes key) [] key (sha256 slice) whole)) ∙ live.kept;
     }
-
--- a key is itself
-pub key_itself : (a b : SliceKey) → a ≡ b → is_key a b ≡ true
-key_itself a b same =
-    subst (λ (k : SliceKey). is_key a k ≡ true) same
-    (grind (arith, nat_tests, (bytes_eq-Decides a.uuid a.uuid).1 refl))

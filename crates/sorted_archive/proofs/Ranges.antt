@@ -33,14 +33,13 @@ use Rattle.archive_core.proofs.Records.{length-key_of}
 use Rattle.sorted_archive.proofs.Held.{bytes_same}
 use Rattle.archive_core.proofs.Told.{operation_there}
 use Rattle.archive_core.proofs.Members.{to_filter}
-use Rattle.archive_core.proofs.Answering.{both}
+use Rattle.archive_core.proofs.Answering.{both, one_key}
 use Rattle.sorted_archive.specs.InnerRange.{front, front_of, is_within, is_under_key, is_under_uuid}
 use Rattle.sorted_archive.specs.declared.range.RecordKind.{RecordKind}
 use Rattle.sorted_archive.specs.declared.range.RecordKind.TheVariants.{Retirement, Admission}
 use Rattle.sorted_archive.specs.declared.range.Scope.{Scope}
 use Rattle.sorted_archive.specs.declared.range.Scope.TheVariants.{OfKey, OfUuid}
 use Rattle.sorted_archive.proofs.Falling.{middle}
-use Rattle.sorted_archive.proofs.Lookups.{one_key}
 
 -- the bytes of a key behind its UUID
 arch_bytes : SliceKey → List ℕ

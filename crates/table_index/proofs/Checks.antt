@@ -19,10 +19,10 @@ use Rattle.index_faults.specs.declared.fault.IndexFaultKind.{IndexFaultKind}
 use Rattle.index_faults.specs.declared.fault.IndexFaultKind.TheVariants.{BadTag, BadKind, BadLength, NotAscending, BadTable}
 use Rattle.archive_index.proofs.Ascending.{less_is}
 
-abbrev fine : Result (Unit {0}) IndexFaultKind
+abbrev pub fine : Result (Unit {0}) IndexFaultKind
 fine = Ok tt
 
-abbrev failed : IndexFaultKind → Result (Unit {0}) IndexFaultKind
+abbrev pub failed : IndexFaultKind → Result (Unit {0}) IndexFaultKind
 failed kind = Err kind
 
 all_pass : (a b c d e : Bool)

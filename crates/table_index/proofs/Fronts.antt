@@ -15,8 +15,8 @@ use Rattle.std.proofs.lemmas.List.Sums.{sum_by-cons}
 use Rattle.checked_pages.specs.Views.{claim_view}
 use Rattle.join_core.proofs.Listing.{listing_ascending}
 use Rattle.archive_core.proofs.Compare.{slice_cmp-append}
+use Rattle.archive_core.proofs.Made.{bytes_same}
 use Rattle.archive_records.proofs.Ascending.{here, later}
-use Rattle.archive_records.proofs.Puts.{bytes_same}
 use Rattle.archive_index.specs.declared.entry.PlacedEntry.{PlacedEntry}
 use Rattle.archive_index.specs.Entry.{IsPlacedEntry, length_in, offset_in, placed_bytes}
 use Rattle.archive_index.specs.Index.{lengths_of}

@@ -16,14 +16,9 @@ use Rattle.table_index.specs.Fault.{HasDigest, HasEnds, check_end, check_front}
 use Rattle.table_index.specs.InnerReading.{AreEndsOf}
 use Rattle.table_index.specs.Text.{IsIndexText, count_in, digest_in, end_of, entries_in, index_text, start_in}
 use Rattle.table_index.specs.declared.ends.Ends.{Ends}
+use Rattle.table_index.proofs.Checks.{fine, failed}
 use Rattle.index_faults.specs.declared.fault.IndexFaultKind.{IndexFaultKind}
 use Rattle.index_faults.specs.declared.fault.IndexFaultKind.TheVariants.{BadMagic, Truncated, BadCount}
-
-abbrev fine : Result (Unit {0}) IndexFaultKind
-fine = Ok tt
-
-abbrev failed : IndexFaultKind → Result (Unit {0}) IndexFaultKind
-failed kind = Err kind
 
 -- ---- what the text of tables and entries has
 
