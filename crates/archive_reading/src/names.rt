@@ -7,10 +7,9 @@ ghost use Rattle.archive_core.specs.Record.{IsOperation, borrowed_bytes, operati
 ghost use Rattle.archive_records.specs.Entry.{IsEntry, entry_bytes};
 ghost use Rattle.archive_reading.specs.Names.{AddsNames};
 ghost use Rattle.std.specs.List.Sorted.{IsStrictlySortedBy};
-ghost use Rattle.archive_core.specs.Names.{IsNames, NameRecord, name_cmp, names_in};
+ghost use Rattle.archive_core.specs.Names.{IsNames, NameRecord, name_cmp, names_in, owned_name_view};
 ghost use Rattle.archive_records.specs.declared.kind.TextKind.TheVariants.{Archive};
 ghost use Rattle.archive_reading.specs.InnerNames.{names_of};
-ghost use Rattle.archive_core.specs.Names.{owned_name_view};
 ghost use Rattle.archive_records.specs.Reader.{set_of};
 ghost use Rattle.archive_records.specs.Reading.{ReadsInPart};
 

@@ -9,10 +9,9 @@ use Rattle.archive_records.proofs.Puts.{head_and_slice}
 use Rattle.archive_records.proofs.Steps.{HasReadAll-grows, Stopped-with}
 use Rattle.archive_core.specs.Key.{key_bytes}
 use Rattle.archive_core.specs.Valid.{key_of}
-use Rattle.archive_core.specs.Record.{admission_record}
+use Rattle.archive_core.specs.Record.{admission_record, IsRecord}
 use Rattle.std.specs.Int.{w64, to_be_bytes}
 use Rattle.std.proofs.lemmas.List.{append-nil, take_all}
-use Rattle.archive_core.specs.Record.{IsRecord}
 use Rattle.archive_core.proofs.Made.{bytes_same}
 use Rattle.archive_records.specs.declared.fault.RecordFault.{RecordFault}
 use Rattle.archive_records.specs.declared.fault.RecordFaultKind.TheVariants.{Truncated, Device, OutOfMemory, NotAscending}

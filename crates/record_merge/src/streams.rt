@@ -1,10 +1,9 @@
 //! Two archives that are merged as they come.
 
 ghost use Rattle.std.specs.Prelude.{◌≡◌, ℕ, Bool, false, List, [], Option, OnOk, IfOk, IfErr, MatchResult};
-ghost use Rattle.byte_device.specs.Devices.{FailedIn};
+ghost use Rattle.byte_device.specs.Devices.{FailedIn, stream};
 ghost use Rattle.archive_records.specs.declared.fault.MergeCause.TheVariants.{Write};
 ghost use Rattle.record_merge.specs.Merging.{GainsCount, Merges};
-ghost use Rattle.byte_device.specs.Devices.{stream};
 ghost use Rattle.record_merge.specs.MergeSteps.{BlamesDevices, Fits, HasEnded, Leaves, Merging, StopsMerge};
 ghost use Rattle.record_merge.specs.Sides.{sides_of};
 ghost use Rattle.record_merge.specs.declared.arrivals.Arrival.{Arrival};

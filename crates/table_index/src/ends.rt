@@ -1,8 +1,7 @@
 //! What stands at the two ends of an index.
 
 ghost use Rattle.std.specs.Prelude.{◌≡◌, ◌≢◌, ◌↔◌, ◌+◌, ◌-◌, ◌*◌, ◌<◌, ◌≤◌, ◌^◌, ℕ, List, Ok};
-ghost use Rattle.std.specs.Prelude.{IfOk, IfErr, OnOk, MatchResult};
-ghost use Rattle.std.specs.Prelude.{IsTrue, length, slice_index, take, drop, min};
+ghost use Rattle.std.specs.Prelude.{IfOk, IfErr, OnOk, MatchResult, IsTrue, length, slice_index, take, drop, min};
 ghost use Rattle.std.specs.Str.{bytes_eq};
 ghost use Rattle.archive_index.specs.Text.{index_magic};
 ghost use Rattle.table_index.specs.Fault.{FailsInFront, FailsAtEnd, check_front};
