@@ -18,7 +18,6 @@ use Rattle.std.specs.List.Sorted.{IsSorted, IsStrictlySortedBy}
 use Rattle.std.proofs.lemmas.List.Elements.{All-from_recursion, recursion_from_All, All-weaker, All-contains, All-contains_itself, All-filter, filter_passes, Contains-get_or, Contains-append_left, Contains-append_right, Contains-append_cases}
 
 module _ {K : Type 0} {R : K → K → Ordering} (o : IsTotalOrder R) (same : IsAntisymmetric R) where
-
   -- a set's list has its members
   pub in_listing : (s : FinSet R) (k : K) → Contains (listing s) k ↔ (contains s k ≡ true)
   in_listing s k = (

@@ -62,8 +62,8 @@ fn gather_run<P: Placed>(
 {
     let (start, stop) = run_under(entries, tag, prefix);
     let run = &entries[start..stop];
-    'run: for (place, entry) in run.iter().enumerate() {
-        gather_entry(heap, gathered, (start + place) as u64, entry, archive, size)?;
+    'run: for (index, entry) in run.iter().enumerate() {
+        gather_entry(heap, gathered, (start + index) as u64, entry, archive, size)?;
     }
     Ok(())
 }

@@ -189,10 +189,10 @@ pub(crate) fn operation_at<P: Placed>(
     if is_retirement(entry.row.state) {
         return Ok(retirement(entry.row.key, entry.row.digest));
     }
-    let Ok(place) = heap.clone() else {
+    let Ok(own) = heap.clone() else {
         return Err(PlaceFault::OutOfMemory);
     };
-    let bytes = match bytes_at(place, archive, size, entry) {
+    let bytes = match bytes_at(own, archive, size, entry) {
         Ok(Some(bytes)) => bytes,
         Ok(None) => return Err(PlaceFault::Stale(Some(number))),
         Err(ReadFault::Device) => return Err(PlaceFault::Device(entry.offset)),

@@ -29,7 +29,7 @@ use Rattle.archive_core.specs.declared.lookup.Own.{Own}
 use Rattle.archive_core.specs.declared.operations.Operation.{Operation}
 use Rattle.archive_core.specs.declared.operations.Operation.TheVariants.{Admit, Retire}
 use Rattle.sorted_archive.proofs.Held.{content_of_held}
-use Rattle.sorted_archive.proofs.Scanned.{front}
+use Rattle.sorted_archive.proofs.Scanned.{take_one_more}
 use Rattle.archive_core.proofs.Words.{live_in_content}
 use Rattle.archive_core.proofs.Members.{in_cons, in_front, in_rest, ascending_by, pairs_more}
 use Rattle.archive_core.proofs.Told.{record_there, operation_there}
@@ -39,7 +39,7 @@ use Rattle.archive_core.proofs.Answering.{one_arch, is_arch_of, both, live_is_va
 module _ (key : SliceKey) (dsym : Bool) (operations : List Operation) (i : ℕ) (a : Operation) (lt : i < length operations) (is : a ≡ slice_index_or operations i a) where
   more : held_among key dsym (take (i + 1) operations) ≡ held_among key dsym (take i operations) ++ cons_option (held_in key dsym a) []
   unfolding held_among
-  more = ap (held_among key dsym) (front operations i a lt is) ∙ filter_map-append (held_in key dsym) (take i operations) (a ∷ [])
+  more = ap (held_among key dsym) (take_one_more operations i a lt is) ∙ filter_map-append (held_in key dsym) (take i operations) (a ∷ [])
 
   pub one_more : (found : Option (List ℕ)) (slice : List ℕ) → found ≡ held_in key dsym a → found ≡ Some slice → held_among key dsym (take (i + 1) operations) ≡ held_among key dsym (take i operations) ++ slice ∷ []
   one_more found slice live some = rw (more, ← live, some) refl

@@ -162,7 +162,7 @@ pub(crate) fn retirement(key: SliceKey, digest: Digest) -> Operation
     Operation::Retire(key, digest)
 }
 
-// Drops the operation at a place.
+// Drops the operation at an index.
 fn drop_at(operations: &mut Vec<Operation, Heap>, index: usize)
     requires { index < length operations.old.items }
     ensures { operations.new.items ≡ take index operations.old.items ++ drop (index + 1) operations.old.items }

@@ -13,7 +13,7 @@ ghost use Rattle.archive_core.specs.Content.{IsContent, is_covered, changes, wit
 ghost use Rattle.archive_core.specs.InnerHeld.{IsHeld};
 ghost use Rattle.sorted_archive.specs.InnerOrder.{IsOrderOf};
 ghost use Rattle.sorted_archive.specs.InnerScan.{held_in, held_among, IsAnsweringOf};
-ghost use Rattle.sorted_archive.specs.Places.{IsPutAt};
+ghost use Rattle.sorted_archive.specs.PutAt.{IsPutAt};
 ghost use Rattle.sorted_archive.specs.Taking.{Takes};
 ghost use Rattle.archive_core.specs.declared.operations.Operation.TheVariants.{Admit, Retire};
 ghost use Rattle.archive_core.specs.Lookup.{IsOwnRow, IsAnswerOf, own_row, answer_view};
@@ -230,10 +230,10 @@ impl PlainArchive {
         &self.operations
     }
 
-    /// Takes an admission, and gives its place among the operations, or none where it changes nothing.
+    /// Takes an admission, and gives its index among the operations, or none where it changes nothing.
     pub fn admit_at(&mut self, mut slice: Slice) -> Result<Option<usize>, NoMemory>
         ensures taken { OnOk result (self.new ≡ with_record self.old (admission_record slice)) }
-        ensures place { IfOk result (λ place. IsPutAt self.old self.new (admission_record slice) place) }
+        ensures place { IfOk result (λ index. IsPutAt self.old self.new (admission_record slice) index) }
         ensures valid { IsValid slice }
         ensures refused { OnErr result (self.new ≡ self.old) }
     {

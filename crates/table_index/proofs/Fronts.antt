@@ -47,8 +47,8 @@ pub each_placed : (es : List TableEntry) → AllByRecursion HasItsFields es → 
 each_placed [] fields = tt
 each_placed (e ∷ es) fields = (fields.0.placed, each_placed es fields.1)
 
-front_offset : (e : List ℕ) → offset_in (take 74 e) ≡ offset_in e
-front_offset e = ap (from_be_bytes w64) (front_number 58 e (omega arith))
+beginning_offset : (e : List ℕ) → offset_in (take 74 e) ≡ offset_in e
+beginning_offset e = ap (from_be_bytes w64) (front_number 58 e (omega arith))
 
 front_length : (e : List ℕ) → length_in (take 74 e) ≡ length_in e
 front_length e = ap (from_be_bytes w64) (front_number 66 e (omega arith))
@@ -101,7 +101,7 @@ laid_apart end entries pass laid n =
 -- entries of other offsets differ in their fronts
 front_less : (x y : List ℕ) (r : Ordering) → order (take 74 x) (take 74 y) ≡ r → ordering_then r (order (drop 74 x) (drop 74 y)) ≡ Less → (offset_in x ≡ offset_in y → ⊥) → order (take 74 x) (take 74 y) ≡ Less
 front_less x y Less e h other = e
-front_less x y Equal e h other = absurd (other (sym (front_offset x) ∙ ap offset_in (bytes_same (take 74 x) (take 74 y) e) ∙ front_offset y))
+front_less x y Equal e h other = absurd (other (sym (beginning_offset x) ∙ ap offset_in (bytes_same (take 74 x) (take 74 y) e) ∙ beginning_offset y))
 front_less x y Greater e h other = cc
 
 fronts_compared : (x y : List ℕ) → length x ≡ 122 → length y ≡ 122 → order x y ≡ Less → (offset_in x ≡ offset_in y → ⊥) → order (take 74 x) (take 74 y) ≡ Less
