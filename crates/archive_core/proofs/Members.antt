@@ -2,7 +2,7 @@
 use Rattle.std.proofs.Common.{◌≡◌, ◌↔◌, ◌<◌, true, List, sym, ◌∙◌, ◌⊎◌, ◌+◌, zero, suc, Bool, false, [], ◌∷◌, ◌++◌, length, get_or, map, filter, refl, ap, inl, inr, arith, subst, add-one}
 use Rattle.std.specs.declared.cmp.Ordering.{Ordering}
 use Rattle.std.specs.Ordering.{eq_by_cmp, is_eq, is_lt, on, ordering_reverse}
-use Rattle.std.specs.Cmp.{IsTotalOrder, Equal-is, tied_itself}
+use Rattle.std.specs.Cmp.{IsTotalOrder, tied_itself}
 use Rattle.std.specs.List.{Contains, AllByRecursion, IsDistinct, flat_map, AllZip}
 use Rattle.std.specs.FinSet.{FinSet, from_list, contains, IsAntisymmetric, contains-from_list}
 use Rattle.std.proofs.lemmas.Bool.{cond_both}
@@ -15,7 +15,7 @@ use Rattle.join_core.proofs.Members.{one_key}
 use Rattle.join_core.proofs.Place.{along}
 use Rattle.std.specs.declared.cmp.Ordering.TheVariants.{Less}
 use Rattle.std.specs.List.Sorted.{IsSorted, IsStrictlySortedBy}
-use Rattle.std.proofs.lemmas.List.Elements.{All-from_recursion, recursion_from_All, All-weaker, All-contains, All-contains_itself, All-filter, filter_passes, Contains-get_or, Contains-append_left, Contains-append_right, Contains-append_cases}
+use Rattle.std.proofs.lemmas.List.Elements.{All-from_recursion, All-contains, All-contains_itself, All-filter, filter_passes, Contains-get_or, Contains-append_left, Contains-append_right, Contains-append_cases}
 
 module _ {K : Type 0} {R : K → K → Ordering} (o : IsTotalOrder R) (same : IsAntisymmetric R) where
   -- a set's list has its members

@@ -11,10 +11,11 @@ ghost use Rattle.indexed_parts.specs.InnerPlaces.{AreGathered, IsGathered, IsRea
 ghost use Rattle.archive_index.specs.Runs.{is_tagged};
 ghost use Rattle.indexed_parts.specs.Places.{AreGatheredUnder, IsEntryFault, ReadsPlaces};
 
-use crate::records::{ADMISSION, RETIREMENT, operation_at};
+use crate::records::operation_at;
 use crate::runs::run_under;
 use archive_core::Operation;
 use archive_index::{Index, PlaceFault, PlacedEntry};
+use archive_records::{ADMISSION, RETIREMENT};
 use byte_device::Placed;
 use memory::Heap;
 

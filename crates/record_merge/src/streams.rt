@@ -42,7 +42,7 @@ pub fn begin_both<R: Source, F, B: ReadFrom<F>, W: Sink>(
     let Ok(shared) = Retirements::none(heap) else {
         return Err(before_the_magic(MergeCause::Left(RecordFault::out_of_memory(0))));
     };
-    let left = match MergeInput::begin_text(heap, r1) {
+    let left = match MergeInput::begin(heap, r1) {
         Ok(side) => side,
         Err(fault) => return Err(before_the_magic(MergeCause::Left(fault))),
     };

@@ -6,9 +6,7 @@ use Rattle.std.specs.Cmp.Lexicographic.{slice_cmp}
 use Rattle.std.specs.List.{AllByRecursion, Contains, AllZip, cons_option}
 use Rattle.std.specs.List.Sorted.{IsStrictlySortedBy}
 use Rattle.std.specs.FinSet.{from_list, contains}
-use Rattle.std.specs.Str.{bytes_eq}
 use Rattle.std.proofs.lemmas.Bool.{false_from_ne_true}
-use Rattle.std.proofs.lemmas.Slice.Eq.{bytes_eq-Decides}
 use Rattle.std.proofs.lemmas.List.Elements.{filter_map-append, All-contains, All-from_recursion}
 use Rattle.std.proofs.lemmas.List.{append-nil, map-append}
 use Rattle.macho_image.specs.Contents.{is_dsym_image}
@@ -33,7 +31,7 @@ use Rattle.sorted_archive.proofs.Scanned.{take_one_more}
 use Rattle.archive_core.proofs.Words.{live_in_content}
 use Rattle.archive_core.proofs.Members.{in_cons, in_front, in_rest, ascending_by, pairs_more}
 use Rattle.archive_core.proofs.Told.{record_there, operation_there}
-use Rattle.archive_core.proofs.Answering.{one_arch, is_arch_of, both, live_is_valid, one_key, is_key_of}
+use Rattle.archive_core.proofs.Answering.{both, live_is_valid, one_key, is_key_of}
 
 -- the live slices among the first operations, and what one more brings
 module _ (key : SliceKey) (dsym : Bool) (operations : List Operation) (i : ℕ) (a : Operation) (lt : i < length operations) (is : a ≡ slice_index_or operations i a) where

@@ -16,7 +16,7 @@ ghost use Rattle.archive_core.specs.declared.operations.Operation.TheVariants.{R
 
 use crate::plain::search;
 use crate::range::{RecordKind, Scope, has_retirement, keep_digests_under, range_of};
-use archive_core::{Digest, Operation, Slice, SliceKey};
+use archive_core::{Digest, Operation, Slice, SliceKey, retirement};
 use memory::Heap;
 use std::marker::Model;
 
@@ -152,14 +152,6 @@ pub(crate) fn drop_covered(operations: &mut Vec<Operation, Heap>, by: &BorrowedO
     keep_digests(operations, by);
     let mut near = 0;
     operations.retain(|operation| !by.retires_operation(operation, &mut near));
-}
-
-// The retirement of a key and a digest.
-pub(crate) fn retirement(key: SliceKey, digest: Digest) -> Operation
-    ensures retirement { result ≡ Retire key digest }
-    ensures operation { IsOperation (Retire key digest) }
-{
-    Operation::Retire(key, digest)
 }
 
 // Drops the operation at an index.

@@ -9,7 +9,8 @@ ghost use Rattle.table_index.specs.InnerReading.{AreEndsOf, FailsInEnds, HasBegi
 ghost use Rattle.table_index.specs.Reading.{IsRefused, ReadsText};
 ghost use Rattle.index_faults.specs.declared.fault.IndexFaultKind.TheVariants.{Device};
 
-use crate::entry::{ENTRY_LEN, number_at};
+use crate::entry::ENTRY_LEN;
+use archive_records::number_at;
 use byte_device::{Failed, Placed, ReadFault, read_at};
 use index_faults::{IndexFault, IndexFaultKind};
 use memory::Heap;
