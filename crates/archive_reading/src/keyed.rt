@@ -162,10 +162,6 @@ impl<A: Archive + Drop, Q: Questions + Drop> FromRecords for Asked<A, Q> {
 /// retirement.
 ///
 /// The questions come in the order of their keys, as the slices do.
-///
-/// # Errors
-///
-/// Those of [`crate::read_archive`], in the same order and with the same offsets.
 pub fn answer_by_key<A: Archive + Drop, Q: Questions + Drop, R: Source>(
     heap: Heap,
     questions: Q,

@@ -84,10 +84,6 @@ pub trait Side: Sized + Drop {
         ensures { result ≡ slice_cmp nat_cmp item.now (seen self.now).reader.last };
 
     /// Writes the last record behind the first `done` bytes of a text, and says how many there are then.
-    ///
-    /// # Errors
-    ///
-    /// The writer failed; it has gained the first bytes of the record, and `written` counts the `done` bytes, too.
     fn put_last<W: Sink>(&self, w: &mut W, done: u128) -> Result<u128, WriteFault>
         requires { done + 2 ^ 64 < 2 ^ 128 }
         ensures puts { Puts W.held W.failures (λ n. n) w.old w.new done (seen self.now).reader.last result }
