@@ -124,6 +124,11 @@ module _ {X : Type 0} where
           ]
         ]
 
+-- a test of values is one of what they are the values of
+pub filter_map_swap : {X Y : Type 0} (p : Y → Bool) (f : X → Y) (xs : List X) → filter p (map f xs) ≡ map f (filter (λ x. p (f x)) xs)
+filter_map_swap p f [] = refl
+filter_map_swap p f (x ∷ xs) = grind (arith, filter_map_swap p f xs)
+
 -- a relation of two lists, with one element more in each
 pub pairs_more : {X Y : Type 0} (R : X → Y → Type 0) (xs : List X) (ys : List Y) (x : X) (y : Y) → AllZip R xs ys → R x y → AllZip R (xs ++ x ∷ []) (ys ++ y ∷ [])
 pairs_more R [] [] x y all one = (one, tt)

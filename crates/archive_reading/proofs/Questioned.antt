@@ -34,9 +34,10 @@ use Rattle.archive_reading.specs.InnerKeys.{AreAsked, Begins, IsHeldUnder, admit
 use Rattle.archive_reading.specs.Keys.{AnswersAs, AreInOrder, first_key}
 use Rattle.archive_records.specs.Reader.{MakeThemselves, set_of}
 use Rattle.archive_records.proofs.Apart.{from_set, in_set, is_false}
-use Rattle.archive_records.proofs.Ascending.{InOrder-behind, all_above, cons_cases, less_of}
+use Rattle.archive_records.proofs.Ascending.{InOrder-behind, all_above, less_of}
 use Rattle.archive_records.proofs.Contents.{order}
 use Rattle.archive_core.proofs.Retired.{begins_below}
+use Rattle.archive_core.proofs.Members.{in_cons}
 use Rattle.archive_reading.proofs.Kept.{part_start, picked_more, unpicked_more}
 
 -- ---- the order of bytes
@@ -81,7 +82,7 @@ none_behind : (records : List (List ℕ)) (prefix : List ℕ) (x : List ℕ) (mo
     → (r : List ℕ) → Contains (x ∷ more) r → is_admission r ≡ true → prefix ≡ prefix_of r → ⊥
 none_behind records prefix x more ordered a above r there b under =
     let behind = InOrder-behind [] records (x ∷ more) ordered in
-    elim (cons_cases x r more there) [
+    elim (in_cons x more r there) [
       | inl e ↦ cc (not_itself prefix)
       | inr later ↦ cc (not_under_less x r a b (less_of x r (all_above x r more behind.2 later)))
     ]

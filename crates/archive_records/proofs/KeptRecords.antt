@@ -8,20 +8,20 @@ use Rattle.std.specs.FinSet.{contains}
 use Rattle.std.specs.Cmp.{both_ways}
 use Rattle.archive_core.specs.Content.{is_admission, covering, is_covered}
 use Rattle.archive_core.specs.Record.{IsRecord}
-use Rattle.archive_core.proofs.Members.{in_filter}
+use Rattle.archive_core.proofs.Members.{in_filter, in_rest, in_front}
 use Rattle.archive_records.specs.declared.format.Format.TheVariants.{Archive}
 use Rattle.archive_records.specs.Kind.{may_follow}
 use Rattle.archive_records.specs.Text.{InOrder, last_of, kept}
 use Rattle.archive_records.specs.Reader.{set_of}
 use Rattle.archive_records.proofs.Forms.{long-retirement, long-admission}
 use Rattle.archive_records.proofs.Apart.{in_set, from_set, and_same, covering_below}
-use Rattle.archive_records.proofs.Ascending.{below-trans, all_above, up_to_last, InOrder-behind, InOrder-front, here, later}
+use Rattle.archive_records.proofs.Ascending.{below-trans, all_above, up_to_last, InOrder-behind, InOrder-front}
 
 -- ---- filters
 
 filter_same : (p q : List ℕ → Bool) (xs : List (List ℕ)) → ((r : List ℕ) → Contains xs r → p r ≡ q r) → filter p xs ≡ filter q xs
 filter_same p q [] h = refl
-filter_same p q (x ∷ xs) h = ap (λ b. cond b (x ∷ filter p xs) (filter p xs)) (h x (here x xs)) ∙ ap (λ (t : List (List ℕ)). cond (q x) (x ∷ t) t) (filter_same p q xs (λ r c. h r (later x r xs c)))
+filter_same p q (x ∷ xs) h = ap (λ b. cond b (x ∷ filter p xs) (filter p xs)) (h x (in_front x xs)) ∙ ap (λ (t : List (List ℕ)). cond (q x) (x ∷ t) t) (filter_same p q xs (λ r c. h r (in_rest x xs r c)))
 
 filter_one : (p : List ℕ → Bool) (x : List ℕ) (b : Bool) → p x ≡ b → filter p (x ∷ []) ≡ cond b (x ∷ []) []
 filter_one p x b e = ap (λ c. cond c (x ∷ []) []) e

@@ -16,7 +16,7 @@ use Rattle.checked_pages.specs.Views.{claim_view}
 use Rattle.join_core.proofs.Listing.{listing_ascending}
 use Rattle.archive_core.proofs.Compare.{slice_cmp-append}
 use Rattle.archive_core.proofs.Made.{bytes_same}
-use Rattle.archive_records.proofs.Ascending.{here, later}
+use Rattle.archive_core.proofs.Members.{in_rest, in_front}
 use Rattle.archive_index.specs.declared.entry.PlacedEntry.{PlacedEntry}
 use Rattle.archive_index.specs.Entry.{IsPlacedEntry, length_in, offset_in, placed_bytes}
 use Rattle.archive_index.specs.Index.{lengths_of}
@@ -81,11 +81,11 @@ one_at_most n offset at end (x ∷ xs) follow some =
     elim (cases_Bool (eqb (offset_in x) n)) [
       | inl t ↦
           let is : offset_in x ≡ n = eqb-true (offset_in x) n t in
-          let past : n < next = omega (arith, is, follow.0, some x (here x xs)) in
+          let past : n < next = omega (arith, is, follow.0, some x (in_front x xs)) in
           omega (arith, more, is_at n x is, none_before n next (at + stored_size (claim_in x)) end xs follow.2 past)
       | inr f ↦
           let other : at_offset n x ≡ 0 = ap (λ b. cond b 1 0) f in
-          omega (arith, more, other, one_at_most n next (at + stored_size (claim_in x)) end xs follow.2 (λ z c. some z (later x z xs c)))
+          omega (arith, more, other, one_at_most n next (at + stored_size (claim_in x)) end xs follow.2 (λ z c. some z (in_rest x xs z c)))
     ]
 
 abbrev AreApart : List (List ℕ) → Type 0

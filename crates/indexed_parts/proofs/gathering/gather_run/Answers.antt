@@ -7,8 +7,9 @@ use Rattle.archive_index.proofs.Entries.{each_of}
 use Rattle.archive_index.specs.Places.{IsReadAmong}
 use Rattle.indexed_parts.specs.InnerPlaces.{AreGathered, IsGathered, IsReadOf}
 use Rattle.archive_index.specs.Runs.{is_tagged}
+use Rattle.archive_index.proofs.Runs.{length_run}
 use Rattle.indexed_parts.proofs.Gathered.{gathered_more, gathered_none, gathered_rest, read_at, refused_behind, stale_at}
-use Rattle.indexed_parts.proofs.Ordered.{in_run, length_run}
+use Rattle.indexed_parts.proofs.Ordered.{in_run}
 use Rattle.indexed_parts.proofs.gathering.gather_run.Goals as goal
 
 pub run-init : goal.run-init
