@@ -27,8 +27,6 @@ pub is_end-grows : (bytes more : List ℕ) → 1 ≤ length bytes → is_end (by
 unfolding is_end
 is_end-grows bytes more le = ap (λ (t : ℕ). eqb t 3) (same_tag bytes more le)
 
-)
-
 no_more : (xs ys more less : List (List ℕ)) → xs ≡ ys ++ more → ys ≡ xs ++ less → more ≡ []
 no_more xs ys [] less p q = refl
 no_more xs ys (m ∷ more) less p q = absurd (omega (arith, ap length p, ap length q, length-append ys (m ∷ more), length-append xs less))

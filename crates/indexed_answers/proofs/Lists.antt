@@ -46,8 +46,6 @@ pub any_map : {X Y : Type 0} (p : Y → Bool) (f : X → Y) (xs : List X) → li
 any_map p f [] = refl
 any_map p f (x ∷ xs) = ap (λ b. p (f x) || b) (any_map p f xs)
 
-]
-
 -- the tests of what is made of elements
 pub dedup_map : {X Y : Type 0} (same : Y → Y → Bool) (f : X → Y) (xs : List X) → map f (dedup (λ x y. same (f x) (f y)) xs) ≡ dedup same (map f xs)
 dedup_map same f [] = refl
