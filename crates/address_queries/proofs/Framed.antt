@@ -27,11 +27,12 @@ use Rattle.archive_core.specs.declared.lookup.Answer.{Answer}
 use Rattle.archive_core.specs.Part.{is_under}
 use Rattle.archive_core.proofs.Made.{bytes_same}
 use Rattle.archive_core.proofs.Members.{in_cons, in_front, in_map, in_rest}
+use Rattle.archive_core.proofs.Answering.{one_key}
 use Rattle.std.specs.Option.{ForSome}
 use Rattle.archive_reading.specs.Keys.{AnswersAs, AreInOrder, first_key}
 use Rattle.crash_frames.specs.declared.frame.Frame.{Frame}
 use Rattle.report_text.specs.Answers.{answer_lines}
-use Rattle.report_text.proofs.Grouped.{key_is_same, same_key}
+use Rattle.report_text.proofs.Grouped.{key_is_same}
 use Rattle.address_queries.specs.declared.asked_frames.AskedFrame.{AskedFrame}
 use Rattle.address_queries.specs.declared.asked_frames.ToldFrame.{ToldFrame}
 use Rattle.command_core.specs.declared.faults.CommandFault.{CommandFault}
@@ -236,7 +237,7 @@ first_of_run first asked left is = rw (is, key_is_same first.frame.key) (omega a
 
 -- and each of those has the key
 pub run_key : (key : SliceKey) (asked : List AskedFrame) (i : ℕ) (d : AskedFrame) → i < prefix_len (of_key key) asked → (get_or asked i d).frame.key ≡ key
-run_key key asked i d lt = same_key (get_or asked i d).frame.key key (prefix_len_passes (of_key key) asked i d lt)
+run_key key asked i d lt = one_key (get_or asked i d).frame.key key (prefix_len_passes (of_key key) asked i d lt)
 
 pub in_run : (key : SliceKey) (left run : List AskedFrame) (n i : ℕ) (one : AskedFrame) → n ≡ prefix_len (of_key key) left → run ≡ take n left → i < length run → one ≡ get_or run i one
     → (one.frame.key ≡ key) × Contains run one × (one ≡ get_or left i one) × (i < length left)

@@ -6,9 +6,7 @@ use Rattle.std.specs.Cmp.{both_ways}
 use Rattle.std.specs.Cmp.Lexicographic.{slice_cmp, nat_list_cmp_total}
 use Rattle.std.specs.FinSet as set
 use Rattle.std.specs.FinSet.{contains, union, contains-union, contains-insert, contains-empty, same_set}
-pub use Rattle.archive_core.specs.Order.{bytes_same, and_left, and_right, and_true, and_false, not_true, either, or_left, or_right, by_test}
-pub use Rattle.archive_core.specs.Order.{contains_made, from_made, uncovered, uncovered_admission, kept, covers_same, free, made_again, made_antisymmetric}
-pub use Rattle.archive_core.specs.Order.{below_reflexive, below_transitive, below_antisymmetric, below_made, below_left, below_right, joined_below, joined_content}
+pub use Rattle.archive_core.specs.Order.{bytes_same, and_left, and_right, and_true, and_false, not_true, either, or_left, or_right, by_test, contains_made, from_made, uncovered, uncovered_admission, kept, covers_same, free, made_again, made_antisymmetric, below_reflexive, below_transitive, below_antisymmetric, below_made, below_left, below_right, joined_below, joined_content}
 use Rattle.archive_core.specs.Content.{Operations, is_admission, covering, is_covered, content_of, IsMade, IsBelow, joined}
 
 -- Two sets that have the same retirements, and of the admissions the same that no retirement covers.

@@ -31,7 +31,7 @@ order = slice_cmp nat_cmp
 abbrev set_of : List (List ℕ) → set.FinSet order
 set_of xs = from_list xs
 
--- ---- fronts
+-- ---- prefixes
 
 -- what is below another does not begin with more
 pub begins_below : (n : ℕ) (x y : List ℕ) → order x y ≡ Less → is_lt (order (take n y) (take n x)) ≡ false
@@ -46,16 +46,16 @@ begins_below (suc n) (a ∷ ass) (b ∷ bs) h =
     below : (p q r s : Ordering) → q ≡ ordering_reverse p → ordering_then p r ≡ Less → (r ≡ Less → is_lt s ≡ false) → is_lt (ordering_then q s) ≡ false
     below p q r s turned h rest = grind arith
 
-fronts_sorted : (n : ℕ) (xs : List (List ℕ)) → IsStrictlySortedBy order xs → IsSortedBy (λ x y. is_lt (order (take n x) (take n y))) xs
-fronts_sorted n xs h i d _ lt = begins_below n _ _ (Less-from_sorted order xs i (i + 1) d h (omega arith) lt)
+prefixes_sorted : (n : ℕ) (xs : List (List ℕ)) → IsStrictlySortedBy order xs → IsSortedBy (λ x y. is_lt (order (take n x) (take n y))) xs
+prefixes_sorted n xs h i d _ lt = begins_below n _ _ (Less-from_sorted order xs i (i + 1) d h (omega arith) lt)
 
 -- a search by how they begin finds one where one is there
-pub front_there : (xs : List (List ℕ)) (prefix : List ℕ) (r : Result ℕ ℕ) → IsStrictlySortedBy order xs → IsSearchInRange r (length xs) → IsBinarySearchResult (λ x. order (take 25 x) prefix) xs r
+pub prefix_there : (xs : List (List ℕ)) (prefix : List ℕ) (r : Result ℕ ℕ) → IsStrictlySortedBy order xs → IsSearchInRange r (length xs) → IsBinarySearchResult (λ x. order (take 25 x) prefix) xs r
     → (c : List ℕ) → take 25 c ≡ prefix → contains (set_of xs) c ≡ true → is_ok r ≡ true
-front_there xs prefix (Ok i) up lt at c e h = refl
-front_there xs prefix (Err i) up le parted c e h =
+prefix_there xs prefix (Ok i) up lt at c e h = refl
+prefix_there xs prefix (Err i) up le parted c e h =
     let found = (in_made nat_list_cmp_total bytes_same xs c).1 h in
-    let parts = parted (searchable_from_sorted nat_list_cmp_total (take 25) xs prefix (fronts_sorted 25 xs up)) in
+    let parts = parted (searchable_from_sorted nat_list_cmp_total (take 25) xs prefix (prefixes_sorted 25 xs up)) in
     let tied : order (take 25 (get_or xs found.0 c)) prefix ≡ Equal = ap (λ (t : List ℕ). order (take 25 t) prefix) found.2 ∙ ap (λ (t : List ℕ). order t prefix) e ∙ tied_itself nat_list_cmp_total prefix in
     elim (cases_lt found.0 i) [
       | inl lt ↦ cc (parts.0 found.0 c (omega arith) lt)
@@ -87,15 +87,15 @@ zeros_least (a ∷ ass) (b ∷ bs) long zero_each =
     first : (r : Ordering) → (a == 0) ≡ true → is_gt r ≡ false → is_gt (ordering_then (nat_cmp a b) r) ≡ false
     first r none rest = grind (arith, nat_tests)
 
-same_front : (prefix x y : List ℕ) → order (prefix ++ x) (prefix ++ y) ≡ order x y
-same_front [] x y = refl
-same_front (a ∷ ass) x y = rw (tied_itself nat_cmp_total a) (same_front ass x y)
+same_prefix : (prefix x y : List ℕ) → order (prefix ++ x) (prefix ++ y) ≡ order x y
+same_prefix [] x y = refl
+same_prefix (a ∷ ass) x y = rw (tied_itself nat_cmp_total a) (same_prefix ass x y)
 
 -- a prefix with zeros behind it is at most what begins so
 pub least_begins : (prefix zeros r : List ℕ) → length prefix ≡ 25 → length zeros ≡ 32 → list_all (λ n. n == 0) zeros ≡ true → take 25 r ≡ prefix → length r ≡ 57 → is_gt (order (prefix ++ zeros) r) ≡ false
 least_begins prefix zeros r f z each begins long =
     let whole : prefix ++ drop 25 r ≡ r = ap (λ (t : List ℕ). t ++ drop 25 r) (sym begins) ∙ take-append-drop 25 r in
-    ap (λ (t : List ℕ). is_gt (order (prefix ++ zeros) t)) (sym whole) ∙ ap is_gt (same_front prefix zeros (drop 25 r)) ∙ zeros_least zeros (drop 25 r) (omega (arith, z, length-drop 25 r, long)) each
+    ap (λ (t : List ℕ). is_gt (order (prefix ++ zeros) t)) (sym whole) ∙ ap is_gt (same_prefix prefix zeros (drop 25 r)) ∙ zeros_least zeros (drop 25 r) (omega (arith, z, length-drop 25 r, long)) each
 
 -- ---- what is there
 
@@ -104,8 +104,8 @@ pub nothing_there : (xs : List (List ℕ)) (c : List ℕ) (b : Bool) → (contai
 nothing_there xs c b h none = by_test _ (contains (set_of xs) c) (λ t. absurd (false≢true (sym none ∙ h t))) (λ f. f)
 
 -- a retirement begins with its key
-pub retirement_front : (key : SliceKey) (digest : List ℕ) → length (key_bytes key) ≡ 24 → take 25 (retirement_record key digest) ≡ 1 ∷ key_bytes key
-retirement_front key digest long = ap (λ (t : List ℕ). 1 ∷ t) (take_at (key_bytes key) digest 24 long)
+pub retirement_prefix : (key : SliceKey) (digest : List ℕ) → length (key_bytes key) ≡ 24 → take 25 (retirement_record key digest) ≡ 1 ∷ key_bytes key
+retirement_prefix key digest long = ap (λ (t : List ℕ). 1 ∷ t) (take_at (key_bytes key) digest 24 long)
 
 -- what a search says that its result is
 pub is_there : (xs : List (List ℕ)) (x : List ℕ) (r : Result ℕ ℕ) → IsFound order xs x r → is_ok r ≡ contains (set_of xs) x

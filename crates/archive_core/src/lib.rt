@@ -39,6 +39,6 @@ pub use keys::{ArchKey, Digest, SliceKey, compare_keys, is_key};
 pub use layout::{RETIREMENT, key_prefix, retirement_bytes, tagged_bytes};
 pub use lookup::{Answer, Own, Where};
 pub use names::{NameRow, OwnedNameRow};
-pub use operations::{Operation, Record};
+pub use operations::{Operation, Record, retirement};
 pub use retirements::Retirements;
 pub use slices::{CheckedSlice, Slice, SliceFacts};

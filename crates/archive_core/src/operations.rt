@@ -2,7 +2,9 @@
 ghost use Rattle.std.specs.Prelude.{◌≡◌, IfOk};
 ghost use Rattle.std.specs.Ordering.{nat_cmp};
 ghost use Rattle.std.specs.Cmp.Lexicographic.{slice_cmp};
-ghost use Rattle.archive_core.specs.Record.{record_bytes, borrowed_bytes, operation_borrowed, admission, retirement_record};
+ghost use Rattle.archive_core.specs.Record.{IsOperation, record_bytes, borrowed_bytes, operation_borrowed};
+ghost use Rattle.archive_core.specs.Record.{admission, retirement_record};
+ghost use Rattle.archive_core.specs.declared.operations.Operation.TheVariants.{Retire};
 ghost use Rattle.archive_core.specs.Find.{key_in};
 ghost use Rattle.archive_core.specs.Valid.{key_of};
 
@@ -28,6 +30,14 @@ pub enum Record<'a> {
     Admit(CheckedSlice<'a>),
     /// The slices under that key whose bytes have that digest are retired.
     Retire(SliceKey, Digest),
+}
+
+/// The retirement of the slices under the key that have the digest.
+pub fn retirement(key: SliceKey, digest: Digest) -> Operation
+    ensures is { result ≡ Retire key digest }
+    ensures operation { IsOperation (Retire key digest) }
+{
+    Operation::Retire(key, digest)
 }
 
 impl Operation {

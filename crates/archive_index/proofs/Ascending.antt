@@ -11,7 +11,7 @@ use Rattle.std.proofs.lemmas.List.Elements.{All-from_recursion, recursion_from_A
 use Rattle.join_core.specs.Listing.{listing}
 use Rattle.join_core.proofs.Listing.{any_listing, listed}
 use Rattle.archive_core.specs.Summary.{Entries}
-use Rattle.archive_records.proofs.Puts.{bytes_same}
+use Rattle.archive_core.proofs.Made.{bytes_same}
 use Rattle.archive_records.proofs.Contents.{order, along}
 use Rattle.archive_index.specs.Entry.{IsPlacedEntry}
 use Rattle.archive_index.specs.Index.{AreIndexEntries, AreIndexed}

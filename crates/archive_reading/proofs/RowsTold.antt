@@ -27,9 +27,9 @@ use Rattle.archive_core.specs.declared.operations.Record.{Record}
 use Rattle.archive_core.proofs.Compare.{then_assoc, three_parts}
 use Rattle.archive_core.proofs.Digits.{cmp_four}
 use Rattle.archive_core.proofs.Told.{list_sorted}
+use Rattle.archive_core.proofs.Made.{bytes_same}
 use Rattle.archive_reading.specs.InnerRows.{IsRowOf, AreRowsOf}
 use Rattle.archive_records.specs.Reader.{set_of}
-use Rattle.archive_records.proofs.Puts.{bytes_same}
 use Rattle.archive_records.proofs.Contents.{order, content_is}
 use Rattle.archive_reading.proofs.Stable.{lifted}
 

@@ -70,10 +70,11 @@ pub fn head_length_of(file: Format, bytes: &[u8]) -> Option<usize>
     }
 }
 
-// The number of eight bytes at a place.
-fn length_at(bytes: &[u8], at: usize) -> u64
+/// The number in eight bytes at an offset.
+pub fn number_at(bytes: &[u8], at: usize) -> u64
     requires { at + 8 ≤ length bytes.now }
-    ensures { result ≡ from_be_bytes w64 (take 8 (drop at bytes.now)) }
+    ensures number { result ≡ from_be_bytes w64 (take 8 (drop at bytes.now)) }
+    ensures bytes { to_be_bytes w64 result ≡ take 8 (drop at bytes.now) }
 {
     BigEndian::read_u64(&bytes[at..])
 }
@@ -85,7 +86,7 @@ fn admission_body_of(file: Format, head: &[u8]) -> u64
 {
     match file {
         Format::Summary => 0,
-        Format::Archive | Format::OldArchive | Format::Operations => length_at(head, 25),
+        Format::Archive | Format::OldArchive | Format::Operations => number_at(head, 25),
     }
 }
 
@@ -109,7 +110,7 @@ pub fn record_count_of(end: &[u8]) -> u64
     requires { 9 ≤ length end.now }
     ensures { result ≡ record_count end.now }
 {
-    length_at(end, 1)
+    number_at(end, 1)
 }
 
 /// Whether a whole record has the key.
@@ -145,8 +146,8 @@ pub fn end_bytes(count: u64) -> [u8; 9]
     record
 }
 
-// The number at a place.
-fn number_at(bytes: &[u8], at: usize) -> u32
+// The number in four bytes at an offset.
+fn arch_number_at(bytes: &[u8], at: usize) -> u32
     requires { at + 4 ≤ length bytes.now }
     ensures { to_be_bytes w32 result ≡ take 4 (drop at bytes.now) }
 {
@@ -164,8 +165,8 @@ pub fn key_in(bytes: &[u8]) -> SliceKey
     SliceKey {
         uuid: Uuid::from_bytes(uuid),
         arch: ArchKey {
-            cputype: number_at(bytes, 17),
-            cpusubtype: number_at(bytes, 21),
+            cputype: arch_number_at(bytes, 17),
+            cpusubtype: arch_number_at(bytes, 21),
         },
     }
 }

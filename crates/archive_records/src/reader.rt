@@ -1,7 +1,6 @@
 //! A source that is read record by record.
 
-ghost use Rattle.std.specs.Prelude.{◌≡◌, ◌≢◌, ◌-◌, ◌<◌, ℕ, List, Option, Some, [], length, ◌⊎◌, true};
-ghost use Rattle.std.specs.Prelude.{false};
+ghost use Rattle.std.specs.Prelude.{◌≡◌, ◌≢◌, ◌-◌, ◌<◌, ℕ, List, Option, Some, [], length, ◌⊎◌, true, false};
 ghost use Rattle.std.specs.Prelude.{OnOk, IfOk, IfErr, ◌++◌, option_map};
 ghost use Rattle.std.specs.FinSet as set;
 ghost use Rattle.archive_core.specs.Content.{is_covered};

@@ -8,10 +8,10 @@ use Rattle.std.specs.Cmp.Lexicographic.{nat_list_cmp_total, slice_cmp}
 use Rattle.std.specs.FinSet as set
 use Rattle.join_core.specs.Listing.{listing}
 use Rattle.join_core.proofs.Listing.{listing_ascending}
-use Rattle.archive_records.proofs.Puts.{bytes_same}
 use Rattle.report_text.specs.declared.rows.AdmitRow.{AdmitRow}
 use Rattle.command_core.proofs.Readers.{pairs_long}
 use Rattle.archive_writing.specs.InnerArriving.{ArePlaced, was_added}
+use Rattle.archive_core.proofs.Made.{bytes_same}
 
 -- ---- lists
 

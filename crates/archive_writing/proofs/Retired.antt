@@ -10,13 +10,13 @@ use Rattle.archive_core.specs.declared.operations.Operation.TheVariants.{Retire}
 use Rattle.archive_core.specs.Content.{Operations, IsMade, content_of, joined, with_record}
 use Rattle.archive_core.specs.Record.{IsOperation, retirement_record}
 use Rattle.archive_core.proofs.Taken.{taken_are_joined}
+use Rattle.archive_core.proofs.Made.{bytes_same}
 use Rattle.archive_records.specs.declared.format.Format.TheVariants.{Archive}
 use Rattle.archive_records.specs.declared.writing.Sizes.{Sizes}
 use Rattle.archive_records.specs.Text.{InOrder, written}
 use Rattle.archive_records.specs.Writing.{IsWrittenWhole}
 use Rattle.archive_records.proofs.Ascending.{below-less}
 use Rattle.archive_records.proofs.Contents.{sorted-InOrder}
-use Rattle.archive_records.proofs.Puts.{bytes_same}
 use Rattle.byte_device.specs.Devices.{Stream}
 use Rattle.record_merge.specs.declared.arrivals.Arrival.{Arrival}
 use Rattle.record_merge.specs.Arrivals.{is_new, arrival_of}

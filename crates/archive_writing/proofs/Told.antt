@@ -9,10 +9,10 @@ use Rattle.join_core.proofs.Listing.{listing_ascending}
 use Rattle.archive_core.specs.declared.operations.Operation.{Operation}
 use Rattle.archive_core.specs.Content.{Operations, changes, content_of, joined}
 use Rattle.archive_core.specs.Record.{record_bytes}
+use Rattle.archive_core.proofs.Made.{bytes_same}
 use Rattle.archive_records.specs.declared.format.Format.TheVariants.{OldArchive}
 use Rattle.archive_records.specs.declared.writing.Sizes.{Sizes}
 use Rattle.archive_records.specs.Text.{old_written, text_of, written}
-use Rattle.archive_records.proofs.Puts.{bytes_same}
 use Rattle.archive_records.proofs.Versions.{old_written_text}
 use Rattle.byte_device.specs.Devices.{Stream}
 use Rattle.record_merge.specs.declared.arrivals.Arrival.{Arrival}

@@ -26,8 +26,8 @@ use Rattle.archive_core.specs.Valid.{key_of}
 use Rattle.archive_core.proofs.Entries.{admission_entry}
 use Rattle.archive_core.proofs.Members.{in_order}
 use Rattle.archive_core.proofs.Records.{length-key_of}
+use Rattle.archive_core.proofs.Made.{bytes_same}
 use Rattle.archive_records.proofs.Contents.{members_listed, order}
-use Rattle.archive_records.proofs.Puts.{bytes_same}
 use Rattle.archive_index.specs.Entry.{kind_byte, length_in, offset_in, placed_entry}
 use Rattle.archive_index.specs.Text.{index_magic}
 use Rattle.archive_index.proofs.Placed.{entry_long, kind_of, length_is}

@@ -8,7 +8,7 @@ use Rattle.indexed_answers.specs.InnerAnswering.{all_at}
 use Rattle.indexed_answers.specs.Named.{LivesAmong, Names, digest_at}
 use Rattle.indexed_answers.specs.declared.named.NamedSlice.{NamedSlice}
 use Rattle.indexed_answers.proofs.Entries.{are_among, has_among}
-use Rattle.indexed_answers.proofs.Lists.{contains_filter}
+use Rattle.archive_core.proofs.Members.{to_filter}
 
 -- one entry more has another digest
 pub others_more : (digest : List ℕ) (xs : List EntryAt) (i : ℕ) (x : EntryAt) → i < length xs → x ≡ get_or xs i x → ((y : EntryAt) → Contains (take i xs) y → digest_at y ≢ digest) → digest_at x ≢ digest
@@ -39,7 +39,7 @@ module _ (prefix digest : List ℕ) (indexes : List (List (List ℕ))) (live : L
   -- and what lives is there
   pub none_lives : ((x : EntryAt) → Contains live x → digest_at x ≢ digest) → (x : EntryAt) → LivesAmong prefix digest indexes x → ⊥
   none_lives none x h =
-      none x (subst (λ (xs : List EntryAt). Contains xs x) (sym is) (contains_filter lives (all_at 0 indexes) x (has_among indexes x h.among) h.lives)) h.digest_is
+      none x (subst (λ (xs : List EntryAt). Contains xs x) (sym is) (to_filter lives (all_at 0 indexes) x (has_among indexes x h.among) h.lives)) h.digest_is
 
   -- what was found of them
   pub with_digest : (result : Option NamedSlice) → MatchOption result ((x : EntryAt) → Contains live x → digest_at x ≢ digest) (λ named. (x : EntryAt) × Contains live x × (digest_at x ≡ digest) × Names x named)

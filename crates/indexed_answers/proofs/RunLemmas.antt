@@ -1,9 +1,8 @@
 -- Entries of one tag under a key, which stand together.
-use Rattle.std.proofs.Common.{◌≡◌, ℕ, zero, suc, ◌+◌, ◌-◌, ◌<◌, ◌≤◌, Bool, true, false, not, ◌&&◌, List, [], ◌∷◌, length, map, take, drop, get_or, refl, sym, ap, ◌∙◌, arith, length-drop, length-take}
-use Rattle.std.specs.Prelude.{All, filter}
+use Rattle.std.proofs.Common.{◌≡◌, ℕ, ◌+◌, ◌-◌, ◌<◌, ◌≤◌, Bool, true, false, not, ◌&&◌, List, [], length, map, take, drop, get_or, sym, ap, ◌∙◌, arith, length-drop, length-take}
+use Rattle.std.specs.Prelude.{All}
 use Rattle.std.specs.List.{AllWithin}
-use Rattle.std.proofs.Math.Seq.{take-nil}
-use Rattle.std.proofs.lemmas.List.{get_or-drop, get_or-take, length-take-le}
+use Rattle.std.proofs.lemmas.List.{get_or-drop, get_or-take}
 use Rattle.table_index.specs.Entry.{HasItsFields, entry_bytes}
 use Rattle.table_index.specs.declared.entry.TableEntry.{TableEntry}
 use Rattle.indexed_answers.specs.Among.{EntryAt}
@@ -11,14 +10,6 @@ use Rattle.indexed_answers.specs.Told.{admits_under}
 use Rattle.indexed_answers.specs.InnerAnswering.{entries_at, is_retired, lives_by}
 use Rattle.indexed_answers.proofs.Entries.{get_or-entries_at}
 use Rattle.indexed_answers.proofs.Lists.{read_map}
-
--- where none passes from one place up to another, none more is kept
-pub past : {X : Type 0} (p : X → Bool) (xs : List X) (n m : ℕ) → n ≤ m → AllWithin (λ x. p x ≡ false) xs n m → filter p (take m xs) ≡ filter p (take n xs)
-past p [] n m le none = rw (take-nil n, take-nil m)
-past p (x ∷ xs) zero zero le none = refl
-past p (x ∷ xs) zero (suc m) le none = rw (none 0 x (omega arith) (omega arith)) (past p xs 0 m (omega arith) (λ k d low high. none (suc k) d (omega arith) (omega arith)))
-past p (x ∷ xs) (suc n) zero le none = absurd (omega arith)
-past p (x ∷ xs) (suc n) (suc m) le none = rw (past p xs n m (omega arith) (λ k d low high. none (suc k) d (omega arith) (omega arith)))
 
 -- an entry of a run, among all
 pub record IsInRun (xs : List TableEntry) (start stop i : ℕ) (e : TableEntry) : Type 0 where
@@ -35,9 +26,6 @@ in_run xs start stop i e lt is =
     let at = is ∙ get_or-take (stop - start) (drop start xs) i e inside ∙ get_or-drop start xs i e in
     let below : start + i < length xs = omega (arith, long, all, lt) in
     record { before = omega (arith, inside); within = below; is = at; bytes = read_map entry_bytes xs (start + i) e below at }
-
-pub length_run : (xs : List TableEntry) (start stop : ℕ) → start ≤ stop → stop ≤ length xs → length (take (stop - start) (drop start xs)) ≡ stop - start
-length_run xs start stop ordered within = length-take-le (stop - start) (drop start xs) (omega (arith, length-drop start xs, ordered, within))
 
 pub fields_at : (xs : List TableEntry) (start stop i : ℕ) (e : TableEntry) → All HasItsFields xs → IsInRun xs start stop i e → HasItsFields e
 fields_at xs start stop i e fields there = rw there.is (fields (start + i) e there.within)

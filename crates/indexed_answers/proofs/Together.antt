@@ -13,9 +13,10 @@ use Rattle.indexed_answers.specs.Among.{AreAnsweringAmong, AreTied, EntryAt, IsA
 use Rattle.indexed_answers.specs.Told.{is_companion}
 use Rattle.indexed_answers.specs.InnerAnswering.{HaveOrder, HaveTie, all_at, is_elsewhere, place_in}
 use Rattle.indexed_answers.proofs.Entries.{AreApart, apart_both, are_among, are_apart, has_among, map-all_at}
-use Rattle.indexed_answers.proofs.Lists.{any_filter, any_map, contains_filter, filter_twice, pairs_permutation}
+use Rattle.indexed_answers.proofs.Lists.{any_filter, any_map, filter_twice, pairs_permutation}
 use Rattle.indexed_answers.proofs.Places.{ArePlaced, in_places, once_covered, once_ordered}
 use Rattle.indexed_answers.proofs.Tied.{untied}
+use Rattle.archive_core.proofs.Members.{to_filter}
 
 module _ (prefix : List ℕ) (indexes : List (List (List ℕ))) where
   abbrev all : List (List ℕ)
@@ -72,7 +73,7 @@ module _ (prefix : List ℕ) (indexes : List (List (List ℕ))) where
         each = All-permutation (λ x. answers x ≡ true) found sorted moved (filter_passes answers (all_at 0 indexes))
 
     has : (x : EntryAt) → IsAmong indexes x → answers x ≡ true → Contains sorted x
-    has x among is = Contains-permutation found sorted x moved (contains_filter answers (all_at 0 indexes) x (has_among indexes x among) is)
+    has x among is = Contains-permutation found sorted x moved (to_filter answers (all_at 0 indexes) x (has_among indexes x among) is)
 
     pub answering : AllPairs HaveOrder sorted → AreAnsweringAmong prefix indexes (dedup is_elsewhere sorted)
     answering agree = record {

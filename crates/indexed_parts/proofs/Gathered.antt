@@ -1,24 +1,17 @@
 -- Records that are gathered one after another, by the entries that name them.
-use Rattle.std.proofs.Common.{◌≡◌, ℕ, ◌+◌, ◌<◌, ◌≤◌, zero, suc, Bool, true, false, cond, ◌||◌, ◌&&◌, not, List, [], ◌∷◌, ◌++◌, length, map, take, get_or, Option, Some, None, refl, sym, ap, ◌∙◌, subst, append_assoc, arith}
+use Rattle.std.proofs.Common.{◌≡◌, ℕ, ◌+◌, ◌<◌, ◌≤◌, zero, suc, Bool, true, false, cond, List, [], ◌∷◌, ◌++◌, length, map, take, get_or, Option, Some, None, sym, ap, ◌∙◌, subst, append_assoc, arith}
 use Rattle.std.specs.Prelude.{filter, IfSome, Result, Ok, Err}
 use Rattle.std.specs.List.{AllWithin, AllZip}
 use Rattle.std.proofs.lemmas.List.{append-nil, take_all}
-use Rattle.std.proofs.Math.Seq.{take-nil}
 use Rattle.std.proofs.lemmas.Option.{IfSome_then}
 use Rattle.std.proofs.lemmas.List.Elements.{All-from_recursion, AllZip-push, filter_more}
-use Rattle.std.specs.Ordering.{nat_cmp, eq_by_cmp}
-use Rattle.std.specs.Cmp.Lexicographic.{slice_cmp, nat_list_cmp_total}
-use Rattle.std.specs.List.Sorted.{IsPermutation}
-use Rattle.std.proofs.lemmas.List.Sorted.{IsPermutation-map, list_any-IsPermutation}
 use Rattle.std.specs.FinSet as set
-use Rattle.std.specs.FinSet.{contains-from_list, contains-union, contains-empty, same_set}
-use Rattle.archive_core.specs.Content.{Operations, IsMade, is_admission, is_covered, content_of, with_records}
+use Rattle.archive_core.specs.Content.{Operations, is_admission, with_records}
 use Rattle.archive_core.specs.Part.{is_under}
-use Rattle.archive_core.proofs.Made.{and_right, bytes_same}
+use Rattle.archive_core.proofs.Made.{and_right}
 use Rattle.archive_core.specs.Record.{record_bytes}
 use Rattle.archive_core.specs.declared.operations.Operation.{Operation}
-use Rattle.archive_core.proofs.Taken.{IsUnderWay, taken_are_joined}
-use Rattle.archive_core.specs.Order.{made_again, contains_made}
+use Rattle.archive_core.proofs.Taken.{IsUnderWay}
 use Rattle.archive_index.specs.Entry.{IsPlacedEntry, offset_in}
 use Rattle.archive_index.specs.Index.{AreIndexed}
 use Rattle.archive_index.specs.Places.{BlamesPlaced, IsNamedBy, IsReadAmong}
@@ -31,21 +24,13 @@ use Rattle.join_core.specs.Listing.{listing}
 use Rattle.indexed_parts.specs.InnerPlaces.{AreGathered, IsGathered, IsReadOf, IsStaleAmong, IsUnnamed}
 use Rattle.indexed_parts.specs.Places.{AreGatheredUnder, IsEntryFault, ReadsPlaces}
 use Rattle.archive_index.specs.Runs.{is_tagged}
+use Rattle.archive_index.proofs.Runs.{past}
 use Rattle.indexed_parts.proofs.Ordered.{not_second, one_of_two, two_runs}
 
 module _ (R : List ℕ → List ℕ → Type 0) where
   picked : (p : List ℕ → Bool) (xs : List (List ℕ)) (i : ℕ) (x : List ℕ) (ys : List (List ℕ)) (y : List ℕ) → i < length xs → x ≡ get_or xs i [] → p x ≡ true → AllZip R (filter p (take i xs)) ys → R x y → AllZip R (filter p (take (i + 1) xs)) (ys ++ y ∷ [])
   picked p xs i x ys y lt is passes zip r =
       rw (filter_more p xs i [] lt, ← is, passes) (AllZip-push R (filter p (take i xs)) ys x y zip r)
-
--- where none passes from one place up to another, none more is kept
-past : (p : List ℕ → Bool) (xs : List (List ℕ)) (n m : ℕ) → n ≤ m → AllWithin (λ x. p x ≡ false) xs n m → filter p (take m xs) ≡ filter p (take n xs)
-past p [] n m le none = rw (take-nil n, take-nil m)
-past p (x ∷ xs) zero zero le none = refl
-past p (x ∷ xs) zero (suc m) le none = rw (none 0 x (omega arith) (omega arith)) (past p xs 0 m (omega arith) (λ k d low high. none (suc k) d (omega arith) (omega arith)))
-past p (x ∷ xs) (suc n) zero le none = absurd (omega arith)
-past p (x ∷ xs) (suc n) (suc m) le none =
-    rw (past p xs n m (omega arith) (λ k d low high. none (suc k) d (omega arith) (omega arith)))
 
 -- what follows of each text that is known
 pub known : (P : List ℕ → Type 0) (whole : Option (List ℕ)) → ((text : List ℕ) → P text) → IfSome whole P
@@ -235,24 +220,6 @@ module _ {P : Type 0} (whole : P → Option (List ℕ)) (failures : P → ℕ) (
   reads_behind R S M N (Err fault) made told read h = refused_behind M N fault (told fault) read h
 
 -- ---- what was taken together
-
-empty_made : IsMade set.empty
-empty_made = same_set nat_list_cmp_total bytes_same (content_of set.empty) set.empty (λ q. contains_made set.empty q ∙ ap (λ b. b && not (is_covered set.empty q)) (contains-empty _ q) ∙ sym (contains-empty _ q))
-
-none_union : (s : Operations) → set.union set.empty s ≡ s
-none_union s = same_set nat_list_cmp_total bytes_same (set.union set.empty s) s (λ q. contains-union nat_list_cmp_total set.empty s q ∙ ap (λ b. b || set.contains s q) (contains-empty _ q))
-
--- neither their order counts
-moved : (xs ys : List Operation) → IsPermutation xs ys → set.from_list {R = slice_cmp nat_cmp} (map record_bytes ys) ≡ set.from_list (map record_bytes xs)
-moved xs ys permuted = same_set nat_list_cmp_total bytes_same _ _ (λ q.
-    contains-from_list nat_list_cmp_total (map record_bytes ys) q
-    ∙ sym (list_any-IsPermutation (eq_by_cmp (slice_cmp nat_cmp) q) (map record_bytes xs) (map record_bytes ys) (IsPermutation-map record_bytes xs ys permuted))
-    ∙ sym (contains-from_list nat_list_cmp_total (map record_bytes xs) q))
-
-pub made_together : (held : Operations) (operations sorted : List Operation) → IsPermutation operations sorted → held ≡ with_records set.empty (map record_bytes sorted) → held ≡ content_of (set.from_list (map record_bytes operations))
-made_together held operations sorted permuted is =
-    let s = content_of (set.from_list (map record_bytes sorted)) in
-    is ∙ taken_are_joined set.empty (map record_bytes sorted) empty_made ∙ ap content_of (none_union s) ∙ made_again (set.from_list (map record_bytes sorted)) ∙ ap content_of (moved operations sorted permuted)
 
 -- all were taken
 pub all_taken : (old now : Operations) (all left : List Operation) → IsUnderWay old now all left → length left ≡ 0 → now ≡ with_records old (map record_bytes all)

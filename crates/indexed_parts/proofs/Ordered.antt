@@ -9,7 +9,7 @@ use Rattle.std.specs.Cmp.Lexicographic.{slice_cmp}
 use Rattle.std.specs.List.{AllByRecursion}
 use Rattle.std.specs.List.Sorted.{IsStrictlySortedBy}
 use Rattle.std.proofs.lemmas.Bool.{eqb-true}
-use Rattle.std.proofs.lemmas.List.{get_or-drop, get_or-take, length-take-le}
+use Rattle.std.proofs.lemmas.List.{get_or-drop, get_or-take}
 use Rattle.std.proofs.lemmas.Map.Keys.{Less-from_sorted}
 use Rattle.archive_core.specs.Part.{is_under}
 use Rattle.archive_core.proofs.Made.{and_left, by_test, either}
@@ -36,9 +36,6 @@ in_run xs start stop i e lt is =
     let at = is ∙ get_or-take (stop - start) (drop start xs) i e within ∙ get_or-drop start xs i e in
     let below : start + i < length xs = omega (arith, long, all, lt) in
     (omega (arith, within), below, at, bytes_at xs (start + i) e (placed_bytes e) below at refl)
-
-pub length_run : (xs : List PlacedEntry) (start stop : ℕ) → start ≤ stop → stop ≤ length xs → length (take (stop - start) (drop start xs)) ≡ stop - start
-length_run xs start stop ordered within = length-take-le (stop - start) (drop start xs) (omega (arith, length-drop start xs, ordered, within))
 
 -- ---- retirements before admissions
 

@@ -11,10 +11,11 @@ ghost use Rattle.indexed_parts.specs.InnerPlaces.{AreGathered, IsGathered, IsRea
 ghost use Rattle.archive_index.specs.Runs.{is_tagged};
 ghost use Rattle.indexed_parts.specs.Places.{AreGatheredUnder, IsEntryFault, ReadsPlaces};
 
-use crate::records::{ADMISSION, RETIREMENT, operation_at};
+use crate::records::operation_at;
 use crate::runs::run_under;
 use archive_core::Operation;
 use archive_index::{Index, PlaceFault, PlacedEntry};
+use archive_records::{ADMISSION, RETIREMENT};
 use byte_device::Placed;
 use memory::Heap;
 
@@ -62,8 +63,8 @@ fn gather_run<P: Placed>(
 {
     let (start, stop) = run_under(entries, tag, prefix);
     let run = &entries[start..stop];
-    'run: for (place, entry) in run.iter().enumerate() {
-        gather_entry(heap, gathered, (start + place) as u64, entry, archive, size)?;
+    'run: for (index, entry) in run.iter().enumerate() {
+        gather_entry(heap, gathered, (start + index) as u64, entry, archive, size)?;
     }
     Ok(())
 }

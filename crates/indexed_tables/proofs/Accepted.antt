@@ -21,10 +21,10 @@ use Rattle.checked_pages.specs.Pages.{page_digests, stored}
 use Rattle.table_index.specs.Entry.{zeros}
 use Rattle.archive_core.specs.Content.{IsContent, Operations, is_admission}
 use Rattle.archive_core.specs.Record.{IsRecord}
+use Rattle.archive_core.proofs.Made.{bytes_same}
 use Rattle.archive_records.specs.Layout.{largest_slice}
 use Rattle.archive_records.specs.Text.{InOrder, written}
 use Rattle.archive_records.specs.declared.format.Format.TheVariants.{Archive}
-use Rattle.archive_records.proofs.Puts.{bytes_same}
 use Rattle.archive_records.proofs.Contents.{InOrder-listing, along, containing, order}
 use Rattle.archive_index.specs.Text.{index_magic}
 use Rattle.archive_index.specs.Entry.{has_kind, has_length, has_tag, length_in, offset_in, placed_entry}

@@ -14,8 +14,8 @@ use Rattle.archive_core.specs.Content.{IsContent, Operations}
 use Rattle.archive_core.specs.Record.{IsRecord}
 use Rattle.archive_core.specs.Summary.{Entries}
 use Rattle.archive_core.proofs.Members.{in_map, in_order, to_map}
+use Rattle.archive_core.proofs.Made.{bytes_same}
 use Rattle.archive_records.proofs.Contents.{along, order}
-use Rattle.archive_records.proofs.Puts.{bytes_same}
 use Rattle.archive_index.specs.Entry.{placed_entry}
 use Rattle.archive_index.specs.Index.{index, placed_entries}
 use Rattle.archive_index.proofs.Kept.{in_made}

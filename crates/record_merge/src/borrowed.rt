@@ -5,8 +5,6 @@ ghost use Rattle.std.specs.Prelude.{Some, None, IfOk, IfSome};
 ghost use Rattle.std.specs.Ordering.{nat_cmp};
 ghost use Rattle.std.specs.Cmp.Lexicographic.{slice_cmp};
 ghost use Rattle.archive_core.specs.Content.{is_covered};
-ghost use Rattle.archive_core.specs.Key.{IsKey};
-ghost use Rattle.archive_core.specs.Valid.{IsCheckedOf};
 ghost use Rattle.archive_core.specs.Record.{IsOperation, admission_record, borrowed_bytes, operation_borrowed, record_bytes};
 ghost use Rattle.archive_records.specs.declared.format.Format.TheVariants.{OldArchive};
 ghost use Rattle.archive_records.specs.Kind.{may_follow, old_magic};
@@ -15,7 +13,7 @@ ghost use Rattle.archive_records.specs.Text.{end_record, text_of};
 ghost use Rattle.record_merge.specs.Borrowed.{AdvancesTo, last_bytes, left_of, seen_of};
 
 use crate::side::{Lookahead, MergeInput, ReadFrom, Side};
-use archive_core::{CheckedSlice, Digest, Operation, Record, Retirements, SliceFacts, SliceKey};
+use archive_core::{CheckedSlice, Operation, Record, Retirements, retirement};
 use archive_records::{
     MAGIC_LEN, MOST, RecordFault, RecordFaultKind, admission_head, put_record, retirement_bytes,
 };
@@ -98,15 +96,6 @@ impl<'a> BorrowedText<'a> {
     }
 }
 
-/// Shows of what widths the parts of a retirement are.
-fn show_parts(key: SliceKey, digest: Digest)
-    ensures key { IsKey key }
-    ensures digest { length digest.0 ≡ 32 }
-{
-    let _key = key;
-    let _digest = digest;
-}
-
 /// Shows that an operation that is borrowed is one.
 fn show_operation(item: &Record<'_>)
     ensures { IsOperation (operation_borrowed item.now) }
@@ -115,7 +104,9 @@ fn show_operation(item: &Record<'_>)
         Record::Admit(slice) => {
             let _bytes = slice.bytes();
         }
-        Record::Retire(key, digest) => show_parts(*key, *digest),
+        Record::Retire(key, digest) => {
+            let _retirement = retirement(*key, *digest);
+        }
     }
 }
 
@@ -161,35 +152,13 @@ fn may_follow(last: &Option<Record<'_>>, next: &Record<'_>) -> bool
     }
 }
 
-/// Whether one of these retirements covers the slice of these bytes, by what was found out of it. A digest that is
-/// asked for is found out for whoever asks next.
-fn covers_slice(retirements: &Retirements, bytes: &[u8], found: &mut SliceFacts) -> bool
-    requires { IsCheckedOf bytes.now found.old }
-    ensures covered { result ≡ is_covered (set_of retirements.now) (admission_record bytes.now) }
-    ensures found { IsCheckedOf bytes.now found.new }
+/// Whether one of these retirements covers the slice. A digest that is asked for is kept for whoever asks next.
+fn covers_slice(retirements: &Retirements, slice: &mut CheckedSlice<'_>) -> bool
+    ensures covered { result ≡ is_covered (set_of retirements.now) (admission_record slice.old) }
+    ensures same { slice.new ≡ slice.old }
 {
-    let mut slice = CheckedSlice::of_checked(bytes, *found);
     let _bytes = slice.bytes();
-    let covered = retirements.covers(&mut slice);
-    *found = slice.facts();
-    covered
-}
-
-/// The same of either of two.
-fn either_covers(
-    shared: &Retirements,
-    retired: &Retirements,
-    bytes: &[u8],
-    found: &mut SliceFacts,
-) -> bool
-    requires { IsCheckedOf bytes.now found.old }
-    ensures covered { result ≡ is_covered (set_of (shared.now ++ retired.now)) (admission_record bytes.now) }
-    ensures found { IsCheckedOf bytes.now found.new }
-{
-    if covers_slice(retired, bytes, found) {
-        return true;
-    }
-    covers_slice(shared, bytes, found)
+    retirements.covers(slice)
 }
 
 /// Whether one of these retirements covers the record.
@@ -198,13 +167,7 @@ fn covers(shared: &Retirements, retired: &Retirements, item: &mut Record<'_>) ->
     ensures same { item.new ≡ item.old }
 {
     match item {
-        Record::Admit(slice) => {
-            let bytes = slice.bytes();
-            let mut found = slice.facts();
-            let covered = either_covers(shared, retired, bytes, &mut found);
-            *slice = CheckedSlice::of_checked(bytes, found);
-            covered
-        }
+        Record::Admit(slice) => covers_slice(retired, slice) || covers_slice(shared, slice),
         Record::Retire(_, _) => false,
     }
 }

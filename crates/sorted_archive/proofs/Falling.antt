@@ -7,15 +7,7 @@ use Rattle.std.specs.List.Sorted.{IsPartitionedBy}
 use Rattle.std.proofs.lemmas.List.{append-nil, append_assoc, nil_from_length, drop_all, drop_at, drop_more, take_all, take_at, take_more, take-append-drop, get_or_append_left, get_or-take, get_or-drop, length-append, length-drop, length-take-le}
 use Rattle.std.proofs.lemmas.List.Elements.{filter-append, filter_passes, All-from_recursion, recursion_from_All}
 use Rattle.join_core.proofs.Place.{along_take, along_drop}
-
-eq_of_lt : (r : Ordering) → is_lt r ≡ true → is_eq r ≡ false
-eq_of_lt r h = grind arith
-
-eq_of_gt : (r : Ordering) → is_le r ≡ false → is_eq r ≡ false
-eq_of_gt r h = grind arith
-
-eq_of_both : (r : Ordering) → is_lt r ≡ false → is_le r ≡ true → is_eq r ≡ true
-eq_of_both r h g = grind arith
+use Rattle.join_core.proofs.Search.{eq_of_lt, eq_of_gt, eq_of_both}
 
 module _ {X : Type 0} where
   -- what is written back to the front of a list, as it was there, leaves it as it was

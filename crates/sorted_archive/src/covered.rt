@@ -16,7 +16,7 @@ ghost use Rattle.archive_core.specs.declared.operations.Operation.TheVariants.{R
 
 use crate::plain::search;
 use crate::range::{RecordKind, Scope, has_retirement, keep_digests_under, range_of};
-use archive_core::{Digest, Operation, Slice, SliceKey};
+use archive_core::{Digest, Operation, Slice, SliceKey, retirement};
 use memory::Heap;
 use std::marker::Model;
 
@@ -154,15 +154,7 @@ pub(crate) fn drop_covered(operations: &mut Vec<Operation, Heap>, by: &BorrowedO
     operations.retain(|operation| !by.retires_operation(operation, &mut near));
 }
 
-// The retirement of a key and a digest.
-pub(crate) fn retirement(key: SliceKey, digest: Digest) -> Operation
-    ensures retirement { result ≡ Retire key digest }
-    ensures operation { IsOperation (Retire key digest) }
-{
-    Operation::Retire(key, digest)
-}
-
-// Drops the operation at a place.
+// Drops the operation at an index.
 fn drop_at(operations: &mut Vec<Operation, Heap>, index: usize)
     requires { index < length operations.old.items }
     ensures { operations.new.items ≡ take index operations.old.items ++ drop (index + 1) operations.old.items }

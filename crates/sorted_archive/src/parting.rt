@@ -5,8 +5,7 @@ ghost use Rattle.archive_core.specs.Content.{IsMade, Operations};
 ghost use Rattle.sorted_archive.specs.InnerTaking.{IsPut, IsParted};
 ghost use Rattle.archive_core.specs.declared.operations.Operation.TheVariants.{Admit, Retire};
 
-use crate::covered::retirement;
-use archive_core::{Digest, Operation, Retirements, Slice, SliceKey, retirement_bytes};
+use archive_core::{Digest, Operation, Retirements, Slice, SliceKey, retirement, retirement_bytes};
 use memory::{Heap, NoMemory};
 
 // The admissions of a list and its retirements, without those that are new nowhere where they come: a slice behind its

@@ -1,8 +1,7 @@
 -- What the checks of entries say.
 use Rattle.std.proofs.Common.{◌≡◌, ℕ, ◌+◌, ◌*◌, ◌≤◌, Bool, true, not, cond, List, [], ◌∷◌, ◌++◌, length, take, drop, refl, sym, ap, ◌∙◌, subst, arith, length-append, append_assoc}
 use Rattle.std.specs.Prelude.{Result, Ok, Err}
-use Rattle.std.specs.List.{concat}
-use Rattle.std.specs.List.{AllByRecursion}
+use Rattle.std.specs.List.{concat, AllByRecursion}
 use Rattle.std.specs.List.Sorted.{IsStrictlySortedBy}
 use Rattle.std.specs.Ordering.{nat_cmp, is_lt}
 use Rattle.std.specs.declared.cmp.Ordering.TheVariants.{Less}
@@ -19,10 +18,10 @@ use Rattle.index_faults.specs.declared.fault.IndexFaultKind.{IndexFaultKind}
 use Rattle.index_faults.specs.declared.fault.IndexFaultKind.TheVariants.{BadTag, BadKind, BadLength, NotAscending, BadTable}
 use Rattle.archive_index.proofs.Ascending.{less_is}
 
-abbrev fine : Result (Unit {0}) IndexFaultKind
+abbrev pub fine : Result (Unit {0}) IndexFaultKind
 fine = Ok tt
 
-abbrev failed : IndexFaultKind → Result (Unit {0}) IndexFaultKind
+abbrev pub failed : IndexFaultKind → Result (Unit {0}) IndexFaultKind
 failed kind = Err kind
 
 all_pass : (a b c d e : Bool)
@@ -78,8 +77,8 @@ IsStop end last rest = 122 ≤ length rest → check_entry end last (take 122 re
 
 entry_next : (end : ℕ) (last x s rest : List ℕ) → length x ≡ 122 → check_entry end last x ≡ Ok tt → s ≡ x ++ rest → IsStop end last s → ⊥
 entry_next end last x s rest long h is stop =
-    let front : take 122 s ≡ x = ap (take 122) is ∙ ap (λ (n : ℕ). take n (x ++ rest)) (sym long) ∙ take-append_seam x rest in
-    stop (omega (arith, ap length is, length-append x rest, long)) (ap (check_entry end last) front ∙ h)
+    let beginning : take 122 s ≡ x = ap (take 122) is ∙ ap (λ (n : ℕ). take n (x ++ rest)) (sym long) ∙ take-append_seam x rest in
+    stop (omega (arith, ap length is, length-append x rest, long)) (ap (check_entry end last) beginning ∙ h)
 
 pub one_front : (end : ℕ) (low : List ℕ) (xs ys : List (List ℕ)) (s r t : List ℕ) → PassChecks end low xs → PassChecks end low ys → s ≡ concat xs ++ r → s ≡ concat ys ++ t
     → IsStop end (last_of low xs) r → IsStop end (last_of low ys) t → (xs ≡ ys) × (r ≡ t)

@@ -14,8 +14,8 @@ use Rattle.std.proofs.lemmas.List.Sorted.{Contains-permutation, IsNonDecreasingB
 use Rattle.std.proofs.lemmas.List.Sums.{sum_by-cons}
 use Rattle.std.proofs.lemmas.Slice.Eq.{bytes_eq-Decides}
 use Rattle.archive_core.specs.Content.{is_admission}
+use Rattle.archive_core.proofs.Members.{in_rest, in_cons, in_front}
 use Rattle.archive_records.specs.Layout.{largest_slice}
-use Rattle.archive_records.proofs.Ascending.{cons_cases, here, later}
 use Rattle.archive_index.specs.Entry.{length_in, offset_in}
 use Rattle.table_index.specs.Entry.{HasItsFields, claim_in, entry_bytes, stored_size}
 use Rattle.table_index.specs.declared.entry.TableEntry.{TableEntry}
@@ -38,10 +38,10 @@ counts_itself x xs =
 is_counted : (x : List ℕ) (xs : List (List ℕ)) → 0 < sum_by (counted x) xs → Contains xs x
 is_counted x [] some = absurd (omega (arith, some))
 is_counted x (y ∷ ys) some = elim (cases_Bool (bytes_eq y x)) [
-  | inl t ↦ subst (Contains (y ∷ ys)) ((bytes_eq-Decides y x).0 t) (here y ys)
+  | inl t ↦ subst (Contains (y ∷ ys)) ((bytes_eq-Decides y x).0 t) (in_front y ys)
   | inr f ↦
       let none : counted x y ≡ 0 = ap (λ b. cond b 1 0) f in
-      later y x ys (is_counted x ys (omega (arith, some, none, sum_by-cons (counted x) y ys)))
+      in_rest y ys x (is_counted x ys (omega (arith, some, none, sum_by-cons (counted x) y ys)))
 ]
 
 alike_tails : (x : List ℕ) (xs ys : List (List ℕ)) → AreAlike (x ∷ xs) (x ∷ ys) → AreAlike xs ys
@@ -52,7 +52,7 @@ alike_tails x xs ys alike f = omega (arith, alike f, sum_by-cons f x xs, sum_by-
 -- what follows begins no earlier
 pub follows : (offset at end : ℕ) (xs : List (List ℕ)) (z : List ℕ) → FollowOn offset at end xs → Contains xs z → offset ≤ offset_in z
 follows offset at end [] z follow c = absurd (omega (arith, c.1))
-follows offset at end (x ∷ xs) z follow c = elim (cons_cases x z xs c) [
+follows offset at end (x ∷ xs) z follow c = elim (in_cons x xs z c) [
   | inl e ↦ omega (arith, follow.0, ap offset_in e)
   | inr there ↦ omega (arith, follows (offset + length_in x) (at + stored_size (claim_in x)) end xs z follow.2 there)
 ]
@@ -69,12 +69,12 @@ one_order offset at end (x ∷ xs) (y ∷ ys) follow some up alike =
     let y_there : Contains (x ∷ xs) y = is_counted y (x ∷ xs) (omega (arith, alike (counted y), counts_itself y ys)) in
     let x_there : Contains (y ∷ ys) x = is_counted x (y ∷ ys) (omega (arith, alike (counted x), counts_itself x xs)) in
     let least : offset_in y ≤ offset_in x = first_least y x ys up x_there in
-    elim (cons_cases x y xs y_there) [
+    elim (in_cons x xs y y_there) [
       | inl e ↦
           let tails : AreAlike xs ys = alike_tails x xs ys (subst (λ (t : List ℕ). AreAlike (x ∷ xs) (t ∷ ys)) (sym e) alike) in
-          cc (e, one_order (offset + length_in x) (at + stored_size (claim_in x)) end xs ys follow.2 (λ z c. some z (later x z xs c)) (IsNonDecreasingBy-drop offset_in 1 (y ∷ ys) up) tails)
+          cc (e, one_order (offset + length_in x) (at + stored_size (claim_in x)) end xs ys follow.2 (λ z c. some z (in_rest x xs z c)) (IsNonDecreasingBy-drop offset_in 1 (y ∷ ys) up) tails)
       | inr there ↦
-          absurd (omega (arith, least, follow.0, some x (here x xs), follows (offset + length_in x) (at + stored_size (claim_in x)) end xs y follow.2 there))
+          absurd (omega (arith, least, follow.0, some x (in_front x xs), follows (offset + length_in x) (at + stored_size (claim_in x)) end xs y follow.2 there))
     ]
 
 -- ---- entries that pass their checks
@@ -84,7 +84,7 @@ some_length a n h = grind (arith, nat_tests)
 
 pub each_some : (end : ℕ) (low : List ℕ) (xs : List (List ℕ)) (z : List ℕ) → PassChecks end low xs → Contains xs z → 0 < length_in z
 each_some end low [] z pass c = absurd (omega (arith, c.1))
-each_some end low (x ∷ xs) z pass c = elim (cons_cases x z xs c) [
+each_some end low (x ∷ xs) z pass c = elim (in_cons x xs z c) [
   | inl e ↦ subst (λ (t : List ℕ). 0 < length_in t) e (some_length (is_admission x) (length_in x) (passed end low x pass.1).length_is)
   | inr there ↦ each_some end x xs z pass.2 there
 ]
@@ -110,7 +110,7 @@ module _ (offset at end i : ℕ) (xs : List (List ℕ)) (e : List ℕ) (P : Type
   head_of : P → FollowOn offset at end (e ∷ drop (i + 1) xs)
   head_of p = subst (FollowOn offset at end) (rest_from xs i e lt is) (left.1 p)
 
-  -- no entry follows here
+  -- no entry follows in_front
   pub not_here : (offset_in e ≡ offset → (is_admission e ≡ true → (claim_in e).offset ≡ at) → ⊥) → P → ⊥
   not_here other p = other (head_of p).0 (head_of p).1
 

@@ -8,7 +8,7 @@ use Rattle.join_core.specs.Listing.{listing}
 use Rattle.join_core.proofs.Listing.{listed}
 use Rattle.archive_core.specs.Content.{Operations}
 use Rattle.archive_core.specs.Record.{record_bytes}
-use Rattle.archive_records.proofs.Puts.{bytes_same}
+use Rattle.archive_core.proofs.Made.{bytes_same}
 use Rattle.byte_device.proofs.Known.{Appends-none}
 use Rattle.record_merge.specs.Arrivals.{arrival_of}
 use Rattle.command_core.specs.declared.faults.CommandFault.TheVariants.{OutOfMemory}

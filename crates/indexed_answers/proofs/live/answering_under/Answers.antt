@@ -6,10 +6,11 @@ use Rattle.indexed_answers.specs.Among.{EntryAt, all_of, has_live_companion}
 use Rattle.indexed_answers.specs.Told.{is_companion}
 use Rattle.indexed_answers.specs.InnerAnswering.{entry_at}
 use Rattle.indexed_answers.specs.declared.numbered.Numbered.{Numbered}
-use Rattle.indexed_answers.proofs.Lists.{any_map, filter_map_swap}
+use Rattle.indexed_answers.proofs.Lists.{any_map}
 use Rattle.indexed_answers.proofs.Together.{companion_is, found_all, found_companions}
 use Rattle.indexed_answers.proofs.live.answering_under.Goals as goal
 use Rattle.indexed_answers.proofs.live.answering_under.Goals.{then-has_companion, else-has_companion}
+use Rattle.archive_core.proofs.Members.{filter_map_swap}
 
 pub returns : goal.returns
 returns c =

@@ -7,8 +7,9 @@ use Rattle.indexed_answers.specs.Among.{EntryAt}
 use Rattle.indexed_answers.specs.Told.{admits_under}
 use Rattle.indexed_answers.specs.InnerAnswering.{entries_at, entry_at, lives_by}
 use Rattle.indexed_answers.proofs.Entries.{length-entries_at, passed_by, picked}
-use Rattle.indexed_answers.proofs.RunLemmas.{fields_at, in_run, length_run, lives_here, none_lives, past}
+use Rattle.indexed_answers.proofs.RunLemmas.{fields_at, in_run, lives_here, none_lives}
 use Rattle.indexed_answers.proofs.live.gather.Goals as goal
+use Rattle.archive_index.proofs.Runs.{past, length_run}
 
 pub run-init : goal.run-init
 run-init c =

@@ -6,8 +6,9 @@ use Rattle.table_index.specs.Entry.{entry_bytes}
 use Rattle.indexed_answers.specs.Among.{subject_of}
 use Rattle.indexed_answers.specs.InnerAnswering.{retired_of, retires_under}
 use Rattle.indexed_answers.proofs.Retirements.{retired_pushed}
-use Rattle.indexed_answers.proofs.RunLemmas.{in_run, length_run, past}
+use Rattle.indexed_answers.proofs.RunLemmas.{in_run}
 use Rattle.indexed_answers.proofs.retired.gather.Goals as goal
+use Rattle.archive_index.proofs.Runs.{past, length_run}
 
 pub run-init : goal.run-init
 run-init c =
