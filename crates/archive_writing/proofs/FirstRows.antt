@@ -11,7 +11,7 @@ use Rattle.join_core.proofs.Listing.{listing_ascending}
 use Rattle.archive_records.proofs.Puts.{bytes_same}
 use Rattle.report_text.specs.declared.rows.AdmitRow.{AdmitRow}
 use Rattle.command_core.proofs.Readers.{pairs_long}
-use Rattle.archive_writing.specs.InnerArriving.{ArePlaced, was_added}
+use Rattle.archive_writing.specs.InnerArriving.{AreFirstRows, was_added}
 
 -- ---- lists
 
@@ -67,37 +67,37 @@ pub no_listing : listing {R = slice_cmp nat_cmp} set.empty ≡ []
 unfolding IsStrictlySortedBy
 no_listing = listing_ascending nat_list_cmp_total bytes_same [] tt
 
-pub placed_none : (came : List (List ℕ)) (places : List ℕ) (rows : List AdmitRow) → came ≡ [] → places ≡ [] → rows ≡ [] → ArePlaced came places rows []
-placed_none came places rows no_records no_places no_rows = rw (no_records, no_places, no_rows) (record { long = refl; beside = tt; each = λ place row at added. cc })
+pub first_none : (came : List (List ℕ)) (first_rows : List ℕ) (rows : List AdmitRow) → came ≡ [] → first_rows ≡ [] → rows ≡ [] → AreFirstRows came first_rows rows []
+first_none came first_rows rows no_records no_first_rows no_rows = rw (no_records, no_first_rows, no_rows) (record { long = refl; beside = tt; each = λ place row at added. cc })
 
-module _ (came : List (List ℕ)) (places : List ℕ) (rows : List AdmitRow) (records : List (List ℕ)) (row : AdmitRow) (r : List ℕ) (placed : ArePlaced came places rows records) where
+module _ (came : List (List ℕ)) (first_rows : List ℕ) (rows : List AdmitRow) (records : List (List ℕ)) (row : AdmitRow) (r : List ℕ) (are_first : AreFirstRows came first_rows rows records) where
   longer : length (records ++ r ∷ []) ≡ length (rows ++ row ∷ [])
-  longer = omega (arith, placed.long, length-append records (r ∷ []), length-append rows (row ∷ []))
+  longer = omega (arith, are_first.long, length-append records (r ∷ []), length-append rows (row ∷ []))
 
-  beside_more : AllZip (λ (place : ℕ) (x : List ℕ). slice_get (records ++ r ∷ []) place ≡ Some x) places came
-  beside_more = along_pairs _ _ places came (λ place x h. kept_at records (r ∷ []) place x h) placed.beside
+  beside_more : AllZip (λ (place : ℕ) (x : List ℕ). slice_get (records ++ r ∷ []) place ≡ Some x) first_rows came
+  beside_more = along_pairs _ _ first_rows came (λ place x h. kept_at records (r ∷ []) place x h) are_first.beside
 
   -- of one that was not added
-  pub placed_known : was_added row.taken ≡ false → ArePlaced came places (rows ++ row ∷ []) (records ++ r ∷ [])
-  placed_known known = record {
+  pub first_known : was_added row.taken ≡ false → AreFirstRows came first_rows (rows ++ row ∷ []) (records ++ r ∷ [])
+  first_known known = record {
     long = longer;
     beside = beside_more;
     each = λ place other at added. elim (last_or rows row other place at) [
-      | inl before ↦ placed.each place other before added
+      | inl before ↦ are_first.each place other before added
       | inr last ↦ cc (ap (λ (x : AdmitRow). was_added x.taken) last.1)
     ];
   }
 
   -- of one that was added, at its place among those that came
-  pub placed_added : (more : List (List ℕ)) (more_places : List ℕ) (place number : ℕ) → more ≡ insert came place r → place ≤ length came → more_places ≡ insert places place number → number ≡ length rows
-      → ArePlaced more more_places (rows ++ row ∷ []) (records ++ r ∷ [])
-  placed_added more more_places place number more_is within places_is number_is = rw (more_is, places_is) (record {
+  pub first_added : (more : List (List ℕ)) (more_first_rows : List ℕ) (place number : ℕ) → more ≡ insert came place r → place ≤ length came → more_first_rows ≡ insert first_rows place number → number ≡ length rows
+      → AreFirstRows more more_first_rows (rows ++ row ∷ []) (records ++ r ∷ [])
+  first_added more more_first_rows place number more_is within first_rows_is number_is = rw (more_is, first_rows_is) (record {
     long = longer;
-    beside = pairs_insert _ places came place number r beside_more (rw (number_is ∙ sym placed.long) (last_at records r));
+    beside = pairs_insert _ first_rows came place number r beside_more (rw (number_is ∙ sym are_first.long) (last_at records r));
     each = λ n other at added. elim (last_or rows row other n at) [
-      | inl before ↦ let old = placed.each n other before added in moved places old.0 place number n old.1
+      | inl before ↦ let old = are_first.each n other before added in moved first_rows old.0 place number n old.1
       | inr last ↦
-          let long = pairs_long _ places came placed.beside in
-          (place, rw (last.0 ∙ sym number_is) (put_at places place number (omega (arith, within, long))))
+          let long = pairs_long _ first_rows came are_first.beside in
+          (place, rw (last.0 ∙ sym number_is) (put_at first_rows place number (omega (arith, within, long))))
     ];
   })
