@@ -7,7 +7,7 @@ ghost use Rattle.exchange_model.specs.Reached.{reached};
 ghost use Rattle.exchange_model.specs.Issued.{AreIssued, AreRecords, IsDigestTelling, IsExchange, IsQuiet};
 ghost use Rattle.archive_exchange.specs.SiteState.{SiteState};
 ghost use Rattle.archive_exchange.specs.ModelEvent.{ModelEvent, OfEvents, OutcomeIs};
-ghost use Rattle.archive_exchange.specs.Rehearsal.{Represents};
+ghost use Rattle.archive_exchange.specs.WorldState.{Represents};
 ghost use Rattle.archive_exchange.specs.Alike.{AreAlike};
 ghost use Rattle.archive_exchange.specs.InnerEvents.{HasRun};
 
@@ -35,7 +35,7 @@ fn empty_sites<A: Archive + Drop>(heap: &Heap, sites: u32) -> Result<Vec<Site<A>
 }
 
 /// Carries the events out, one after another.
-fn rehearse<A: Archive + Drop>(
+fn carry_out<A: Archive + Drop>(
     heap: Heap,
     sites: u32,
     events: &[Event],
@@ -124,6 +124,6 @@ pub fn run<A: Archive + Drop>(
     issued_and_kept::<TakeFault>();
     delta_lifts::<TakeFault>();
     answered_agree::<TakeFault>();
-    let done = rehearse(heap, sites, events)?;
+    let done = carry_out(heap, sites, events)?;
     Ok(done)
 }

@@ -1,7 +1,7 @@
 //! What a rehearsal leaves.
 ghost use Rattle.std.specs.Prelude.{◌≡◌, ◌<◌, Some, length, slice_get};
 ghost use Rattle.archive_exchange.specs.SiteState.{IsWhole};
-ghost use Rattle.archive_exchange.specs.Rehearsal.{AreSites};
+ghost use Rattle.archive_exchange.specs.WorldState.{AreSites};
 
 use crate::Site;
 use crate::message::Message;
@@ -17,7 +17,7 @@ pub struct World<A: Archive> {
 }
 
 impl<A: Archive> Model for World<A> {
-    ghost use Rattle.archive_exchange.specs.Rehearsal.{RunState, run_state_code, AreSites};
+    ghost use Rattle.archive_exchange.specs.WorldState.{RunState, run_state_code, AreSites};
 
     ghost Value = { RunState };
 

@@ -1,7 +1,7 @@
 //! `rehearse SCRIPT`.
 ghost use Rattle.std.specs.Prelude.{◌≡◌, ◌++◌, IfOk, OnOk, length, string_bytes};
 ghost use Rattle.exchange_model.specs.World.{World as WorldModel};
-ghost use Rattle.archive_exchange.specs.Rehearsal.{Represents};
+ghost use Rattle.archive_exchange.specs.WorldState.{Represents};
 ghost use Rattle.command_core.specs.Ends.{EndsReport};
 ghost use Rattle.command_core.specs.Inputs.{reader};
 ghost use Rattle.command_core.specs.Outputs.{writer};

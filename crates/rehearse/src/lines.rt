@@ -1,8 +1,7 @@
 //! The lines of `rehearse`.
 ghost use Rattle.std.specs.Prelude.{◌≡◌, ◌<◌, ◌++◌, [], All, OnOk, length, slice_index_or, string_bytes};
-ghost use Rattle.std.specs.List.{count_by};
-ghost use Rattle.rehearse.specs.Rehearsal.{IsSentAmong, event_lines, is_added, is_known, is_skipped, outcome_text};
-ghost use Rattle.rehearse.specs.Rehearsal.{site_line, took_text};
+ghost use Rattle.rehearse.specs.EventLines.{IsSentAmong, event_lines, is_added, is_known, is_skipped, outcome_text};
+ghost use Rattle.rehearse.specs.EventLines.{site_line, took_text};
 ghost use Rattle.report_text.specs.Report.{line};
 
 use admission::Taken;
@@ -18,10 +17,10 @@ use std::fmt::{self, Display};
 #[derive(Clone, Copy)]
 struct Refusal(EventFault);
 
-#[tactic(auto, unfolding(crate::specs::Rehearsal::event_fault_text))]
+#[tactic(auto, unfolding(crate::specs::EventLines::event_fault_text))]
 impl fmt::Display for Refusal {
     ghost use Rattle.std.specs.Prelude.{Some};
-    ghost use Rattle.rehearse.specs.Rehearsal.{event_fault_text};
+    ghost use Rattle.rehearse.specs.EventLines.{event_fault_text};
 
     ghost output = { λ refusal. Some (event_fault_text refusal.0) };
 
@@ -52,25 +51,11 @@ fn is_added(row: &Taken) -> bool
     matches!(row, Taken::Added(..))
 }
 
-// How many slices are new.
-fn added_count(rows: &[Taken]) -> usize
-    ensures { result ≡ count_by is_added rows.now }
-{
-    rows.iter().filter(|row| is_added(row)).count()
-}
-
 // Whether a slice was known: there, or covered by a retirement.
 fn is_known(row: &Taken) -> bool
     ensures { result ≡ is_known row.now }
 {
     matches!(row, Taken::Known(..))
-}
-
-// How many slices were known.
-fn known_count(rows: &[Taken]) -> usize
-    ensures { result ≡ count_by is_known rows.now }
-{
-    rows.iter().filter(|row| is_known(row)).count()
 }
 
 // Whether a slice is passed over.
@@ -80,21 +65,14 @@ fn is_skipped(row: &Taken) -> bool
     matches!(row, Taken::Skipped)
 }
 
-// How many slices are passed over.
-fn skipped_count(rows: &[Taken]) -> usize
-    ensures { result ≡ count_by is_skipped rows.now }
-{
-    rows.iter().filter(|row| is_skipped(row)).count()
-}
-
 // Writes how many slices of a file are new, were known, and are passed over.
-#[tactic(auto, unfolding(crate::specs::Rehearsal::took_text))]
+#[tactic(auto, unfolding(crate::specs::EventLines::took_text))]
 fn push_took(text: &mut String<Heap>, rows: &[Taken]) -> Result<(), NoMemory>
     ensures { OnOk result (string_bytes text.new ≡ string_bytes text.old ++ line (took_text rows.now)) }
 {
-    let added = added_count(rows);
-    let known = known_count(rows);
-    let skipped = skipped_count(rows);
+    let added = rows.iter().filter(|row| is_added(row)).count();
+    let known = rows.iter().filter(|row| is_known(row)).count();
+    let skipped = rows.iter().filter(|row| is_skipped(row)).count();
     writeln!(text, "took {added} {known} {skipped}")
 }
 
@@ -107,7 +85,7 @@ fn message_len<A: Archive>(world: &World<A>, message: u64) -> usize
 }
 
 // Writes what is answered to an event; of a message that was sent, how many bytes it has.
-#[tactic(auto, unfolding(crate::specs::Rehearsal::outcome_text, crate::specs::Rehearsal::sent_text))]
+#[tactic(auto, unfolding(crate::specs::EventLines::outcome_text, crate::specs::EventLines::sent_text))]
 fn push_outcome<A: Archive>(
     text: &mut String<Heap>,
     world: &World<A>,

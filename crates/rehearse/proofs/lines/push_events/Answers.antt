@@ -1,6 +1,6 @@
 use Rattle.std.proofs.Common.{◌<◌, length, arith}
 use Rattle.rehearse.proofs.Events.{no_lines, one_more}
-use Rattle.rehearse.proofs.rehearsals.push_events.Goals as goal
+use Rattle.rehearse.proofs.lines.push_events.Goals as goal
 
 pub events-init : goal.events-init
 events-init g c = no_lines c.args.world.now.messages _
