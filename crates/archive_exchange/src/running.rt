@@ -22,7 +22,6 @@ use exchange_model::laws::{
 use exchange_script::Event;
 use memory::{Heap, NoMemory};
 
-/// Empty sites.
 fn empty_sites<A: Archive + Drop>(heap: &Heap, sites: u32) -> Result<Vec<Site<A>, Heap>, NoMemory>
     ensures number { IfOk result (λ row. length row.items ≡ sites) }
     ensures empty { IfOk result (λ row. Represents row.items [] start) }
@@ -34,7 +33,6 @@ fn empty_sites<A: Archive + Drop>(heap: &Heap, sites: u32) -> Result<Vec<Site<A>
     Ok(row)
 }
 
-/// Carries the events out, one after another.
 fn carry_out<A: Archive + Drop>(
     heap: Heap,
     sites: u32,

@@ -14,7 +14,6 @@ use command_core::{CommandFault, InputName, Status, found_status, opened, refusa
 use memory::{Heap, NoMemory};
 use report_text::name_lines;
 
-/// The rows of no archive.
 fn no_rows(heap: &Heap) -> Result<NamesTold, NoMemory>
     ensures { IfOk result (λ told. (told.rows.items ≡ []) × (told.others.items ≡ [])) }
 {
@@ -124,7 +123,6 @@ fn read_rows<R: Source>(
     }
 }
 
-/// Whether there is no row of the name, and one of the other.
 fn is_underscored(told: &NamesTold) -> bool
     ensures { result ≡ (nat_eq (length told.now.rows.items) 0 && not (nat_eq (length told.now.others.items) 0)) }
 {

@@ -33,7 +33,6 @@ use memory::{Heap, NoMemory};
 use record_merge::Arrival;
 use report_text::admit_lines;
 
-/// The refusal of the file of this number, whose bytes have this fault.
 fn refusal_of_file(index: u64, fault: TakeFault) -> CommandFault
     ensures refused { (bytes : List ℕ) → IsTakeFault bytes fault
         → IsRefusal (IsRefusedBytes index bytes) (Unit {0}) result }
@@ -44,7 +43,6 @@ fn refusal_of_file(index: u64, fault: TakeFault) -> CommandFault
     }
 }
 
-/// The slices of the file of this number, whose bytes these are.
 fn slice_bytes(index: u64, bytes: Vec<u8, Heap>) -> Result<Vec<Option<Slice>, Heap>, CommandFault>
     ensures accepted { OnOk result (IsAcceptedFile bytes.items) }
     ensures slices { IfOk result (λ slices. slices.items ≡ map slice_in (parts bytes.items)) }
@@ -80,7 +78,6 @@ fn admit_file<S: Source>(
     Ok(())
 }
 
-/// Takes the slices of the files, in their order.
 fn admit_files<S: Source>(
     heap: &Heap,
     files: &mut [Result<S, CannotOpen>],

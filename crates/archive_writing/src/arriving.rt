@@ -27,7 +27,6 @@ pub struct Arrivals {
 }
 
 impl Arrivals {
-    /// No slices.
     pub fn none(heap: &Heap) -> Result<Arrivals, NoMemory>
         ensures came { IfOk result (λ arrivals. arrivals.came ≡ set.empty) }
         ensures first_rows { IfOk result (λ arrivals. arrivals.first_rows.items ≡ []) }
@@ -66,7 +65,6 @@ impl Arrivals {
         }
     }
 
-    /// Adds the row of a part of the file of this number.
     fn push_row(&mut self, file: u64, slice: u64, taken: Taken) -> Result<(), NoMemory>
         ensures rows { OnOk result
             (self.new.rows.items ≡ self.old.rows.items ++ record { file = file; slice = slice; taken = taken } ∷ []) }
@@ -136,7 +134,6 @@ fn taken_again(taken: Taken, new: bool) -> Taken
     }
 }
 
-/// The same of its row.
 fn row_again(row: AdmitRow, new: bool) -> AdmitRow
     ensures { result ≡ row_again new row }
 {
@@ -147,7 +144,6 @@ fn row_again(row: AdmitRow, new: bool) -> AdmitRow
     }
 }
 
-/// Tells the row of this number again.
 fn tell_row(rows: &mut [AdmitRow], number: usize, new: bool)
     requires { number < length rows.old }
     ensures { (none : AdmitRow)

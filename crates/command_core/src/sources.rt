@@ -168,7 +168,6 @@ pub fn read_entries<R: Source>(
     or_refused!(at, summarize(heap, source))
 }
 
-/// Reads the bytes of an input to its end.
 fn read_bytes<S: Source>(
     heap: Heap,
     at: InputName,
@@ -185,7 +184,6 @@ fn read_bytes<S: Source>(
     }
 }
 
-/// Reads the bytes of the file of this number among the words.
 pub fn read_file<S: Source>(
     heap: Heap,
     index: u64,
@@ -197,7 +195,6 @@ pub fn read_file<S: Source>(
     read_bytes(heap, InputName::File(index), file)
 }
 
-/// Reads the operations of an operations file.
 pub fn read_operations<S: Source>(
     heap: Heap,
     ops: &mut Result<S, CannotOpen>,

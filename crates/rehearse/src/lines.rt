@@ -44,7 +44,6 @@ impl fmt::Display for Refusal {
     }
 }
 
-// Whether a slice is new.
 fn is_added(row: &Taken) -> bool
     ensures { result ≡ is_added row.now }
 {
@@ -58,14 +57,12 @@ fn is_known(row: &Taken) -> bool
     matches!(row, Taken::Known(..))
 }
 
-// Whether a slice is passed over.
 fn is_skipped(row: &Taken) -> bool
     ensures { result ≡ is_skipped row.now }
 {
     matches!(row, Taken::Skipped)
 }
 
-// Writes how many slices of a file are new, were known, and are passed over.
 #[tactic(auto, unfolding(crate::specs::EventLines::took_text))]
 fn push_took(text: &mut String<Heap>, rows: &[Taken]) -> Result<(), NoMemory>
     ensures { OnOk result (string_bytes text.new ≡ string_bytes text.old ++ line (took_text rows.now)) }
@@ -76,7 +73,6 @@ fn push_took(text: &mut String<Heap>, rows: &[Taken]) -> Result<(), NoMemory>
     writeln!(text, "took {added} {known} {skipped}")
 }
 
-// How many bytes a message has that was sent.
 fn message_len<A: Archive>(world: &World<A>, message: u64) -> usize
     requires { message < length world.now.messages }
     ensures { result ≡ length (slice_index_or world.now.messages message []) }

@@ -35,7 +35,6 @@ fn push_held<A: Archive + Drop>(
     push_site(text, number, sizes, digest)
 }
 
-/// Adds a line a site.
 fn push_sites<A: Archive + Drop>(text: &mut String<Heap>, world: &World<A>) -> Result<(), NoMemory>
     ensures { OnOk result ((w : WorldModel)
         → Represents world.now.sites world.now.messages w
@@ -47,7 +46,6 @@ fn push_sites<A: Archive + Drop>(text: &mut String<Heap>, world: &World<A>) -> R
     Ok(())
 }
 
-/// Carries out the events of a script, and makes their lines.
 fn lines_of<A: Archive + Drop>(heap: Heap, script: &Script) -> Result<String<Heap>, NoMemory>
     ensures { IfOk result (λ text. TellsEvents script.now.sites script.now.events.items (string_bytes text)) }
 {
