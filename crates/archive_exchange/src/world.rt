@@ -51,12 +51,6 @@ impl<A: Archive> World<A> {
         &self.sites[number as usize]
     }
 
-    pub fn messages(&self) -> u64
-        ensures { result ≡ length self.now.messages }
-    {
-        self.messages.len() as u64
-    }
-
     pub fn message(&self, number: u64) -> &[u8]
         requires { number < length self.now.messages }
         ensures { slice_get self.now.messages number ≡ Some result.now }

@@ -21,13 +21,7 @@ pub fn read_number(text: &str) -> Option<u32>
     ensures { result ≡ number_of text.now }
 {
     let digits = text.as_bytes();
-    if digits.is_empty() || digits[0] == b'+' {
-        return None;
-    }
-    if digits.len() == 1 {
-        return parse_digits(text);
-    }
-    if digits[0] == b'0' {
+    if digits.is_empty() || digits[0] == b'+' || leads_with_zero(digits) {
         return None;
     }
     parse_digits(text)
