@@ -10,20 +10,6 @@
 //! - `notes`: what a command notes of what it was asked for and is not there;
 //! - `copying`: what a summary does not name of an archive.
 //!
-//! # What is proved
-//!
-//! - `run_admit`, `run_retire`, `run_merge`, `run_migrate`, `run_apply` and `run_delta` end by `EndsStreamed`, over any
-//!   sources and outputs: such a command is stopped, and nothing is published, or its inputs are accepted and what they
-//!   make is. `run_new` ends by `Publishes`, `run_summary` by `Ends`.
-//! - What stops `merge` with one FILE (`merge_of_one`) says which side does and which bytes the draft took. What stops
-//!   the others is an input that is refused in the order of the words, OUT, or want of memory (`StopsAmidst`,
-//!   `StopsInTurn`); if all inputs are known and accepted inputs make a text, the draft has its first bytes, fewer than
-//!   all. Whatever stops one of these, what the draft took is no archive's text; and it took bytes, or failed, only
-//!   after what follows the first input was accepted and the magic of that one was taken (`IsUnfinished`).
-//! - The rows of `admit` and the counts of `apply` are those of the definitions. If `admit` ends well it notes each
-//!   slice of the FILEs that IN retires, and no other (`NotesRetired`); `retire` notes the slice unless IN has it
-//!   (`NotesMissing`).
-//!
 //! # Why it is so
 //!
 //! - A command that writes while it reads ends by `EndsStreamed`, whichever it is; what stops it is its own (`Stops`).
