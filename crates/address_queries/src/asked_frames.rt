@@ -88,7 +88,6 @@ pub(crate) struct FrameQuestions<'f> {
     text: String<Heap>,
 }
 
-/// The frames with their numbers, in the order of their lines.
 fn numbered(heap: Heap, frames: &[Frame]) -> Result<Vec<AskedFrame, Heap>, NoMemory>
     ensures { IfOk result (λ asked. AreNumbered frames.now asked.items) }
 {
@@ -103,7 +102,6 @@ fn numbered(heap: Heap, frames: &[Frame]) -> Result<Vec<AskedFrame, Heap>, NoMem
     Ok(asked)
 }
 
-/// The frames with their numbers, in the order of their keys.
 pub(crate) fn in_key_order(heap: Heap, frames: &[Frame]) -> Result<Vec<AskedFrame, Heap>, NoMemory>
     ensures lines { IfOk result (λ asked. AreLines frames.now asked.items) }
     ensures long { IfOk result (λ asked. length asked.items ≡ length frames.now) }
@@ -116,14 +114,12 @@ pub(crate) fn in_key_order(heap: Heap, frames: &[Frame]) -> Result<Vec<AskedFram
     Ok(asked)
 }
 
-/// Whether an answer is one symbol.
 fn is_symbol(answer: &Answer<'_>) -> bool
     ensures { result ≡ is_symbol answer.now }
 {
     matches!(answer, Answer::Symbol(_))
 }
 
-/// How many of the first frames are of a key.
 fn run_len(asked: &[AskedFrame], key: &SliceKey) -> usize
     ensures len { result ≡ prefix_len (λ one. is_key one.frame.key key.now) asked.now }
     ensures within { result ≤ length asked.now }
@@ -131,7 +127,6 @@ fn run_len(asked: &[AskedFrame], key: &SliceKey) -> usize
     asked.iter().take_while(|one| one.frame.key == *key).count()
 }
 
-/// The places that frames mean.
 fn places_of(heap: Heap, asked: &[AskedFrame]) -> Result<Vec<Where, Heap>, NoMemory>
     ensures { IfOk result (λ places.
         places.items ≡ map (λ one. asked_of one.frame.load one.frame.address) asked.now) }

@@ -48,7 +48,6 @@ impl<'s> SlicedFrames<'s> {
         Ok(SlicedFrames { slice, frames })
     }
 
-    /// The frames of a place, where it stands for an address that has some.
     fn at(&self, place: Where) -> Option<&[Frame<'_>]>
         ensures { option_map_or (λ frames. list_view frames.now) result [] ≡ frames_in place self.now }
     {
@@ -85,7 +84,6 @@ impl<'s> Sources<'s> {
         Ok(Sources { found })
     }
 
-    /// The frames of a place in each of the slices.
     pub(crate) fn at(&self, heap: Heap, place: Where) -> Result<Vec<&[Frame<'_>], Heap>, NoMemory>
         ensures { IfOk result (λ lists. lists_view lists.items ≡ map (frames_in place) self.now.found.items) }
     {

@@ -36,7 +36,6 @@ pub fn status_behind(status: Status, answer: &Answer<'_>) -> Status
     }
 }
 
-/// The places that addresses of the words mean.
 pub fn places_of(
     heap: Heap,
     load: Option<u64>,

@@ -8,7 +8,7 @@ use Rattle.archive_core.specs.Content.{Operations, IsContent}
 use Rattle.archive_records.specs.Text.{written}
 use Rattle.exchange_model.specs.World.{World, Message, updated, with_held, with_saved, with_sent}
 use Rattle.archive_exchange.specs.SiteState.{SiteState}
-use Rattle.archive_exchange.specs.Rehearsal.{message_text, IsSound, IsSite, Represents}
+use Rattle.archive_exchange.specs.WorldState.{message_text, IsSound, IsSite, Represents}
 
 -- a list with one element set
 other : {X : Type 0} (xs : List X) (i j : ℕ) (x y : X) → j ≢ i → slice_get (slice_set xs i x) j ≡ Some y → slice_get xs j ≡ Some y

@@ -15,7 +15,7 @@ use Rattle.exchange_model.proofs.Between.{and_left}
 use Rattle.archive_exchange.specs.SiteState.{SiteState}
 use Rattle.archive_exchange.specs.ModelEvent.{IsSeen, AreSeen, OutcomeIs}
 use Rattle.archive_exchange.specs.InnerEvents.{IsRecorded, Happens, HasRun}
-use Rattle.archive_exchange.specs.Rehearsal.{Represents}
+use Rattle.archive_exchange.specs.WorldState.{Represents}
 use Rattle.archive_exchange.specs.Alike.{AreAlike}
 use Rattle.exchange_script.specs.declared.event.Event as code
 use Rattle.archive_exchange.specs.declared.outcome.Outcome as answered

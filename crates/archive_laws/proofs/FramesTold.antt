@@ -22,8 +22,7 @@ use Rattle.command_core.specs.declared.faults.Why.TheVariants.{Device as CannotR
 use Rattle.address_queries.specs.Frames.{IsFrameAnswered, TellsFrames, MakesFramed, RefusesFrames, Told, IsToldAlone, SymbolicatesEach, is_done}
 use Rattle.command_core.specs.Inputs.{Reader, reader, Gives, HoldsContent, IsDeviceFault, IsFramesRefused, IsGiven}
 use Rattle.address_queries.specs.Symbolicate.{Answered, IsAnswered, TellsAddresses, is_symbol, answers_status, answers_text}
-use Rattle.archive_writing.specs.Merge.{merge}
-use Rattle.archive_laws.specs.Joins.{IsGivenJoin}
+use Rattle.archive_laws.specs.Joins.{IsGivenJoin, IsMergedFile}
 use Rattle.archive_laws.proofs.Joins.{alone_held, as_merged, holds_join, join_refused, told_of_join}
 use Rattle.archive_laws.proofs.Given.{gives, is_given}
 use Rattle.archive_laws.proofs.Viewed.{alike_told, one_seen, seen}
@@ -79,9 +78,9 @@ each_row lines input others o _ _ given all = absurd all
 
 -- ---- frames of archives that have this content together
 
-pub command_fault_of : {R S T : Type 0} (lines : Bool) (input : Reader R) (first : Reader S) (others : List (Reader T)) (bytes : List ℕ) (listed : List Frame) (o : Operations) (status : Status) (text : List ℕ)
+pub frames_of_join : {R S T : Type 0} (lines : Bool) (input : Reader R) (first : Reader S) (others : List (Reader T)) (bytes : List ℕ) (listed : List Frame) (o : Operations) (status : Status) (text : List ℕ)
     → IsGiven input bytes → frames_of bytes ≡ Ok listed → IsGivenJoin first others o → MakesFramed lines input first others status text → TellsFrames lines o listed status text
-command_fault_of lines input first others bytes listed o status text is says given_join makes =
+frames_of_join lines input first others bytes listed o status text is says given_join makes =
     let also = is_given input bytes (λ b. frames_of b ≡ Ok makes.listed) is makes.frames_are in
     let frames : makes.listed ≡ listed = cc in
     subst (λ (fs : List Frame). TellsFrames lines o fs status text) frames (told_of_join first others o given_join (λ p. TellsFrames lines p makes.listed status text) makes.tells)
@@ -92,7 +91,7 @@ each_is lines input first others bytes listed o status text is says given_join =
   where
     to : MakesFramed lines input first others status text → SymbolicatesEach lines first others listed status text
     to makes =
-        let tells = command_fault_of lines input first others bytes listed o status text is says given_join makes in
+        let tells = frames_of_join lines input first others bytes listed o status text is says given_join makes in
         record {
           told = map alone_told tells.rows;
           alone = each_alone lines first others o listed tells.rows given_join tells.answered;
@@ -117,11 +116,11 @@ each_is lines input first others bytes listed o status text is says given_join =
         }
 
 -- what they tell is what the file tells that `merge` of them writes
-pub as_one : {Q R S T : Type 0} (lines : Bool) (input : Reader Q) (first : Reader R) (others : List (Reader S)) (file : Reader T) (o : Operations) (made told : List ℕ) (status : Status) (text : List ℕ)
-    → IsGivenJoin first others o → (merge first others).Makes made told → IsGiven file made → MakesFramed lines input first others status text ↔ MakesFramed {T = S} lines input file [] status text
-as_one lines input first others file o made told status text given_join makes is = (
-  λ m. record { listed = m.listed; frames_are = m.frames_are; tells = (as_merged first others file o made told (λ p. TellsFrames lines p m.listed status text) given_join makes is).0 m.tells },
-  λ m. record { listed = m.listed; frames_are = m.frames_are; tells = (as_merged first others file o made told (λ p. TellsFrames lines p m.listed status text) given_join makes is).1 m.tells },
+pub as_one : {Q R S T : Type 0} (lines : Bool) (input : Reader Q) (first : Reader R) (others : List (Reader S)) (file : Reader T) → IsMergedFile first others file → (status : Status) (text : List ℕ)
+    → MakesFramed lines input first others status text ↔ MakesFramed {T = S} lines input file [] status text
+as_one lines input first others file merged status text = (
+  λ m. record { listed = m.listed; frames_are = m.frames_are; tells = (as_merged first others file merged (λ p. TellsFrames lines p m.listed status text)).0 m.tells },
+  λ m. record { listed = m.listed; frames_are = m.frames_are; tells = (as_merged first others file merged (λ p. TellsFrames lines p m.listed status text)).1 m.tells },
 )
 
 pub as_alone : {Q R S : Type 0} (lines : Bool) (input : Reader Q) (first : Reader R) (status : Status) (text : List ℕ)
@@ -157,8 +156,8 @@ module _ (one : (o : Operations) (key : SliceKey) (place : Where) (answer other 
   one_made lines input first others also other more bytes o status other_status text other_text is also_is first_given other_given makes other_makes =
       let says = is_given input bytes (λ b. frames_of b ≡ Ok makes.listed) is makes.frames_are in
       one_told lines o makes.listed status other_status text other_text
-      (command_fault_of lines input first others bytes makes.listed o status text is says first_given makes)
-      (command_fault_of lines also other more bytes makes.listed o other_status other_text also_is says other_given other_makes)
+      (frames_of_join lines input first others bytes makes.listed o status text is says first_given makes)
+      (frames_of_join lines also other more bytes makes.listed o other_status other_text also_is says other_given other_makes)
 
 -- ---- inputs that are accepted
 

@@ -18,7 +18,7 @@ use Rattle.archive_exchange.specs.declared.outcome.Outcome.{Outcome}
 use Rattle.archive_exchange.specs.declared.outcome.Outcome.TheVariants.{Took, Retired, Refused}
 use Rattle.exchange_script.specs.Events.{Act, Take, Retire, Full, Ask, Reply, Deliver, Save, Stop, act_of}
 use Rattle.exchange_script.specs.Script.{Wrong, acts, script_of}
-use Rattle.rehearse.specs.Rehearsal.{event_fault_text, event_lines, outcome_text, sent_text, took_text}
+use Rattle.rehearse.specs.EventLines.{event_fault_text, event_lines, outcome_text, sent_text, took_text}
 use Rattle.report_text.specs.Report.{line}
 use Rattle.byte_device.specs.declared.disks.CannotOpen.{CannotOpen}
 use Rattle.command_core.specs.declared.faults.InputName.{InputName}

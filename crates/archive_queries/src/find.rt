@@ -14,7 +14,6 @@ use memory::Heap;
 use report_text::find_lines;
 use uuid::Uuid;
 
-/// The bytes of a UUID.
 fn bytes_of(uuid: Uuid) -> [u8; 16]
     ensures bytes { result ≡ uuid }
     ensures long { length uuid ≡ 16 }

@@ -15,7 +15,6 @@ use command_inputs::{opened, refusal};
 use memory::{Heap, NoMemory};
 use report_text::name_lines;
 
-/// The rows of no archive.
 fn no_rows(heap: &Heap) -> Result<NamesTold, NoMemory>
     ensures { IfOk result (λ told. (told.rows.items ≡ []) × (told.others.items ≡ [])) }
 {
@@ -125,7 +124,6 @@ fn read_rows<R: Source>(
     }
 }
 
-/// Whether there is no row of the name, and one of the other.
 fn is_underscored(told: &NamesTold) -> bool
     ensures { result ≡ (nat_eq (length told.now.rows.items) 0 && not (nat_eq (length told.now.others.items) 0)) }
 {

@@ -21,7 +21,7 @@ use Rattle.command_core.specs.declared.faults.Status.{Status}
 use Rattle.command_core.specs.declared.faults.Why.{Why}
 use Rattle.command_core.specs.Ends.{EndsStreamed, HasFirst, HasTaken, MakesArchive, StopsAmidst, writes_amidst}
 use Rattle.command_core.specs.Inputs.{IsKnown, IsRefusedArchive, Reader, Unfailed, reader}
-use Rattle.command_core.specs.Outputs.{Out, PlacesNothing, Publishes, Takes, Writer, sizes_of, writer}
+use Rattle.command_core.specs.Outputs.{Out, PublishesNothing, Publishes, Takes, Writer, sizes_of, writer}
 use Rattle.command_core.proofs.Amidst.{gives_known, stopped_amidst, stops_alike}
 use Rattle.archive_writing.specs.Begun.{EndsBegun, HasBegun, IsUnfinished}
 use Rattle.archive_writing.specs.Joining.{IsAtHand, IsJoined, MakesJoin, joining}
@@ -44,7 +44,7 @@ archive_published Makes Stops NoneFailed draft sizes o lines out report result u
 
 -- one that was stopped
 pub stopped_begun : {R : Type 0} (input : Reader R) (Makes : List ℕ → List ℕ → Type 0) (Refuses : InputName → Why → Type 0) (NoneFailed : Type 0) (out : Out) (report : Writer) (fault : CommandFault)
-    → StopsAmidst (record { Makes = Makes; Refuses = Refuses; Unfailed = NoneFailed }) (IsKnown input) out.draft fault → IsUnfinished input (Unit {0}) out.draft → HasTaken out.draft fault → PlacesNothing out → Takes report []
+    → StopsAmidst (record { Makes = Makes; Refuses = Refuses; Unfailed = NoneFailed }) (IsKnown input) out.draft fault → IsUnfinished input (Unit {0}) out.draft → HasTaken out.draft fault → PublishesNothing out → Takes report []
     → EndsBegun input (record { Makes = Makes; Refuses = Refuses; Unfailed = NoneFailed }) out report (Err fault)
 stopped_begun input Makes Refuses NoneFailed out report fault s u taken nothing unreported =
     begun out report input (Unit {0}) (writes_amidst (record { Makes = Makes; Refuses = Refuses; Unfailed = NoneFailed }) (IsKnown input) out.draft) u (Err fault)
@@ -58,7 +58,7 @@ module _ {R : Type 0} (input : Reader R) (p : Operations) (Makes : List ℕ → 
       stops_alike (MakesJoin input p) Makes (IsRefusedArchive 0 input) (IsRefusedArchive 0 input) (Unfailed input) (Unfailed input) (IsKnown input) (IsKnown input) draft
       makes (λ at why r. r) (λ u. u) (λ k. k)
 
-  pub join_stopped : (out : Out) (report : Writer) (fault : CommandFault) → StopsAmidst (joining input p) (IsKnown input) out.draft fault → IsUnfinished input (Unit {0}) out.draft → HasTaken out.draft fault → PlacesNothing out → Takes report []
+  pub join_stopped : (out : Out) (report : Writer) (fault : CommandFault) → StopsAmidst (joining input p) (IsKnown input) out.draft fault → IsUnfinished input (Unit {0}) out.draft → HasTaken out.draft fault → PublishesNothing out → Takes report []
       → EndsBegun input (record { Makes = Makes; Refuses = IsRefusedArchive 0 input; Unfailed = Unfailed input }) out report (Err fault)
   join_stopped out report fault s = stopped_begun input Makes (IsRefusedArchive 0 input) (Unfailed input) out report fault (join_stops out.draft fault s)
 

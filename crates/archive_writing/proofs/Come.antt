@@ -17,7 +17,7 @@ use Rattle.command_core.specs.Ends.{EndsStreamed}
 use Rattle.command_core.specs.Inputs.{EachKnown, EachUnfailed, Holds, IsAccepted, IsFileRefused, IsFirstRefused, IsKnown, Reader}
 use Rattle.command_core.specs.Outputs.{Out, Writer}
 use Rattle.archive_writing.specs.Admit.{MakesAdmitted, admit_as_it_comes, admit_rows, file_rows, images_of}
-use Rattle.archive_writing.specs.InnerArriving.{ArePlaced, HasCome, lines_again, records_in, records_of, rows_again}
+use Rattle.archive_writing.specs.InnerArriving.{AreFirstRows, HasCome, lines_again, records_in, records_of, rows_again}
 use Rattle.archive_writing.specs.Begun.{EndsBegun}
 use Rattle.archive_writing.specs.InnerTelling.{MakesTold, telling}
 use Rattle.archive_writing.proofs.Again.{admitted_joined, rows_over}
@@ -27,28 +27,28 @@ use Rattle.archive_writing.proofs.Files.{taken_accepted, taken_more, taken_none}
 -- ---- one file more
 
 module _ {S : Type 0} where
-  pub come_none : (came : Operations) (places : List ℕ) (rows : List AdmitRow) → came ≡ set.empty → rows ≡ [] → ArePlaced (listing came) places rows [] → HasCome {S = S} [] came places rows
+  pub come_none : (came : Operations) (first_rows : List ℕ) (rows : List AdmitRow) → came ≡ set.empty → rows ≡ [] → AreFirstRows (listing came) first_rows rows [] → HasCome {S = S} [] came first_rows rows
   unfolding taken_none
-  come_none came places rows is no_rows placed = rw is (record { taken = taken_none set.empty rows no_rows; placed = rw is at placed })
+  come_none came first_rows rows is no_rows are_first = rw is (record { taken = taken_none set.empty rows no_rows; are_first = rw is at are_first })
 
-  pub come_more : (files seen : List (Reader S)) (place : ℕ) (file : Reader S) (mid new : Operations) (places more_places : List ℕ) (rows more : List AdmitRow) (text : List ℕ)
-      → length files ≡ place → seen ≡ files ++ file ∷ [] → HasCome files mid places rows
+  pub come_more : (files seen : List (Reader S)) (place : ℕ) (file : Reader S) (mid new : Operations) (first_rows more_first_rows : List ℕ) (rows more : List AdmitRow) (text : List ℕ)
+      → length files ≡ place → seen ≡ files ++ file ∷ [] → HasCome files mid first_rows rows
       → IsAcceptedFile text → Holds file text → new ≡ admitted mid (admissible text) → more ≡ rows ++ file_rows place 0 (taken_rows mid (parts text))
-      → ((records : List (List ℕ)) → ArePlaced (listing mid) places rows records → ArePlaced (listing new) more_places more (records ++ records_in text))
-      → HasCome seen new more_places more
+      → ((records : List (List ℕ)) → AreFirstRows (listing mid) first_rows rows records → AreFirstRows (listing new) more_first_rows more (records ++ records_in text))
+      → HasCome seen new more_first_rows more
   unfolding taken_more
-  come_more files seen place file mid new places more_places rows more text place_is seen_is come accepted holds new_is more_is step =
+  come_more files seen place file mid new first_rows more_first_rows rows more text place_is seen_is come accepted holds new_is more_is step =
       record {
         taken = taken_more files seen place file set.empty mid new rows more text place_is seen_is come.taken accepted holds new_is more_is;
-        placed = rw (flat_map-append records_in come.taken.texts (text ∷ []), append-nil (records_in text)) (step (records_of come.taken.texts) come.placed);
+        are_first = rw (flat_map-append records_in come.taken.texts (text ∷ []), append-nil (records_in text)) (step (records_of come.taken.texts) come.are_first);
       }
 
 -- ---- what came, and then IN
 
 module _ {R S : Type 0} (input : Reader R) (files : List (Reader S)) (out : Out) (report : Writer) where
-  pub admitted_in_turn : (came : Operations) (places : List ℕ) (rows : List AdmitRow) (h : HasCome files came places rows) → EachUnfailed files → (result : Result Status CommandFault)
+  pub admitted_in_turn : (came : Operations) (first_rows : List ℕ) (rows : List AdmitRow) (h : HasCome files came first_rows rows) → EachUnfailed files → (result : Result Status CommandFault)
       → EndsBegun input (telling input came (lines_again rows (records_of h.taken.texts))) out report result → EndsStreamed (admit_as_it_comes input files out.draft) out report result
-  admitted_in_turn came places rows h unfailed =
+  admitted_in_turn came first_rows rows h unfailed =
       read_behind (MakesAdmitted input files) input (IsFirstRefused File IsAccepted IsFileRefused files) (EachUnfailed files) (IsKnown input × EachKnown files) (AllByRecursion IsAccepted files × EachUnfailed files) out report (MakesTold input came (lines_again rows (records_of h.taken.texts)))
       unfailed (taken_accepted files set.empty came rows h.taken, unfailed) (λ known. known.0)
       (λ o lines m. record {

@@ -17,7 +17,7 @@ use Rattle.command_core.specs.declared.faults.CommandFault.TheVariants.{Input, O
 use Rattle.command_core.specs.declared.faults.Status.{Status}
 use Rattle.command_core.specs.Ends.{EndsStreamed, HasFirst, HasTaken, MakesArchive, StopsAmidst}
 use Rattle.command_core.specs.Inputs.{Holds, IsKnown, IsRefusedArchive, IsRefusedSummary, Reader, Unfailed, reader}
-use Rattle.command_core.specs.Outputs.{IsKept, Out, PlacesNothing, Publishes, Takes, Writer, writer}
+use Rattle.command_core.specs.Outputs.{IsKept, Out, PublishesNothing, Publishes, Takes, Writer, writer}
 use Rattle.command_core.proofs.Amidst.{gives_known, nothing_first}
 use Rattle.archive_writing.specs.Begun.{EndsBegun, IsUnfinished}
 use Rattle.archive_writing.specs.Copying.{CopiesUnnamed, IsUnnamed, MakesUnnamed, StopsCopy, StopsCopyBy, copying}
@@ -73,7 +73,7 @@ module _ {R W : Type 0} (left : R → Option (List ℕ)) (failures : R → ℕ) 
 -- ---- OUT, and the report
 
 module _ {R : Type 0} (archive : Reader R) (s : Entries) where
-  pub unnamed_stopped : (out : Out) (report : Writer) (fault : CommandFault) → StopsAmidst (copying archive s) (IsKnown archive) out.draft fault → IsUnfinished archive (Unit {0}) out.draft → HasTaken out.draft fault → PlacesNothing out → Takes report []
+  pub unnamed_stopped : (out : Out) (report : Writer) (fault : CommandFault) → StopsAmidst (copying archive s) (IsKnown archive) out.draft fault → IsUnfinished archive (Unit {0}) out.draft → HasTaken out.draft fault → PublishesNothing out → Takes report []
       → EndsBegun archive (copying archive s) out report (Err fault)
   unnamed_stopped = stopped_begun archive (MakesArchive (MakesUnnamed archive s)) (IsRefusedArchive 0 archive) (Unfailed archive)
 

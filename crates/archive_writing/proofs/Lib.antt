@@ -14,7 +14,7 @@ pub mod Behind
 pub mod Merged
 pub mod Told
 pub mod Counts
-pub mod Placed
+pub mod FirstRows
 pub mod Marked
 pub mod Again
 pub mod Come

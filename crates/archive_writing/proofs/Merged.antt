@@ -18,7 +18,7 @@ use Rattle.command_core.specs.declared.faults.CommandFault.TheVariants.{OutOfMem
 use Rattle.command_core.specs.declared.faults.Status.{Status}
 use Rattle.command_core.specs.Ends.{EndsStreamed, HasTaken, MakesArchive, StopsAmidst}
 use Rattle.command_core.specs.Inputs.{AreRead, EachKnown, EachUnfailed, IsArchive, IsArchiveRefused, IsFirstRefused, IsKnown, Reader, Unfailed}
-use Rattle.command_core.specs.Outputs.{Out, PlacesNothing, Publishes, Takes, Writer}
+use Rattle.command_core.specs.Outputs.{Out, PublishesNothing, Publishes, Takes, Writer}
 use Rattle.archive_writing.specs.Begun.{EndsBegun, IsUnfinished}
 use Rattle.archive_writing.specs.Joining.{IsJoined, MakesJoined, joining, joins}
 use Rattle.archive_writing.specs.Merge.{HasJoined, MakesMerged, merge_in_turn}
@@ -61,7 +61,7 @@ merged_again o (c ∷ cs) is are =
 -- ---- IN with one content
 
 module _ {R : Type 0} (input : Reader R) (p : Operations) where
-  pub joins_stopped : (out : Out) (report : Writer) (fault : CommandFault) → StopsAmidst (joining input p) (IsKnown input) out.draft fault → IsUnfinished input (Unit {0}) out.draft → HasTaken out.draft fault → PlacesNothing out → Takes report []
+  pub joins_stopped : (out : Out) (report : Writer) (fault : CommandFault) → StopsAmidst (joining input p) (IsKnown input) out.draft fault → IsUnfinished input (Unit {0}) out.draft → HasTaken out.draft fault → PublishesNothing out → Takes report []
       → EndsBegun input (joins input p) out report (Err fault)
   joins_stopped =
       join_stopped input p (MakesArchive (MakesJoined input p)) (λ text told m. record {

@@ -18,7 +18,7 @@ use Rattle.command_core.specs.declared.faults.CommandFault.{CommandFault}
 use Rattle.command_core.specs.declared.faults.Status.{Status}
 use Rattle.command_core.specs.Ends.{HasTaken, MakesArchive, StopsAmidst}
 use Rattle.command_core.specs.Inputs.{IsKnown, Reader, Unfailed}
-use Rattle.command_core.specs.Outputs.{Out, PlacesNothing, Publishes, Takes, Writer}
+use Rattle.command_core.specs.Outputs.{Out, PublishesNothing, Publishes, Takes, Writer}
 use Rattle.archive_writing.specs.Begun.{EndsBegun, IsUnfinished}
 use Rattle.archive_writing.specs.Joining.{IsJoined, joining}
 use Rattle.archive_writing.specs.Migrate.{MakesMigrated, migrate}
@@ -45,7 +45,7 @@ join_with_nothing o is =
 
 module _ {R : Type 0} (input : Reader R) where
   -- what stops the join with nothing stops it
-  pub migrate_stopped : (out : Out) (report : Writer) (fault : CommandFault) → StopsAmidst (joining input set.empty) (IsKnown input) out.draft fault → IsUnfinished input (Unit {0}) out.draft → HasTaken out.draft fault → PlacesNothing out → Takes report []
+  pub migrate_stopped : (out : Out) (report : Writer) (fault : CommandFault) → StopsAmidst (joining input set.empty) (IsKnown input) out.draft fault → IsUnfinished input (Unit {0}) out.draft → HasTaken out.draft fault → PublishesNothing out → Takes report []
       → EndsBegun input (migrate input) out report (Err fault)
   migrate_stopped =
       join_stopped input set.empty (MakesArchive (MakesMigrated input)) (λ text told m. record {

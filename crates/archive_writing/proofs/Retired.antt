@@ -26,7 +26,7 @@ use Rattle.command_core.specs.declared.faults.CommandFault.{CommandFault}
 use Rattle.command_core.specs.declared.faults.Status.{Status}
 use Rattle.command_core.specs.Ends.{HasTaken, MakesArchive, StopsAmidst}
 use Rattle.command_core.specs.Inputs.{IsKnown, IsRefusedArchive, Reader, Unfailed}
-use Rattle.command_core.specs.Outputs.{Out, PlacesNothing, Publishes, Takes, Writer}
+use Rattle.command_core.specs.Outputs.{Out, PublishesNothing, Publishes, Takes, Writer}
 use Rattle.archive_writing.specs.InnerTelling.{IsJoinedTelling, IsRetired}
 use Rattle.archive_writing.specs.Begun.{EndsBegun, IsUnfinished}
 use Rattle.archive_writing.specs.Joining.{joining}
@@ -76,7 +76,7 @@ module _ (key : SliceKey) (digest : Digest) where
           text_is = m.text_is ∙ ap written (m.makes.content_is ∙ with_alone m.makes.before m.makes.is_content.itself);
         })
 
-    pub retire_stopped : (out : Out) (report : Writer) (fault : CommandFault) → StopsAmidst (retire input key digest) (IsKnown input) out.draft fault → IsUnfinished input (Unit {0}) out.draft → HasTaken out.draft fault → PlacesNothing out → Takes report []
+    pub retire_stopped : (out : Out) (report : Writer) (fault : CommandFault) → StopsAmidst (retire input key digest) (IsKnown input) out.draft fault → IsUnfinished input (Unit {0}) out.draft → HasTaken out.draft fault → PublishesNothing out → Takes report []
         → EndsBegun input (retire input key digest) out report (Err fault)
     retire_stopped = stopped_begun input (MakesArchive (MakesRetired input key digest)) (IsRefusedArchive 0 input) (Unfailed input)
 

@@ -20,7 +20,7 @@ use Rattle.command_core.specs.Inputs.{Reader, reader, Unfailed, EachUnfailed, Is
 use Rattle.archive_writing.proofs.AtHand.{counted, sizes_are}
 use Rattle.archive_writing.specs.Merge.{MakesMerged, merge_in_turn}
 use Rattle.archive_writing.specs.MergeStreams.{IsMergeFaultTold, IsSide, StopsMerge, StopsMergeOfOne, merge_as_it_comes, merge_of_one}
-use Rattle.command_core.specs.Outputs.{Outs, Writer, PlacesNothing, Publishes, Takes, draft_of, out_of}
+use Rattle.command_core.specs.Outputs.{Outs, Writer, PublishesNothing, Publishes, Takes, draft_of, out_of}
 use Rattle.command_core.proofs.Readers.{by_device}
 
 -- ---- one FILE, which was opened, as IN was
@@ -37,7 +37,7 @@ module _ {R S D T : Type 0} (left : R → Option (List ℕ)) (failures : R → �
 
   -- the merge was stopped
   pub stopped : (e : MergeFault) (fault : CommandFault) → Merges (stream left failures l l') (stream left2 failures2 r r') (draft_of out) (Err e)
-      → GainsCount (draft_of out) e.written → IsMergeFaultTold e fault → PlacesNothing (out_of out) → Takes report [] → EndsSo (Err fault)
+      → GainsCount (draft_of out) e.written → IsMergeFaultTold e fault → PublishesNothing (out_of out) → Takes report [] → EndsSo (Err fault)
   stopped e fault merges count told nothing_published unreported = by_fault fault told
     where
       is : (f : CommandFault) → IsMergeFaultTold e f → IsStopped (merge_of_one input file (draft_of out)) (out_of out) report f

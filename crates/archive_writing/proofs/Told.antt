@@ -21,7 +21,7 @@ use Rattle.command_core.specs.declared.faults.CommandFault.{CommandFault}
 use Rattle.command_core.specs.declared.faults.Status.{Status}
 use Rattle.command_core.specs.Ends.{HasTaken, MakesArchive, StopsAmidst}
 use Rattle.command_core.specs.Inputs.{IsKnown, Reader, Unfailed}
-use Rattle.command_core.specs.Outputs.{Out, PlacesNothing, Publishes, Takes, Writer}
+use Rattle.command_core.specs.Outputs.{Out, PublishesNothing, Publishes, Takes, Writer}
 use Rattle.archive_writing.specs.InnerTelling.{IsJoinedTelling, MakesTold, telling}
 use Rattle.archive_writing.specs.Begun.{EndsBegun, IsUnfinished}
 use Rattle.archive_writing.specs.Joining.{joining}
@@ -43,7 +43,7 @@ text_in_order operations up = ap (text_of OldArchive) (sym (listed_in_order oper
 
 module _ {R : Type 0} (input : Reader R) (operations : Operations) (lines_of : (List ℕ → Bool) → List ℕ) where
   -- what stops the join with what they make stops it
-  pub told_stopped : (out : Out) (report : Writer) (fault : CommandFault) → StopsAmidst (joining input (content_of operations)) (IsKnown input) out.draft fault → IsUnfinished input (Unit {0}) out.draft → HasTaken out.draft fault → PlacesNothing out → Takes report []
+  pub told_stopped : (out : Out) (report : Writer) (fault : CommandFault) → StopsAmidst (joining input (content_of operations)) (IsKnown input) out.draft fault → IsUnfinished input (Unit {0}) out.draft → HasTaken out.draft fault → PublishesNothing out → Takes report []
       → EndsBegun input (telling input operations lines_of) out report (Err fault)
   told_stopped =
       join_stopped input (content_of operations) (MakesArchive (MakesTold input operations lines_of)) (λ text told m. record {

@@ -65,19 +65,19 @@ rows_again is_new (row ∷ rows) [] = row ∷ rows
 rows_again is_new (row ∷ rows) (r ∷ records) = row_again (is_new r) row ∷ rows_again is_new rows records
 
 -- Of records that came, in their order, the numbers of the rows of which they are: one for each row that was added.
-pub record ArePlaced (came : List (List ℕ)) (places : List ℕ) (rows : List AdmitRow) (records : List (List ℕ))
+pub record AreFirstRows (came : List (List ℕ)) (first_rows : List ℕ) (rows : List AdmitRow) (records : List (List ℕ))
     : Type 0 where
   pub long : length records ≡ length rows
-  pub beside : AllZip (λ (place : ℕ) (r : List ℕ). slice_get records place ≡ Some r) places came
-  pub each : (place : ℕ) (row : AdmitRow) → slice_get rows place ≡ Some row → was_added row.taken ≡ true
-      → (i : ℕ) × (slice_get places i ≡ Some place)
+  pub beside : AllZip (λ (number : ℕ) (r : List ℕ). slice_get records number ≡ Some r) first_rows came
+  pub each : (number : ℕ) (row : AdmitRow) → slice_get rows number ≡ Some row → was_added row.taken ≡ true
+      → (i : ℕ) × (slice_get first_rows i ≡ Some number)
 
 -- The files are accepted, and these are their images and their rows among themselves, and where the records of the
 -- images are among those of the rows.
-pub record HasCome {S : Type 0} (files : List (Reader S)) (came : Operations) (places : List ℕ) (rows : List AdmitRow)
-    : Type 0 where
+pub record HasCome {S : Type 0} (files : List (Reader S)) (came : Operations) (first_rows : List ℕ)
+    (rows : List AdmitRow) : Type 0 where
   pub taken : HasTaken files set.empty came rows
-  pub placed : ArePlaced (listing came) places rows (records_of taken.texts)
+  pub are_first : AreFirstRows (listing came) first_rows rows (records_of taken.texts)
 
 -- the lines of rows, by which of their records are new
 abbrev pub lines_again : List AdmitRow → List (List ℕ) → (List ℕ → Bool) → List ℕ

@@ -5,7 +5,7 @@ ghost use Rattle.admission.specs.File.{admissible, parts, IsAcceptedFile, IsTake
 ghost use Rattle.archive_writing.specs.Slicing.{slice_in};
 ghost use Rattle.admission.specs.Take.{admitted, taken_rows};
 ghost use Rattle.archive_writing.specs.Admit.{admit_as_it_comes, file_rows};
-ghost use Rattle.archive_writing.specs.InnerArriving.{ArePlaced, HasCome, lines_again, records_in};
+ghost use Rattle.archive_writing.specs.InnerArriving.{AreFirstRows, HasCome, lines_again, records_in};
 ghost use Rattle.archive_core.specs.Content.{Operations, changes};
 ghost use Rattle.record_merge.specs.Arrivals.{arrival_of};
 ghost use Rattle.archive_writing.specs.InnerNotes.{IsNoted};
@@ -32,7 +32,6 @@ use memory::{Heap, NoMemory};
 use record_merge::Arrival;
 use report_text::admit_lines;
 
-/// The refusal of the file of this number, whose bytes have this fault.
 fn refusal_of_file(index: u64, fault: TakeFault) -> CommandFault
     ensures refused { (bytes : List ℕ) → IsTakeFault bytes fault
         → IsRefusal (IsRefusedBytes index bytes) (Unit {0}) result }
@@ -43,7 +42,6 @@ fn refusal_of_file(index: u64, fault: TakeFault) -> CommandFault
     }
 }
 
-/// The slices of the file of this number, whose bytes these are.
 fn slice_bytes(index: u64, bytes: Vec<u8, Heap>) -> Result<Vec<Option<Slice>, Heap>, CommandFault>
     ensures accepted { OnOk result (IsAcceptedFile bytes.items) }
     ensures slices { IfOk result (λ slices. slices.items ≡ map slice_in (parts bytes.items)) }
@@ -69,8 +67,8 @@ fn admit_file<S: Source>(
         × (arrivals.new.rows.items
         ≡ arrivals.old.rows.items ++ file_rows index 0 (taken_rows arrivals.old.came (parts bytes)))
         × ((records : List (List ℕ))
-        → ArePlaced (listing arrivals.old.came) arrivals.old.places.items arrivals.old.rows.items records
-        → ArePlaced (listing arrivals.new.came) arrivals.new.places.items arrivals.new.rows.items
+        → AreFirstRows (listing arrivals.old.came) arrivals.old.first_rows.items arrivals.old.rows.items records
+        → AreFirstRows (listing arrivals.new.came) arrivals.new.first_rows.items arrivals.new.rows.items
         (records ++ records_in bytes))) (IsRefusedFile index) }
 {
     let bytes = read_file(heap.clone()?, index, file)?;
@@ -79,13 +77,12 @@ fn admit_file<S: Source>(
     Ok(())
 }
 
-/// Takes the slices of the files, in their order.
 fn admit_files<S: Source>(
     heap: &Heap,
     files: &mut [Result<S, CannotOpen>],
 ) -> Result<Arrivals, CommandFault>
     ensures { let known = readers S.left S.failures files.old files.new in
-        ReadsInputs result (λ arrivals. HasCome known arrivals.came arrivals.places.items arrivals.rows.items)
+        ReadsInputs result (λ arrivals. HasCome known arrivals.came arrivals.first_rows.items arrivals.rows.items)
         (IsFirstRefused File IsAccepted IsFileRefused known) (EachUnfailed known) }
 {
     let mut arrivals = Arrivals::none(heap)?;
@@ -103,19 +100,23 @@ fn tell_arrivals(
     arrived: &[Arrival],
     notes: &mut Vec<Note, Heap>,
 ) -> Result<String<Heap>, NoMemory>
-    requires placed { (records : List (List ℕ))
-        × ArePlaced (listing arrivals.came) arrivals.places.items arrivals.rows.items records }
+    requires are_first { (records : List (List ℕ))
+        × AreFirstRows (listing arrivals.came) arrivals.first_rows.items arrivals.rows.items records }
     requires told { length arrived.now ≡ length (listing arrivals.came) }
     ensures lines { IfOk result (λ lines. (o : Operations) (records : List (List ℕ))
-        → ArePlaced (listing arrivals.came) arrivals.places.items arrivals.rows.items records
+        → AreFirstRows (listing arrivals.came) arrivals.first_rows.items arrivals.rows.items records
         → arrived.now ≡ map (arrival_of o) (listing arrivals.came)
         → string_bytes lines ≡ lines_again arrivals.rows.items records (changes o)) }
     ensures noted { OnOk result ((o : Operations) → arrived.now ≡ map (arrival_of o) (listing arrivals.came)
         → notes.new.items ≡ notes.old.items ++ retired_notes o arrivals.came) }
 {
-    let Arrivals { came, places, rows } = arrivals;
+    let Arrivals {
+        came,
+        first_rows,
+        rows,
+    } = arrivals;
     note_retired(notes, came.operations(), arrived)?;
-    let again = told_again(rows, &places, arrived);
+    let again = told_again(rows, &first_rows, arrived);
     admit_lines(heap, &again)
 }
 
@@ -130,9 +131,9 @@ fn write_admitted<R: Source, T: Target, P: Sink>(
     report: &mut P,
 ) -> Result<Status, CommandFault>
     requires { (records : List (List ℕ))
-        × ArePlaced (listing arrivals.came) arrivals.places.items arrivals.rows.items records }
+        × AreFirstRows (listing arrivals.came) arrivals.first_rows.items arrivals.rows.items records }
     ensures ends { (records : List (List ℕ))
-        → ArePlaced (listing arrivals.came) arrivals.places.items arrivals.rows.items records
+        → AreFirstRows (listing arrivals.came) arrivals.first_rows.items arrivals.rows.items records
         → EndsBegun (reader R.left R.failures input.old input.new)
         (telling (reader R.left R.failures input.old input.new) arrivals.came
         (lines_again arrivals.rows.items records))

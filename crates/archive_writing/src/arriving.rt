@@ -8,7 +8,7 @@ ghost use Rattle.admission.specs.Take.{admitted, taken_of};
 ghost use Rattle.record_merge.specs.Arrivals.{is_new};
 ghost use Rattle.report_text.specs.declared.rows.AdmitRow.{AdmitRow};
 ghost use Rattle.archive_writing.specs.Admit.{file_rows};
-ghost use Rattle.archive_writing.specs.InnerArriving.{ArePlaced, images_in, record_in, row_again, rows_again};
+ghost use Rattle.archive_writing.specs.InnerArriving.{AreFirstRows, images_in, record_in, row_again, rows_again};
 ghost use Rattle.archive_writing.specs.InnerArriving.{slice_rows, taken_again};
 
 use admission::Taken;
@@ -22,20 +22,19 @@ use sorted_archive::PlainArchive;
 #[derive(Drop)]
 pub struct Arrivals {
     pub came: PlainArchive,
-    pub places: Vec<u64, Heap>,
+    pub first_rows: Vec<u64, Heap>,
     pub rows: Vec<AdmitRow, Heap>,
 }
 
 impl Arrivals {
-    /// No slices.
     pub fn none(heap: &Heap) -> Result<Arrivals, NoMemory>
         ensures came { IfOk result (λ arrivals. arrivals.came ≡ set.empty) }
-        ensures places { IfOk result (λ arrivals. arrivals.places.items ≡ []) }
+        ensures first_rows { IfOk result (λ arrivals. arrivals.first_rows.items ≡ []) }
         ensures rows { IfOk result (λ arrivals. arrivals.rows.items ≡ []) }
     {
         Ok(Arrivals {
             came: PlainArchive::empty(heap.clone()?),
-            places: Vec::new(heap.clone()?),
+            first_rows: Vec::new(heap.clone()?),
             rows: Vec::new(heap.clone()?),
         })
     }
@@ -45,33 +44,32 @@ impl Arrivals {
         ensures came { OnOk result (self.new.came ≡ admitted self.old.came (slice ∷ [])) }
         ensures taken { IfOk result (λ taken. taken ≡ taken_of self.old.came slice) }
         ensures rows { OnOk result (self.new.rows.items ≡ self.old.rows.items) }
-        ensures placed { IfOk result (λ taken. (records : List (List ℕ)) (row : AdmitRow) → row.taken ≡ taken
-            → ArePlaced (listing self.old.came) self.old.places.items self.old.rows.items records
-            → ArePlaced (listing self.new.came) self.new.places.items (self.old.rows.items ++ row ∷ [])
+        ensures are_first { IfOk result (λ taken. (records : List (List ℕ)) (row : AdmitRow) → row.taken ≡ taken
+            → AreFirstRows (listing self.old.came) self.old.first_rows.items self.old.rows.items records
+            → AreFirstRows (listing self.new.came) self.new.first_rows.items (self.old.rows.items ++ row ∷ [])
             (records ++ admission_record slice ∷ [])) }
     {
         let key = slice.key();
         slice.keep_digest();
         let digest = slice.digest();
         let row = self.rows.len() as u64;
-        let place = self.came.admit_at(slice)?;
-        match place {
-            Some(place) => {
-                // There are as many places as slices, so that this is the place itself.
-                let at = place.min(self.places.len());
-                self.places.insert(at, row)?;
+        let index = self.came.admit_at(slice)?;
+        match index {
+            Some(index) => {
+                // There are as many first rows as slices, so that this is the index itself.
+                let at = index.min(self.first_rows.len());
+                self.first_rows.insert(at, row)?;
                 Ok(Taken::Added(key, digest))
             }
             None => Ok(Taken::Known(key, digest)),
         }
     }
 
-    /// Adds the row of a part of the file of this number.
     fn push_row(&mut self, file: u64, slice: u64, taken: Taken) -> Result<(), NoMemory>
         ensures rows { OnOk result
             (self.new.rows.items ≡ self.old.rows.items ++ record { file = file; slice = slice; taken = taken } ∷ []) }
         ensures came { self.new.came ≡ self.old.came }
-        ensures places { self.new.places.items ≡ self.old.places.items }
+        ensures first_rows { self.new.first_rows.items ≡ self.old.first_rows.items }
     {
         self.rows.push(AdmitRow { file, slice, taken })?;
         Ok(())
@@ -82,9 +80,9 @@ impl Arrivals {
         ensures came { OnOk result (self.new.came ≡ admitted self.old.came (images_in (part ∷ []))) }
         ensures rows { OnOk result (self.new.rows.items
             ≡ self.old.rows.items ++ file_rows file number (slice_rows self.old.came (part ∷ []))) }
-        ensures placed { OnOk result ((records : List (List ℕ))
-            → ArePlaced (listing self.old.came) self.old.places.items self.old.rows.items records
-            → ArePlaced (listing self.new.came) self.new.places.items self.new.rows.items
+        ensures are_first { OnOk result ((records : List (List ℕ))
+            → AreFirstRows (listing self.old.came) self.old.first_rows.items self.old.rows.items records
+            → AreFirstRows (listing self.new.came) self.new.first_rows.items self.new.rows.items
             (records ++ record_in part ∷ [])) }
     {
         match part {
@@ -105,9 +103,9 @@ impl Arrivals {
         ensures came { OnOk result (self.new.came ≡ admitted self.old.came (images_in slices.items)) }
         ensures rows { OnOk result (self.new.rows.items
             ≡ self.old.rows.items ++ file_rows file 0 (slice_rows self.old.came slices.items)) }
-        ensures placed { OnOk result ((records : List (List ℕ))
-            → ArePlaced (listing self.old.came) self.old.places.items self.old.rows.items records
-            → ArePlaced (listing self.new.came) self.new.places.items self.new.rows.items
+        ensures are_first { OnOk result ((records : List (List ℕ))
+            → AreFirstRows (listing self.old.came) self.old.first_rows.items self.old.rows.items records
+            → AreFirstRows (listing self.new.came) self.new.first_rows.items self.new.rows.items
             (records ++ map record_in slices.items)) }
     {
         let mut number = 0;
@@ -136,7 +134,6 @@ fn taken_again(taken: Taken, new: bool) -> Taken
     }
 }
 
-/// The same of its row.
 fn row_again(row: AdmitRow, new: bool) -> AdmitRow
     ensures { result ≡ row_again new row }
 {
@@ -147,38 +144,37 @@ fn row_again(row: AdmitRow, new: bool) -> AdmitRow
     }
 }
 
-/// Tells the row at this place again.
-fn tell_row(rows: &mut [AdmitRow], place: usize, new: bool)
-    requires { place < length rows.old }
+fn tell_row(rows: &mut [AdmitRow], number: usize, new: bool)
+    requires { number < length rows.old }
     ensures { (none : AdmitRow)
-        → rows.new ≡ slice_set rows.old place (row_again new (slice_index_or rows.old place none)) }
+        → rows.new ≡ slice_set rows.old number (row_again new (slice_index_or rows.old number none)) }
 {
-    rows[place] = row_again(rows[place], new);
+    rows[number] = row_again(rows[number], new);
 }
 
 /// Tells the rows again of which slices came, by what each of these is to IN.
-fn tell_rows(rows: &mut [AdmitRow], places: &[u64], told: &[Arrival])
-    requires { (came records : List (List ℕ)) × ArePlaced came places.now rows.old records
+fn tell_rows(rows: &mut [AdmitRow], first_rows: &[u64], told: &[Arrival])
+    requires { (came records : List (List ℕ)) × AreFirstRows came first_rows.now rows.old records
         × (length told.now ≡ length came) }
-    ensures { (arrival : List ℕ → Arrival) (came records : List (List ℕ)) → ArePlaced came places.now rows.old records
+    ensures { (arrival : List ℕ → Arrival) (came records : List (List ℕ)) → AreFirstRows came first_rows.now rows.old records
         → told.now ≡ map arrival came → rows.new ≡ rows_again (λ r. is_new (arrival r)) rows.old records }
 {
     'told: for (index, arrival) in told.iter().enumerate() {
-        tell_row(rows, places[index] as usize, arrival.is_new());
+        tell_row(rows, first_rows[index] as usize, arrival.is_new());
     }
 }
 
 /// The rows, told again by what each of the slices that came is to IN.
 pub fn told_again(
     mut rows: Vec<AdmitRow, Heap>,
-    places: &[u64],
+    first_rows: &[u64],
     told: &[Arrival],
 ) -> Vec<AdmitRow, Heap>
-    requires { (came records : List (List ℕ)) × ArePlaced came places.now rows.items records
+    requires { (came records : List (List ℕ)) × AreFirstRows came first_rows.now rows.items records
         × (length told.now ≡ length came) }
-    ensures { (arrival : List ℕ → Arrival) (came records : List (List ℕ)) → ArePlaced came places.now rows.items records
+    ensures { (arrival : List ℕ → Arrival) (came records : List (List ℕ)) → AreFirstRows came first_rows.now rows.items records
         → told.now ≡ map arrival came → result.items ≡ rows_again (λ r. is_new (arrival r)) rows.items records }
 {
-    tell_rows(&mut rows, places, told);
+    tell_rows(&mut rows, first_rows, told);
     rows
 }

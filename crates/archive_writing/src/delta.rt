@@ -33,7 +33,6 @@ fn copy_input<R: Source, W: Sink>(
     }
 }
 
-/// Writes the archive of what the summary does not name of ARCHIVE to OUT, and its sizes to the report.
 fn write_unnamed<R: Source, T: Target, P: Sink>(
     heap: Heap,
     archive: &mut Result<R, CannotOpen>,

@@ -10,27 +10,13 @@
 //! - `notes`: what a command notes of what it was asked for and is not there;
 //! - `copying`: what a summary does not name of an archive.
 //!
-//! # What is proved
-//!
-//! - `run_admit`, `run_retire`, `run_merge`, `run_migrate`, `run_apply` and `run_delta` end by `EndsStreamed`, over any
-//!   sources and outputs: such a command is stopped, and nothing is in place, or its inputs are accepted and what they
-//!   make is published. `run_new` ends by `Publishes`, `run_summary` by `Ends`.
-//! - What stops `merge` with one FILE (`merge_of_one`) says which side does and which bytes the draft took. What stops
-//!   the others is an input that is refused in the order of the words, OUT, or want of memory (`StopsAmidst`,
-//!   `StopsInTurn`); if all inputs are known and accepted inputs make a text, the draft has its first bytes, fewer than
-//!   all. Whatever stops one of these, what the draft took is no archive's text; and it took bytes, or failed, only
-//!   after what follows the first input was accepted and the magic of that one was taken (`IsUnfinished`).
-//! - The rows of `admit` and the counts of `apply` are those of the definitions. If `admit` ends well it notes each
-//!   slice of the FILEs that IN retires, and no other (`NotesRetired`); `retire` notes the slice unless IN has it
-//!   (`NotesMissing`).
-//!
 //! # Why it is so
 //!
 //! - A command that writes while it reads ends by `EndsStreamed`, whichever it is; what stops it is its own (`Stops`).
-//!   If OUT fails while inputs are read, that is reported at once, and nothing is said of what is left of them.
+//!   If OUT fails while inputs are read, that is reported at once, and no clause speaks of what is left of them.
 //! - What follows the first archive is read before it, and refusals keep the order of the words: if SUMMARY, OPS or a
 //!   FILE is refused, the first archive is tested to its end, and its own fault is reported if it has one
-//!   (`IsRefusedInTurn`). So it is not said that an input after a refused one is untouched. If memory is wanting for
+//!   (`IsRefusedInTurn`). So no clause keeps an input after a refused one untouched. If memory is wanting for
 //!   that test, that is reported, though a device may have failed (`IsWantedInTurn`).
 //! - `merge` with one FILE reads both archives side by side; which of two faulty ones stops it depends on their
 //!   records. With more FILEs these are joined in memory first, and the text of their join is the other side.
@@ -39,8 +25,8 @@
 //!   row that first brought it. A slice that OPS retires after its admission stands beside its retirement in what IN is
 //!   merged with, as in a text of version 1: it counts as new if IN has neither, and does not come in.
 //! - `migrate` is such a merge with the 17 bytes of the archive that holds nothing.
-//! - A note is a value, added to a list of the caller's before OUT is put in place, so that nothing was done if memory
-//!   is wanting for it. A note names IN by its word in the help and not by its path.
+//! - A note is a value, added to a list of the caller's before OUT is published, so that nothing was done if memory is
+//!   wanting for it. A note names IN by its word in the help and not by its path.
 //! - Inputs of a command are of one type, so each FILE of `admit` has a buffer of 64 KiB; a larger read bypasses it.
 #![tactic(auto)]
 

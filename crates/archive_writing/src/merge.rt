@@ -53,7 +53,6 @@ fn join_files<A: Archive + Drop, S: Source>(
     Ok(())
 }
 
-/// The text of the archive, in memory.
 fn text_in_memory<A: Archive>(heap: &Heap, archive: &A) -> Result<Grown, CommandFault>
     ensures text { IfOk result (λ text. ⟦<Grown as Sink>⟧.held text ≡ Some (written (A.content archive.now))) }
     ensures content { OnOk result (IsContent (A.content archive.now)) }
@@ -66,7 +65,6 @@ fn text_in_memory<A: Archive>(heap: &Heap, archive: &A) -> Result<Grown, Command
     }
 }
 
-/// The text of the join of the files' archives.
 fn joined_text<A: Archive + Drop, S: Source>(
     heap: &Heap,
     files: &mut [Result<S, CannotOpen>],
@@ -138,7 +136,6 @@ fn merge_opened<R: Source, S: Source, T: Target, P: Sink>(
     }
 }
 
-/// Merges IN and the one file, if both were opened.
 fn merge_one<R: Source, S: Source, T: Target, P: Sink>(
     heap: Heap,
     input: &mut Result<R, CannotOpen>,

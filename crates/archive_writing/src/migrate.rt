@@ -12,7 +12,6 @@ use byte_device::{Bytes, CannotOpen, Sink, Source};
 use command_core::{CommandFault, Output, Status, Target, publish_draft};
 use memory::Heap;
 
-/// The text of the archive that holds nothing.
 fn empty_text() -> [u8; 17]
     ensures { result ≡ written set.empty }
 {

@@ -19,7 +19,6 @@ use command_core::{CommandFault, Output, Status, Target, publish_draft};
 use memory::Heap;
 use report_text::retire_line;
 
-/// The retirement of the slices under the key that have the digest.
 fn retirement(key: SliceKey, digest: Digest) -> Operation
     ensures is { result ≡ Operation.Retire key digest }
     ensures operation { IsOperation result }

@@ -26,7 +26,6 @@ fn slice_in(heap: Heap, part: &[u8], found: Option<SliceFacts>) -> Result<Option
     }
 }
 
-/// The slice that a thin file is, alone.
 fn slice_alone(heap: Heap, slice: Slice) -> Result<Vec<Option<Slice>, Heap>, NoMemory>
     requires { kind_of slice ≡ FileKind.Thin }
     ensures { IfOk result (λ slices. slices.items ≡ map slice_in (parts slice)) }

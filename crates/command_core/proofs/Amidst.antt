@@ -12,7 +12,7 @@ use Rattle.command_core.specs.declared.faults.Status.{Status}
 use Rattle.command_core.specs.declared.faults.Why.{Why}
 use Rattle.command_core.specs.Ends.{Command, EndsAsItComes, EndsStreamed, HasFirst, HasTaken, MakesArchive, StopsAmidst, writes_in_turn}
 use Rattle.command_core.specs.Inputs.{HoldsArchive, IsGivenArchive, IsKnown, IsRefusal, reader}
-use Rattle.command_core.specs.Outputs.{IsKept, Out, PlacesNothing, Takes, Writer}
+use Rattle.command_core.specs.Outputs.{IsKept, Out, PublishesNothing, Takes, Writer}
 
 module _ (Makes : List ℕ → List ℕ → Type 0) (Refuses : InputName → Why → Type 0) (NoneFailed Known : Type 0) (out : Out) (report : Writer) where
   abbrev EndsSo : Result Status CommandFault → Type 0
@@ -22,7 +22,7 @@ module _ (Makes : List ℕ → List ℕ → Type 0) (Refuses : InputName → Why
   StopsSo fault = StopsAmidst (record { Makes = Makes; Refuses = Refuses; Unfailed = NoneFailed }) Known out.draft fault
 
   -- it was stopped
-  pub stopped_amidst : (fault : CommandFault) → StopsSo fault → HasTaken out.draft fault → PlacesNothing out → Takes report [] → EndsSo (Err fault)
+  pub stopped_amidst : (fault : CommandFault) → StopsSo fault → HasTaken out.draft fault → PublishesNothing out → Takes report [] → EndsSo (Err fault)
   stopped_amidst (Input at why) s t nothing unreported = record { stops = s; bytes = t.0; took = t.1; count = t.2; nothing_published = nothing; unreported = unreported }
   stopped_amidst (Output n) s t nothing unreported = inl (record { stops = s; bytes = t.0; took = t.1; count = t.2; nothing_published = nothing; unreported = unreported })
   stopped_amidst (Report n) s t nothing unreported = absurd s

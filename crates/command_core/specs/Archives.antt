@@ -13,7 +13,7 @@ use Rattle.command_core.specs.Inputs.{IsArchiveRefused, IsFirstRefused, IsRefuse
 abbrev pub merged : Operations → List Operations → Operations
 merged o contents = fold joined o contents
 
--- the place of an archive of a list among those of the words, of which one stands before the list
+-- the name of an archive of a list among those of the words, of which one stands before the list
 abbrev pub further_name : ℕ → InputName
 further_name number = Archive (number + 1)
 

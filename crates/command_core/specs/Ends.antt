@@ -10,7 +10,7 @@ use Rattle.command_core.specs.declared.faults.CommandFault.TheVariants.{Input, O
 use Rattle.command_core.specs.declared.faults.InputName.{InputName}
 use Rattle.command_core.specs.declared.faults.Status.{Status}
 use Rattle.command_core.specs.declared.faults.Why.{Why}
-use Rattle.command_core.specs.Outputs.{Out, Writer, IsKept, PlacesNothing, Takes, Publishes, Reports, report_of}
+use Rattle.command_core.specs.Outputs.{Out, Writer, IsKept, PublishesNothing, Takes, Publishes, Reports, report_of}
 
 -- A command that writes OUT, with its inputs: the text of OUT and that of the report that accepted inputs make, which
 -- input is refused, and why, and that no reader fails.
@@ -41,8 +41,8 @@ pub record Carries (Makes : List ℕ → List ℕ → Type 0) (out : Out) (repor
   pub published : Publishes out report text told result
 
 -- How a command ends. An input is refused, and OUT is kept; or the inputs are accepted, and what they make is
--- published: put in OUT's place and told, or up to where a writer failed. Where OUT failed or memory is wanting nothing
--- is in place. Where no input is refused, no reader fails.
+-- published and told, or up to where a writer failed. Where OUT failed or memory is wanting nothing is published. Where
+-- no input is refused, no reader fails.
 abbrev pub Ends : Command → Out → Writer → Result Status CommandFault → Type 0
 Ends command out report (Ok status) = command.Unfailed × Carries command.Makes out report (Ok status)
 Ends command out report (Err (Input name why)) = command.Refuses name why × IsKept out × Takes report []
@@ -61,14 +61,14 @@ pub record Streamed : Type 1 where
   pub Stops : CommandFault → Type 0
   pub Unfailed : Type 0
 
--- It was stopped with this fault. OUT's draft has some bytes, as many as are told where it failed; nothing is in place,
+-- It was stopped with this fault. OUT's draft has some bytes, as many as are told where it failed; nothing is published,
 -- and nothing was reported.
 pub record IsStopped (command : Streamed) (out : Out) (report : Writer) (fault : CommandFault) : Type 0 where
   pub stops : command.Stops fault
   pub bytes : List ℕ
   pub took : Appends out.draft.old out.draft.new bytes
   pub count : (n : ℕ) → fault ≡ Output n → n ≡ length bytes
-  pub nothing_published : PlacesNothing out
+  pub nothing_published : PublishesNothing out
   pub unreported : Takes report []
 
 -- How a command ends that writes while it reads. It was stopped; or its inputs are accepted, and what they make is

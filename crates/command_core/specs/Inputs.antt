@@ -228,7 +228,7 @@ IsRefusedScript input at why = (at ≡ Script) × IsScriptRefused input why
 abbrev pub IsRefusedFrames : {S : Type 0} → Reader S → InputName → Why → Type 0
 IsRefusedFrames input at why = (at ≡ Frames) × IsFramesRefused input why
 
--- One of these inputs, which have such places in the words, is refused: those before it are accepted, with no reader
+-- One of these inputs, which have such numbers in the words, is refused: those before it are accepted, with no reader
 -- of theirs failing, and those behind it are untouched.
 pub record IsFirstRefused {S : Type 0} (asked_of : ℕ → InputName) (IsGood : Reader S → Type 0)
     (IsRefused : Reader S → Why → Type 0) (inputs : List (Reader S)) (at : InputName) (why : Why) : Type 0 where

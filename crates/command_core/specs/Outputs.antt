@@ -40,7 +40,7 @@ abbrev pub FailsBehind : Writer → List ℕ → ℕ → Type 0
 FailsBehind w text n = WritesFirst w.old w.new text n × FailedIn w.failures_old w.failures_new
 
 -- OUT in a call, before it and after it. The functions tell what its draft holds, where that is known, and how often it
--- failed; and what was put in place, if anything was, and how often that failed.
+-- failed; and what was published, if anything was, and how often that failed.
 pub record Outs (D T : Type 0) : Type 0 where
   pub held : D → Option (List ℕ)
   pub draft_failures : D → ℕ
@@ -65,8 +65,8 @@ outs held draft_failures published failures old new = record {
 abbrev pub draft_of : {D T : Type 0} → Outs D T → Stream D
 draft_of out = stream out.held out.draft_failures out.old.draft out.new.draft
 
--- What is known of OUT in a call: its draft, what was put in place before the call and after it, where that is known,
--- and how often putting it in place had failed.
+-- What is known of OUT in a call: its draft, what was published before the call and after it, where that is known, and
+-- how often publishing had failed.
 pub record Out : Type 0 where
   pub draft : Writer
   pub published_old : Option (List ℕ)
@@ -83,42 +83,42 @@ out_of out = record {
   failures_new = out.failures out.new.target;
 }
 
--- Nothing was put in place, nor was that tried.
-abbrev pub PlacesNothing : Out → Type 0
-PlacesNothing out = (out.published_new ≡ out.published_old) × (out.failures_new ≡ out.failures_old)
+-- Nothing was published, nor was that tried.
+abbrev pub PublishesNothing : Out → Type 0
+PublishesNothing out = (out.published_new ≡ out.published_old) × (out.failures_new ≡ out.failures_old)
 
--- Its draft took nothing, and nothing was put in place.
+-- Its draft took nothing, and nothing was published.
 abbrev pub IsKept : Out → Type 0
-IsKept out = Takes out.draft [] × PlacesNothing out
+IsKept out = Takes out.draft [] × PublishesNothing out
 
--- Its draft took exactly this text, which was put in place, and nothing failed. The draft is a new one then.
-pub record Places (out : Out) (text : List ℕ) : Type 0 where
+-- Its draft took exactly this text, which was published, and nothing failed. The draft is a new one then.
+pub record IsPublished (out : Out) (text : List ℕ) : Type 0 where
   pub published : Appends out.draft.old out.published_new text
   pub emptied : out.draft.new ≡ Some []
   pub draft_unfailed : out.draft.failures_new ≡ out.draft.failures_old
   pub unfailed : out.failures_new ≡ out.failures_old
 
--- Its draft took exactly this text, which could not be put in place.
-pub record FailsToPlace (out : Out) (text : List ℕ) : Type 0 where
+-- Its draft took exactly this text, which could not be published.
+pub record FailsToPublish (out : Out) (text : List ℕ) : Type 0 where
   pub took : Takes out.draft text
   pub kept : out.published_new ≡ out.published_old
   pub failed : FailedIn out.failures_old out.failures_new
 
--- OUT failed behind exactly the first n bytes of the text, of which none is in place: its draft took no more, or took
--- the text, which could not be put in place.
+-- OUT failed behind exactly the first n bytes of the text, of which none is published: its draft took no more, or took
+-- the text, which could not be published.
 abbrev pub FailsAt : Out → List ℕ → ℕ → Type 0
 FailsAt out text n =
-    (FailsBehind out.draft text n × PlacesNothing out) ⊎ ((n ≡ length text) × FailsToPlace out text)
+    (FailsBehind out.draft text n × PublishesNothing out) ⊎ ((n ≡ length text) × FailsToPublish out text)
 
--- The text is put in OUT's place, and then the report is told: by result, what either got. Where memory is wanting
--- nothing is in place.
+-- The text is published, and then the report is told: by result, what either got. Where memory is wanting nothing is
+-- published.
 abbrev pub Publishes : Out → Writer → List ℕ → List ℕ → Result Status CommandFault → Type 0
-Publishes out report text told (Ok status) = (status ≡ Done) × Places out text × Takes report told
+Publishes out report text told (Ok status) = (status ≡ Done) × IsPublished out text × Takes report told
 Publishes out report text told (Err (Input _ _)) = ⊥
 Publishes out report text told (Err (Output n)) = FailsAt out text n × Takes report []
-Publishes out report text told (Err (Report n)) = Places out text × FailsBehind report told n
+Publishes out report text told (Err (Report n)) = IsPublished out text × FailsBehind report told n
 Publishes out report text told (Err OutOfMemory) =
-    (Takes out.draft [] ⊎ Takes out.draft text) × PlacesNothing out × Takes report []
+    (Takes out.draft [] ⊎ Takes out.draft text) × PublishesNothing out × Takes report []
 
 -- The text goes to the report, which takes no memory: by result, what it got.
 abbrev pub Reports : Writer → Status → List ℕ → Result Status CommandFault → Type 0

@@ -13,8 +13,8 @@ pub enum Failure {
     Command(CommandFault),
     /// The output was not created.
     CannotCreate(CannotCreate),
-    /// The output was not put in place: its bytes could not be kept on the disk or renamed, or what is there is not to
-    /// be replaced.
+    /// The output was not published: its bytes could not be kept on the disk or renamed, or what is there is not to be
+    /// replaced.
     CannotReplace,
 }
 

@@ -67,8 +67,8 @@ pub enum Why {
     TooLong,
     /// It is no text of an index, or reading it failed.
     Index(IndexFault),
-    /// It is an index of another archive: this one has another length, or at the place of this entry, from 0 on, stands
-    /// no record that it names.
+    /// It is an index of another archive: this one has another length, or where this entry, from 0 on, says stands no
+    /// record that it names.
     Stale(Option<u64>),
     /// It is an index whose table for this entry, from 0 on, was changed.
     Damaged(u64),

@@ -1,4 +1,4 @@
-//! The output of a command, which takes bytes and is then put in place.
+//! The output of a command, which takes bytes and is then published.
 
 ghost use Rattle.std.specs.Prelude.{◌≡◌, ℕ, List, [], Option, Some, IfErr, OnErr, OnOk};
 ghost use Rattle.byte_device.specs.Devices.{CountsFailure, FailedIn};
@@ -7,18 +7,18 @@ ghost use Rattle.command_core.specs.declared.faults.CommandFault.TheVariants.{Ou
 use crate::faults::CommandFault;
 use byte_device::{Failed, Sink};
 
-/// Where an output is put in place.
+/// Where an output is published.
 pub trait Target {
     /// What takes the bytes before.
     type Draft: Sink;
 
-    // The text that was put in place last, if one was, and where it is known.
+    // The text that was published last, if one was, and where it is known.
     ghost published: { Self → Option (List ℕ) };
 
     // How often a call failed.
     ghost failures: { Self → ℕ };
 
-    /// Puts what the draft holds in the place of what is there, in one step. The draft holds nothing then. Where this
+    /// Replaces what is there by what the draft holds, in one step. The draft holds nothing then. Where this
     /// fails, what is there stays.
     fn publish(&mut self, draft: &mut Self::Draft) -> Result<(), Failed>
         ensures published { OnOk result (published self.new ≡ Self.Draft.held draft.old) }
@@ -29,15 +29,15 @@ pub trait Target {
         ensures count { CountsFailure (failures self.old) (failures self.new) result };
 }
 
-/// An output: the draft that takes its bytes, and the target that the draft is put in place at when it is whole.
+/// An output: the draft that takes its bytes, and the target at which it is published when it is whole.
 #[derive(Drop)]
 pub struct Output<D, T> {
     pub draft: D,
     pub target: T,
 }
 
-/// Puts an output in place whose draft has taken this many bytes.
-pub fn put_in_place<T: Target>(
+/// Publishes an output whose draft has taken this many bytes.
+pub fn publish_output<T: Target>(
     out: &mut Output<T::Draft, T>,
     written: u128,
 ) -> Result<(), CommandFault>

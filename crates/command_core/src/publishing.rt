@@ -1,4 +1,4 @@
-//! The end of each command: OUT, which is put in place, and then the report.
+//! The end of each command: OUT, which is published, and then the report.
 ghost use Rattle.std.specs.Prelude.{◌≡◌, ◌++◌, ℕ, List, length, string_bytes};
 ghost use Rattle.archive_records.specs.Text.{summary_text, written};
 ghost use Rattle.report_text.specs.Report.{archive_line};
@@ -6,15 +6,15 @@ ghost use Rattle.command_core.specs.Outputs.{Publishes, Reports, Takes, out_of, 
 ghost use Rattle.command_core.specs.Outputs.{writer};
 
 use crate::faults::{CommandFault, Status};
-use crate::outputs::{Output, Target, put_in_place};
+use crate::outputs::{Output, Target, publish_output};
 use archive_core::Archive;
 use archive_records::{Sizes, Summary, write_archive, write_summary};
 use byte_device::{Sink, push_all};
 use memory::Heap;
 use report_text::{summary_line, with_sizes};
 
-/// Puts OUT in place, whose draft has taken a whole text with these sizes, and then writes the lines and the sizes to
-/// the report, which is made whole before that. What is said is of all that the draft took since it was `start`.
+/// Publishes OUT, whose draft has taken a whole text with these sizes since it was `start`, and then writes the lines
+/// and the sizes to the report, which is made whole before that.
 pub fn publish_draft<T: Target, P: Sink>(
     lines: String<Heap>,
     sizes: Sizes,
@@ -29,12 +29,12 @@ pub fn publish_draft<T: Target, P: Sink>(
         (writer P.held P.failures report.old report.new) text (string_bytes lines ++ archive_line sizes) result }
 {
     let text = with_sizes(lines, sizes)?;
-    put_in_place(out, sizes.bytes)?;
+    publish_output(out, sizes.bytes)?;
     publish_report(Status::Done, &text, report)
 }
 
-/// Writes the archive to OUT, puts it in place, and then writes the lines and the sizes to the report, which is made
-/// whole before that.
+/// Writes the archive to OUT, publishes it, and then writes the lines and the sizes to the report, which is made whole
+/// before that.
 pub fn publish<A: Archive, T: Target, P: Sink>(
     archive: &A,
     lines: String<Heap>,
@@ -51,7 +51,7 @@ pub fn publish<A: Archive, T: Target, P: Sink>(
     }
 }
 
-/// Writes the summary to OUT, puts it in place, and then writes its sizes to the report.
+/// Writes the summary to OUT, publishes it, and then writes its sizes to the report.
 pub fn publish_summary<T: Target, P: Sink>(
     heap: Heap,
     summary: &Summary,
@@ -67,7 +67,7 @@ pub fn publish_summary<T: Target, P: Sink>(
         Err(fault) => return Err(CommandFault::Output(fault.written)),
     };
     let text = summary_line(heap, sizes)?;
-    put_in_place(out, sizes.bytes)?;
+    publish_output(out, sizes.bytes)?;
     publish_report(Status::Done, &text, report)
 }
 

@@ -6,7 +6,6 @@ ghost use Rattle.command_core.specs.Statuses.{status_of};
 
 use crate::{CommandFault, Failure, Status};
 
-/// The exit status of a command that was carried out.
 pub fn status_of(ended: &Result<Status, Failure>) -> u8
     ensures { result ≡ status_of ended.now }
 {
@@ -18,7 +17,6 @@ pub fn status_of(ended: &Result<Status, Failure>) -> u8
     }
 }
 
-/// How a search ends that gave these rows.
 pub fn found_status<T>(rows: &[T]) -> Status
     ensures { result ≡ found_status rows.now }
 {

@@ -167,7 +167,6 @@ pub fn read_entries<R: Source>(
     or_refused!(at, summarize(heap, source))
 }
 
-/// Reads the bytes of an input to its end.
 fn read_bytes<S: Source>(
     heap: Heap,
     at: InputName,
@@ -184,7 +183,6 @@ fn read_bytes<S: Source>(
     }
 }
 
-/// Reads the bytes of the file of this number among the words.
 pub fn read_file<S: Source>(
     heap: Heap,
     index: u64,
@@ -196,7 +194,6 @@ pub fn read_file<S: Source>(
     read_bytes(heap, InputName::File(index), file)
 }
 
-/// Reads the operations of an operations file.
 pub fn read_operations<S: Source>(
     heap: Heap,
     ops: &mut Result<S, CannotOpen>,

@@ -69,7 +69,6 @@ pub fn read_parts<A: Archive + Drop, S: Selects, R: Source>(
     Ok(kept)
 }
 
-/// The bytes of a key.
 pub fn bytes_of(key: &SliceKey) -> [u8; 24]
     ensures bytes { result ≡ key_bytes key.now }
     ensures long { length (key_bytes key.now) ≡ 24 }
@@ -77,7 +76,6 @@ pub fn bytes_of(key: &SliceKey) -> [u8; 24]
     key_prefix(key)
 }
 
-/// The key of the next question.
 fn next_key<Q: Questions>(questions: &Q) -> Option<SliceKey>
     ensures key { result ≡ first_key (Q.left questions.now) }
     ensures long { IfSome result (λ key. length (key_bytes key) ≡ 24) }

@@ -49,7 +49,6 @@ impl Event {
     ghost use Rattle.std.specs.Prelude.{◌≡◌};
     ghost use Rattle.exchange_script.specs.EventSite.{site_number};
 
-    /// The number of its site.
     pub fn site(&self) -> u32
         ensures { result ≡ site_number self.now }
     {

@@ -52,7 +52,6 @@ pub fn script_flaw(fault: ScriptFault, line: &[u8]) -> Option<ScriptFlaw>
     }
 }
 
-// What is wrong with a line as such, or else with its fields.
 fn flaw_or(of_line: Option<LineFlaw>, of_fields: ScriptFlaw) -> ScriptFlaw
     ensures { result ≡ flaw_or of_line of_fields }
 {
@@ -62,7 +61,6 @@ fn flaw_or(of_line: Option<LineFlaw>, of_fields: ScriptFlaw) -> ScriptFlaw
     }
 }
 
-// What is wrong with the fields of a line that is no `sites N`.
 fn sites_flaw(line: &[u8]) -> ScriptFlaw
     ensures { result ≡ sites_flaw (fields line.now) }
 {
@@ -93,7 +91,6 @@ fn number_behind_flaw(text: &str) -> ScriptFlaw
     count_flaw(number)
 }
 
-// What is wrong with N of `sites N`.
 fn count_flaw(number: &str) -> ScriptFlaw
     ensures { result ≡ count_flaw (number_of number.now) (number_flaw number.now) }
 {
@@ -104,7 +101,6 @@ fn count_flaw(number: &str) -> ScriptFlaw
     }
 }
 
-// What is wrong with the fields of a line that is no event.
 fn event_flaw(line: &[u8]) -> ScriptFlaw
     ensures { result ≡ event_flaw (fields line.now) }
 {
@@ -140,7 +136,6 @@ fn count_behind(word: &str) -> Option<usize>
     }
 }
 
-// What is wrong with the fields behind a word that so many should stand behind.
 fn counted_flaw(word: &str, count: usize, behind: &str) -> ScriptFlaw
     ensures { result ≡ counted_flaw word.now (Some count) (parts behind.now) }
 {
@@ -157,7 +152,6 @@ fn number_of_parts(text: &str) -> usize
     text.split(' ').count()
 }
 
-// What is wrong with a site, or else with the fields behind it.
 fn site_flaw(word: &str, text: &str) -> ScriptFlaw
     ensures { result ≡ site_flaw word.now (parts text.now) }
 {
@@ -169,7 +163,6 @@ fn site_flaw(word: &str, text: &str) -> ScriptFlaw
     }
 }
 
-// What is wrong with the one field behind a word and a site.
 fn one_flaw(word: &str, field: &str) -> ScriptFlaw
     ensures { result ≡ one_flaw word.now field.now }
 {
@@ -180,7 +173,6 @@ fn one_flaw(word: &str, field: &str) -> ScriptFlaw
     }
 }
 
-// What is wrong with the fields behind a word and a site.
 fn flaw_behind_site(word: &str, text: &str) -> ScriptFlaw
     ensures { result ≡ flaw_behind_site word.now (parts text.now) }
 {

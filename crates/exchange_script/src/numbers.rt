@@ -21,13 +21,7 @@ pub fn read_number(text: &str) -> Option<u32>
     ensures { result ≡ number_of text.now }
 {
     let digits = text.as_bytes();
-    if digits.is_empty() || digits[0] == b'+' {
-        return None;
-    }
-    if digits.len() == 1 {
-        return parse_digits(text);
-    }
-    if digits[0] == b'0' {
+    if digits.is_empty() || digits[0] == b'+' || leads_with_zero(digits) {
         return None;
     }
     parse_digits(text)
@@ -42,35 +36,30 @@ fn parse_digits(text: &str) -> Option<u32>
     text.parse().ok()
 }
 
-// Whether a byte is a digit.
 fn is_digit(byte: u8) -> bool
     ensures { result ≡ is_ascii_digit byte }
 {
     byte.is_ascii_digit()
 }
 
-// Whether a field has no byte but digits.
 fn has_digits_alone(field: &[u8]) -> bool
     ensures { result ≡ list_all is_ascii_digit field.now }
 {
     field.iter().all(|byte| is_digit(*byte))
 }
 
-// Whether a field is digits, one at least.
 fn are_digits(field: &[u8]) -> bool
     ensures { result ≡ are_digits field.now }
 {
     has_digits_alone(field) && !field.is_empty()
 }
 
-// Whether a `0` stands before other bytes.
 fn leads_with_zero(digits: &[u8]) -> bool
     ensures { result ≡ leads_with_zero digits.now }
 {
     digits.len() > 1 && digits[0] == b'0'
 }
 
-/// Why a field is no number, if it is none.
 pub fn number_flaw(text: &str) -> NumberFlaw
     ensures { result ≡ number_flaw text.now }
 {

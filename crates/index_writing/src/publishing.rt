@@ -5,7 +5,7 @@ ghost use Rattle.index_writing.specs.Index.{index_line};
 
 use archive_records::Sizes;
 use byte_device::Sink;
-use command_core::{CommandFault, Output, Status, Target, publish_report, put_in_place};
+use command_core::{CommandFault, Output, Status, Target, publish_report, publish_output};
 use memory::{Heap, NoMemory};
 
 /// The line of `index`: how many entries were written, and how many bytes.
@@ -35,6 +35,6 @@ pub fn publish_index<T: Target, P: Sink>(
         (writer P.held P.failures report.old report.new) text (index_line sizes) result }
 {
     let text = index_line(heap, sizes)?;
-    put_in_place(out, sizes.bytes)?;
+    publish_output(out, sizes.bytes)?;
     publish_report(Status::Done, &text, report)
 }

@@ -1,7 +1,7 @@
 //! `rehearse SCRIPT`.
 ghost use Rattle.std.specs.Prelude.{◌≡◌, ◌++◌, IfOk, OnOk, length, string_bytes};
 ghost use Rattle.exchange_model.specs.World.{World as WorldModel};
-ghost use Rattle.archive_exchange.specs.Rehearsal.{Represents};
+ghost use Rattle.archive_exchange.specs.WorldState.{Represents};
 ghost use Rattle.command_core.specs.Ends.{EndsReport};
 ghost use Rattle.command_core.specs.Inputs.{reader};
 ghost use Rattle.command_core.specs.Outputs.{writer};
@@ -36,7 +36,6 @@ fn push_held<A: Archive + Drop>(
     push_site(text, number, sizes, digest)
 }
 
-/// Adds a line a site.
 fn push_sites<A: Archive + Drop>(text: &mut String<Heap>, world: &World<A>) -> Result<(), NoMemory>
     ensures { OnOk result ((w : WorldModel)
         → Represents world.now.sites world.now.messages w
@@ -48,7 +47,6 @@ fn push_sites<A: Archive + Drop>(text: &mut String<Heap>, world: &World<A>) -> R
     Ok(())
 }
 
-/// Carries out the events of a script, and makes their lines.
 fn lines_of<A: Archive + Drop>(heap: Heap, script: &Script) -> Result<String<Heap>, NoMemory>
     ensures { IfOk result (λ text. TellsEvents script.now.sites script.now.events.items (string_bytes text)) }
 {

@@ -12,7 +12,7 @@ use Rattle.archive_core.specs.declared.keys.SliceKey.{SliceKey}
 use Rattle.report_text.specs.Finds.{find_lines}
 use Rattle.command_core.specs.Ends.{IsStopped}
 use Rattle.command_core.specs.Inputs.{EachUnfailed, IsRefusal, Reader, Unfailed, reader, readers}
-use Rattle.command_core.specs.Outputs.{Outs, PlacesNothing, Takes, Writer, out_of}
+use Rattle.command_core.specs.Outputs.{Outs, PublishesNothing, Takes, Writer, out_of}
 use Rattle.command_core.specs.declared.faults.CommandFault.{CommandFault}
 use Rattle.command_core.specs.declared.faults.CommandFault.TheVariants.{Input, Output, Report, OutOfMemory}
 use Rattle.command_core.specs.declared.faults.InputName.{InputName}
@@ -51,7 +51,7 @@ as_many indexes whole failures before seen all long read = three_long IsReadWith
 
 module _ {D T : Type 0} (command : Extraction) (out : Outs D T) (report : Writer) where
   stopped : (fault : CommandFault) (bytes : List ℕ) → command.writes.Stops fault → Appends (out_of out).draft.old (out_of out).draft.new bytes → ((n : ℕ) → fault ≡ Output n → n ≡ length bytes)
-      → PlacesNothing (out_of out) → Takes report [] → IsStopped command.writes (out_of out) report fault
+      → PublishesNothing (out_of out) → Takes report [] → IsStopped command.writes (out_of out) report fault
   stopped fault bytes stops took count nothing unreported = record {
     stops = stops;
     bytes = bytes;
@@ -72,7 +72,7 @@ module _ {D T : Type 0} (command : Extraction) (out : Outs D T) (report : Writer
       inl (inl (stopped OutOfMemory [] stops (took_nothing out same).0 (λ n h. absurd (cc h)) (ap (λ (o : Out_value D T). out.published o.target) same, ap (λ (o : Out_value D T). out.failures o.target) same) unreported))
 
   -- while a slice was sent
-  pub stopped_amidst : {P : Type 0} (archive : Reader P) (x : EntryAt) (fault : CommandFault) → StopsSlice archive x (out_of out).draft fault → command.writes.Stops fault → PlacesNothing (out_of out) → Takes report []
+  pub stopped_amidst : {P : Type 0} (archive : Reader P) (x : EntryAt) (fault : CommandFault) → StopsSlice archive x (out_of out).draft fault → command.writes.Stops fault → PublishesNothing (out_of out) → Takes report []
       → Extracts command out report (Err fault)
   stopped_amidst archive x (Input at why) s stops nothing unreported = inl (stopped (Input at why) s.bytes stops s.took (λ n h. absurd (cc h)) nothing unreported)
   stopped_amidst archive x (Output n) s stops nothing unreported = inl (inl (stopped (Output n) s.bytes stops s.took (λ m h. same_count n m (cc h) ∙ s.hinders.0) nothing unreported))

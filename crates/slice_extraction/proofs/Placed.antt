@@ -5,7 +5,7 @@ use Rattle.sha2.specs.Sha256.{sha256}
 use Rattle.byte_device.specs.Devices.{FailedIn}
 use Rattle.archive_core.specs.declared.keys.SliceKey.{SliceKey}
 use Rattle.command_core.specs.Inputs.{Reader}
-use Rattle.command_core.specs.Outputs.{Outs, Places, PlacesNothing, Publishes, Reports, Takes, Writer, out_of, writer}
+use Rattle.command_core.specs.Outputs.{Outs, IsPublished, PublishesNothing, Publishes, Reports, Takes, Writer, out_of, writer}
 use Rattle.command_core.specs.declared.faults.CommandFault.{CommandFault}
 use Rattle.command_core.specs.declared.faults.CommandFault.TheVariants.{Input, Output, Report, OutOfMemory}
 use Rattle.command_core.specs.declared.faults.Status.{Status}
@@ -25,7 +25,7 @@ same_line key named x slice names of =
 
 module _ {D T : Type 0} (out : Outs D T) (report : Writer) where
   -- the slice was not sent
-  pub unsent_so : {P : Type 0} (archive : Reader P) (key : SliceKey) (x : EntryAt) (fault : CommandFault) → StopsSlice archive x (out_of out).draft fault → PlacesNothing (out_of out) → Takes report []
+  pub unsent_so : {P : Type 0} (archive : Reader P) (key : SliceKey) (x : EntryAt) (fault : CommandFault) → StopsSlice archive x (out_of out).draft fault → PublishesNothing (out_of out) → Takes report []
       → PublishesSlice archive key x out report (Err fault)
   unsent_so archive key x fault stops nothing unreported = inr (fault, refl, stops, nothing, unreported)
 
@@ -47,7 +47,7 @@ module _ {D T : Type 0} (out : Outs D T) (report : Writer) where
         )
 
     module _ (placed : out.published out.new.target ≡ out.held mid) (emptied : out.held out.new.draft ≡ Some []) (unfailed : out.draft_failures out.new.draft ≡ out.draft_failures mid) (well : out.failures out.new.target ≡ out.failures out.old.target) where
-      places : Places (out_of out) slice
+      places : IsPublished (out_of out) slice
       places = record {
         published = subst (λ (o : Option (List ℕ)). Appends (out.held out.old.draft) o slice) (sym placed) took.0;
         emptied = emptied;

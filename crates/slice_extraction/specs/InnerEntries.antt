@@ -9,7 +9,7 @@ use Rattle.archive_core.specs.declared.keys.SliceKey.{SliceKey}
 use Rattle.archive_records.specs.declared.fault.RecordFaultKind.TheVariants.{Device as DeviceFailed}
 use Rattle.byte_device.specs.declared.disks.CannotOpen.{CannotOpen}
 use Rattle.command_core.specs.Inputs.{EachUnfailed, IsRefusal, Reader, Unfailed, reader}
-use Rattle.command_core.specs.Outputs.{Outs, PlacesNothing, Publishes, Takes, Writer, out_of}
+use Rattle.command_core.specs.Outputs.{Outs, PublishesNothing, Publishes, Takes, Writer, out_of}
 use Rattle.command_core.specs.declared.faults.CommandFault.{CommandFault}
 use Rattle.command_core.specs.declared.faults.CommandFault.TheVariants.{Input, Output}
 use Rattle.command_core.specs.declared.faults.InputName.TheVariants as place
@@ -58,7 +58,7 @@ PublishesSlice archive key x out report result =
     ((slice : List ℕ) × HoldsSlice archive x slice × Unfailed archive
     × Publishes (out_of out) report slice (written_line key slice) result)
     ⊎ ((fault : CommandFault) × (result ≡ Err fault) × StopsSlice archive x (out_of out).draft fault
-    × PlacesNothing (out_of out) × Takes report [])
+    × PublishesNothing (out_of out) × Takes report [])
 
 -- The same from its archive among several, of which no other is touched.
 abbrev pub PublishesFrom : {P D T : Type 0} → (P → Option (List ℕ)) → (P → ℕ) → List (Result P CannotOpen)

@@ -10,7 +10,7 @@ use crate::choosing::{Choice, choose};
 use crate::sending::line_of;
 use archive_core::{Archive, CheckedSlice, Digest, FindRow, SliceKey};
 use byte_device::{Sink, push_all};
-use command_core::{CommandFault, Output, Status, Target, publish_report, put_in_place};
+use command_core::{CommandFault, Output, Status, Target, publish_report, publish_output};
 use memory::{Heap, NoMemory};
 use report_text::find_lines;
 
@@ -41,7 +41,7 @@ fn publish_slice<T: Target, P: Sink>(
     if let Err(fault) = push_all(&mut out.draft, bytes) {
         return Err(CommandFault::Output(fault.written));
     }
-    put_in_place(out, bytes.len() as u128)?;
+    publish_output(out, bytes.len() as u128)?;
     publish_report(Status::Done, &text, report)
 }
 

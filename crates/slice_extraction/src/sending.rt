@@ -15,7 +15,7 @@ use archive_records::{RecordFault, RecordFaultKind};
 use archive_words::Spelled;
 use byte_device::{CannotOpen, Placed, Sink};
 use command_core::{
-    CommandFault, InputName, Output, Status, Target, Why, publish_report, put_in_place,
+    CommandFault, InputName, Output, Status, Target, Why, publish_output, publish_report,
 };
 use command_inputs::opened;
 use indexed_answers::NamedSlice;
@@ -141,6 +141,6 @@ pub(crate) fn publish_named<P: Placed, T: Target, W: Sink>(
 {
     let text = line_of(heap.clone()?, *key, named.row.digest, named.size)?;
     send_named(heap.clone()?, named, archive, &mut out.draft)?;
-    put_in_place(out, named.size as u128)?;
+    publish_output(out, named.size as u128)?;
     publish_report(Status::Done, &text, report)
 }

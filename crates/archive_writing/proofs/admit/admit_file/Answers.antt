@@ -15,7 +15,7 @@ returns g c =
         c.in_ok-bytes.ensures.is,
         took.came ∙ rw (sliced, images_sliced (parts bytes)) refl,
         took.rows ∙ rw (sliced, rows_sliced c.args.arrivals.now.came (parts bytes)) refl,
-        λ records placed. rw (← sliced) (took.placed records placed),
+        λ records are_first. rw (← sliced) (took.are_first records are_first),
       );
       unfailed = c.in_ok-bytes.ensures.unfailed;
     }

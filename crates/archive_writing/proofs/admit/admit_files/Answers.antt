@@ -6,7 +6,7 @@ use Rattle.archive_core.specs.Content.{Operations}
 use Rattle.command_core.specs.Inputs.{IsAccepted, IsFileRefused}
 use Rattle.archive_writing.proofs.Come.{come_more, come_none}
 use Rattle.archive_writing.proofs.Files.{taken_accepted}
-use Rattle.archive_writing.proofs.Placed.{no_listing, placed_none}
+use Rattle.archive_writing.proofs.FirstRows.{no_listing, first_none}
 use Rattle.command_core.proofs.Readers.{all_read, none_failed, one_more, read_to, refused_at, rest_kept, same_at, unfailed_more}
 use Rattle.archive_writing.proofs.admit.admit_files.Goals as goal
 
@@ -19,7 +19,7 @@ pub files-init : goal.files-init
 files-init g c =
     let none = c.in_ok-arrivals.ensures in
     record {
-      taken = come_none _ _ _ none.came none.rows (placed_none _ _ _ (ap (λ (o : Operations). listing o) none.came ∙ no_listing) none.places none.rows);
+      taken = come_none _ _ _ none.came none.rows (first_none _ _ _ (ap (λ (o : Operations). listing o) none.came ∙ no_listing) none.first_rows none.rows);
       unfailed = none_failed g.S.Source.left g.S.Source.failures c.args.files.now;
       rest = refl;
     }

@@ -10,14 +10,14 @@ use Rattle.archive_writing.proofs.Noted.{retired_noted}
 use Rattle.archive_writing.proofs.admit.run_admit.Goals as goal
 
 pub write_admitted-requires : goal.write_admitted-requires
-write_admitted-requires g c = let h = c.in-Ok.ensures.is in (records_of h.taken.texts, h.placed)
+write_admitted-requires g c = let h = c.in-Ok.ensures.is in (records_of h.taken.texts, h.are_first)
 
 pub returns-in-Ok-clause-ends : goal.returns-in-Ok-clause-ends
 returns-in-Ok-clause-ends g c =
     let h = c.in-Ok.ensures.is in
     admitted_in_turn (reader g.R.Source.left g.R.Source.failures c.args.input.now c.write_admitted.new.input) _
     (out_of (outs g.T.Draft.Sink.held g.T.Draft.Sink.failures g.T.Target.published g.T.Target.failures c.args.out.now c.write_admitted.new.out))
-    (writer g.P.Sink.held g.P.Sink.failures c.args.report.now c.write_admitted.new.report) _ _ _ h c.in-Ok.ensures.unfailed c.write_admitted.result (c.write_admitted.ensures.ends (records_of h.taken.texts) h.placed)
+    (writer g.P.Sink.held g.P.Sink.failures c.args.report.now c.write_admitted.new.report) _ _ _ h c.in-Ok.ensures.unfailed c.write_admitted.result (c.write_admitted.ensures.ends (records_of h.taken.texts) h.are_first)
 
 pub returns-in-Err-clause-ends : goal.returns-in-Err-clause-ends
 returns-in-Err-clause-ends g c =

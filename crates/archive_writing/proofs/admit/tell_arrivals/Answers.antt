@@ -17,12 +17,12 @@ note_retired-requires c =
     c.requires.told ∙ sym (ap length c.operations.ensures.listed) ∙ long
 
 pub told_again-again-requires : goal.told_again-again-requires
-told_again-again-requires c = let p = c.requires.placed in (listing c.args.arrivals.came, p.0, rw c.deref.ensures.value p.1, c.requires.told)
+told_again-again-requires c = let p = c.requires.are_first in (listing c.args.arrivals.came, p.0, rw c.deref.ensures.value p.1, c.requires.told)
 
 pub returns-clause-lines : goal.returns-clause-lines
 returns-clause-lines c =
-    IfOk-weaker c.admit_lines.result _ _ (λ lines is o records placed arrived.
-    is ∙ ap admit_lines (c.deref-2.ensures.value ∙ c.told_again-again.ensures (arrival_of o) (listing c.args.arrivals.came) records (rw c.deref.ensures.value placed) arrived
+    IfOk-weaker c.admit_lines.result _ _ (λ lines is o records are_first arrived.
+    is ∙ ap admit_lines (c.deref-2.ensures.value ∙ c.told_again-again.ensures (arrival_of o) (listing c.args.arrivals.came) records (rw c.deref.ensures.value are_first) arrived
     ∙ (λ i. rows_again (λ r. new_changes o r i) c.args.arrivals.rows.items records))) c.admit_lines.ensures
 
 pub returns-clause-noted : goal.returns-clause-noted

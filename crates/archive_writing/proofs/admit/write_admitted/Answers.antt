@@ -24,7 +24,7 @@ pub tell_operations-requires-clause-ascending : goal.tell_operations-requires-cl
 tell_operations-requires-clause-ascending g c = rw c.operations.ensures.listed (listed nat_list_cmp_total bytes_same c.args.arrivals.came).ascending
 
 pub returns-in_err-sizes-clause-ends : goal.returns-in_err-sizes-clause-ends
-returns-in_err-sizes-clause-ends g c = λ records placed.
+returns-in_err-sizes-clause-ends g c = λ records are_first.
     let p = err_from_is_err_and c.from_residual.result c.from_residual.ensures.1 in
     let same = same_set c.args.arrivals.came (map record_bytes c.operations.result.now) c.operations.ensures.listed in
     rw (p.1, p.2) (told_stopped _ _ _ _ _ _ (rw same at c.in_err-sizes.ensures.1) c.in_err-sizes.ensures.2 c.in_err-sizes.ensures.0 (refl, refl) (Appends-none _, refl))
@@ -36,7 +36,7 @@ tell_arrivals-requires-clause-told g c =
     ap length (c.deref.ensures.value ∙ told.arrivals_are) ∙ length-map (listing c.args.arrivals.came) (arrival_of told.joined.content)
 
 pub returns-in_err-lines-clause-ends : goal.returns-in_err-lines-clause-ends
-returns-in_err-lines-clause-ends g c = λ records placed.
+returns-in_err-lines-clause-ends g c = λ records are_first.
     let p = err_from_is_err_and c.from_residual-in_err-lines.result c.from_residual-in_err-lines.ensures.1 in
     let same = same_set c.args.arrivals.came (map record_bytes c.operations.result.now) c.operations.ensures.listed in
     let j = rw same at c.in_ok-sizes.ensures in
@@ -44,11 +44,11 @@ returns-in_err-lines-clause-ends g c = λ records placed.
     rw (p.1, p.2) (told_published _ _ _ _ _ _ _ j _ refl _ _ (Err OutOfMemory) (inr (whole.written, whole.unfailed), (refl, refl), (Appends-none _, refl)))
 
 pub returns-clause-ends : goal.returns-clause-ends
-returns-clause-ends g c = λ records placed.
+returns-clause-ends g c = λ records are_first.
     let same = same_set c.args.arrivals.came (map record_bytes c.operations.result.now) c.operations.ensures.listed in
     let j = rw same at c.in_ok-sizes.ensures in
     let whole = j.joined.written_is in
-    told_published _ _ _ _ _ _ _ j _ (c.in_ok-lines.ensures.lines j.joined.content records placed (c.deref.ensures.value ∙ j.arrivals_are)) _ _ c.publish_draft.result
+    told_published _ _ _ _ _ _ _ j _ (c.in_ok-lines.ensures.lines j.joined.content records are_first (c.deref.ensures.value ∙ j.arrivals_are)) _ _ c.publish_draft.result
     (c.publish_draft.ensures c.args.out.now.draft _ (whole.written, whole.unfailed) whole.bytes_are)
 
 pub returns-clause-noted : goal.returns-clause-noted

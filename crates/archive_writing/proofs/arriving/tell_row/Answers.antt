@@ -7,5 +7,5 @@ use Rattle.archive_writing.proofs.arriving.tell_row.Goals as goal
 pub returns : goal.returns
 returns c = λ none.
     let rows = c.args.rows.now in
-    ap (λ (row : AdmitRow). set rows c.args.place row)
-    (c.row_again.ensures ∙ ap (row_again c.args.new) (c.index-rows-place.is ∙ get_or_default rows c.args.place c.index-rows-place.result none c.requires))
+    ap (λ (row : AdmitRow). set rows c.args.number row)
+    (c.row_again.ensures ∙ ap (row_again c.args.new) (c.index-rows-number.is ∙ get_or_default rows c.args.number c.index-rows-number.result none c.requires))

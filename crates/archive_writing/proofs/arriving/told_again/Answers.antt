@@ -9,11 +9,11 @@ pub tell_rows-requires : goal.tell_rows-requires
 tell_rows-requires c = let p = c.requires in (p.0, p.1, rw c.deref_mut.ensures.value p.2, p.3)
 
 pub returns : goal.returns
-returns c = λ f came records placed is.
+returns c = λ f came records are_first is.
     let value = c.deref_mut.ensures.value in
     let new = c.tell_rows.new.rows in
     let rest = drop (length new) c.args.rows.items in
     let same = ap length value in
     let long : c.args.rows.len ≡ length new = omega (arith, c.args.rows.ok.0, same, c.tell_rows.auto.rows) in
-    ap (λ (n : ℕ). take n (new ++ rest)) long ∙ take-append_seam new rest ∙ c.tell_rows.ensures f came records (rw value placed) is
+    ap (λ (n : ℕ). take n (new ++ rest)) long ∙ take-append_seam new rest ∙ c.tell_rows.ensures f came records (rw value are_first) is
     ∙ ap (λ (rows : List AdmitRow). rows_again (λ r. is_new (f r)) rows records) value

@@ -17,7 +17,7 @@ slices-init c =
       numbered = omega (arith, long);
       came = refl;
       rows = refl;
-      placed = ([], refl, λ records placed. rw append-nil placed);
+      are_first = ([], refl, λ records are_first. rw append-nil are_first);
     }
 
 pub slices-preserved : goal.slices-preserved
@@ -27,7 +27,7 @@ slices-preserved c =
     let rest = into_iter_items c.next.new.self in
     let steps = c.in-Some.ensures.steps.0 in
     let new = c.take_part.new.self in
-    let seen = at.invariant.placed.0 in
+    let seen = at.invariant.are_first.0 in
     let took = c.in_ok-take_part.ensures in
     let was = at.invariant.long in
     let gone = c.in-Some.ensures.steps.1 in
@@ -39,10 +39,10 @@ slices-preserved c =
       numbered = omega (arith, at.invariant.numbered, was, gone, short);
       came = one_image at.self.came part rest new.came took.came ∙ (rw steps at at.invariant.came);
       rows = rw (took.rows, append_assoc, one_row at.self.came c.args.file at.number part rest new.came took.came) (rw steps at at.invariant.rows);
-      placed = (
+      are_first = (
         seen ++ part ∷ [],
-        rw append_assoc (rw steps at at.invariant.placed.1),
-        λ records placed. rw (map-append record_in seen (part ∷ []), ← append_assoc records (map record_in seen) (record_in part ∷ [])) (took.placed (records ++ map record_in seen) (at.invariant.placed.2 records placed)),
+        rw append_assoc (rw steps at at.invariant.are_first.1),
+        λ records are_first. rw (map-append record_in seen (part ∷ []), ← append_assoc records (map record_in seen) (record_in part ∷ [])) (took.are_first (records ++ map record_in seen) (at.invariant.are_first.2 records are_first)),
       );
     }
 
@@ -62,9 +62,9 @@ returns-clause-rows c =
     let none = nil_from_length (into_iter_items c.slices.part-iterator) (omega (arith, c.slices.invariant.long, c.in-None.ensures.steps)) in
     sym (append-nil c.slices.self.rows.items) ∙ (rw (none, c.into_iter-part-iterator.ensures.into_iter_gives.0) at c.slices.invariant.rows)
 
-pub returns-clause-placed : goal.returns-clause-placed
-returns-clause-placed c =
+pub returns-clause-are_first : goal.returns-clause-are_first
+returns-clause-are_first c =
     let none = nil_from_length (into_iter_items c.slices.part-iterator) (omega (arith, c.slices.invariant.long, c.in-None.ensures.steps)) in
-    let placed = c.slices.invariant.placed in
-    let all = rw (none, append-nil) at placed.1 in
-    λ records before. rw (← c.into_iter-part-iterator.ensures.into_iter_gives.0, all) (placed.2 records before)
+    let are_first = c.slices.invariant.are_first in
+    let all = rw (none, append-nil) at are_first.1 in
+    λ records before. rw (← c.into_iter-part-iterator.ensures.into_iter_gives.0, all) (are_first.2 records before)
