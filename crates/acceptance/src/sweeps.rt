@@ -1,20 +1,20 @@
-//! One case at each place of a device.
+//! One case at each point of a device.
 
 use crate::calls::Task;
 use crate::desk::{Desk, Tried};
-use crate::outcomes::Outcome;
+use crate::outcomes::outcome_at;
 use case_parts::{CaseFault, Left, Sweep};
 use memory::NoMemory;
 
-// Places in a row with one outcome.
-#[derive(Clone, Copy, PartialEq, Eq)]
+// Points in a row with one outcome.
+#[derive(Drop, PartialEq, Eq)]
 struct Group {
     first: usize,
     last: usize,
-    outcome: Outcome,
+    outcome: String,
 }
 
-/// Carries out a case at each place of a sweep, the last of which is the uncut one, and tells the places in groups of
+/// Carries out a case at each point of a sweep, the last of which is the uncut one, and tells the points in groups of
 /// one outcome.
 pub fn tell_sweep<'a>(
     desk: Desk<'a>,
@@ -23,27 +23,31 @@ pub fn tell_sweep<'a>(
     told: &mut String,
 ) -> Result<(), CaseFault> {
     let whole = desk.carry_out(task)?;
-    let groups = sweep_places(desk, sweep, task, &whole)?;
+    let groups = sweep_points(desk, sweep, task, &whole)?;
     tell_groups(&groups, told)?;
     let tried = Tried::Indexed;
-    if sweep_places(Desk { tried, ..desk }, sweep, task, &whole)? != groups {
+    if sweep_points(Desk { tried, ..desk }, sweep, task, &whole)? != groups {
         writeln!(told, "  WRONG: other outcomes on {tried:?}")?;
     }
     Ok(())
 }
 
-// Carries out a case at each place, and groups them.
-fn sweep_places<'a>(
+// Carries out a case at each point, and groups them.
+fn sweep_points<'a>(
     desk: Desk<'a>,
     sweep: Sweep<'a>,
     task: Task,
     whole: &Left,
 ) -> Result<Vec<Group>, CaseFault> {
     let mut groups = Vec::new(desk.alloc);
-    for place in 0..=last_place(desk, sweep, whole)? {
-        let limits = sweep.limits(desk.limits, place);
+    for point in 0..=last_point(desk, sweep, whole)? {
+        let limits = sweep.limits(desk.limits, point);
         let left = Desk { limits, ..desk }.carry_out(task)?;
-        add_place(&mut groups, place, Outcome::at(place, &left, whole))?;
+        add_point(
+            &mut groups,
+            point,
+            outcome_at(desk.alloc, point, &left, whole)?,
+        )?;
     }
     Ok(groups)
 }
@@ -59,8 +63,8 @@ fn tell_groups(groups: &[Group], told: &mut String) -> Result<(), NoMemory> {
     Ok(())
 }
 
-// The place at which nothing is cut any more, and no device fails.
-fn last_place(desk: Desk, sweep: Sweep, whole: &Left) -> Result<usize, CaseFault> {
+// The point at which nothing is cut any more, and no device fails.
+fn last_point(desk: Desk, sweep: Sweep, whole: &Left) -> Result<usize, CaseFault> {
     match sweep {
         Sweep::Cut(name) => Ok(desk.store.named(name)?.len()),
         Sweep::Read(name) => Ok(desk.store.named(name)?.len().saturating_add(1)),
@@ -70,17 +74,17 @@ fn last_place(desk: Desk, sweep: Sweep, whole: &Left) -> Result<usize, CaseFault
     }
 }
 
-// Adds a place to the last group, where it has its outcome, or else as a new one.
-fn add_place(groups: &mut Vec<Group>, place: usize, outcome: Outcome) -> Result<(), NoMemory> {
+// Adds a point to the last group, where it has its outcome, or else as a new one.
+fn add_point(groups: &mut Vec<Group>, point: usize, outcome: String) -> Result<(), NoMemory> {
     if let Some(group) = groups.last_mut()
         && group.outcome == outcome
     {
-        group.last = place;
+        group.last = point;
         return Ok(());
     }
     groups.push(Group {
-        first: place,
-        last: place,
+        first: point,
+        last: point,
         outcome,
     })?;
     Ok(())
@@ -110,7 +114,7 @@ fn tell_refusals(
         desk.limits.growths = growths;
         let left = desk.carry_out(task)?;
         if !left.end.wants_memory() {
-            return tell_last_growth(tried, growths, left.is_as(whole), told);
+            return tell_last_growth(tried, growths, left == *whole, told);
         }
         if !left.may_want_memory(whole, task.writes_as_it_reads()) {
             writeln!(
