@@ -11,8 +11,8 @@
 //! - `replaceable`: which file at OUT's path may be replaced;
 //! - `losses`: what would be lost of an archive in its place; `sameness`: whether it has the same bytes;
 //! - `drafts`: a file beside OUT, which is renamed when it is whole;
-//! - `published`: an output that is in place;
-//! - `out_file`: OUT before it is in place;
+//! - `published`: a published output;
+//! - `out_file`: OUT before it is published;
 //! - `out_path`: OUT's path, at which it is put;
 //! - `system_files`: the files of one command.
 //!
@@ -24,7 +24,7 @@
 //!   bytes; and nothing was called if it neither took a byte nor failed.
 //! - [`OutPath`] has nothing, or the whole text by the calls of `IsPublished`: created, written, compared with what
 //!   is at the target, if not each of symarch's own files is replaced, synced, renamed over the target, and the target's folder synced, in this
-//!   order; or opened and written. A draft that is not put in place is removed (`IsRemoved`).
+//!   order; or opened and written. A draft that is not published is removed (`IsRemoved`).
 //! - The target is OUT's path, or what the system said that a link there leads to (`IsTargetOf`); and only what it said
 //!   is no regular file, or a descriptor, is written through (`IsWritable`).
 //! - [`SystemFiles::begin`](SystemFiles) gives OUT its path if each input was found to be another file, and otherwise
