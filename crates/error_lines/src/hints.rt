@@ -183,8 +183,8 @@ impl Display for Hint {
 /// A line that helps a person with a failure.
 #[derive(Clone, Copy)]
 pub struct Help<'p> {
-    subject: Subject,
-    path: &'p str,
+    pub(crate) subject: Subject,
+    pub(crate) path: &'p str,
     hint: Option<Hint>,
     faulty: Option<FaultyLine>,
     seen: Seen,
@@ -263,22 +263,6 @@ fn out_help<'p>(line: &'p Line, hint: Option<Hint>, seen: Seen) -> Option<Help<'
         faulty: None,
         seen,
     })
-}
-
-impl Help<'_> {
-    /// What the failure is of.
-    pub(crate) fn subject(&self) -> Subject
-        ensures { result ≡ self.now.subject }
-    {
-        self.subject
-    }
-
-    /// The path of that file.
-    pub(crate) fn path(&self) -> &str
-        ensures { result.now ≡ self.now.path.now }
-    {
-        self.path
-    }
 }
 
 /// What is known of the file.
