@@ -6,14 +6,6 @@ use crate::outcomes::outcome_at;
 use case_parts::{CaseFault, Left, Sweep};
 use memory::NoMemory;
 
-// Points in a row with one outcome.
-#[derive(Drop, PartialEq, Eq)]
-struct Group {
-    first: usize,
-    last: usize,
-    outcome: String,
-}
-
 /// Carries out a case at each point of a sweep, the last of which is the uncut one, and tells the points in groups of
 /// one outcome.
 pub fn tell_sweep<'a>(
@@ -24,7 +16,7 @@ pub fn tell_sweep<'a>(
 ) -> Result<(), CaseFault> {
     let whole = desk.carry_out(task)?;
     let groups = sweep_points(desk, sweep, task, &whole)?;
-    tell_groups(&groups, told)?;
+    told.push_str(&groups)?;
     let tried = Tried::Indexed;
     if sweep_points(Desk { tried, ..desk }, sweep, task, &whole)? != groups {
         writeln!(told, "  WRONG: other outcomes on {tried:?}")?;
@@ -32,35 +24,38 @@ pub fn tell_sweep<'a>(
     Ok(())
 }
 
-// Carries out a case at each point, and groups them.
+// Carries out a case at each point, and tells points in a row that have one outcome in one line.
 fn sweep_points<'a>(
     desk: Desk<'a>,
     sweep: Sweep<'a>,
     task: Task,
     whole: &Left,
-) -> Result<Vec<Group>, CaseFault> {
-    let mut groups = Vec::new(desk.alloc);
-    for point in 0..=last_point(desk, sweep, whole)? {
+) -> Result<String, CaseFault> {
+    let mut groups = String::new(desk.alloc);
+    let mut first = 0;
+    let mut before = String::new(desk.alloc);
+    let last = last_point(desk, sweep, whole)?;
+    for point in 0..=last {
         let limits = sweep.limits(desk.limits, point);
         let left = Desk { limits, ..desk }.carry_out(task)?;
-        add_point(
-            &mut groups,
-            point,
-            outcome_at(desk.alloc, point, &left, whole)?,
-        )?;
+        let outcome = outcome_at(desk.alloc, point, &left, whole)?;
+        if outcome != before {
+            tell_group(first, point, &before, &mut groups)?;
+            first = point;
+            before = outcome;
+        }
     }
+    tell_group(first, last.saturating_add(1), &before, &mut groups)?;
     Ok(groups)
 }
 
-fn tell_groups(groups: &[Group], told: &mut String) -> Result<(), NoMemory> {
-    for group in groups {
-        write!(told, "  {}", group.first)?;
-        if group.first < group.last {
-            write!(told, " to {}", group.last)?;
-        }
-        writeln!(told, ": {}", group.outcome)?;
+// Tells the outcome of the points from one to before another, if there are some.
+fn tell_group(first: usize, end: usize, outcome: &str, told: &mut String) -> Result<(), NoMemory> {
+    match end.saturating_sub(first) {
+        0 => Ok(()),
+        1 => writeln!(told, "  {first}: {outcome}"),
+        _ => writeln!(told, "  {first} to {}: {outcome}", end.saturating_sub(1)),
     }
-    Ok(())
 }
 
 // The point at which nothing is cut any more, and no device fails.
@@ -72,22 +67,6 @@ fn last_point(desk: Desk, sweep: Sweep, whole: &Left) -> Result<usize, CaseFault
         Sweep::Report => Ok(whole.report.len()),
         Sweep::Pieces(most) => Ok(most),
     }
-}
-
-// Adds a point to the last group, where it has its outcome, or else as a new one.
-fn add_point(groups: &mut Vec<Group>, point: usize, outcome: String) -> Result<(), NoMemory> {
-    if let Some(group) = groups.last_mut()
-        && group.outcome == outcome
-    {
-        group.last = point;
-        return Ok(());
-    }
-    groups.push(Group {
-        first: point,
-        last: point,
-        outcome,
-    })?;
-    Ok(())
 }
 
 // How many growths are granted at most before a sweep of them gives up.
