@@ -2,7 +2,7 @@
 
 use crate::changes::tell_change;
 use crate::desk::{Desk, Tried};
-use crate::subjects::{Act, ArchiveAct, Change, SiteAct};
+use crate::subjects::Change;
 use crate::worlds::tell_world;
 use archive_core::Archive;
 use case_parts::{
@@ -171,31 +171,31 @@ impl<'a> Desk<'a> {
 
     // A call on an archive, or at a site, of which the words say the rest.
     fn change(self, call: Call<'a>) -> Result<Change<'a>, CaseFault> {
-        let (act, words) = self.act(call)?;
-        let (input, questions) = match act {
-            Act::OnArchive(ArchiveAct::Ask) => ("-", words),
-            _ => first_word(words),
+        let (verb, saved, words) = self.act(call)?;
+        let (input, questions) = if saved.is_none() && verb == "ask" {
+            ("-", words)
+        } else {
+            first_word(words)
         };
         Ok(Change {
             alloc: self.alloc,
+            verb,
             held: self.named(call.name)?,
-            act,
+            saved,
             input: self.given(input)?,
             growths: self.limits.growths,
             questions,
         })
     }
 
-    // What is done to an archive, or at a site, and the words behind that.
-    fn act(self, call: Call<'a>) -> Result<(Act<'a>, &'a str), CaseFault> {
+    // What is done to an archive, or at a site that has saved one, and the words behind that.
+    fn act(self, call: Call<'a>) -> Result<(&'a str, Option<&'a [u8]>, &'a str), CaseFault> {
         if call.verb != "site" {
-            let act = ArchiveAct::of_verb(call.verb).ok_or(CaseFault::BadLine)?;
-            return Ok((Act::OnArchive(act), call.words));
+            return Ok((call.verb, None, call.words));
         }
         let (saved, words) = first_word(call.words);
         let (verb, words) = first_word(words);
-        let act = SiteAct::of_verb(verb).ok_or(CaseFault::BadLine)?;
-        Ok((Act::AtSite(act, self.given(saved)?), words))
+        Ok((verb, Some(self.given(saved)?), words))
     }
 
     // Two archives and operations, of which the words say the rest.

@@ -20,12 +20,12 @@
 //!   a call that reads;
 //! - `hold opened N`: there is memory to open the first N inputs of a command, in the order of the words;
 //! - `hold out N`, `hold report N`: OUT, or the report, fails when it took N bytes; `hold places 0`: OUT takes all
-//!   bytes, and cannot be put in place;
+//!   bytes, and cannot be published;
 //! - `hold cut NAME N`: a file has its first N bytes alone; `hold read NAME N`: it fails when it gave N bytes;
 //! - `each cut NAME`, `each read NAME`, `each out`, `each report`, `each pieces N` carry the next one out at each
 //!   place, and print places in a row that have one outcome in one line;
 //! - `each growth` carries it out with 0, 1, .. growths until none is refused, and prints how many runs met a refusal
-//!   on either archive. A refused run leaves its report empty and nothing in place, and OUT's draft empty or whole; one
+//!   on either archive. A refused run leaves its report empty and nothing published, and OUT's draft empty or whole; one
 //!   that writes as it reads leaves a beginning there. The first run that meets none ends as with ample memory, be it
 //!   with a fault of its input. Where no run meets one, the sweep shows nothing, and is `WRONG`; that a call takes no
 //!   memory is shown by `hold growths 0`.
@@ -44,7 +44,7 @@
 //!
 //! - `plan WORD..` prints what a command line asks for, or why it is refused; `-` stands for no words;
 //! - `run WORD..` carries a command line out, and prints the report, after `OUT` the length and the SHA-256 of what was
-//!   put in place, or after `draft` those of what was not, the fault and the status. OUT, or its draft, is kept as a
+//!   published, or after `draft` those of what was not, the fault and the status. OUT, or its draft, is kept as a
 //!   file where it took bytes.
 //!
 //! Calls below the commands. What one gives stands after `|`, or is `nothing`, and its fault stands in a line of its
@@ -404,7 +404,7 @@ fn tell_others(desk: Desk, task: Task, left: &Left, told: &mut String) -> Result
     for (tried, pieces) in [(Tried::Plain, 1), (Tried::Indexed, 7)] {
         let mut other = Desk { tried, ..desk };
         other.limits.pieces = pieces;
-        if !other.carry_out(task)?.is_as(left) {
+        if other.carry_out(task)? != *left {
             writeln!(
                 told,
                 "  WRONG: another end on {tried:?} with inputs in pieces of {pieces}"

@@ -29,7 +29,7 @@ impl<'a> Disk for Desk<'a> {
 
     ghost path_of = { λ _. [] };
 
-    ghost place_of = { λ _. [] };
+    ghost opened_at = { λ _. [] };
 
     ghost opened = { λ _. None };
 

@@ -1,4 +1,4 @@
--- How a text is put in place at OUT's path.
+-- How a text is published at OUT's path.
 use Rattle.std.specs.Prelude.{◌≡◌, ◌≢◌, ◌≤◌, ◌<◌, ◌⊎◌, ℕ, suc, Bool, true, ◌&&◌, ◌==◌, List, [], ◌∷◌, ◌++◌}
 use Rattle.std.specs.Prelude.{All, Contains, codes, if◌then◌else◌, length, Option, Some, None, unwrap_or}
 use Rattle.std.specs.Fmt.{decimal}

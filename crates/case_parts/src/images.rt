@@ -33,7 +33,7 @@ pub fn tell_image(bytes: &[u8], told: &mut String) -> Ended {
     let image = Image::read(bytes)?;
     tell_header(&image, told)?;
     tell_symtab(&image, told)?;
-    tell_commands(&image, told)?;
+    writeln!(told, "commands {}", image.commands().count())?;
     Ok(tell_sections(&image, told)?)
 }
 
@@ -63,14 +63,6 @@ fn tell_symtab(image: &Image, told: &mut String) -> Result<(), NoMemory> {
         }
         None => writeln!(told, "symtab -"),
     }
-}
-
-fn tell_commands(image: &Image, told: &mut String) -> Result<(), NoMemory> {
-    let mut commands: u32 = 0;
-    for _ in image.commands() {
-        commands = commands.saturating_add(1);
-    }
-    writeln!(told, "commands {commands}")
 }
 
 fn tell_sections(image: &Image, told: &mut String) -> Result<(), NoMemory> {

@@ -57,7 +57,7 @@ abbrev pub subject_text : Subject → List ℕ
 subject_text (subject.Input name) = name_text name
 subject_text subject.Output = codes "output"
 
--- what is noted of an index that is refused for this: a stale one is written anew, but where the archive has the length
+-- the hint for an index that is refused for this: a stale one is written anew, but where the archive has the length
 -- that the index has, what changed in it is found first
 abbrev pub stale_hint : Option ℕ → Hint
 stale_hint None = hint.Stale

@@ -1,5 +1,5 @@
 //! What helps a person with a failure: which file it was, what the system said, and what a refused file looks like. Of
-//! it contracts say what it is of, the path, the faulty line, and what is noted of a stale index.
+//! it contracts say what it is of, the path, the faulty line, and the hint for a stale index.
 
 ghost use Rattle.std.specs.Prelude.{◌≡◌, ℕ, codes, IfSome, None, Option, Some};
 ghost use Rattle.command_core.specs.declared.failures.Failure.TheVariants.{Command};
@@ -183,8 +183,8 @@ impl Display for Hint {
 /// A line that helps a person with a failure.
 #[derive(Clone, Copy)]
 pub struct Help<'p> {
-    subject: Subject,
-    path: &'p str,
+    pub(crate) subject: Subject,
+    pub(crate) path: &'p str,
     hint: Option<Hint>,
     faulty: Option<FaultyLine>,
     seen: Seen,
@@ -201,7 +201,7 @@ fn kind_of(why: Why, kind: Option<FileKind>) -> Option<FileKind> {
     }
 }
 
-/// What is noted of an input that is refused for this.
+/// The hint for an input that is refused for this.
 fn hint_of(why: Why) -> Option<Hint>
     ensures stale { (entry : Option ℕ) → why ≡ Stale entry → result ≡ Some (stale_hint entry) }
     ensures torn { (entry : ℕ) → why ≡ Damaged entry → result ≡ Some Torn }
@@ -250,7 +250,7 @@ pub fn help_with<'p>(line: &'p Line, failure: &Failure, seen: Seen) -> Option<He
     }
 }
 
-/// A line of OUT. What is noted of it is said where the system said nothing.
+/// A line of OUT. The hint is given where the system said nothing.
 fn out_help<'p>(line: &'p Line, hint: Option<Hint>, seen: Seen) -> Option<Help<'p>>
     ensures path { IfSome result (λ help. Some help.path.now ≡ out_of (line_view line.now)) }
     ensures subject { IfSome result (λ help. subject_text help.subject ≡ codes "output") }
@@ -263,22 +263,6 @@ fn out_help<'p>(line: &'p Line, hint: Option<Hint>, seen: Seen) -> Option<Help<'
         faulty: None,
         seen,
     })
-}
-
-impl Help<'_> {
-    /// What the failure is of.
-    pub(crate) fn subject(&self) -> Subject
-        ensures { result ≡ self.now.subject }
-    {
-        self.subject
-    }
-
-    /// The path of that file.
-    pub(crate) fn path(&self) -> &str
-        ensures { result.now ≡ self.now.path.now }
-    {
-        self.path
-    }
 }
 
 /// What is known of the file.

@@ -11,7 +11,7 @@ use Rattle.command_core.specs.Archives.{merged}
 use Rattle.command_core.specs.Inputs.{Reader}
 use Rattle.command_core.specs.declared.faults.CommandFault.{CommandFault}
 use Rattle.command_core.specs.declared.faults.CommandFault.TheVariants as command
-use Rattle.command_core.specs.declared.faults.InputName.TheVariants as place
+use Rattle.command_core.specs.declared.faults.InputName.TheVariants as inputs
 use Rattle.command_core.specs.declared.faults.Why.TheVariants as why
 use Rattle.index_inputs.specs.Prefixes.{AreNamedUnder, HoldsNamed, IsStaleUnder, IsUnnamedUnder}
 use Rattle.index_inputs.specs.Together.{AreNamedBy, merged_each}
@@ -54,9 +54,9 @@ IsFaultUnder prefixes entries text OutOfMemory = Unit {0}
 
 -- the same, as it is told of the archive with this number
 abbrev pub told_fault : ℕ → PlaceFault → CommandFault
-told_fault number (Stale entry) = command.Input (place.Index number) (why.Stale entry)
+told_fault number (Stale entry) = command.Input (inputs.Index number) (why.Stale entry)
 told_fault number (Device offset) =
-    command.Input (place.Archive number) (why.Record (record { kind = DeviceFailed; offset = offset }))
+    command.Input (inputs.Archive number) (why.Record (record { kind = DeviceFailed; offset = offset }))
 told_fault number OutOfMemory = command.OutOfMemory
 
 -- what entries name in each of these archives was joined

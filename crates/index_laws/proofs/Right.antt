@@ -279,11 +279,11 @@ module _ (os : List Operations) (texts : List (List ℕ)) (indexes : List (List 
           record {
             one = a.0;
             other = b.0;
-            place = t.one.input;
-            other_place = t.other.input;
+            number = t.one.input;
+            other_number = t.other.input;
             one_is = record { o = a.1.of.of.o; there = a.1.of.of.file.content_at; has = held os texts indexes t.one (admission_record a.0) a.1.of.of; answers = a.1.answers };
             other_is = record { o = b.1.of.of.o; there = b.1.of.of.file.content_at; has = held os texts indexes t.other (admission_record b.0) b.1.of.of; answers = b.1.answers };
-            places = t.unordered.inputs;
+            numbers = t.unordered.inputs;
             lengths = omega (arith, a.1.of.is.length_is, b.1.of.is.length_is, t.unordered.same_length);
             differ = λ same. t.unordered.slices (a.1.of.is.prefix ∙ ap (λ (s : List ℕ). 2 ∷ (key_bytes (key_of s) ++ sha256 s)) same ∙ sym b.1.of.is.prefix);
           }

@@ -1,4 +1,4 @@
-//! The end of the command: OUT, which is put in place, and then the report.
+//! The end of the command: OUT, which is published, and then the report.
 ghost use Rattle.std.specs.Prelude.{◌≡◌, ℕ, List, IfOk, length, string_bytes};
 ghost use Rattle.command_core.specs.Outputs.{Publishes, Takes, out_of, outs, writer};
 ghost use Rattle.index_writing.specs.Index.{index_line};
@@ -19,7 +19,7 @@ fn index_line(heap: Heap, sizes: Sizes) -> Result<String<Heap>, NoMemory>
     Ok(text)
 }
 
-/// Puts OUT in place, whose draft has taken a whole index with these sizes, and then writes them to the report, which
+/// Publishes OUT, whose draft has taken a whole index with these sizes, and then writes them to the report, which
 /// is made whole before that. What is said is of all that the draft took since it was `start`.
 pub fn publish_index<T: Target, P: Sink>(
     heap: Heap,

@@ -14,7 +14,7 @@ use Rattle.std.proofs.lemmas.List.MinMax.{ranks_by}
 use Rattle.std.proofs.lemmas.List.Sorted.{sorted_far}
 use Rattle.archive_index.specs.Entry.{length_in, offset_in}
 use Rattle.indexed_answers.specs.Among.{EntryAt, IsRepeatOf, StandsBefore}
-use Rattle.indexed_answers.specs.InnerAnswering.{HaveOrder, is_elsewhere, place_in}
+use Rattle.indexed_answers.specs.InnerAnswering.{HaveOrder, is_elsewhere, rank_in}
 use Rattle.indexed_answers.proofs.Entries.{AreApart}
 use Rattle.indexed_answers.proofs.Lists.{pairs_head, pairs_skip, pairs_tail}
 use Rattle.archive_core.proofs.Members.{in_rest, in_front}
@@ -59,12 +59,12 @@ not_lower a b c d e f h = elim (cases_order a d) [
 ]
 
 -- what a sort by places says
-pub in_places : (xs : List EntryAt) → IsSortedByKey place_in (slice_cmp nat_cmp) xs → (i j : ℕ) (d : EntryAt) → i ≤ j → j < length xs → IsNotAfter (get_or xs i d) (get_or xs j d)
+pub in_places : (xs : List EntryAt) → IsSortedByKey rank_in (slice_cmp nat_cmp) xs → (i j : ℕ) (d : EntryAt) → i ≤ j → j < length xs → IsNotAfter (get_or xs i d) (get_or xs j d)
 in_places xs sorted i j d le lt =
     let x = get_or xs i d in
     let y = get_or xs j d in
     not_lower (length_in x.entry) x.input (offset_in x.entry) (length_in y.entry) y.input (offset_in y.entry)
-    (sorted_far (λ a b. is_lt (slice_cmp nat_cmp (place_in a) (place_in b))) (ranks_by nat_list_cmp_total place_in) xs sorted i j d le lt)
+    (sorted_far (λ a b. is_lt (slice_cmp nat_cmp (rank_in a) (rank_in b))) (ranks_by nat_list_cmp_total rank_in) xs sorted i j d le lt)
 
 -- ---- each slice once
 

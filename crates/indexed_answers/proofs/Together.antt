@@ -11,7 +11,7 @@ use Rattle.std.proofs.lemmas.List.Kept.{AllPairs-filter}
 use Rattle.std.proofs.lemmas.List.Sorted.{All-permutation, Contains-permutation}
 use Rattle.indexed_answers.specs.Among.{AreAnsweringAmong, AreTied, EntryAt, IsAmong, IsRepeatOf, all_of, answers_among, has_live_companion, lives_under}
 use Rattle.indexed_answers.specs.Told.{is_companion}
-use Rattle.indexed_answers.specs.InnerAnswering.{HaveOrder, HaveTie, all_at, is_elsewhere, place_in}
+use Rattle.indexed_answers.specs.InnerAnswering.{HaveOrder, HaveTie, all_at, is_elsewhere, rank_in}
 use Rattle.indexed_answers.proofs.Entries.{AreApart, apart_both, are_among, are_apart, has_among, map-all_at}
 use Rattle.indexed_answers.proofs.Lists.{any_filter, any_map, filter_twice, pairs_permutation}
 use Rattle.indexed_answers.proofs.Places.{ArePlaced, in_places, once_covered, once_ordered}
@@ -54,7 +54,7 @@ module _ (prefix : List ℕ) (indexes : List (List (List ℕ))) where
 
   -- ---- in the order of their records
 
-  module _ (sorted : List EntryAt) (moved : IsPermutation found sorted) (by_place : IsSortedByKey place_in (slice_cmp nat_cmp) sorted) where
+  module _ (sorted : List EntryAt) (moved : IsPermutation found sorted) (by_place : IsSortedByKey rank_in (slice_cmp nat_cmp) sorted) where
     pub tied : HaveTie sorted → AreTied prefix indexes
     tied tie = record {
       one = tie.one;

@@ -65,8 +65,8 @@ abbrev pub lives_by : List ℕ → List (List ℕ) → List ℕ → Bool
 lives_by prefix retired e = admits_under prefix e && not (is_retired retired e)
 
 -- by what entries are sorted: the length of the record, the index, and where the record stands in its archive
-abbrev pub place_in : EntryAt → List ℕ
-place_in x = length_in x.entry ∷ (x.input ∷ (offset_in x.entry ∷ []))
+abbrev pub rank_in : EntryAt → List ℕ
+rank_in x = length_in x.entry ∷ (x.input ∷ (offset_in x.entry ∷ []))
 
 -- two entries have one length and stand in two indexes
 unfoldable pub is_elsewhere : EntryAt → EntryAt → Bool

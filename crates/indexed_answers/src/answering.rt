@@ -6,7 +6,7 @@ ghost use Rattle.indexed_answers.specs.Among.{AreAnsweringAmong, AreTied};
 
 use crate::live::answering_under;
 use crate::numbered::Numbered;
-use crate::order::{are_tied, keep_once, put_by_place};
+use crate::order::{are_tied, keep_once, sort_by_rank};
 use archive_core::{SliceKey, key_prefix};
 use memory::{Heap, NoMemory};
 use std::marker::Model;
@@ -63,7 +63,7 @@ pub fn answering_among(
         (λ answering. AreAnsweringAmong (key_bytes key.now) indexes.now answering)) }
 {
     let mut entries = answering_under(heap, &key_prefix(key), indexes)?;
-    put_by_place(&mut entries);
+    sort_by_rank(&mut entries);
     if are_tied(&entries) {
         return Ok(None);
     }

@@ -33,13 +33,13 @@ fn gather(
     let (start, stop) = index.run_under(ADMISSION, prefix);
     let entries = index.entries();
     let run = &entries[start..stop];
-    'run: for (place, entry) in run.iter().enumerate() {
+    'run: for (nth, entry) in run.iter().enumerate() {
         if is_retired(retired, entry) {
             continue 'run;
         }
         live.push(Numbered {
             input,
-            number: (start + place) as u64,
+            number: (start + nth) as u64,
             entry: *entry,
         })?;
     }

@@ -209,7 +209,7 @@ module _ (prefix : List ℕ) (o : Operations) (short : length prefix ≤ 24) (co
 
   pub rows_of_index : (rows : List FindRow) → AreIndexRows prefix (index o) rows → IsList (part o (is_under prefix)) rows
   rows_of_index rows is =
-      let sorted = ascend_sorted offset_in (entries_under prefix (index o)) is.placed is.moved is.by_place at_most_once in
+      let sorted = ascend_sorted offset_in (entries_under prefix (index o)) is.placed is.moved is.by_offset at_most_once in
       let same : is.placed ≡ placed_under = one_ascent offset_in is.placed placed_under sorted up (λ q.
       sym (list_any-IsPermutation (is_same q) (entries_under prefix (index o)) is.placed is.moved) ∙ members q) in
       let told : AllZip IsEntryRow placed_under is.told = subst (λ (es : List (List ℕ)). AllZip IsEntryRow es is.told) same is.each in

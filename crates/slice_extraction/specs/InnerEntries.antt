@@ -12,7 +12,7 @@ use Rattle.command_core.specs.Inputs.{EachUnfailed, IsRefusal, Reader, Unfailed,
 use Rattle.command_core.specs.Outputs.{Outs, PublishesNothing, Publishes, Takes, Writer, out_of}
 use Rattle.command_core.specs.declared.faults.CommandFault.{CommandFault}
 use Rattle.command_core.specs.declared.faults.CommandFault.TheVariants.{Input, Output}
-use Rattle.command_core.specs.declared.faults.InputName.TheVariants as place
+use Rattle.command_core.specs.declared.faults.InputName.TheVariants as inputs
 use Rattle.command_core.specs.declared.faults.Status.{Status}
 use Rattle.command_core.specs.declared.faults.Why.{Why}
 use Rattle.command_core.specs.declared.faults.Why.TheVariants as why
@@ -41,8 +41,8 @@ unread_record offset = why.Record (record { kind = DeviceFailed; offset = offset
 
 -- how a command tells why the bytes of a record were not sent, which begins at this offset
 abbrev pub told_fault : ℕ → ℕ → ℕ → SendFault → CommandFault
-told_fault input number offset Other = Input (place.Index input) (why.Stale (Some number))
-told_fault input number offset Device = Input (place.Archive input) (unread_record offset)
+told_fault input number offset Other = Input (inputs.Index input) (why.Stale (Some number))
+told_fault input number offset Device = Input (inputs.Archive input) (unread_record offset)
 told_fault input number offset (Sink written) = Output written
 
 -- what came of sending the slice of an entry: the draft took it, or why it did not
@@ -51,7 +51,7 @@ SendsSlice archive x draft (Ok _) =
     (slice : List ℕ) × HoldsSlice archive x slice × Takes draft slice × Unfailed archive
 SendsSlice archive x draft (Err fault) = StopsSlice archive x draft fault
 
--- The slice was sent, and is published; or it was not, nothing is in place, and nothing was reported.
+-- The slice was sent, and is published; or it was not, nothing is published, and nothing was reported.
 abbrev pub PublishesSlice : {P D T : Type 0} → Reader P → SliceKey → EntryAt → Outs D T → Writer
     → Result Status CommandFault → Type 0
 PublishesSlice archive key x out report result =

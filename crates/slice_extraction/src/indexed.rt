@@ -22,7 +22,7 @@ use table_index::TableIndex;
 
 /// Writes the bytes of the wanted slice to OUT, as [`run_extract`](crate::run_extract) does. The indexes are read, and
 /// their entries say which slice is wanted. It is gone through at its place, piece by piece: once to compare its SHA-256,
-/// before OUT is begun, and once as it goes out, before OUT is put in place. No other slice is read, unless two that
+/// before OUT is begun, and once as it goes out, before OUT is published. No other slice is read, unless two that
 /// answer have one length and stand in two archives.
 ///
 /// # Errors

@@ -26,7 +26,7 @@ fn slice_line(heap: Heap, slice: &CheckedSlice<'_>) -> Result<String<Heap>, NoMe
     )
 }
 
-/// Writes the bytes of a slice to OUT, puts it in place, and then writes its line to the report.
+/// Writes the bytes of a slice to OUT, publishes it, and then writes its line to the report.
 fn publish_slice<T: Target, P: Sink>(
     heap: Heap,
     slice: &CheckedSlice<'_>,

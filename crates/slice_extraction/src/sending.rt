@@ -124,7 +124,7 @@ fn send_named<P: Placed, W: Sink>(
     }
 }
 
-/// Sends the slice that an entry names under a key from its archive to OUT, puts it in place, and then writes its line to
+/// Sends the slice that an entry names under a key from its archive to OUT, publishes it, and then writes its line to
 /// the report.
 pub(crate) fn publish_named<P: Placed, T: Target, W: Sink>(
     heap: &Heap,

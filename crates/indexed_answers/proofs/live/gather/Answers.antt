@@ -30,15 +30,15 @@ run-preserved-then-is_retired c =
     let es = c.args.index.now in
     let xs = c.entries-entries.result.now in
     let run = c.run_under-start in
-    let e = c.index-run-place.result in
-    let i = run.result.0 + c.run.place in
+    let e = c.index-run-nth.result in
+    let i = run.result.0 + c.run.nth in
     let p : EntryAt → Bool = λ x. lives_by prefix retired x.entry in
-    let there = in_run xs run.result.0 run.result.1 c.run.place e c.run-test.true c.index-run-place.is in
+    let there = in_run xs run.result.0 run.result.1 c.run.nth e c.run-test.true c.index-run-nth.is in
     let bytes = c.entries-entries.ensures.bytes in
     let is : entry_bytes e ≡ get_or es i (entry_bytes e) = there.bytes ∙ ap (λ (zs : List (List ℕ)). get_or zs i (entry_bytes e)) bytes in
     let admits : admits_under prefix (entry_bytes e) ≡ true = ap (admits_under prefix) is ∙ run.ensures.inside i (entry_bytes e) (omega arith) there.before in
     let lt : i < length es = omega (arith, there.within, length-map xs entry_bytes, ap length bytes) in
-    let next : run.result.0 + (c.run.place + 1) ≡ i + 1 = omega arith in
+    let next : run.result.0 + (c.run.nth + 1) ≡ i + 1 = omega arith in
     let gone : lives_by prefix retired (entry_bytes e) ≡ false = lives_here prefix retired (entry_bytes e) c.is_retired.result admits c.is_retired.ensures ∙ ap not c.if-is_retired.true in
     c.run.invariant
     ∙ ap (λ (ys : List EntryAt). map entry_at c.args.live.now.items ++ ys)
@@ -48,8 +48,8 @@ pub invariant_of-push : goal.invariant_of-push
 invariant_of-push c =
     let xs = c.entries-entries.result.now in
     let run = c.run_under-start in
-    let e = c.index-run-place.result in
-    record { fields = fields_at xs run.result.0 run.result.1 c.run.place e c.entries-entries.ensures.fields (in_run xs run.result.0 run.result.1 c.run.place e c.run-test.true c.index-run-place.is) }
+    let e = c.index-run-nth.result in
+    record { fields = fields_at xs run.result.0 run.result.1 c.run.nth e c.entries-entries.ensures.fields (in_run xs run.result.0 run.result.1 c.run.nth e c.run-test.true c.index-run-nth.is) }
 
 pub run-preserved : goal.run-preserved
 run-preserved c =
@@ -58,15 +58,15 @@ run-preserved c =
     let es = c.args.index.now in
     let xs = c.entries-entries.result.now in
     let run = c.run_under-start in
-    let e = c.index-run-place.result in
-    let i = run.result.0 + c.run.place in
+    let e = c.index-run-nth.result in
+    let i = run.result.0 + c.run.nth in
     let p : EntryAt → Bool = λ x. lives_by prefix retired x.entry in
-    let there = in_run xs run.result.0 run.result.1 c.run.place e c.run-test.true c.index-run-place.is in
+    let there = in_run xs run.result.0 run.result.1 c.run.nth e c.run-test.true c.index-run-nth.is in
     let bytes = c.entries-entries.ensures.bytes in
     let is : entry_bytes e ≡ get_or es i (entry_bytes e) = there.bytes ∙ ap (λ (zs : List (List ℕ)). get_or zs i (entry_bytes e)) bytes in
     let admits : admits_under prefix (entry_bytes e) ≡ true = ap (admits_under prefix) is ∙ run.ensures.inside i (entry_bytes e) (omega arith) there.before in
     let lt : i < length es = omega (arith, there.within, length-map xs entry_bytes, ap length bytes) in
-    let next : run.result.0 + (c.run.place + 1) ≡ i + 1 = omega arith in
+    let next : run.result.0 + (c.run.nth + 1) ≡ i + 1 = omega arith in
     let here : lives_by prefix retired (entry_bytes e) ≡ true = lives_here prefix retired (entry_bytes e) c.is_retired.result admits c.is_retired.ensures ∙ ap not c.if-is_retired.false in
     let this : EntryAt = record { input = c.args.input; number = i; entry = entry_bytes e } in
     ap (map entry_at) c.in_ok-push.ensures.items
@@ -82,7 +82,7 @@ returns c =
     let es = c.args.index.now in
     let xs = c.entries-entries.result.now in
     let run = c.run_under-start in
-    let i = run.result.0 + c.run.place in
+    let i = run.result.0 + c.run.nth in
     let zs = entries_at c.args.input 0 es in
     let p : EntryAt → Bool = λ x. lives_by prefix c.args.retired.now x.entry in
     let as_many = length-entries_at c.args.input 0 es in
@@ -91,5 +91,5 @@ returns c =
     let none = none_lives prefix c.args.retired.now c.args.input es i (length es) (omega arith)
     (λ k d low high. run.ensures.behind k d (omega (arith, long, c.run-test.false, low, run.ensures.ordered)) high) in
     let rest : filter p (take (length zs) zs) ≡ filter p (take i zs) =
-    past p zs i (length zs) (omega (arith, as_many, c.run.auto.place-end, long, run.ensures.ordered, run.ensures.within)) (λ k d low high. none k d low (omega (arith, high, as_many))) in
+    past p zs i (length zs) (omega (arith, as_many, c.run.auto.nth-end, long, run.ensures.ordered, run.ensures.within)) (λ k d low high. none k d low (omega (arith, high, as_many))) in
     c.run.invariant ∙ ap (λ (ys : List EntryAt). map entry_at c.args.live.now.items ++ ys) (sym rest ∙ ap (filter p) (take_all (length zs) zs (omega arith)))

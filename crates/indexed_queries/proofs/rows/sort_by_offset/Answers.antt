@@ -7,7 +7,7 @@ use Rattle.archive_index.specs.declared.entry.PlacedEntry.{PlacedEntry}
 use Rattle.archive_index.specs.Entry.{offset_in, placed_bytes}
 use Rattle.indexed_queries.specs.Rows.{stands_before}
 use Rattle.indexed_queries.proofs.Entries.{sorted_made}
-use Rattle.indexed_queries.proofs.rows.put_by_place.Goals as goal
+use Rattle.indexed_queries.proofs.rows.sort_by_offset.Goals as goal
 
 pub returns-clause-moved : goal.returns-clause-moved
 returns-clause-moved c = IsPermutation-map placed_bytes _ _ c.sort_unstable_by.ensures.permutation
