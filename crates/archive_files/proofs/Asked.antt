@@ -39,18 +39,7 @@ first_asked f xs i first last is = (i, is ∙ ap (λ more. first ++ more) (sym (
 waits_for : {I P : Type 0} (left : I → Option (List ℕ)) (file : FileAt) (t : InputState I P) → stage_of t ≡ Waiting
     → left_in left file t ≡ bytes_at file
 waits_for left file state.Waiting is = refl
-waits_for left file (state.Open input) is = absurd (apart is)
-  where
-    apart : Open ≡ Waiting → ⊥
-    apart e = cc
-waits_for left file (state.Placed places) is = absurd (apart is)
-  where
-    apart : Open ≡ Waiting → ⊥
-    apart e = cc
-waits_for left file (state.Unopened why) is = absurd (apart is)
-  where
-    apart : Unopened why ≡ Waiting → ⊥
-    apart e = cc
+waits_for left file t is = cc
 
 -- and it waits
 pub is_waiting : {D I P : Type 0} (disk : Disks D I P) (input : Sources I) (places : Places P)

@@ -60,9 +60,8 @@ memory_told told fault is = subst (IsRefusedBy told) (sym is) tt
 -- what is told first
 either : (o p : Option Text) (fault : LineFault) → IsRefusedBy o fault → IsRefusedBy (option_or o p) fault
 either None p OutOfMemory told = tt
-either None p (Refused text) told = absurd told
-either None p (Help text) told = absurd told
 either (Some text) p fault told = told
+either o p fault told = absurd told
 
 -- ---- where the values are there nothing is told
 

@@ -8,5 +8,4 @@ pub none_left : {A B : Type 0} (wants : Role → Bool) (f : A → Argument) (g :
     → (length xs ≡ 0) ⊎ (length ys ≡ 0) → texts_by wants (map f xs) (map g ys) ≡ []
 none_left wants f g [] ys passed = refl
 none_left wants f g (x ∷ xs) [] passed = refl
-none_left wants f g (x ∷ xs) (y ∷ ys) (inl none) = absurd (omega arith)
-none_left wants f g (x ∷ xs) (y ∷ ys) (inr none) = absurd (omega arith)
+none_left wants f g xs ys a = absurd (omega arith)

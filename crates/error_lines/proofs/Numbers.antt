@@ -104,5 +104,4 @@ pub no_number : {A B : Type 0} (kind : Kind) (f : A → Argument) (g : B → Val
     → (length xs ≡ 0) ⊎ (length ys ≡ 0) → numbers_by kind p (map f xs) (map g ys) ≡ []
 no_number kind f g p [] ys none = refl
 no_number kind f g p (x ∷ xs) [] none = refl
-no_number kind f g p (x ∷ xs) (y ∷ ys) (inl none) = absurd (omega arith)
-no_number kind f g p (x ∷ xs) (y ∷ ys) (inr none) = absurd (omega arith)
+no_number kind f g p xs ys a = absurd (omega arith)

@@ -35,9 +35,8 @@ AreGroups prefixes entries groups text = AllZip (λ (prefix : List ℕ) (records
 
 named_groups : (text : List ℕ) (prefixes : List (List ℕ)) (entries : Entries) (groups : List (List (List ℕ))) → AreGroups prefixes entries groups text → AreNamedUnder prefixes entries text (map made groups)
 named_groups text [] entries [] a = tt
-named_groups text [] entries (g ∷ gs) a = absurd a
-named_groups text (f ∷ fs) entries [] a = absurd a
 named_groups text (f ∷ fs) entries (g ∷ gs) a = (record { records = g; named = a.0; made = refl }, named_groups text fs entries gs a.1)
+named_groups text prefixes entries groups a = absurd a
 
 pub gathered_none : (whole : Option (List ℕ)) (entries : Entries) (old : List (List ℕ)) → HaveGathered whole [] entries old old
 gathered_none whole entries old = record { groups = []; named = known (AreGroups [] entries []) whole (λ text. tt); behind = sym (append-nil old) }

@@ -42,9 +42,8 @@ module _ {I P : Type 0} (left : I → Option (List ℕ)) (failures : I → ℕ) 
   own_refused : (fault : CommandFault) → IsRefusal (λ at why. (others : List (List ℕ)) × (others ≡ keys) × AreRefusedAsking lines others named known at why) (AreUnfailedTogether named known) fault
       → IsRefusal (AreRefusedAsking lines keys named known) (AreUnfailedTogether named known) fault
   own_refused (Input at why) (others, same, r) = subst (λ (ks : List (List ℕ)). AreRefusedAsking lines ks named known at why) same r
-  own_refused (Output n) r = absurd r
-  own_refused (Report n) r = absurd r
   own_refused OutOfMemory r = r
+  own_refused fault r = absurd r
 
   -- tables or slices are refused
   pub key_refused : (fault : CommandFault)

@@ -32,13 +32,12 @@ near_all offset at (r ∷ rs) (t ∷ ts) of fits =
 
 pub near_push : (offset at : ℕ) (rs ts : List (List ℕ)) (r t : List ℕ) → AllZip IsTableOf rs ts → AreNear offset at rs ts → offset + length (concat rs) < 2 ^ 64 → at + length (tables_text ts) < 2 ^ 64 → AreNear offset at (rs ++ r ∷ []) (ts ++ t ∷ [])
 near_push offset at [] [] r t each near of fits = (omega (arith, of), omega (arith, fits), tt)
-near_push offset at [] (u ∷ ts) r t each near of fits = absurd each
-near_push offset at (x ∷ rs) [] r t each near of fits = absurd each
 near_push offset at (x ∷ rs) (u ∷ ts) r t each near of fits = (
   near.0,
   near.1,
   near_push (offset + length x) (at + length (stored u)) rs ts r t each.1 near.2 (omega (arith, of, length-append x (concat rs))) (omega (arith, fits, length-append (stored u) (tables_text ts))),
 )
+near_push offset at rs ts r t each near of fits = absurd each
 
 -- ---- none comes twice
 

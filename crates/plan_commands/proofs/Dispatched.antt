@@ -25,9 +25,8 @@ module _ {S : Type 0} (left : S → Option (List ℕ)) (failures : S → ℕ) wh
   pub as_many_readers : (a c : List (Result S CannotOpen)) → length c ≡ length a
       → length (readers left failures a c) ≡ length a
   as_many_readers [] [] is = refl
-  as_many_readers [] (y ∷ c) is = absurd (omega arith)
-  as_many_readers (x ∷ a) [] is = absurd (omega arith)
   as_many_readers (x ∷ a) (y ∷ c) is = ap suc (as_many_readers a c (omega arith))
+  as_many_readers a c is = absurd (omega arith)
 
   -- there is one where there is an input
   pub some_read : (a c : List (Result S CannotOpen)) → length c ≡ length a → 0 < length a
@@ -37,9 +36,8 @@ module _ {S : Type 0} (left : S → Option (List ℕ)) (failures : S → ℕ) wh
   joined : (a b c d : List (Result S CannotOpen)) → length c ≡ length a
       → readers left failures (a ++ b) (c ++ d) ≡ readers left failures a c ++ readers left failures b d
   joined [] b [] d is = refl
-  joined [] b (y ∷ c) d is = absurd (omega arith)
-  joined (x ∷ a) b [] d is = absurd (omega arith)
   joined (x ∷ a) b (y ∷ c) d is = ap (λ rest. reader left failures x y ∷ rest) (joined a b c d (omega arith))
+  joined a b c d is = absurd (omega arith)
 
   -- the first part, between its states
   pub taken : (n : ℕ) (a b c d : List (Result S CannotOpen)) → length a ≡ n → length c ≡ length a

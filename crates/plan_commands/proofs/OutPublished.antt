@@ -30,15 +30,7 @@ place_first (Some p) (Some q) xs ys same =
     ∙ ap (λ n. take n (q ++ ys)) long ∙ take-append_seam q ys)
 
 same_rule : (r s : Replaces) → number_of r ≡ number_of s → r ≡ s
-same_rule OwnFiles OwnFiles same = refl
-same_rule OwnFiles ArchivesBelow same = grind (arith, same)
-same_rule ArchivesBelow OwnFiles same = grind (arith, same)
-same_rule ArchivesBelow ArchivesBelow same = refl
-same_rule SameBytes SameBytes same = refl
-same_rule OwnFiles SameBytes same = grind (arith, same)
-same_rule ArchivesBelow SameBytes same = grind (arith, same)
-same_rule SameBytes OwnFiles same = grind (arith, same)
-same_rule SameBytes ArchivesBelow same = grind (arith, same)
+same_rule r s same = grind (arith, same)
 
 -- what took a text has the path and the rule that were there, and the text
 known : (p q : Option (List ℕ)) (r s : Replaces) (bytes text : List ℕ) → account q s bytes ≡ account p r [] ++ text

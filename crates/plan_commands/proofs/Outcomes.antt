@@ -115,10 +115,8 @@ streamed command out report (Err OutOfMemory) e = elim e [
 lacking : {D T : Type 0} (command : Extraction) (out : Outs D T) (report : Writer) (r : Result Status CommandFault)
     → LacksSlice command out report r → IsOutcome out r
 lacking command out report (Ok status) e = inr e.kept
-lacking command out report (Err (Input at why)) e = absurd e.reported
-lacking command out report (Err (Output m)) e = absurd e.reported
 lacking command out report (Err (Report m)) e = inr e.kept
-lacking command out report (Err OutOfMemory) e = absurd e.reported
+lacking command out report r e = absurd e.reported
 
 extracted : {D T : Type 0} (command : Extraction) (out : Outs D T) (report : Writer) (r : Result Status CommandFault)
     → Extracts command out report r → IsOutcome out r

@@ -74,9 +74,8 @@ module _ {D T : Type 0} (Holds : Held) (Refuses : InputName → Why → Type 0) 
   pub refused_so : (fault : CommandFault) → IsRefusal Refuses Unfailed fault → out.new ≡ out.old → Takes report []
       → Extracts command out report (Err fault)
   refused_so (Input place why) r same t = inl (stopped (Input place why) r same t (λ n h. cc))
-  refused_so (Output n) r same t = absurd r
-  refused_so (Report n) r same t = absurd r
   refused_so OutOfMemory r same t = inl (inl (stopped OutOfMemory r same t (λ n h. cc)))
+  refused_so fault r same t = absurd r
 
   -- the archives are read, and what is wanted of what is kept of them is published
   pub wanted_so : (result : Result Status CommandFault) (kept : Operations) → Unfailed
