@@ -117,10 +117,9 @@ hands_on_through path replaces calls so =
 
 pub tested_probes : (replaces : Replaces) (draft target : List ℕ) (tests : List FileCall)
     → IsTested replaces draft target tests → are_probes tests ≡ true
-tested_probes OwnFiles draft target tests is = ap are_probes is
 tested_probes ArchivesBelow draft target tests (inl none) = ap are_probes none
 tested_probes ArchivesBelow draft target tests (inr covers) = ap are_probes covers
-tested_probes SameBytes draft target tests is = ap are_probes is
+tested_probes replaces draft target tests is = ap are_probes is
 
 -- and so is what was drafted and put in place
 pub hands_on_draft : (path : Option (List ℕ)) (replaces : Replaces) (draft target : List ℕ) (calls new : List FileCall)

@@ -74,9 +74,8 @@ other_none : {X : Type 0} (form : Text → Option X) (words : Amount Text) → i
     → other_in form words ≡ None
 other_none form (one word) some = grind (arith, first_none form (word ∷ []))
 other_none form (several words) some = grind (arith, first_none form words)
-other_none form (perhaps None) some = refl
 other_none form (perhaps (Some word)) some = grind (arith, first_none form (word ∷ []))
-other_none form (flag is_set) some = refl
+other_none form words some = refl
 
 mapped : {X Y : Type 0} (f : X → Y) (o : Option X) → is_some (option_map f o) ≡ true → is_some o ≡ true
 mapped f o some = grind arith

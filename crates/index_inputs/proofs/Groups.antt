@@ -69,11 +69,8 @@ module _ {S : Type 0} (left : S → Option (List ℕ)) (failures : S → ℕ) wh
   between old now = readers left failures old now
 
   pub front_kept : (old now : List (Result S CannotOpen)) (place : ℕ) (after : Result S CannotOpen) → take place (between old (set now place after)) ≡ take place (between old now)
-  front_kept [] now place after = refl
-  front_kept (x ∷ xs) [] zero after = refl
-  front_kept (x ∷ xs) [] (suc place) after = refl
-  front_kept (x ∷ xs) (y ∷ ys) zero after = refl
   front_kept (x ∷ xs) (y ∷ ys) (suc place) after = ap (λ (rs : List (Reader S)). reader left failures x y ∷ rs) (front_kept xs ys place after)
+  front_kept old now place after = refl
 
   pub one_of : (old now : List (Result S CannotOpen)) (place : ℕ) (file after : Result S CannotOpen) → place < length old → length now ≡ length old → file ≡ get_or old place file → drop place now ≡ drop place old → EachUnfailed (between old now)
       → IsOneOf (between old (set now place after)) place (reader left failures file after)

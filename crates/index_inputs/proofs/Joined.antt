@@ -83,8 +83,7 @@ module _ (whole now : Option (List ℕ)) (prefixes : List KeyPrefix) (i : ℕ) (
 pub fault_then : (prefixes : List (List ℕ)) (entries : Entries) (text : List ℕ) (fault : PlaceFault) → HasIndexedLength entries text → IsFaultAmong prefixes entries text fault → IsFaultUnder prefixes entries text fault
 fault_then prefixes entries text (Stale None) long f = absurd f
 fault_then prefixes entries text (Stale (Some k)) long f = (long, f)
-fault_then prefixes entries text (Device offset) long f = tt
-fault_then prefixes entries text OutOfMemory long f = tt
+fault_then prefixes entries text fault long f = tt
 
 -- what was gathered is taken together, as its groups one after another
 taken_groups : (o : Operations) (groups : List (List (List ℕ))) → IsMade o → with_records o (flat_map (λ (records : List (List ℕ)). records) groups) ≡ merged o (map made groups)

@@ -25,9 +25,9 @@ use Rattle.indexed_symbols.proofs.States.{fails_alone, kept_counts, kept_texts, 
 
 -- an input is refused, or memory is wanting
 pub refused_ends : (query : Query) (report : Writer) (fault : CommandFault) → IsRefusal query.Refuses query.Unfailed fault → Takes report [] → EndsReport query report (Err fault)
-refused_ends query report (Input at why) r t = (r, t)
-refused_ends query report OutOfMemory r t = (r, t)
-refused_ends query report fault r t = absurd r
+refused_ends query report (Output n) r t = absurd r
+refused_ends query report (Report n) r t = absurd r
+refused_ends query report fault r t = (r, t)
 
 -- slices that are tied under some keys are tied under others with the same members
 pub tied_same : (keys others : List (List ℕ)) (all : List (List (List ℕ))) → HaveSameMembers others keys → AreTiedUnder keys all → AreTiedUnder others all

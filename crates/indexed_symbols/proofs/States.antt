@@ -113,12 +113,11 @@ module _ {S : Type 0} (left : S → Option (List ℕ)) (failures : S → ℕ) wh
   unfailed_one x y same = absurd (cc same)
 
   pub none_failed_of : (old new : List (Result S CannotOpen)) → each_known failures new ≡ each_known failures old → EachUnfailed (between old new)
-  none_failed_of [] new same = tt
-  none_failed_of (x ∷ xs) [] same = tt
   none_failed_of (x ∷ xs) (y ∷ ys) same =
       let head : known_of failures y ≡ known_of failures x = cc in
       let tail : each_known failures ys ≡ each_known failures xs = cc in
       (unfailed_one x y head, none_failed_of xs ys tail)
+  none_failed_of old new same = tt
 
   count_of : (x : Result S CannotOpen) (n : ℕ) → known_of failures x ≡ Ok n → failures_of failures x ≡ n
   count_of (Ok d) n same = cc

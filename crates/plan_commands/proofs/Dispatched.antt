@@ -81,12 +81,8 @@ pub find_by : {S : Type 0} (archives places indexes : List (Reader S)) (uuid : L
     → find_of archives places indexes uuid
     ≡ if_paired (paired (length archives) (length indexes)) (find_together indexes places uuid)
 find_by archives places [] uuid some several = absurd (omega arith)
-find_by [] places (i ∷ indexes) uuid some several = refl
-find_by (a ∷ b ∷ archives) places (i ∷ indexes) uuid some several = refl
-find_by (a ∷ []) [] (i ∷ indexes) uuid some several = refl
-find_by (a ∷ []) (p ∷ q ∷ places) (i ∷ indexes) uuid some several = refl
-find_by (a ∷ []) (p ∷ []) (i ∷ j ∷ indexes) uuid some several = refl
 find_by (a ∷ []) (p ∷ []) (i ∷ []) uuid some several = absurd (several refl refl)
+find_by archives places indexes uuid some several = refl
 
 -- ---- how they end
 

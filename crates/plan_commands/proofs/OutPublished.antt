@@ -21,13 +21,12 @@ use Rattle.archive_files.specs.declared.published.Published.{Published}
 -- what is known tells the path
 place_first : (p q : Option (List ℕ)) (xs ys : List ℕ) → place p ++ xs ≡ place q ++ ys → p ≡ q
 place_first None None xs ys same = refl
-place_first None (Some q) xs ys same = let h = ap (λ l. get_or l 0 0) same in grind (arith, h)
-place_first (Some p) None xs ys same = let h = ap (λ l. get_or l 0 0) same in grind (arith, h)
 place_first (Some p) (Some q) xs ys same =
     let first : suc (length p) ≡ suc (length q) = ap (λ l. get_or l 0 0) same in
     let long : length p ≡ length q = grind (arith, first) in
     ap (λ path. Some path) (sym (take-append_seam p xs) ∙ ap (λ l. take (length p) (drop 1 l)) same
     ∙ ap (λ n. take n (q ++ ys)) long ∙ take-append_seam q ys)
+place_first p q xs ys same = let h = ap (λ l. get_or l 0 0) same in grind (arith, h)
 
 same_rule : (r s : Replaces) → number_of r ≡ number_of s → r ≡ s
 same_rule r s same = grind (arith, same)

@@ -35,11 +35,10 @@ module _ {S D T : Type 0} (calls : Calls S D T) (line : Line) (report : Writer) 
   not_put r same not = called_nowhere is.path calls.called none (is.removed (subst (IsNotPut out) (sym same) not)).0
 
   by_end : (r : Result Status CommandFault) → is.ended ≡ r → IsOutcome out r → calls.called ≡ []
-  by_end (Ok status) same o = put o
   by_end (Err (Input at why)) same o = not_put (Err (Input at why)) same o
   by_end (Err (Output n)) same o = not_put (Err (Output n)) same o
-  by_end (Err (Report n)) same o = put o
   by_end (Err OutOfMemory) same o = not_put (Err OutOfMemory) same o
+  by_end r same o = put o
 
   pub nothing_called : calls.called ≡ []
   nothing_called = by_end is.ended refl is.outcome

@@ -42,11 +42,10 @@ module _ {D T : Type 0} (command : Extraction) (out : Outs D T) (report : Writer
   -- a text is published
   pub published_so : (result : Result Status CommandFault) (text told : List ℕ) → command.writes.Unfailed
       → command.writes.Makes text told → Publishes (out_of out) report text told result → Extracts command out report result
-  published_so (Ok status) text told u makes p = inl (u, record { text = text; told = told; makes = makes; published = p })
   published_so (Err (Input place why)) text told u makes p = absurd p
   published_so (Err (Output n)) text told u makes p = inl (inr (u, record { text = text; told = told; makes = makes; published = p }))
-  published_so (Err (Report n)) text told u makes p = inl (u, record { text = text; told = told; makes = makes; published = p })
   published_so (Err OutOfMemory) text told u makes p = inl (inr (u, record { text = text; told = told; makes = makes; published = p }))
+  published_so result text told u makes p = inl (u, record { text = text; told = told; makes = makes; published = p })
 
 -- nothing is written where OUT is as it was
 pub took_nothing : {D T : Type 0} (out : Outs D T) → out.new ≡ out.old → Takes (out_of out).draft []
