@@ -13,6 +13,7 @@ use Rattle.command_core.specs.declared.faults.Status.{Status}
 use Rattle.byte_device.specs.declared.disks.CannotOpen.{CannotOpen}
 use Rattle.archive_core.specs.declared.keys.SliceKey.{SliceKey}
 use Rattle.command_core.specs.Inputs.{Reader, reader, readers}
+use Rattle.command_core.proofs.Readers.{readers_long}
 use Rattle.indexed_queries.specs.Find.{find_together}
 use Rattle.indexed_symbols.specs.Frames.{frames_at}
 use Rattle.indexed_symbols.specs.Symbolicate.{symbolicate_at}
@@ -21,17 +22,10 @@ use Rattle.plan_commands.specs.QueryDispatch.{IsAlone, find_of, frames_of, if_pa
 -- ---- inputs in two parts
 
 module _ {S : Type 0} (left : S → Option (List ℕ)) (failures : S → ℕ) where
-  -- there are as many as inputs
-  pub as_many_readers : (a c : List (Result S CannotOpen)) → length c ≡ length a
-      → length (readers left failures a c) ≡ length a
-  as_many_readers [] [] is = refl
-  as_many_readers (x ∷ a) (y ∷ c) is = ap suc (as_many_readers a c (omega arith))
-  as_many_readers a c is = absurd (omega arith)
-
   -- there is one where there is an input
   pub some_read : (a c : List (Result S CannotOpen)) → length c ≡ length a → 0 < length a
       → 0 < length (readers left failures a c)
-  some_read a c same some = omega (arith, as_many_readers a c same)
+  some_read a c same some = omega (arith, readers_long left failures a c same)
 
   joined : (a b c d : List (Result S CannotOpen)) → length c ≡ length a
       → readers left failures (a ++ b) (c ++ d) ≡ readers left failures a c ++ readers left failures b d
@@ -43,14 +37,14 @@ module _ {S : Type 0} (left : S → Option (List ℕ)) (failures : S → ℕ) wh
   pub taken : (n : ℕ) (a b c d : List (Result S CannotOpen)) → length a ≡ n → length c ≡ length a
       → take n (readers left failures (a ++ b) (c ++ d)) ≡ readers left failures a c
   taken n a b c d is same =
-      rw (← is, ← as_many_readers a c same, joined a b c d same)
+      rw (← is, ← readers_long left failures a c same, joined a b c d same)
       (take-append_seam (readers left failures a c) (readers left failures b d))
 
   -- the second part
   pub dropped : (n : ℕ) (a b c d : List (Result S CannotOpen)) → length a ≡ n → length c ≡ length a
       → drop n (readers left failures (a ++ b) (c ++ d)) ≡ readers left failures b d
   dropped n a b c d is same =
-      rw (← is, ← as_many_readers a c same, joined a b c d same)
+      rw (← is, ← readers_long left failures a c same, joined a b c d same)
       (drop-append_seam (readers left failures a c) (readers left failures b d))
 
 -- ---- queries by indexes
@@ -120,8 +114,8 @@ module _ {S W : Type 0} (left whole : S → Option (List ℕ)) (failures place_f
   alone_refused archives ix query report fault alone by =
       let known = readers left failures archives archives in
       let named = readers whole place_failures ix ix in
-      let many = as_many_readers left failures archives archives refl in
-      let numbered = as_many_readers whole place_failures ix ix refl in
+      let many = readers_long left failures archives archives refl in
+      let numbered = readers_long whole place_failures ix ix refl in
       subst (λ (q : Query). EndsReport q (writer held write_failures report report) (Err fault)) (sym by)
       (refused_by held write_failures report (length known) (length named)
       (make named (readers whole place_failures archives archives)) fault
@@ -138,8 +132,8 @@ module _ {S W : Type 0} (left whole : S → Option (List ℕ)) (failures place_f
   paired_kept a c ix iy query report result as_many same indexes by ends =
       let known = readers left failures a c in
       let named = readers whole place_failures ix iy in
-      let many = as_many_readers left failures a c same in
-      let numbered = as_many_readers whole place_failures ix iy indexes in
+      let many = readers_long left failures a c same in
+      let numbered = readers_long whole place_failures ix iy indexes in
       subst (λ (q : Query). EndsReport q report result) (sym by)
       (kept_by (length known) (length named) (make named (readers whole place_failures a c)) report result
       (omega (arith, many, numbered, as_many)) ends)
