@@ -9,7 +9,7 @@ use Rattle.byte_device.specs.declared.Placed.{Ghosts as Places}
 use Rattle.archive_files.specs.AtTurns.{told_by}
 use Rattle.archive_files.specs.declared.disks.Disk.{Ghosts as Disks}
 use Rattle.archive_files.specs.declared.input_state.AtTurn.{AtTurn}
-use Rattle.archive_files.specs.InputStates.{AreFirstAsked, IsWaiting, Open, Unopened, Waiting, bytes_at, left_in, stage_of}
+use Rattle.archive_files.specs.InputStates.{AreFirstAsked, IsWaiting, Waiting, bytes_at, left_in, stage_of}
 use Rattle.archive_files.specs.declared.input_state.InputState.{InputState}
 use Rattle.archive_files.specs.declared.input_state.InputState.TheVariants as state
 use Rattle.command_core.proofs.Readers.{pairs_more as zip_more}

@@ -1,5 +1,5 @@
 -- An input that is read from any place.
-use Rattle.std.proofs.Common.{◌≡◌, ◌∙◌, ℕ, List, Option, Some, None, Result, Ok, Err, subst}
+use Rattle.std.proofs.Common.{◌≡◌, ◌∙◌, ℕ, List, Option, Some, Result, Ok, Err, subst}
 use Rattle.std.specs.Prelude.{IfOk, IfSome}
 use Rattle.byte_device.specs.Places.{HasSize, TakenAt}
 use Rattle.byte_device.specs.declared.Failed.{Failed}

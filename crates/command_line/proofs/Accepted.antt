@@ -13,7 +13,7 @@ use Rattle.clap.specs.Simple.{argument_words, entered, is_simple, label_of, name
 use Rattle.clap.specs.Takes.{built_takes, entered_passes, is_given, is_valid, level_passes}
 use Rattle.clap.proofs.SimpleLemmas.{is_nil}
 use Rattle.clap.proofs.WalkLemmas.{both}
-use Rattle.command_line.specs.Arguments.{Argument, Count, Flag, Often, Once, Perhaps, Several, flag, form_of}
+use Rattle.command_line.specs.Arguments.{Argument, Count, Flag, Often, Perhaps, flag, form_of}
 use Rattle.command_line.specs.Arguments.{perhaps, several}
 use Rattle.command_line.specs.Commands.{symarch_command}
 use Rattle.command_line.specs.Lines.{all_values, are_accepted, asked_of, has_form, have_forms, is_set, line_at, line_in}

@@ -6,7 +6,7 @@ use Rattle.std.specs.Prelude.{option_and_then}
 use Rattle.std.specs.Option.{option_map_or, option_or}
 use Rattle.uuid.specs.Text.{parsed}
 use Rattle.archive_words.specs.Words.{address_of, arch_of, digest_of}
-use Rattle.command_line.specs.Arguments.{Amount, Argument, Values, flag, form_of, one, perhaps, several}
+use Rattle.command_line.specs.Arguments.{Amount, Argument, Values, form_of, one, perhaps, several}
 use Rattle.command_line.specs.LineFaults.{out_is_input, unknown_command, without_value}
 use Rattle.command_line.specs.Lines.{Line, all_spelled, all_values, amount_spelled, line_at, line_in, values_at}
 use Rattle.command_line.specs.Lines.{inputs_of, is_path_among, out_of, values_spelled, words_by}
@@ -21,7 +21,7 @@ use Rattle.command_line.specs.LineFaults.{IsHelpUnlessMemory, IsRefusalUnlessMem
 use Rattle.command_line.specs.LineFaults.{form_refusal, other_form, other_in, other_word, out_refusal, refusal_among}
 use Rattle.command_line.specs.LineFaults.{refusal_at, refusal_in, refusal_of}
 use Rattle.command_line.specs.declared.line_faults.LineFault.{LineFault}
-use Rattle.command_line.specs.declared.line_faults.LineFault.TheVariants.{Help, OutOfMemory, Refused}
+use Rattle.command_line.specs.declared.line_faults.LineFault.TheVariants.{OutOfMemory, Refused}
 
 -- where help, or the version, is the only kind, the error is its text or a want of memory
 pub asked_is_help : (e : Error) (fault : LineFault) (kinds : Kinds) (asked : ErrorKind) → HasKind kinds e

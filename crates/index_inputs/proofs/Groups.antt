@@ -11,7 +11,7 @@ use Rattle.byte_device.specs.declared.disks.CannotOpen.{CannotOpen}
 use Rattle.command_core.specs.Archives.{merged}
 use Rattle.command_core.specs.Inputs.{Reader, reader, readers, EachUnfailed, IsRefusal, ReadsInputs, Unfailed, failures_of}
 use Rattle.command_core.specs.declared.faults.CommandFault.{CommandFault}
-use Rattle.command_core.specs.declared.faults.CommandFault.TheVariants.{Input, Output, Report, OutOfMemory}
+use Rattle.command_core.specs.declared.faults.CommandFault.TheVariants.{Input, OutOfMemory}
 use Rattle.command_core.proofs.Readers.{all_take, readers_long, rest_kept, set_one, unfailed_more, untouched_behind}
 use Rattle.table_index.specs.Text.{placed_of}
 use Rattle.index_inputs.specs.Prefixes.{HoldsNamed}

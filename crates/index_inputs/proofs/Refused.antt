@@ -6,7 +6,7 @@ use Rattle.command_core.specs.Ends.{EndsReport}
 use Rattle.command_core.specs.Inputs.{AreRead, Reader, IsRefusal, Unfailed, reader}
 use Rattle.command_core.specs.Outputs.{Takes, Writer}
 use Rattle.command_core.specs.declared.faults.CommandFault.{CommandFault}
-use Rattle.command_core.specs.declared.faults.CommandFault.TheVariants.{Input, Output, Report, OutOfMemory}
+use Rattle.command_core.specs.declared.faults.CommandFault.TheVariants.{Input, OutOfMemory}
 use Rattle.command_core.specs.declared.faults.InputName.{InputName}
 use Rattle.command_core.specs.declared.faults.InputName.TheVariants.{Index}
 use Rattle.command_core.specs.declared.faults.Status.{Status}

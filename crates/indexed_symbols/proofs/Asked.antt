@@ -10,7 +10,7 @@ use Rattle.archive_core.proofs.Members.{in_map, to_map}
 use Rattle.crash_frames.specs.declared.frame.Frame.{Frame}
 use Rattle.command_core.specs.Inputs.{IsRefusal}
 use Rattle.command_core.specs.declared.faults.CommandFault.{CommandFault}
-use Rattle.command_core.specs.declared.faults.CommandFault.TheVariants.{Input, Output, Report, OutOfMemory}
+use Rattle.command_core.specs.declared.faults.CommandFault.TheVariants.{Input, OutOfMemory}
 use Rattle.indexed_answers.specs.Among.{AreAnsweringAmong, EntryAt}
 use Rattle.indexed_answers.specs.AmongAsked.{AsksAmong, BlamesAmong, HasText, HaveTexts, each_known}
 use Rattle.indexed_answers.specs.AmongTold.{IsAnswerAmong}

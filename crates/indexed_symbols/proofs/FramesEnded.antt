@@ -11,7 +11,7 @@ use Rattle.command_core.specs.Ends.{EndsReport}
 use Rattle.command_core.specs.Inputs.{Reader, readers, EachUnfailed, EachUntouched, Gives, IsRefusal, IsRefusedFrames, Unfailed}
 use Rattle.command_core.specs.Outputs.{Takes, Writer}
 use Rattle.command_core.specs.declared.faults.CommandFault.{CommandFault}
-use Rattle.command_core.specs.declared.faults.CommandFault.TheVariants.{Input, Output, Report, OutOfMemory}
+use Rattle.command_core.specs.declared.faults.CommandFault.TheVariants.{Input, OutOfMemory}
 use Rattle.command_core.specs.declared.faults.Status.{Status}
 use Rattle.indexed_answers.specs.AmongAsked.{HaveTexts}
 use Rattle.index_inputs.specs.Several.{AreUnfailedTogether}

@@ -6,7 +6,7 @@ use Rattle.archive_core.specs.declared.keys.SliceKey.{SliceKey}
 use Rattle.address_queries.specs.Symbolicate.{TellsAddresses}
 use Rattle.command_core.specs.Inputs.{Reader, readers, EachUnfailed, IsRefusal}
 use Rattle.command_core.specs.declared.faults.CommandFault.{CommandFault}
-use Rattle.command_core.specs.declared.faults.CommandFault.TheVariants.{Input, Output, Report, OutOfMemory}
+use Rattle.command_core.specs.declared.faults.CommandFault.TheVariants.{Input, OutOfMemory}
 use Rattle.command_core.specs.declared.faults.Status.{Status}
 use Rattle.indexed_answers.specs.AmongAsked.{HaveTexts}
 use Rattle.index_inputs.specs.Several.{AreUnfailedTogether, MakesTogether}

@@ -15,7 +15,6 @@ use Rattle.archive_files.specs.OutFiles.{Stage}
 use Rattle.archive_files.specs.OutFiles.{draft_account, has_calls, is_settled, published_account, publishing_calls}
 use Rattle.archive_files.specs.Publishing.{IsPath, IsPublished, IsRemoved, account, number_of, place, took_nothing}
 use Rattle.archive_files.specs.declared.replaceable.Replaces.{Replaces}
-use Rattle.archive_files.specs.declared.replaceable.Replaces.TheVariants.{OwnFiles, ArchivesBelow, SameBytes}
 use Rattle.archive_files.specs.declared.published.Published.{Published}
 
 -- what is known tells the path

@@ -1,12 +1,12 @@
 -- An output that has no path.
-use Rattle.std.proofs.Common.{◌≡◌, List, [], None, Result, Ok, Err, refl, sym, ap, subst, inl, inr}
+use Rattle.std.proofs.Common.{◌≡◌, List, [], None, Result, Err, refl, sym, ap, subst, inl, inr}
 use Rattle.std.proofs.KnownBytes.{Appends-nil}
 use Rattle.std.specs.Io.KnownBytes.{Appends}
 use Rattle.command_line.specs.Lines.{Line}
 use Rattle.archive_writing.specs.declared.notes.Note.{Note}
 use Rattle.command_core.specs.declared.failures.Failure.{Failure}
 use Rattle.command_core.specs.declared.faults.CommandFault.{CommandFault}
-use Rattle.command_core.specs.declared.faults.CommandFault.TheVariants.{Input, Output, Report, OutOfMemory}
+use Rattle.command_core.specs.declared.faults.CommandFault.TheVariants.{Input, Output, OutOfMemory}
 use Rattle.command_core.specs.declared.faults.Status.{Status}
 use Rattle.command_core.specs.declared.outputs.Output.{Output as Out}
 use Rattle.command_core.specs.Outputs.{IsKept, Outs, Writer, out_of as known_of}

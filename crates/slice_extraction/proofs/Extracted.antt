@@ -1,5 +1,5 @@
 -- How `extract` ends, from what its parts did.
-use Rattle.std.proofs.Common.{◌≡◌, ℕ, List, [], ◌∷◌, Option, Some, None, Result, Ok, Err, refl, sym, ap, subst, inl, inr}
+use Rattle.std.proofs.Common.{◌≡◌, ℕ, List, [], ◌∷◌, Option, Some, None, Result, Err, refl, sym, ap, subst, inl, inr}
 use Rattle.std.proofs.KnownBytes.{Appends-nil}
 use Rattle.std.specs.Io.KnownBytes.{Appends}
 use Rattle.archive_core.specs.Content.{Operations}
@@ -13,7 +13,7 @@ use Rattle.command_core.specs.Ends.{IsStopped}
 use Rattle.command_core.specs.Inputs.{IsRefusal}
 use Rattle.command_core.specs.Outputs.{Outs, Publishes, Takes, Writer, out_of}
 use Rattle.command_core.specs.declared.faults.CommandFault.{CommandFault}
-use Rattle.command_core.specs.declared.faults.CommandFault.TheVariants.{Input, Output, Report, OutOfMemory}
+use Rattle.command_core.specs.declared.faults.CommandFault.TheVariants.{Input, Output, OutOfMemory}
 use Rattle.command_core.specs.declared.faults.InputName.{InputName}
 use Rattle.command_core.specs.declared.outputs.Output.{Output as Out_value}
 use Rattle.command_core.specs.declared.faults.Status.{Status}

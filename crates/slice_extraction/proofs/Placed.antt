@@ -7,7 +7,7 @@ use Rattle.archive_core.specs.declared.keys.SliceKey.{SliceKey}
 use Rattle.command_core.specs.Inputs.{Reader}
 use Rattle.command_core.specs.Outputs.{Outs, IsPublished, PublishesNothing, Publishes, Reports, Takes, Writer, out_of, writer}
 use Rattle.command_core.specs.declared.faults.CommandFault.{CommandFault}
-use Rattle.command_core.specs.declared.faults.CommandFault.TheVariants.{Input, Output, Report, OutOfMemory}
+use Rattle.command_core.specs.declared.faults.CommandFault.TheVariants.{Output, Report}
 use Rattle.command_core.specs.declared.faults.Status.{Status}
 use Rattle.command_core.specs.declared.faults.Status.TheVariants.{Done}
 use Rattle.indexed_answers.specs.Among.{EntryAt}
