@@ -29,9 +29,7 @@ use Rattle.indexed_tables.proofs.Accepted.{accepted}
 use Rattle.command_core.specs.Inputs.{IsDeviceFault, IsGiven, IsUnread, Reader, reader}
 use Rattle.command_core.specs.declared.faults.InputName.{InputName}
 use Rattle.command_core.specs.declared.faults.Why.{Why}
-use Rattle.command_core.specs.declared.faults.Why.TheVariants.{CannotOpen as NotOpened, Device as CannotRead, Record, Take}
-use Rattle.command_core.specs.declared.faults.Why.TheVariants.{Script, BadFrame, OldArchive, TooLong}
-use Rattle.command_core.specs.declared.faults.Why.TheVariants.{Index as IndexFaulty, Stale, Damaged, NoArchive, NoIndex, NoLines}
+use Rattle.command_core.specs.declared.faults.Why.TheVariants.{CannotOpen as NotOpened, Device as CannotRead, Record, Take, Script, BadFrame, OldArchive, TooLong, Index as IndexFaulty, Stale, Damaged, NoArchive, NoIndex, NoLines}
 use Rattle.index_laws.specs.Indexes.{IsIndexFile}
 use Rattle.index_inputs.specs.Prefixes.{IsReadFor, IsStaleFor, IsStaleUnder, IsUnnamedUnder}
 use Rattle.index_inputs.specs.Indexes.{HasOtherLength, IsOfOtherLength, IsRefusedByIndex, IsUnreadAt, IsUnreadIndex}
