@@ -165,8 +165,6 @@ pub follow_entries : (low : List ℕ) (offset at : ℕ) (rs ts : List (List ℕ)
     → FollowOn offset at (at + length (tables_text ts)) (table_entries offset at rs ts)
 unfolding table_entry
 follow_entries low offset at [] [] a each of fits = omega arith
-follow_entries low offset at [] (t ∷ ts) a each of fits = absurd each
-follow_entries low offset at (r ∷ rs) [] a each of fits = absurd each
 follow_entries low offset at (r ∷ rs) (t ∷ ts) a each of fits =
     let longer = length-append r (concat rs) in
     let more = length-append (stored t) (tables_text ts) in
@@ -185,6 +183,7 @@ follow_entries low offset at (r ∷ rs) (t ∷ ts) a each of fits =
           (subst (λ (n : ℕ). FollowOn (offset + length r) (at + length (stored t)) n (table_entries (offset + length r) (at + length (stored t)) rs ts)) end
           (follow_entries r (offset + length r) (at + length (stored t)) rs ts a.2 each.1 (omega (arith, of, longer)) (omega (arith, fits, more))))),
     )
+follow_entries low offset at rs ts a each of fits = absurd each
 
 -- ---- entries in byte order
 

@@ -49,8 +49,6 @@ few (a ∷ rest) (v ∷ vs) are =
 -- of one kind there are no more than of all
 few_of_kind : (kind : Kind) (arguments : List Argument) (vs : List Values)
     → length (texts_by (reads_kind kind) arguments vs) ≤ length (texts_by reads arguments vs)
-few_of_kind kind [] vs = omega arith
-few_of_kind kind (a ∷ rest) [] = omega arith
 few_of_kind kind (a ∷ rest) (v ∷ vs) = go a.role (few_of_kind kind rest vs)
   where
     some : (b : Bool) → length (texts_by (reads_kind kind) rest vs) ≤ length (texts_by reads rest vs)
@@ -64,14 +62,14 @@ few_of_kind kind (a ∷ rest) (v ∷ vs) = go a.role (few_of_kind kind rest vs)
           length-append (texts_of v) (texts_by reads rest vs),
         )
     some false more = omega (arith, more, length-append (texts_of v) (texts_by reads rest vs))
+few_of_kind kind arguments vs = omega arith
 
     go : (role : Role) → length (texts_by (reads_kind kind) rest vs) ≤ length (texts_by reads rest vs)
         → length (if reads_kind kind role then texts_of v ++ texts_by (reads_kind kind) rest vs
         else texts_by (reads_kind kind) rest vs)
         ≤ length (if reads role then texts_of v ++ texts_by reads rest vs else texts_by reads rest vs)
     go (roles.Reads other) more = some (reads_kind kind (roles.Reads other)) more
-    go roles.Writes more = more
-    go (roles.Says form) more = more
+    go role more = more
 
 -- FRAMES, so many indexes, and an archive; a flag names none
 frames_few : (vs : List Values) → are_values_of frames_command.arguments vs ≡ true
