@@ -1,19 +1,15 @@
 -- What was called for OUT, one call more at a time.
-use Rattle.std.proofs.Common.{◌≡◌, ◌∙◌, ◌⊎◌, ℕ, true, false, List, [], ◌∷◌, ◌++◌, length, map, Ok, Option, Some, None, refl, sym, ap, inl, inr}
-use Rattle.std.proofs.Common.{append_assoc, append-nil, arith, subst, ◌<◌, ◌+◌, ◌==◌, take, ◌≤◌}
+use Rattle.std.proofs.Common.{◌≡◌, ◌∙◌, ◌⊎◌, ℕ, true, false, List, [], ◌∷◌, ◌++◌, length, map, Ok, Option, Some, None, refl, sym, ap, inl, inr, append_assoc, append-nil, arith, subst, ◌<◌, ◌+◌, ◌==◌, take, ◌≤◌}
 use Rattle.std.proofs.lemmas.List.{length-append, length-take-le, map-append}
 use Rattle.std.proofs.lemmas.Bool.{and_parts}
 use Rattle.std.proofs.lemmas.Grind.{not_there}
 use Rattle.std.specs.List.{concat}
 use Rattle.archive_records.proofs.Puts.{concat-push}
-use Rattle.archive_files.specs.FileCalls.{FileCall, Creates, Opens, Writes, Syncs, Removes}
-use Rattle.archive_files.specs.FileCalls.{are_probes, bytes_in, drafting, publishing, writing}
-use Rattle.archive_files.specs.OutFiles.{IsSoFar, Stage, Untouched, Through, Drafted}
-use Rattle.archive_files.specs.OutFiles.{WritesTo, draft_account, has_calls, is_drafted, is_settled, takes_bytes}
+use Rattle.archive_files.specs.FileCalls.{FileCall, Creates, Opens, Writes, Syncs, Removes, are_probes, bytes_in, drafting, publishing, writing}
+use Rattle.archive_files.specs.OutFiles.{IsSoFar, Stage, Untouched, Through, Drafted, WritesTo, draft_account, has_calls, is_drafted, is_settled, takes_bytes}
 use Rattle.archive_files.specs.declared.out_file.OutState.{OutState}
 use Rattle.archive_files.specs.declared.out_file.OutState.TheVariants as state
-use Rattle.archive_files.specs.Publishing.{HandsOn, IsBeside, IsDrafted, IsPublished, IsTargetOf, IsTested, IsWritable}
-use Rattle.archive_files.specs.Publishing.{IsWrittenThrough, account, folder_of, number_of, place, took_nothing}
+use Rattle.archive_files.specs.Publishing.{HandsOn, IsBeside, IsDrafted, IsPublished, IsTargetOf, IsTested, IsWritable, IsWrittenThrough, account, folder_of, number_of, place, took_nothing}
 use Rattle.archive_files.specs.declared.replaceable.Replaces.{Replaces}
 use Rattle.archive_files.specs.declared.replaceable.Replaces.TheVariants.{ArchivesBelow}
 

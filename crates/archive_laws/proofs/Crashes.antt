@@ -5,11 +5,8 @@ use Rattle.std.specs.Str.{bytes_eq}
 use Rattle.std.proofs.lemmas.Bool.{and_parts, false_from_ne_true, or_right}
 use Rattle.std.proofs.lemmas.List.{append-nil, take_all}
 use Rattle.std.proofs.lemmas.Slice.Eq.{bytes_eq-Decides}
-use Rattle.archive_files.specs.FileCalls.{FileCall, Creates, Opens, Writes, Syncs, Renames, SyncsFolder, Removes}
-use Rattle.archive_files.specs.FileCalls.{FindsFile, FindsOther, FindsNothing, FindsNoLink, Leads, FindsNoArchive}
-use Rattle.archive_files.specs.FileCalls.{Agrees, Covers, Loses, are_probes, drafting, is_probe, publishing, writing}
-use Rattle.archive_files.specs.Publishing.{IsDescriptor, IsDraftRemoved, IsDrafted, IsReplaced, IsTargetOf}
-use Rattle.archive_files.specs.Publishing.{IsWritable, IsWrittenThrough, folder_of}
+use Rattle.archive_files.specs.FileCalls.{FileCall, Creates, Opens, Writes, Syncs, Renames, SyncsFolder, Removes, FindsFile, FindsOther, FindsNothing, FindsNoLink, Leads, FindsNoArchive, Agrees, Covers, Loses, are_probes, drafting, is_probe, publishing, writing}
+use Rattle.archive_files.specs.Publishing.{IsDescriptor, IsDraftRemoved, IsDrafted, IsReplaced, IsTargetOf, IsWritable, IsWrittenThrough, folder_of}
 use Rattle.archive_files.specs.declared.replaceable.Replaces.{Replaces}
 use Rattle.archive_files.proofs.Publishings.{target_probes, tested_probes}
 use Rattle.archive_laws.specs.Crashes.{DraftState, MayBeAt, Old, New, Torn, Touched, behind, no_draft, replay}

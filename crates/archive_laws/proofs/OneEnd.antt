@@ -19,8 +19,7 @@ use Rattle.command_core.specs.declared.faults.Why.{Why}
 use Rattle.command_core.specs.Archives.{AreRefused, AreUnfailed, HoldTogether, further_name, merged}
 use Rattle.command_core.specs.Ends.{Query}
 use Rattle.command_core.specs.Found.{TellsFound, found_status}
-use Rattle.command_core.specs.Inputs.{Reader, EachUntouched, HoldsArchive, IsArchive, IsArchiveRefused, IsDeviceFault, IsFirstRefused, IsFrames, IsFramesRefused}
-use Rattle.command_core.specs.Inputs.{IsGivenArchive, IsRefusedArchive, IsRefusedInOrder, IsRefusedInTurn}
+use Rattle.command_core.specs.Inputs.{Reader, EachUntouched, HoldsArchive, IsArchive, IsArchiveRefused, IsDeviceFault, IsFirstRefused, IsFrames, IsFramesRefused, IsGivenArchive, IsRefusedArchive, IsRefusedInOrder, IsRefusedInTurn}
 use Rattle.command_core.specs.Outputs.{Takes}
 use Rattle.archive_exchange.specs.ModelEvent.{ModelEvent, AreSeen}
 use Rattle.exchange_script.specs.Script.{acts, script_of}

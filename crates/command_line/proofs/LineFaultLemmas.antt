@@ -1,15 +1,12 @@
 -- What a line that `clap` refuses has for an answer, by the kinds of error that its own definition names.
-use Rattle.std.proofs.Common.{arith, ◌≡◌, ℕ, inl, inr, true, List, [], ◌∷◌, Option, Some, None, Result, Ok, Err, IfOk}
-use Rattle.std.proofs.Common.{Global, IfErr, IsErrAnd, MatchResult, String, ap, is_some, option_map, refl, string_bytes}
-use Rattle.std.proofs.Common.{subst, sym}
+use Rattle.std.proofs.Common.{arith, ◌≡◌, ℕ, inl, inr, true, List, [], ◌∷◌, Option, Some, None, Result, Ok, Err, IfOk, Global, IfErr, IsErrAnd, MatchResult, String, ap, is_some, option_map, refl, string_bytes, subst, sym}
 use Rattle.std.specs.Prelude.{option_and_then}
 use Rattle.std.specs.Option.{option_map_or, option_or}
 use Rattle.uuid.specs.Text.{parsed}
 use Rattle.archive_words.specs.Words.{address_of, arch_of, digest_of}
 use Rattle.command_line.specs.Arguments.{Amount, Argument, Values, form_of, one, perhaps, several}
-use Rattle.command_line.specs.LineFaults.{out_is_input, unknown_command, without_value}
-use Rattle.command_line.specs.Lines.{Line, all_spelled, all_values, amount_spelled, line_at, line_in, values_at}
-use Rattle.command_line.specs.Lines.{inputs_of, is_path_among, out_of, values_spelled, words_by}
+use Rattle.command_line.specs.LineFaults.{out_is_input, unknown_command, without_value, IsHelpUnlessMemory, IsRefusalUnlessMemory, IsRefusedBy, first_other, form_refusal, other_form, other_in, other_word, out_refusal, refusal_among, refusal_at, refusal_in, refusal_of}
+use Rattle.command_line.specs.Lines.{Line, all_spelled, all_values, amount_spelled, line_at, line_in, values_at, inputs_of, is_path_among, out_of, values_spelled, words_by}
 use Rattle.command_line.specs.Table.{Signature, signature_named}
 use Rattle.command_line.specs.declared.commands.Form.{Form}
 use Rattle.command_line.specs.declared.commands.Form.TheVariants as forms
@@ -17,9 +14,6 @@ use Rattle.clap.specs.Words.{HasKind, IsAmong, Kinds, Row, Text, kind_of}
 use Rattle.clap.specs.declared.error.Error.{Error}
 use Rattle.clap.specs.declared.error.kind.ErrorKind.{ErrorKind}
 use Rattle.clap.specs.declared.error.kind.ErrorKind.TheVariants as kind
-use Rattle.command_line.specs.LineFaults.{IsHelpUnlessMemory, IsRefusalUnlessMemory, IsRefusedBy, first_other}
-use Rattle.command_line.specs.LineFaults.{form_refusal, other_form, other_in, other_word, out_refusal, refusal_among}
-use Rattle.command_line.specs.LineFaults.{refusal_at, refusal_in, refusal_of}
 use Rattle.command_line.specs.declared.line_faults.LineFault.{LineFault}
 use Rattle.command_line.specs.declared.line_faults.LineFault.TheVariants.{OutOfMemory, Refused}
 

@@ -5,5 +5,6 @@ pub mod MakingLemmas
 pub mod TakingLemmas
 pub mod StartLemmas
 pub mod RangeLemmas
+pub mod ApartLemmas
 pub mod PartLemmas
 pub mod StepLemmas

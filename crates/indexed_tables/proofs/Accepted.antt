@@ -18,7 +18,7 @@ use Rattle.sha2.proofs.Facts256.{length-sha256}
 use Rattle.join_core.specs.Listing.{ascending_of, listing}
 use Rattle.join_core.proofs.Listing.{listed}
 use Rattle.checked_pages.specs.Pages.{page_digests, stored}
-use Rattle.table_index.specs.Entry.{zeros}
+use Rattle.table_index.specs.Entry.{zeros, claim_at, claim_bytes, claim_in, has_claim, no_claim, stored_size}
 use Rattle.archive_core.specs.Content.{IsContent, Operations, is_admission}
 use Rattle.archive_core.specs.Record.{IsRecord}
 use Rattle.archive_core.proofs.Made.{bytes_same}
@@ -31,7 +31,6 @@ use Rattle.archive_index.specs.Entry.{has_kind, has_length, has_tag, length_in, 
 use Rattle.archive_index.proofs.Placed.{entry_long, is_placed, length_is, offset_is, tag_is}
 use Rattle.archive_index.proofs.Sums.{AreApart as AreDistinct, any_ascending_of, is_same, listing_of, nonempty, text_length}
 use Rattle.indexed_tables.specs.Content.{IsIndexOf, IsTableOf, claim_of, entries_of, table_entries, table_entry, tables_text}
-use Rattle.table_index.specs.Entry.{claim_at, claim_bytes, claim_in, has_claim, no_claim, stored_size}
 use Rattle.table_index.specs.Text.{FollowOn, IsIndexText, PassChecks, end_of, check_entry}
 use Rattle.table_index.proofs.Entries.{byte_kept, claim_read, long_with, number_kept}
 use Rattle.table_index.proofs.Checks.{long_entries}

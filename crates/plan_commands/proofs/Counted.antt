@@ -1,14 +1,11 @@
 -- How many inputs a line has by its plan.
-use Rattle.std.proofs.Common.{◌≡◌, ◌≤◌, ◌+◌, ◌&&◌, ℕ, suc, Bool, true, false, List, [], ◌∷◌, ◌++◌}
-use Rattle.std.proofs.Common.{arith, length, length-append, refl, sym, true≢false, if◌then◌else◌, Option, Some, None}
+use Rattle.std.proofs.Common.{◌≡◌, ◌≤◌, ◌+◌, ◌&&◌, ℕ, suc, Bool, true, false, List, [], ◌∷◌, ◌++◌, arith, length, length-append, refl, sym, true≢false, if◌then◌else◌, Option, Some, None}
 use Rattle.std.specs.Option.{option_map_or}
 use Rattle.clap.proofs.WalkLemmas.{both}
 use Rattle.clap.specs.Words.{Text}
-use Rattle.command_line.specs.Arguments.{Argument, Count, Flag, Often, Once, Perhaps, Several, Values, are_values_of}
-use Rattle.command_line.specs.Arguments.{form_of, is_formed, reads, reads_kind}
+use Rattle.command_line.specs.Arguments.{Argument, Count, Flag, Often, Once, Perhaps, Several, Values, are_values_of, form_of, is_formed, reads, reads_kind}
 use Rattle.command_line.specs.Lines.{Line, inputs_of, texts_by, texts_of}
-use Rattle.command_line.specs.Table.{Signature, arguments_named, frames_command, index_paths, is_listed, lines_flag}
-use Rattle.command_line.specs.Table.{signature_named}
+use Rattle.command_line.specs.Table.{Signature, arguments_named, frames_command, index_paths, is_listed, lines_flag, signature_named}
 use Rattle.command_line.specs.declared.commands.Form.TheVariants as forms
 use Rattle.command_line.specs.declared.commands.Kind.{Kind}
 use Rattle.command_line.specs.declared.commands.Kind.TheVariants as kinds

@@ -1,8 +1,5 @@
 -- What is in place of OUT, by what is known of it.
-use Rattle.std.proofs.Common.{◌≡◌, ◌∙◌, ℕ, Bool, true, false, List, [], ◌∷◌, ◌++◌, length, take, drop}
-use Rattle.std.proofs.Common.{get_or, suc}
-use Rattle.std.proofs.Common.{Option, Some, None, Result, OnOk, refl, ap, sym, subst, inl, inr}
-use Rattle.std.proofs.Common.{append-nil, append_assoc, arith, string_bytes}
+use Rattle.std.proofs.Common.{◌≡◌, ◌∙◌, ℕ, Bool, true, false, List, [], ◌∷◌, ◌++◌, length, take, drop, get_or, suc, Option, Some, None, Result, OnOk, refl, ap, sym, subst, inl, inr, append-nil, append_assoc, arith, string_bytes}
 use Rattle.std.proofs.lemmas.List.{append_cancel_left}
 use Rattle.std.proofs.Math.Seq.{take-append_seam}
 use Rattle.std.proofs.lemmas.Grind.{not_there}
@@ -11,8 +8,7 @@ use Rattle.std.specs.Io.KnownBytes.{Appends}
 use Rattle.clap.specs.Words.{Text}
 use Rattle.archive_files.specs.InputStates.{AreFirstAsked}
 use Rattle.archive_files.specs.FileCalls.{FileCall, bytes_in}
-use Rattle.archive_files.specs.OutFiles.{Stage}
-use Rattle.archive_files.specs.OutFiles.{draft_account, has_calls, is_settled, published_account, publishing_calls}
+use Rattle.archive_files.specs.OutFiles.{Stage, draft_account, has_calls, is_settled, published_account, publishing_calls}
 use Rattle.archive_files.specs.Publishing.{IsPath, IsPublished, IsRemoved, account, number_of, place, took_nothing}
 use Rattle.archive_files.specs.declared.replaceable.Replaces.{Replaces}
 use Rattle.archive_files.specs.declared.published.Published.{Published}

@@ -1,6 +1,5 @@
 -- What is put in OUT's place in a command, however it ends.
-use Rattle.std.proofs.Common.{◌≡◌, ℕ, List, [], length, take, Option, Some, None, Result, Ok, Err, refl}
-use Rattle.std.proofs.Common.{ap, sym, subst, inl, inr, arith, length-take-le}
+use Rattle.std.proofs.Common.{◌≡◌, ℕ, List, [], length, take, Option, Some, None, Result, Ok, Err, refl, ap, sym, subst, inl, inr, arith, length-take-le}
 use Rattle.std.proofs.KnownBytes.{Appends-nil}
 use Rattle.std.specs.FinSet as set
 use Rattle.std.specs.Io.KnownBytes.{Appends}
@@ -23,8 +22,7 @@ use Rattle.archive_files.specs.declared.input_state.Unopened.{Unopened}
 use Rattle.archive_files.specs.declared.input_state.Unopened.TheVariants as unopened
 use Rattle.command_core.specs.declared.faults.Why.TheVariants.{CannotOpen as NotOpened}
 use Rattle.plan_commands.specs.Disks.{Carried, Tells, fault_at, unopened_of}
-use Rattle.plan_commands.specs.Plans.{Deed, EndsDeed, EndsQuery, answers, changes, deed_of, empties, extracts, none}
-use Rattle.plan_commands.specs.Plans.{streams}
+use Rattle.plan_commands.specs.Plans.{Deed, EndsDeed, EndsQuery, answers, changes, deed_of, empties, extracts, none, streams}
 use Rattle.slice_extraction.specs.Extract.{Extraction, Extracts, LacksSlice}
 use Rattle.error_lines.specs.Numbers.{number_at}
 use Rattle.plan_commands.specs.Files.{IsNotPut, IsOutcome}

@@ -29,8 +29,7 @@ use Rattle.indexed_tables.proofs.Accepted.{accepted}
 use Rattle.command_core.specs.Inputs.{IsDeviceFault, IsGiven, IsUnread, Reader, reader}
 use Rattle.command_core.specs.declared.faults.InputName.{InputName}
 use Rattle.command_core.specs.declared.faults.Why.{Why}
-use Rattle.command_core.specs.declared.faults.Why.TheVariants.{CannotOpen as NotOpened, Record}
-use Rattle.command_core.specs.declared.faults.Why.TheVariants.{Index as IndexFaulty}
+use Rattle.command_core.specs.declared.faults.Why.TheVariants.{CannotOpen as NotOpened, Record, Index as IndexFaulty}
 use Rattle.index_laws.specs.Indexes.{IsIndexFile}
 use Rattle.index_inputs.specs.Prefixes.{IsReadFor, IsStaleFor, IsStaleUnder, IsUnnamedUnder}
 use Rattle.index_inputs.specs.Indexes.{HasOtherLength, IsOfOtherLength, IsRefusedByIndex, IsUnreadAt, IsUnreadIndex}

@@ -11,7 +11,7 @@ use Rattle.archive_core.specs.Lookup.{answer_view}
 use Rattle.archive_core.specs.Part.{AreAlikeUnder, is_under, part}
 use Rattle.archive_core.specs.Record.{admission_record}
 use Rattle.archive_core.specs.Summary.{Entries}
-use Rattle.archive_core.proofs.Made.{alike_union, bytes_same, joined_content, joined_made_right, made_alike, made_empty, made_is_alike}
+use Rattle.archive_core.proofs.Made.{alike_union, bytes_same, joined_content, joined_made_right, made_alike, made_empty, made_is_alike, union_assoc}
 use Rattle.archive_core.proofs.Members.{in_rest}
 use Rattle.archive_core.proofs.Picked.{contains_part, part_alike, part_content}
 use Rattle.archive_records.specs.Text.{written}
@@ -38,7 +38,6 @@ use Rattle.query_laws.specs.Contents.{AreIndexed, DigestsTellOver, IsIndexed}
 use Rattle.query_laws.proofs.Accepted.{still_given}
 use Rattle.query_laws.proofs.OfIndex.{held_tables, of_given}
 use Rattle.query_laws.proofs.Three.{for_first, third_fourth, with_fourth}
-use Rattle.archive_core.proofs.Made.{union_assoc}
 
 -- a record is under one of these prefixes
 abbrev is_under_any : List (List ℕ) → List ℕ → Bool

@@ -30,8 +30,7 @@ use Rattle.slice_extraction.specs.Extract.{Extraction, Extracts}
 use Rattle.slice_extraction.specs.Indexed.{HoldTied, IsChosenFrom, LacksEntry, MakesEntry, StopsEntry, extract_at}
 use Rattle.slice_extraction.specs.InnerChoice.{PublishesRows, PublishesWanted}
 use Rattle.slice_extraction.specs.InnerEntries.{PublishesSlice, PublishesTied}
-use Rattle.slice_extraction.specs.Wanted.{AreUndecided, IsWanted, slice_line, slices_text}
-use Rattle.slice_extraction.specs.Wanted.{written_line}
+use Rattle.slice_extraction.specs.Wanted.{AreUndecided, IsWanted, slice_line, slices_text, written_line}
 use Rattle.slice_extraction.proofs.Extracted.{published_so, took_nothing}
 
 -- the entry that is chosen stands among all
