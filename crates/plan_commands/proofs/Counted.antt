@@ -62,7 +62,6 @@ few_of_kind kind (a ∷ rest) (v ∷ vs) = go a.role (few_of_kind kind rest vs)
           length-append (texts_of v) (texts_by reads rest vs),
         )
     some false more = omega (arith, more, length-append (texts_of v) (texts_by reads rest vs))
-few_of_kind kind arguments vs = omega arith
 
     go : (role : Role) → length (texts_by (reads_kind kind) rest vs) ≤ length (texts_by reads rest vs)
         → length (if reads_kind kind role then texts_of v ++ texts_by (reads_kind kind) rest vs
@@ -70,6 +69,7 @@ few_of_kind kind arguments vs = omega arith
         ≤ length (if reads role then texts_of v ++ texts_by reads rest vs else texts_by reads rest vs)
     go (roles.Reads other) more = some (reads_kind kind (roles.Reads other)) more
     go role more = more
+few_of_kind kind arguments vs = omega arith
 
 -- FRAMES, so many indexes, and an archive; a flag names none
 frames_few : (vs : List Values) → are_values_of frames_command.arguments vs ≡ true
