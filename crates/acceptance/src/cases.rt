@@ -23,8 +23,8 @@
 //! - `each cut NAME`, `each read NAME`, `each out`, `each report`, `each pieces N` carry the next one out at each
 //!   place, and print places in a row that have one outcome in one line;
 //! - `each growth` carries it out with 0, 1, .. growths until none is refused, and prints how many runs met a refusal
-//!   on either archive. A refused run leaves its report empty and nothing published, and OUT's draft empty or whole; one
-//!   that writes as it reads leaves a beginning there. The first run that meets none ends as with ample memory. Where
+//!   on either archive. A refused run leaves no report and nothing published, and OUT's draft empty or whole; one that
+//!   writes as it reads leaves a beginning there. The first run that meets none ends as with ample memory. Where
 //!   no run meets one, the sweep is `WRONG`: `hold growths 0` shows that a call takes no memory.
 //!
 //! Files of the system, in a folder of this run's own:
@@ -102,9 +102,9 @@
 //! the call promises, and to answer as an archive does that is read from its text; calls that take no memory have to
 //! succeed; and the call made again has to end as it ends at once, and to come to the same.
 //!
-//! Each call and each command line is carried out on the plain archive and on the indexed one, and has to end alike. One
-//! that is not swept is carried out on the first with inputs in pieces of 1 byte, too, and on the second in pieces of 7.
-//! A report of more than 40 lines is printed as `5000 lines SHA256`. What contradicts itself is printed as `WRONG`.
+//! Each call and each command line is carried out on the plain archive and on the indexed one, and has to end alike.
+//! One that is not swept is carried out on the first with inputs in pieces of 1 byte, too, and on the second in pieces
+//! of 7. A report of more than 40 lines is printed as `5000 lines SHA256`. What contradicts itself is printed as `WRONG`.
 
 use crate::calls::Task;
 use crate::desk::{Desk, Tried};
