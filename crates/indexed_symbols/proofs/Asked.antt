@@ -11,6 +11,7 @@ use Rattle.crash_frames.specs.declared.frame.Frame.{Frame}
 use Rattle.command_core.specs.Inputs.{IsRefusal}
 use Rattle.command_core.specs.declared.faults.CommandFault.{CommandFault}
 use Rattle.command_core.specs.declared.faults.CommandFault.TheVariants.{Input, OutOfMemory}
+use Rattle.command_inputs.proofs.Parts.{refusal_of}
 use Rattle.indexed_answers.specs.Among.{AreAnsweringAmong, EntryAt}
 use Rattle.indexed_answers.specs.AmongAsked.{AsksAmong, BlamesAmong, HasText, HaveTexts, each_known}
 use Rattle.indexed_answers.specs.AmongTold.{IsAnswerAmong}
@@ -99,6 +100,5 @@ module _ (frames : List Frame) (asked : List AskedPlace) (of : AreAskedOf frames
 
   pub untold_of_frames : {D : Type 0} (whole : D → Option (List ℕ)) (failures : D → ℕ) (lines : Bool) (all : List (List (List ℕ))) (old new : List (Result D CannotOpen)) (fault : CommandFault)
       → IsRefusal (IsUntoldBy whole failures lines (keys_asked asked) all old new) (NoneFailed failures old new) fault → IsRefusal (IsUntoldBy whole failures lines (keys_of frames) all old new) (NoneFailed failures old new) fault
-  untold_of_frames whole failures lines all old new (Input at why) r = record { key = r.key; key_is = among_frames r.key r.key_is; answering = r.answering; are = r.are; fault = r.fault; told_as = r.told_as; says = r.says; counts = r.counts }
-  untold_of_frames whole failures lines all old new OutOfMemory r = r
-  untold_of_frames whole failures lines all old new fault r = absurd r
+  untold_of_frames whole failures lines all old new fault r =
+      refusal_of _ _ _ _ fault (λ at why u. record { key = u.key; key_is = among_frames u.key u.key_is; answering = u.answering; are = u.are; fault = u.fault; told_as = u.told_as; says = u.says; counts = u.counts }) (λ u. u) r
