@@ -2,5 +2,6 @@
 #![tactic(auto)]
 
 mod functions;
+mod origins;
 
 pub use functions::{Function, Functions};
