@@ -6,4 +6,5 @@ pub mod TakingLemmas
 pub mod StartLemmas
 pub mod RangeLemmas
 pub mod PartLemmas
+pub mod NameLemmas
 pub mod StepLemmas

@@ -1,4 +1,5 @@
 pub mod Links
 pub mod LinkViews
 pub mod Making
+pub mod NameNumbers
 pub mod Taking

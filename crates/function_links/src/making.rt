@@ -53,6 +53,7 @@ impl<'f, 'a> Making<'f, 'a> {
         let count = self.count_of(caller) + 1;
         self.links.push(Link {
             name: function.name,
+            name_number: function.name_number,
             call: function.call,
             caller,
             function: index,
