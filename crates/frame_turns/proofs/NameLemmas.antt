@@ -1,0 +1,64 @@
+-- The numbers that a taker gave to names.
+use Rattle.std.proofs.Common.{◌≡◌, ◌≢◌, ◌∙◌, ℕ, zero, suc, ◌<◌, List, [], ◌∷◌, length, replicate, set, slice_get, Option, Some, None, refl, sym, ap, subst, inl, inr, arith}
+use Rattle.std.proofs.lemmas.Bool.{cases_eq}
+use Rattle.std.proofs.lemmas.List.{get_or-replicate, length-replicate, length-set}
+use Rattle.std.proofs.lemmas.Option.{get_or_from_slice_get, same_Some, slice_get_within}
+use Rattle.function_links.specs.LinkViews.{link_view}
+use Rattle.function_links.specs.NameNumbers.{AreNamesNumbered}
+use Rattle.function_links.specs.declared.links.Link.{Link}
+use Rattle.function_links.specs.declared.links.Links.{Links}
+use Rattle.frame_turns.specs.Taking.{StillTells}
+use Rattle.frame_turns.specs.UnitNumbers.{AreNameNumbers}
+use Rattle.frame_turns.specs.declared.names.Names.{Names}
+
+-- an element after a write
+set_here : {X : Type 0} (xs : List X) (i : ℕ) (x : X) → i < length xs → slice_get (set xs i x) i ≡ Some x
+set_here [] i x h = absurd (omega (arith, h))
+set_here (y ∷ ys) zero x h = refl
+set_here (y ∷ ys) (suc i) x h = set_here ys i x (omega (arith, h))
+
+set_elsewhere : {X : Type 0} (xs : List X) (i j : ℕ) (x : X) → j ≢ i → slice_get (set xs i x) j ≡ slice_get xs j
+set_elsewhere [] i j x h = refl
+set_elsewhere (y ∷ ys) zero zero x h = absurd (h refl)
+set_elsewhere (y ∷ ys) zero (suc j) x h = refl
+set_elsewhere (y ∷ ys) (suc i) zero x h = refl
+set_elsewhere (y ∷ ys) (suc i) (suc j) x h = set_elsewhere ys i j x (λ e. h (ap suc e))
+
+-- none is kept
+pub no_names : (P : ℕ → Option (List ℕ) → Type 0) (links : Links) (names : Names) → names.by_number.items ≡ replicate links.name_count None → AreNameNumbers P links names
+no_names P links names none = record {
+  count = ap (λ (l : List (Option ℕ)). length l) none ∙ length-replicate links.name_count None;
+  each = λ i link number there is.
+      let here : slice_get (replicate links.name_count None) link.name_number ≡ Some (Some number) = ap (λ (l : List (Option ℕ)). slice_get l link.name_number) (sym none) ∙ is in
+      let within : link.name_number < links.name_count = let w = slice_get_within (replicate links.name_count None) link.name_number (Some number) here in let n = length-replicate links.name_count {A = Option ℕ} None in omega (arith, w, n) in
+      let same : Some number ≡ None = sym (get_or_from_slice_get (replicate links.name_count None) link.name_number (Some number) None here) ∙ get_or-replicate links.name_count link.name_number None None within in
+      absurd (cc same);
+}
+
+-- links of one number have one name
+same_name : (count : ℕ) (links : List Link) (i j : ℕ) (a b : Link) → AreNamesNumbered count links → slice_get links i ≡ Some a → slice_get links j ≡ Some b → a.name_number ≡ b.name_number → (link_view a).name ≡ (link_view b).name
+same_name count links i j a b numbered at_a at_b same =
+    same_Some (link_view a).name (link_view b).name (sym (numbered.each i a at_a) ∙ (ap (λ n. slice_get numbered.names n) same ∙ numbered.each j b at_b))
+
+pub number_within : (links : Links) (i : ℕ) (link : Link) → AreNamesNumbered links.name_count links.links.items → slice_get links.links.items i ≡ Some link → link.name_number < links.name_count
+number_within links i link numbered there =
+    let w = slice_get_within numbered.names link.name_number (link_view link).name (numbered.each i link there) in let n = numbered.count_is in omega (arith, w, n)
+
+-- one more is kept
+pub names_more : (P Q : ℕ → Option (List ℕ) → Type 0) (links : Links) (names next : Names) (i number : ℕ) (link : Link) → AreNamesNumbered links.name_count links.links.items → StillTells P Q → AreNameNumbers P links names → slice_get links.links.items i ≡ Some link
+    → Q number (link_view link).name → next.by_number.items ≡ set names.by_number.items link.name_number (Some number) → AreNameNumbers Q links next
+names_more P Q links names next i number link numbered still are there tells wrote = record {
+  count = ap (λ (l : List (Option ℕ)). length l) wrote ∙ (length-set names.by_number.items link.name_number (Some number) ∙ are.count);
+  each = λ j other told at_j is.
+      let now : slice_get (set names.by_number.items link.name_number (Some number)) other.name_number ≡ Some (Some told) = ap (λ (l : List (Option ℕ)). slice_get l other.name_number) (sym wrote) ∙ is in
+      elim (cases_eq other.name_number link.name_number) [
+        | inl same ↦
+            let within : link.name_number < length names.by_number.items = let w = number_within links i link numbered there in let n = are.count in omega (arith, w, n) in
+            let here : slice_get (set names.by_number.items link.name_number (Some number)) other.name_number ≡ Some (Some number) =
+            ap (λ n. slice_get (set names.by_number.items link.name_number (Some number)) n) same ∙ set_here names.by_number.items link.name_number (Some number) within in
+            let equal : number ≡ told = cc (here, now) in
+            let name = same_name links.name_count links.links.items i j link other numbered there at_j (sym same) in
+            subst (λ n. Q n (link_view other).name) equal (subst (λ (n : Option (List ℕ)). Q number n) name tells)
+        | inr not ↦ still told (link_view other).name (are.each j other told at_j (sym (set_elsewhere names.by_number.items link.name_number other.name_number (Some number) not) ∙ now))
+      ];
+}
