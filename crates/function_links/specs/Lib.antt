@@ -1,3 +1,4 @@
+pub mod Apart
 pub mod Links
 pub mod LinkViews
 pub mod Making

@@ -86,10 +86,10 @@ impl<'a> Links<'a> {
         let mut taking = Taking {
             making,
             starts,
-            numbers: vec![in heap; 0; count]?,
+            numbers: vec![in heap.clone()?; 0; count]?,
             waiting,
         };
-        taking.take_all()?;
+        taking.take_all(&heap)?;
         Ok(Links {
             links: taking.making.links,
             starts: taking.starts,
@@ -99,8 +99,9 @@ impl<'a> Links<'a> {
     }
 
     /// The links of a unit, of whose functions and ranges it takes the memory. An address that lies in ranges of
-    /// functions that stand in each other costs its link once: it takes the time of the unit, which is read once, of a
-    /// sort of where ranges begin and end, and of up to 256 functions for each of these addresses.
+    /// functions that stand in each other costs its link once: it takes the time of the unit, which is read once, of
+    /// sorts of each function's ranges and of where all begin and end, and of up to 256 functions for each of these
+    /// addresses.
     pub fn read(
         heap: Heap,
         info: &DebugInfo<'a>,
