@@ -191,7 +191,7 @@ impl<'a> Functions<'a> {
     }
 
     /// The functions of a unit. It takes the time of the unit, which is read once, and of their names, and the memory
-    /// of 100 bytes for each and of 16 for each of their ranges.
+    /// of 100 bytes for each, of 16 for each of their ranges, and of 24 KiB for the places that have names.
     pub fn read(
         heap: Heap,
         info: &DebugInfo<'a>,
