@@ -1,8 +1,8 @@
 -- The numbers that a taker gave to names.
-use Rattle.std.proofs.Common.{◌≡◌, ◌≢◌, ◌∙◌, ℕ, zero, suc, ◌<◌, List, [], ◌∷◌, length, replicate, set, slice_get, Option, Some, None, refl, sym, ap, subst, inl, inr, arith}
+use Rattle.std.proofs.Common.{◌≡◌, ◌≢◌, ◌∙◌, ℕ, zero, suc, ◌<◌, List, [], ◌∷◌, get_or, length, replicate, set, slice_get, Option, Some, None, refl, sym, ap, subst, inl, inr, arith}
 use Rattle.std.proofs.lemmas.Bool.{cases_eq}
 use Rattle.std.proofs.lemmas.List.{get_or-replicate, length-replicate, length-set}
-use Rattle.std.proofs.lemmas.Option.{get_or_from_slice_get, same_Some, slice_get_within}
+use Rattle.std.proofs.lemmas.Option.{get_or_from_slice_get, same_Some, slice_get_read, slice_get_within}
 use Rattle.function_links.specs.LinkViews.{link_view}
 use Rattle.function_links.specs.NameNumbers.{AreNamesNumbered}
 use Rattle.function_links.specs.declared.links.Link.{Link}
@@ -62,3 +62,20 @@ names_more P Q links names next i number link numbered still are there tells wro
         | inr not ↦ still told (link_view other).name (are.each j other told at_j (sym (set_elsewhere names.by_number.items link.name_number other.name_number (Some number) not) ∙ now))
       ];
 }
+
+-- ---- what is read
+
+pub link_read : (links : Links) (index : ℕ) (link : Link) → index < length links.links.items → link ≡ get_or links.links.items index link → slice_get links.links.items index ≡ Some link
+link_read links index link within is = slice_get_read links.links.items (length links.links.items) index link refl within is
+
+pub same_link : (P : ℕ → Option (List ℕ) → Type 0) (links : Links) (index number : ℕ) (link other : Link) → slice_get links.links.items index ≡ Some link → slice_get links.links.items index ≡ Some other → P number (link_view link).name → P number (link_view other).name
+same_link P links index number link other there at_other tells = subst (λ (l : Link). P number (link_view l).name) (same_Some link other (sym there ∙ at_other)) tells
+
+pub slot_within : (P : ℕ → Option (List ℕ) → Type 0) (links : Links) (names : Names) (index : ℕ) (link : Link) → AreNamesNumbered links.name_count links.links.items → AreNameNumbers P links names → slice_get links.links.items index ≡ Some link → link.name_number < length names.by_number.items
+slot_within P links names index link numbered are there = let w = number_within links index link numbered there in let n = are.count in omega (arith, w, n)
+
+pub known_name : (P : ℕ → Option (List ℕ) → Type 0) (links : Links) (names : Names) (index known : ℕ) (link : Link) (slot : Option ℕ) → AreNamesNumbered links.name_count links.links.items → AreNameNumbers P links names → slice_get links.links.items index ≡ Some link
+    → slot ≡ get_or names.by_number.items link.name_number slot → slot ≡ Some known → P known (link_view link).name
+known_name P links names index known link slot numbered are there read is =
+    let at_slot : slice_get names.by_number.items link.name_number ≡ Some slot = slice_get_read names.by_number.items (length names.by_number.items) link.name_number slot refl (slot_within P links names index link numbered are there) read in
+    are.each index link known there (at_slot ∙ ap (λ (s : Option ℕ). Some s) is)
