@@ -1,8 +1,8 @@
 -- The numbers that a taker gave to names.
-use Rattle.std.proofs.Common.{◌≡◌, ◌≢◌, ◌∙◌, ℕ, zero, suc, ◌<◌, List, [], ◌∷◌, get_or, length, replicate, set, slice_get, Option, Some, None, refl, sym, ap, subst, inl, inr, arith}
+use Rattle.std.proofs.Common.{◌≡◌, ◌≢◌, ◌∙◌, ℕ, zero, suc, ◌<◌, List, [], ◌∷◌, get_or, length, set, slice_get, Option, Some, refl, sym, ap, subst, inl, inr, arith}
 use Rattle.std.proofs.lemmas.Bool.{cases_eq}
-use Rattle.std.proofs.lemmas.List.{get_or-replicate, length-replicate, length-set}
-use Rattle.std.proofs.lemmas.Option.{get_or_from_slice_get, same_Some, slice_get_read, slice_get_within}
+use Rattle.std.proofs.lemmas.List.{length-set}
+use Rattle.std.proofs.lemmas.Option.{same_Some, slice_get_read, slice_get_within}
 use Rattle.function_links.specs.LinkViews.{link_view}
 use Rattle.function_links.specs.NameNumbers.{AreNamesNumbered}
 use Rattle.function_links.specs.declared.links.Link.{Link}
@@ -25,15 +25,8 @@ set_elsewhere (y ∷ ys) (suc i) zero x h = refl
 set_elsewhere (y ∷ ys) (suc i) (suc j) x h = set_elsewhere ys i j x (λ e. h (ap suc e))
 
 -- none is kept
-pub no_names : (P : ℕ → Option (List ℕ) → Type 0) (links : Links) (names : Names) → names.by_number.items ≡ replicate links.name_count None → AreNameNumbers P links names
-no_names P links names none = record {
-  count = ap (λ (l : List (Option ℕ)). length l) none ∙ length-replicate links.name_count None;
-  each = λ i link number there is.
-      let here : slice_get (replicate links.name_count None) link.name_number ≡ Some (Some number) = ap (λ (l : List (Option ℕ)). slice_get l link.name_number) (sym none) ∙ is in
-      let within : link.name_number < links.name_count = let w = slice_get_within (replicate links.name_count None) link.name_number (Some number) here in let n = length-replicate links.name_count {A = Option ℕ} None in omega (arith, w, n) in
-      let same : Some number ≡ None = sym (get_or_from_slice_get (replicate links.name_count None) link.name_number (Some number) None here) ∙ get_or-replicate links.name_count link.name_number None None within in
-      absurd (cc same);
-}
+pub no_names : (P : ℕ → Option (List ℕ) → Type 0) (links : Links) (names : Names) → length names.by_number.items ≡ links.name_count → ((n number : ℕ) → slice_get names.by_number.items n ≡ Some (Some number) → ⊥) → AreNameNumbers P links names
+no_names P links names count none = record { count = count; each = λ i link number there is. absurd (none link.name_number number is) }
 
 -- links of one number have one name
 same_name : (count : ℕ) (links : List Link) (i j : ℕ) (a b : Link) → AreNamesNumbered count links → slice_get links i ≡ Some a → slice_get links j ≡ Some b → a.name_number ≡ b.name_number → (link_view a).name ≡ (link_view b).name

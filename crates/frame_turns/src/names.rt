@@ -1,6 +1,6 @@
 //! The numbers that a taker gave to the names of the links of a unit.
 
-ghost use Rattle.std.specs.Prelude.{[], ◌≡◌, ◌<◌, IfOk, OnOk, None, Some, length, replicate, slice_get};
+ghost use Rattle.std.specs.Prelude.{[], ◌≡◌, ◌<◌, ℕ, IfOk, OnOk, Some, length, slice_get};
 ghost use Rattle.frame_turns.specs.Given.{Takes};
 ghost use Rattle.frame_turns.specs.Taking.{StillTells};
 ghost use Rattle.frame_turns.specs.UnitNumbers.{AreNameNumbers};
@@ -21,7 +21,9 @@ pub(crate) struct Names {
 impl Names {
     /// None, of so many.
     pub fn new(heap: Heap, count: usize) -> Result<Names, NoMemory>
-        ensures { IfOk result (λ names. names.by_number.items ≡ replicate count None) }
+        ensures count { IfOk result (λ names. length names.by_number.items ≡ count) }
+        ensures none { IfOk result (λ names. (n number : ℕ)
+            → slice_get names.by_number.items n ≡ Some (Some number) → ⊥) }
     {
         Ok(Names {
             by_number: vec![in heap; None; count]?,

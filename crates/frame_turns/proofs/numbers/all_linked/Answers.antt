@@ -2,6 +2,9 @@ use Rattle.std.proofs.Common.{arith}
 use Rattle.frame_turns.proofs.NumberLemmas.{takes_nothing}
 use Rattle.frame_turns.proofs.numbers.all_linked.Goals as goal
 
+pub links-init : goal.links-init
+links-init g c = ?
+
 pub links-preserved : goal.links-preserved
 links-preserved g c = record {
   within = omega (arith, c.in_ok-push_linked.ensures.count, c.links-test.true);
