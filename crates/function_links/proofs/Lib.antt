@@ -7,4 +7,5 @@ pub mod StartLemmas
 pub mod RangeLemmas
 pub mod ApartLemmas
 pub mod PartLemmas
+pub mod NameLemmas
 pub mod StepLemmas
