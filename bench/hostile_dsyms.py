@@ -102,4 +102,10 @@ def tables(count):
     return made(unit(function(TEXT, CODE)) * count, declared + b"\0")
 
 
-KINDS = (one_list, nested, siblings, tuples, rows, own_ranges, pairs, long_ways, tables)
+def overlapping(count):
+    """A function of many ranges, each in the one before it, in a unit of many entries of one byte."""
+    ranges = b"".join(struct.pack("<QQ", at, CODE - at) for at in range(1, count + 1)) + END
+    return made(unit(b"\x03\0\0\0\0" + b"\x06" * (count // 4 + 8)), b"\0\0\0", ranges=ranges)
+
+
+KINDS = (one_list, nested, siblings, tuples, rows, own_ranges, pairs, long_ways, tables, overlapping)

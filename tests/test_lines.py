@@ -100,6 +100,18 @@ class LinesCase(ProgramCase):
             raise Without("the program has no --lines")
         self.file("empty.sym", EMPTY)
 
+    def compare_program(self, name: str, content: bytes, addresses: Sequence[int], wanted: List[List[str]]) -> None:
+        """What the program prints without an index and with the one that it makes, and the bytes of this."""
+        key = " ".join(key_words(image_of(content).key))
+        self.file("built.sym", archive([content]))
+        self.file("built.frames", "".join(f"{key} - {address:#x}\n" for address in addresses))
+        self.expect(["index", "built.sym", "built.idx"], prints=None)
+        self.has_bytes("built.idx", index([content]))
+        words = ["frames", "--lines", "built.frames", "built.sym"]
+        same(name, kept_lines.frames_in(self.call(*words).lines), wanted)
+        by_index = self.call(*words, "--index", "built.idx")
+        same(f"{name}, by its index", kept_lines.frames_in(by_index.lines), wanted)
+
 
 class Changed(LinesCase):
     """Companions whose DWARF has other bytes at some places: what the program prints is what the model says, with an
@@ -135,6 +147,34 @@ class Changed(LinesCase):
     def test_5_to_9(self) -> None:
         for turn in range(5, 10):
             self.compare(turn)
+
+
+class Overlapping(LinesCase):
+    """Functions of many ranges in any order: some in others, some that begin where others end, some without an
+    address."""
+
+    SIZE = 60
+
+    def functions(self) -> List[Tuple[int, List[Tuple[int, int]]]]:
+        """Functions, each with its depth and its ranges."""
+        found, depth = [], 0
+        for _ in range(16):
+            depth = random.randrange(1, depth + 2)
+            count = random.choice((1, 2, 3, 8, 40))
+            ends = [(random.randrange(1, self.SIZE), random.randrange(1, self.SIZE)) for _ in range(count)]
+            found.append((depth, ends))
+        return found
+
+    def test_any_ranges(self) -> None:
+        frames = 0
+        for turn in range(12):
+            random.seed(turn)
+            content = made_dsyms.of_ranges(self.functions(), self.SIZE)
+            addresses = range(made_dsyms.LOWEST - 1, made_dsyms.LOWEST + self.SIZE + 1)
+            wanted = [lines_by_model(content, it) for it in addresses]
+            frames += sum(map(len, wanted))
+            self.compare_program(f"turn {turn}", content, addresses, wanted)
+        self.assertGreater(frames, 600)
 
 
 class Printed(LinesCase):
@@ -241,18 +281,6 @@ class Built(LinesCase):
             same(f"{path} {address:#x}", own, self.as_here(lines, own, names))
         self.assertGreater(sum(map(len, ours)), 200, path)
         self.compare_program(str(path), content, addresses, ours)
-
-    def compare_program(self, name: str, content: bytes, addresses: Sequence[int], wanted: List[List[str]]) -> None:
-        """What the program prints without an index and with the one that it makes, and the bytes of this."""
-        key = " ".join(key_words(image_of(content).key))
-        self.file("built.sym", archive([content]))
-        self.file("built.frames", "".join(f"{key} - {address:#x}\n" for address in addresses))
-        self.expect(["index", "built.sym", "built.idx"], prints=None)
-        self.has_bytes("built.idx", index([content]))
-        words = ["frames", "--lines", "built.frames", "built.sym"]
-        same(name, kept_lines.frames_in(self.call(*words).lines), wanted)
-        by_index = self.call(*words, "--index", "built.idx")
-        same(f"{name}, by its index", kept_lines.frames_in(by_index.lines), wanted)
 
     def compare_all(self, arch: str, linker: str) -> None:
         for recipe in made_dsyms.all_recipes():

@@ -75,6 +75,35 @@ def companion(
     return b"".join([head, commands, *debug.values(), *([entries, names] if symbols else [])])
 
 
+# 1, a unit with low_pc and stmt_list; 2, a function with ranges and name. A program of lines up to its operations.
+DECLARED = bytes.fromhex("01 1101 1101 1017 0000  02 2e01 5517 0308 0000  00")
+PROGRAM = bytes.fromhex("0400 19000000 010101fb0e0d 000101010100000001000001 00 6100 000000 00")
+
+
+def with_length(body: bytes) -> bytes:
+    return struct.pack("<I", len(body)) + body
+
+
+def of_ranges(functions: Sequence[Tuple[int, Sequence[Code]]], size: int) -> bytes:
+    """A companion of functions, each with its depth, from 1 on, and with where its ranges begin and end in code of this
+    size. Each address has a line of its own."""
+    low = struct.pack("<Q", LOWEST)
+    entries, lists, before = b"", b"", 0
+    for number, (depth, ranges) in enumerate(functions):
+        entries += bytes(before - depth + 1) + b"\x02" + struct.pack("<I", len(lists)) + b"f%d\0" % number
+        lists += b"".join(struct.pack("<QQ", *it) for it in ranges) + bytes(16)
+        before = depth
+    rows = b"\0\x09\x02" + low + (b"\x01\x03\x01\x02\x01") * size + b"\0\x01\x01"
+    debug = {
+        "info": with_length(struct.pack("<HIB", 4, 0, 8) + b"\x01" + low + bytes(4) + entries + bytes(before + 1)),
+        "abbrev": DECLARED,
+        "aranges": with_length(struct.pack("<HIBB4xQQ16x", 2, 0, 8, 0, LOWEST, size)),
+        "ranges": lists,
+        "line": with_length(PROGRAM + rows),
+    }
+    return companion(debug, [(LOWEST, size)])
+
+
 class Elf:
     """An ELF file of 64 bits: its code, its DWARF sections by the names that Mach-O cuts, and its functions."""
 

@@ -3,16 +3,16 @@
 use crate::changes::tell_change;
 use crate::desk::{Desk, Tried};
 use crate::subjects::Change;
-use crate::worlds::tell_world;
 use archive_core::Archive;
+use archive_exchange::run;
 use case_parts::{
     CaseFault, End, Ended, Failing, Left, Picked, Texts, addresses_of, bytes_of, first_word,
     number, tell_asked, tell_fat, tell_front, tell_heaps, tell_image, tell_kind, tell_merging,
     tell_named, tell_nearest, tell_operations, tell_pairs, tell_part, tell_reading, tell_slice,
-    tell_summary, tell_whole, tell_writing,
+    tell_summary, tell_text, tell_whole, tell_writing, text_of,
 };
 use command_line::Line;
-use exchange_script::read_script;
+use exchange_script::{Script, read_script};
 use memory::Heap;
 use plan_commands::Plan;
 use sorted_archive::{IndexedArchive, PlainArchive};
@@ -228,4 +228,21 @@ fn failing_of(words: &str) -> Result<(Failing, usize), CaseFault> {
     let (failing, size) = first_word(words);
     let failing = Failing::of_word(failing).ok_or(CaseFault::BadLine)?;
     Ok((failing, number(size)? as usize))
+}
+
+// Carries out the events of a script on so many sites, and tells how many there were, and what each site holds.
+fn tell_world<A: Archive + Drop>(
+    heap: Heap,
+    script: &Script,
+    sites: u32,
+    told: &mut String,
+) -> Ended {
+    let alloc = *told.allocator();
+    let (world, outcomes) = run::<A>(heap, sites, &script.events)?;
+    writeln!(told, "{} events", outcomes.len())?;
+    for number in 0..world.sites() {
+        write!(told, "site {number} ")?;
+        tell_text(&text_of(alloc, world.site(number).archive())?, told)?;
+    }
+    Ok(())
 }

@@ -306,11 +306,10 @@ along : (wanted : Bool) (content : Operations) (text : List ℕ) (frames : List 
     → ((i : ℕ) (frame : Frame) → slice_get frames i ≡ Some frame → (it : ToldFrame) × (slice_get told i ≡ Some it) × IsFrameTold wanted content text frame it)
     → AllZip (IsFrameTold wanted content text) frames told
 along wanted content text [] [] long each = tt
-along wanted content text [] (it ∷ told) long each = absurd (omega (arith, long))
-along wanted content text (frame ∷ frames) [] long each = absurd (omega (arith, long))
 along wanted content text (frame ∷ frames) (it ∷ told) long each =
     let first = each 0 frame refl in
     (rw (same_Some it first.0 first.1) first.2, along wanted content text frames told (omega (arith, long)) (λ i. each (suc i)))
+along wanted content text frames told long each = absurd (omega (arith, long))
 
 pub all_told : (wanted : Bool) (content : Operations) (frames : List Frame) (asked : List AskedFrame) (count : ℕ) (told : List ToldFrame) (text : List ℕ) → AreLines frames asked → count ≡ length frames → AreTold wanted content asked [] count told text
     → AllZip (IsFrameTold wanted content text) frames told
@@ -326,9 +325,8 @@ told_to_the_end wanted content frames asked left ahead count told text lines man
 -- so each piece of the text is there
 pub pieces : (wanted : Bool) (content : Operations) (text : List ℕ) (frames : List Frame) (told : List ToldFrame) → AllZip (IsFrameTold wanted content text) frames told → AllByRecursion (λ (it : ToldFrame). (it.from ≤ it.to) × (it.to ≤ length text)) told
 pieces wanted content text [] [] are = tt
-pieces wanted content text [] (it ∷ told) are = absurd are
-pieces wanted content text (frame ∷ frames) [] are = absurd are
 pieces wanted content text (frame ∷ frames) (it ∷ told) are = ((are.0.begins, are.0.ends), pieces wanted content text frames told are.1)
+pieces wanted content text frames told are = absurd are
 
 -- what was told, as the definition says it
 record AreRows (wanted : Bool) (content : Operations) (text : List ℕ) (frames : List Frame) (told : List ToldFrame) : Type 0 where
@@ -339,8 +337,6 @@ record AreRows (wanted : Bool) (content : Operations) (text : List ℕ) (frames 
 
 rows_of : (wanted : Bool) (content : Operations) (text : List ℕ) (frames : List Frame) (told : List ToldFrame) → AllZip (IsFrameTold wanted content text) frames told → AreRows wanted content text frames told
 rows_of wanted content text [] [] are = record { rows = []; answered = tt; symbols_are = refl; lines_are = refl }
-rows_of wanted content text [] (it ∷ told) are = absurd are
-rows_of wanted content text (frame ∷ frames) [] are = absurd are
 rows_of wanted content text (frame ∷ frames) (it ∷ told) are =
     let first = are.0 in
     let behind = rows_of wanted content text frames told are.1 in
@@ -350,6 +346,7 @@ rows_of wanted content text (frame ∷ frames) (it ∷ told) are =
       symbols_are = (λ i. first.symbol_is i && behind.symbols_are i);
       lines_are = (λ i. first.lines_are i ++ behind.lines_are i);
     }
+rows_of wanted content text frames told are = absurd are
 
 pub frames_told : (wanted : Bool) (content : Operations) (text : List ℕ) (frames : List Frame) (told : List ToldFrame) (status : Status) (lines : List ℕ) → AllZip (IsFrameTold wanted content text) frames told
     → status ≡ (if list_all (λ (it : ToldFrame). it.is_symbol) told then Done else Partial) → lines ≡ flat_map (λ (it : ToldFrame). slice_range text it.from it.to) told

@@ -1,6 +1,5 @@
 -- Inputs that are made one after another.
-use Rattle.std.proofs.Common.{◌≡◌, ◌∙◌, ℕ, ◌+◌, ◌<◌, List, [], ◌∷◌, ◌++◌, length, take, map, get_or, ap, sym}
-use Rattle.std.proofs.Common.{Option, append_assoc, refl}
+use Rattle.std.proofs.Common.{◌≡◌, ◌∙◌, ℕ, ◌+◌, ◌<◌, List, [], ◌∷◌, ◌++◌, length, take, map, get_or, ap, sym, Option, append_assoc, refl}
 use Rattle.std.proofs.lemmas.List.{map_more, take-map}
 use Rattle.std.specs.List.{AllZip}
 use Rattle.byte_device.specs.Disks.{FileAt, Path}
@@ -9,7 +8,7 @@ use Rattle.byte_device.specs.declared.Placed.{Ghosts as Places}
 use Rattle.archive_files.specs.AtTurns.{told_by}
 use Rattle.archive_files.specs.declared.disks.Disk.{Ghosts as Disks}
 use Rattle.archive_files.specs.declared.input_state.AtTurn.{AtTurn}
-use Rattle.archive_files.specs.InputStates.{AreFirstAsked, IsWaiting, Open, Unopened, Waiting, bytes_at, left_in, stage_of}
+use Rattle.archive_files.specs.InputStates.{AreFirstAsked, IsWaiting, Waiting, bytes_at, left_in, stage_of}
 use Rattle.archive_files.specs.declared.input_state.InputState.{InputState}
 use Rattle.archive_files.specs.declared.input_state.InputState.TheVariants as state
 use Rattle.command_core.proofs.Readers.{pairs_more as zip_more}
@@ -39,18 +38,7 @@ first_asked f xs i first last is = (i, is ∙ ap (λ more. first ++ more) (sym (
 waits_for : {I P : Type 0} (left : I → Option (List ℕ)) (file : FileAt) (t : InputState I P) → stage_of t ≡ Waiting
     → left_in left file t ≡ bytes_at file
 waits_for left file state.Waiting is = refl
-waits_for left file (state.Open input) is = absurd (apart is)
-  where
-    apart : Open ≡ Waiting → ⊥
-    apart e = cc
-waits_for left file (state.Placed places) is = absurd (apart is)
-  where
-    apart : Open ≡ Waiting → ⊥
-    apart e = cc
-waits_for left file (state.Unopened why) is = absurd (apart is)
-  where
-    apart : Unopened why ≡ Waiting → ⊥
-    apart e = cc
+waits_for left file t is = cc
 
 -- and it waits
 pub is_waiting : {D I P : Type 0} (disk : Disks D I P) (input : Sources I) (places : Places P)

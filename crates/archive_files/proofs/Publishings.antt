@@ -1,42 +1,22 @@
 -- What was called for OUT, one call more at a time.
-use Rattle.std.proofs.Common.{◌≡◌, ◌∙◌, ◌⊎◌, ℕ, true, false, List, [], ◌∷◌, ◌++◌, length, map, Ok, Option, Some, None, refl, sym, ap, inl, inr}
-use Rattle.std.proofs.Common.{append_assoc, append-nil, arith, subst, ◌<◌, ◌+◌, ◌==◌, take, ◌≤◌}
+use Rattle.std.proofs.Common.{◌≡◌, ◌∙◌, ◌⊎◌, ℕ, true, false, List, [], ◌∷◌, ◌++◌, length, map, Ok, Option, Some, None, refl, sym, ap, inl, inr, append_assoc, append-nil, arith, subst, ◌<◌, ◌+◌, ◌==◌, take, ◌≤◌}
 use Rattle.std.proofs.lemmas.List.{length-append, length-take-le, map-append}
 use Rattle.std.proofs.lemmas.Bool.{and_parts}
 use Rattle.std.proofs.lemmas.Grind.{not_there}
 use Rattle.std.specs.List.{concat}
 use Rattle.archive_records.proofs.Puts.{concat-push}
-use Rattle.archive_files.specs.FileCalls.{FileCall, Creates, Opens, Writes, Syncs, Renames, SyncsFolder, Removes}
-use Rattle.archive_files.specs.FileCalls.{Agrees, Covers, FindsFile, FindsNoArchive, FindsNoLink, FindsNothing, FindsOther, Leads, Loses}
-use Rattle.archive_files.specs.FileCalls.{are_probes, bytes_in, drafting, publishing, writing}
-use Rattle.archive_files.specs.OutFiles.{IsSoFar, Stage, Untouched, Through, Drafted, Refused, Removed, Settled}
-use Rattle.archive_files.specs.OutFiles.{WritesTo, draft_account, has_calls, is_drafted, is_settled, takes_bytes}
+use Rattle.archive_files.specs.FileCalls.{FileCall, Creates, Opens, Writes, Syncs, Removes, are_probes, bytes_in, drafting, publishing, writing}
+use Rattle.archive_files.specs.OutFiles.{IsSoFar, Stage, Untouched, Through, Drafted, WritesTo, draft_account, has_calls, is_drafted, is_settled, takes_bytes}
 use Rattle.archive_files.specs.declared.out_file.OutState.{OutState}
 use Rattle.archive_files.specs.declared.out_file.OutState.TheVariants as state
-use Rattle.archive_files.specs.Publishing.{HandsOn, IsBeside, IsDrafted, IsPublished, IsTargetOf, IsTested, IsWritable}
-use Rattle.archive_files.specs.Publishing.{IsWrittenThrough, account, folder_of, number_of, place, took_nothing}
+use Rattle.archive_files.specs.Publishing.{HandsOn, IsBeside, IsDrafted, IsPublished, IsTargetOf, IsTested, IsWritable, IsWrittenThrough, account, folder_of, number_of, place, took_nothing}
 use Rattle.archive_files.specs.declared.replaceable.Replaces.{Replaces}
-use Rattle.archive_files.specs.declared.replaceable.Replaces.TheVariants.{OwnFiles, ArchivesBelow, SameBytes}
+use Rattle.archive_files.specs.declared.replaceable.Replaces.TheVariants.{ArchivesBelow}
 
 -- the bytes of some calls and of others behind them
 pub bytes_append : (xs ys : List FileCall) → bytes_in (xs ++ ys) ≡ bytes_in xs ++ bytes_in ys
 bytes_append [] ys = refl
-bytes_append (FindsFile p ∷ xs) ys = bytes_append xs ys
-bytes_append (FindsOther p ∷ xs) ys = bytes_append xs ys
-bytes_append (FindsNothing p ∷ xs) ys = bytes_append xs ys
-bytes_append (FindsNoLink p ∷ xs) ys = bytes_append xs ys
-bytes_append (Leads p q ∷ xs) ys = bytes_append xs ys
-bytes_append (FindsNoArchive p ∷ xs) ys = bytes_append xs ys
-bytes_append (Covers p q ∷ xs) ys = bytes_append xs ys
-bytes_append (Loses p q ∷ xs) ys = bytes_append xs ys
-bytes_append (Agrees p q ∷ xs) ys = bytes_append xs ys
-bytes_append (Creates p ∷ xs) ys = bytes_append xs ys
-bytes_append (Opens p ∷ xs) ys = bytes_append xs ys
-bytes_append (Writes b ∷ xs) ys = ap (λ t. b ++ t) (bytes_append xs ys) ∙ sym (append_assoc b (bytes_in xs) (bytes_in ys))
-bytes_append (Syncs ∷ xs) ys = bytes_append xs ys
-bytes_append (Renames p q ∷ xs) ys = bytes_append xs ys
-bytes_append (SyncsFolder p ∷ xs) ys = bytes_append xs ys
-bytes_append (Removes p ∷ xs) ys = bytes_append xs ys
+bytes_append (call ∷ xs) ys = grind (arith, bytes_append xs ys, append_assoc)
 
 -- calls that write nothing leave the bytes
 pub bytes_same : (xs ys : List FileCall) → bytes_in ys ≡ [] → bytes_in (xs ++ ys) ≡ bytes_in xs
@@ -45,22 +25,7 @@ bytes_same xs ys none = bytes_append xs ys ∙ ap (λ t. bytes_in xs ++ t) none 
 -- calls that only ask write nothing
 pub probes_bytes : (probes : List FileCall) → are_probes probes ≡ true → bytes_in probes ≡ []
 probes_bytes [] are = refl
-probes_bytes (FindsFile p ∷ probes) are = probes_bytes probes are
-probes_bytes (FindsOther p ∷ probes) are = probes_bytes probes are
-probes_bytes (FindsNothing p ∷ probes) are = probes_bytes probes are
-probes_bytes (FindsNoLink p ∷ probes) are = probes_bytes probes are
-probes_bytes (Leads p q ∷ probes) are = probes_bytes probes are
-probes_bytes (FindsNoArchive p ∷ probes) are = probes_bytes probes are
-probes_bytes (Covers p q ∷ probes) are = probes_bytes probes are
-probes_bytes (Loses p q ∷ probes) are = probes_bytes probes are
-probes_bytes (Agrees p q ∷ probes) are = probes_bytes probes are
-probes_bytes (Creates p ∷ probes) are = cc
-probes_bytes (Opens p ∷ probes) are = cc
-probes_bytes (Writes b ∷ probes) are = cc
-probes_bytes (Syncs ∷ probes) are = cc
-probes_bytes (Renames p q ∷ probes) are = cc
-probes_bytes (SyncsFolder p ∷ probes) are = cc
-probes_bytes (Removes p ∷ probes) are = cc
+probes_bytes (call ∷ probes) are = grind (arith, are, probes_bytes probes)
 
 bytes_behind : (probes ys : List FileCall) → are_probes probes ≡ true → bytes_in (probes ++ ys) ≡ bytes_in ys
 bytes_behind probes ys are = bytes_append probes ys ∙ ap (λ t. t ++ bytes_in ys) (probes_bytes probes are)
@@ -121,26 +86,11 @@ more_drafted path draft target bytes calls d = record {
 -- more bytes are written
 pub more_so_far : (path : Option (List ℕ)) (stage : Stage) (calls : List FileCall) (bytes : List ℕ)
     → takes_bytes stage ≡ true → IsSoFar path stage calls → IsSoFar path stage (calls ++ Writes bytes ∷ [])
-more_so_far path Untouched calls bytes takes so = absurd (never takes)
-  where
-    never : false ≡ true → ⊥
-    never h = cc
 more_so_far path Through calls bytes takes so =
     (so.0, so.1, so.2 ++ bytes, more_through so.0 so.2 bytes calls so.3)
 more_so_far path (Drafted draft target) calls bytes takes so =
     (so.0, so.1, more_drafted so.0 draft target bytes calls so.2)
-more_so_far path (Refused fault) calls bytes takes so = absurd (never takes)
-  where
-    never : false ≡ true → ⊥
-    never h = cc
-more_so_far path Removed calls bytes takes so = absurd (never takes)
-  where
-    never : false ≡ true → ⊥
-    never h = cc
-more_so_far path Settled calls bytes takes so = absurd (never takes)
-  where
-    never : false ≡ true → ⊥
-    never h = cc
+more_so_far path stage calls bytes takes so = cc
 
 -- what went through is at the path
 pub hands_on_through : (path : Option (List ℕ)) (replaces : Replaces) (calls : List FileCall)
@@ -162,10 +112,9 @@ hands_on_through path replaces calls so =
 
 pub tested_probes : (replaces : Replaces) (draft target : List ℕ) (tests : List FileCall)
     → IsTested replaces draft target tests → are_probes tests ≡ true
-tested_probes OwnFiles draft target tests is = ap are_probes is
 tested_probes ArchivesBelow draft target tests (inl none) = ap are_probes none
 tested_probes ArchivesBelow draft target tests (inr covers) = ap are_probes covers
-tested_probes SameBytes draft target tests is = ap are_probes is
+tested_probes replaces draft target tests is = ap are_probes is
 
 -- and so is what was drafted and put in place
 pub hands_on_draft : (path : Option (List ℕ)) (replaces : Replaces) (draft target : List ℕ) (calls new : List FileCall)
@@ -223,40 +172,24 @@ removed_bytes draft calls new (tests, are, inr synced) =
 -- ---- states
 
 drafted_has_calls : (stage : Stage) → is_drafted stage ≡ true → has_calls stage ≡ false → ⊥
-drafted_has_calls Untouched drafted without = cc
-drafted_has_calls Through drafted without = cc
 drafted_has_calls (Drafted d t) drafted without = cc
-drafted_has_calls (Refused f) drafted without = cc
-drafted_has_calls Removed drafted without = cc
-drafted_has_calls Settled drafted without = cc
+drafted_has_calls stage drafted without = cc
 
 pub takes_has_calls : (stage : Stage) → takes_bytes stage ≡ true → has_calls stage ≡ false → ⊥
-takes_has_calls Untouched takes without = cc
-takes_has_calls Through takes without = cc
 takes_has_calls (Drafted d t) takes without = cc
-takes_has_calls (Refused f) takes without = cc
-takes_has_calls Removed takes without = cc
-takes_has_calls Settled takes without = cc
+takes_has_calls stage takes without = cc
 
 takes_unsettled : (stage : Stage) → takes_bytes stage ≡ true → is_settled stage ≡ false
-takes_unsettled Untouched takes = cc
-takes_unsettled Through takes = refl
 takes_unsettled (Drafted d t) takes = refl
-takes_unsettled (Refused f) takes = refl
-takes_unsettled Removed takes = refl
-takes_unsettled Settled takes = cc
+takes_unsettled stage takes = cc
 
 -- a draft was created
 drafted_some : (path : Option (List ℕ)) (stage : Stage) (calls : List FileCall) → is_drafted stage ≡ true → calls ≡ []
     → IsSoFar path stage calls → ⊥
-drafted_some path Untouched calls drafted none so = cc
-drafted_some path Through calls drafted none so = cc
 drafted_some path (Drafted d t) calls drafted none so =
     let some = ap length (sym none ∙ so.2.calls_are) ∙ length-append so.2.probes (drafting d so.2.pieces) in
     grind (arith, some)
-drafted_some path (Refused f) calls drafted none so = cc
-drafted_some path Removed calls drafted none so = cc
-drafted_some path Settled calls drafted none so = cc
+drafted_some path stage calls drafted none so = cc
 
 -- what was neither begun nor has what was called is as it was
 pub kept_empty : (old new : Stage) (calls after : List FileCall)
@@ -323,19 +256,6 @@ failed_some bytes failures none =
 -- what was taken is so whatever an error would have said
 pub written_anyhow : {T : Type 0} (D E : Type 0) (contents : T → Option (List ℕ)) (old new : OutState T) (n : ℕ) (bytes : List ℕ)
     → WritesTo {E = D} contents old new (Ok n) bytes → WritesTo {E = E} contents old new (Ok n) bytes
-written_anyhow D E contents state.Untouched new n bytes writes = cc
 written_anyhow D E contents (state.Through f) state.Untouched n bytes writes = writes
-written_anyhow D E contents (state.Through f) (state.Through g) n bytes writes = writes
-written_anyhow D E contents (state.Through f) (state.Drafted g) n bytes writes = writes
-written_anyhow D E contents (state.Through f) (state.Refused g) n bytes writes = writes
-written_anyhow D E contents (state.Through f) state.Removed n bytes writes = writes
-written_anyhow D E contents (state.Through f) state.Settled n bytes writes = writes
 written_anyhow D E contents (state.Drafted f) state.Untouched n bytes writes = writes
-written_anyhow D E contents (state.Drafted f) (state.Through g) n bytes writes = writes
-written_anyhow D E contents (state.Drafted f) (state.Drafted g) n bytes writes = writes
-written_anyhow D E contents (state.Drafted f) (state.Refused g) n bytes writes = writes
-written_anyhow D E contents (state.Drafted f) state.Removed n bytes writes = writes
-written_anyhow D E contents (state.Drafted f) state.Settled n bytes writes = writes
-written_anyhow D E contents (state.Refused f) new n bytes writes = cc
-written_anyhow D E contents state.Removed new n bytes writes = cc
-written_anyhow D E contents state.Settled new n bytes writes = cc
+written_anyhow D E contents old new n bytes writes = writes

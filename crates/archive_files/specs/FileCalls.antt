@@ -62,15 +62,6 @@ compared draft target lost = if lost == 0 then Covers draft target else Loses dr
 
 -- a call that only asks
 abbrev pub is_probe : FileCall → Bool
-is_probe (FindsFile path) = true
-is_probe (FindsOther path) = true
-is_probe (FindsNothing path) = true
-is_probe (FindsNoLink path) = true
-is_probe (Leads path target) = true
-is_probe (FindsNoArchive path) = true
-is_probe (Covers draft target) = true
-is_probe (Loses draft target) = true
-is_probe (Agrees draft target) = true
 is_probe (Creates path) = false
 is_probe (Opens path) = false
 is_probe (Writes bytes) = false
@@ -78,6 +69,7 @@ is_probe Syncs = false
 is_probe (Renames draft target) = false
 is_probe (SyncsFolder path) = false
 is_probe (Removes path) = false
+is_probe _ = true
 
 -- the calls only ask
 abbrev pub are_probes : List FileCall → Bool

@@ -5,11 +5,8 @@ use Rattle.std.specs.Str.{bytes_eq}
 use Rattle.std.proofs.lemmas.Bool.{and_parts, false_from_ne_true, or_right}
 use Rattle.std.proofs.lemmas.List.{append-nil, take_all}
 use Rattle.std.proofs.lemmas.Slice.Eq.{bytes_eq-Decides}
-use Rattle.archive_files.specs.FileCalls.{FileCall, Creates, Opens, Writes, Syncs, Renames, SyncsFolder, Removes}
-use Rattle.archive_files.specs.FileCalls.{FindsFile, FindsOther, FindsNothing, FindsNoLink, Leads, FindsNoArchive}
-use Rattle.archive_files.specs.FileCalls.{Agrees, Covers, Loses, are_probes, drafting, is_probe, publishing, writing}
-use Rattle.archive_files.specs.Publishing.{IsDescriptor, IsDraftRemoved, IsDrafted, IsReplaced, IsTargetOf}
-use Rattle.archive_files.specs.Publishing.{IsWritable, IsWrittenThrough, folder_of}
+use Rattle.archive_files.specs.FileCalls.{FileCall, Creates, Opens, Writes, Syncs, Renames, SyncsFolder, Removes, FindsFile, FindsOther, FindsNothing, FindsNoLink, Leads, FindsNoArchive, Agrees, Covers, Loses, are_probes, drafting, is_probe, publishing, writing}
+use Rattle.archive_files.specs.Publishing.{IsDescriptor, IsDraftRemoved, IsDrafted, IsReplaced, IsTargetOf, IsWritable, IsWrittenThrough, folder_of}
 use Rattle.archive_files.specs.declared.replaceable.Replaces.{Replaces}
 use Rattle.archive_files.proofs.Publishings.{target_probes, tested_probes}
 use Rattle.archive_laws.specs.Crashes.{DraftState, MayBeAt, Old, New, Torn, Touched, behind, no_draft, replay}
@@ -31,15 +28,6 @@ IsStill d = (d.renamed ≡ false) × (d.touched ≡ false)
 -- ---- calls that only ask
 
 asks : (target : List ℕ) (d : DraftState) (call : FileCall) → is_probe call ≡ true → behind target d call ≡ d
-asks target d (FindsFile p) probe = refl
-asks target d (FindsOther p) probe = refl
-asks target d (FindsNothing p) probe = refl
-asks target d (FindsNoLink p) probe = refl
-asks target d (Leads p q) probe = refl
-asks target d (FindsNoArchive p) probe = refl
-asks target d (Covers p q) probe = refl
-asks target d (Agrees p q) probe = refl
-asks target d (Loses p q) probe = refl
 asks target d (Creates p) probe = cc
 asks target d (Opens p) probe = cc
 asks target d (Writes b) probe = cc
@@ -47,6 +35,7 @@ asks target d Syncs probe = cc
 asks target d (Renames p q) probe = cc
 asks target d (SyncsFolder p) probe = cc
 asks target d (Removes p) probe = cc
+asks target d call probe = refl
 
 -- what holds behind any of some calls holds behind any of them where calls that only ask come first
 behind_probes : (target : List ℕ) (P : DraftState → Type 0) (probes rest : List FileCall) (n : ℕ) (d : DraftState)
@@ -87,9 +76,7 @@ module _ (draft target folder : List ℕ) (other : draft ≢ target) (tests : Li
       → IsWhole text (fold (behind target) d (take n placed))
   three text d zero still is = unrenamed text d still.0 still.1
   three text d (suc zero) still is = unrenamed text _ still.0 still.1
-  three text d (suc (suc zero)) still is = record { synced = λ _. refl; bytes = λ _. is; untouched = still.1 }
-  three text d (suc (suc (suc zero))) still is = record { synced = λ _. refl; bytes = λ _. is; untouched = still.1 }
-  three text d (suc (suc (suc (suc n)))) still is = record { synced = λ _. refl; bytes = λ _. is; untouched = still.1 }
+  three text d n still is = record { synced = λ _. refl; bytes = λ _. is; untouched = still.1 }
 
   ends : (text : List ℕ) (d : DraftState) (n : ℕ) → IsStill d → d.bytes ≡ text
       → IsWhole text (fold (behind target) d (take n last))
@@ -161,9 +148,8 @@ leaves_text text before _ d is kept (Touched touched left) = cc (is.untouched)
 
 leaves_it : (before left : Option (List ℕ)) (d : DraftState) → IsStill d → MayBeAt before d left → left ≡ before
 leaves_it before _ d still (Old kept) = refl
-leaves_it before _ d still (New renamed synced) = cc still.0
-leaves_it before _ d still (Torn renamed unsynced left) = cc still.0
 leaves_it before _ d still (Touched touched left) = cc still.1
+leaves_it before _ d still a = cc still.0
 
 -- ---- behind some of the calls, and behind all
 

@@ -60,11 +60,10 @@ each_alone lines input others o _ _ given all = absurd all
 one_row : (lines : Bool) (o : Operations) (frame : Frame) (told : Told) (rows : List Answered) → map (λ (row : Answered). row.address) rows ≡ frame.address ∷ []
     → AllByRecursion (IsAnswered o frame.key frame.load lines) rows → told.status ≡ answers_status rows → told.text ≡ answers_text rows
     → (row : Answered) × IsFrameAnswered lines o frame row × (told ≡ alone_told row)
-one_row lines o frame told [] are all status text = cc
 one_row lines o frame told (row ∷ []) are all status text =
     let address : row.address ≡ frame.address = cc in
     (row, (address, all.0), λ i. record { status = status i; text = text i })
-one_row lines o frame told (row ∷ next ∷ rows) are all status text = cc
+one_row lines o frame told rows are all status text = cc
 
 each_row : {S T : Type 0} (lines : Bool) (input : Reader S) (others : List (Reader T)) (o : Operations) (frames : List Frame) (told : List Told) → IsGivenJoin input others o
     → AllZip (IsToldAlone lines input others) frames told → (rows : List Answered) × AllZip (IsFrameAnswered lines o) frames rows × (told ≡ map alone_told rows)

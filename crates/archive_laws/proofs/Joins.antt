@@ -23,7 +23,7 @@ each_holds [] [] given = tt
 each_holds (file ∷ files) (o ∷ contents) given = (holds file o given.0, each_holds files contents given.1)
 each_holds _ _ given = absurd given
 
-merged_is : (o : Operations) (contents : List Operations) → IsContent o → AllByRecursion IsContent contents → IsContent (merged o contents)
+pub merged_is : (o : Operations) (contents : List Operations) → IsContent o → AllByRecursion IsContent contents → IsContent (merged o contents)
 merged_is o [] content are = content
 merged_is o (p ∷ contents) content are = merged_is (joined o p) contents (joined_content o p content are.0) are.1
 

@@ -19,8 +19,7 @@ use Rattle.command_core.specs.declared.faults.Why.{Why}
 use Rattle.command_core.specs.Archives.{AreRefused, AreUnfailed, HoldTogether, further_name, merged}
 use Rattle.command_core.specs.Ends.{Query}
 use Rattle.command_core.specs.Found.{TellsFound, found_status}
-use Rattle.command_core.specs.Inputs.{Reader, EachUntouched, HoldsArchive, IsArchive, IsArchiveRefused, IsDeviceFault, IsFirstRefused, IsFrames, IsFramesRefused}
-use Rattle.command_core.specs.Inputs.{IsGivenArchive, IsRefusedArchive, IsRefusedInOrder, IsRefusedInTurn}
+use Rattle.command_core.specs.Inputs.{Reader, EachUntouched, HoldsArchive, IsArchive, IsArchiveRefused, IsDeviceFault, IsFirstRefused, IsFrames, IsFramesRefused, IsGivenArchive, IsRefusedArchive, IsRefusedInOrder, IsRefusedInTurn}
 use Rattle.command_core.specs.Outputs.{Takes}
 use Rattle.archive_exchange.specs.ModelEvent.{ModelEvent, AreSeen}
 use Rattle.exchange_script.specs.Script.{acts, script_of}
@@ -60,12 +59,10 @@ ends_alike query other made one left right report another (Err (Input at why)) (
     absurd (going (right b.1.status b.1.text at why b.1.makes a.0))
 ends_alike query other made one left right report another (Err (Input at why)) (Err (Input name reason)) a b going going_too =
     let same = one at name why reason a.0 b.0 going going_too in (λ i. Err (Input (same.0 i) (same.1 i)), ([], a.1, b.1))
-ends_alike query other made one left right report another (Err (Output _)) ended a b going going_too = absurd (going tt)
-ends_alike query other made one left right report another (Err (Report _)) ended a b going going_too = absurd (going tt)
-ends_alike query other made one left right report another (Err OutOfMemory) ended a b going going_too = absurd (going tt)
 ends_alike query other made one left right report another result (Err (Output _)) a b going going_too = absurd (going_too tt)
 ends_alike query other made one left right report another result (Err (Report _)) a b going going_too = absurd (going_too tt)
 ends_alike query other made one left right report another result (Err OutOfMemory) a b going going_too = absurd (going_too tt)
+ends_alike query other made one left right report another d ended a b going going_too = absurd (going tt)
 
 -- ---- archives
 

@@ -1,6 +1,5 @@
 -- A script has one report, and is refused for its device alone.
-use Rattle.std.proofs.Common.{◌≡◌, ℕ, ◌+◌, List, [], ◌∷◌, ◌++◌, length, map, codes, refl, sym, ap, ap₂, ◌∙◌, subst}
-use Rattle.std.proofs.Common.{Option, Result, Ok, Err, true, if◌then◌else◌}
+use Rattle.std.proofs.Common.{◌≡◌, ℕ, ◌+◌, List, [], ◌∷◌, ◌++◌, length, map, codes, refl, sym, ap, ap₂, ◌∙◌, subst, Option, Result, Ok, Err, true, if◌then◌else◌}
 use Rattle.std.specs.Prelude.{slice_index_or}
 use Rattle.std.specs.Fmt.{decimal}
 use Rattle.std.specs.List.{AllZip}
@@ -68,13 +67,12 @@ by_seen e s is = is
 
 same_seen : (es fs : List Event) (ss : List ModelEvent) → acts es ≡ acts fs → AreSeen es ss → AreSeen fs ss
 same_seen [] [] ss same are = are
-same_seen [] (f ∷ fs) ss same are = cc
-same_seen (e ∷ es) [] ss same are = cc
 same_seen (e ∷ es) (f ∷ fs) [] same are = absurd are
 same_seen (e ∷ es) (f ∷ fs) (s ∷ ss) same are =
     let first : act_of e ≡ act_of f = cc in
     let rest : acts es ≡ acts fs = cc in
     (by_seen f s (subst (λ a. IsSeenAct a s) first (seen_by e s are.0)), same_seen es fs ss rest are.1)
+same_seen es fs ss same are = cc
 
 -- the text of what is answered
 abbrev answer_text : List (List ℕ) → model.Outcome TakeFault → List ℕ

@@ -27,8 +27,7 @@ use Rattle.command_core.specs.declared.faults.InputName.{InputName}
 use Rattle.command_core.specs.declared.faults.InputName.TheVariants.{Archive}
 use Rattle.command_core.specs.declared.faults.Why.{Why}
 use Rattle.command_core.specs.declared.faults.Why.TheVariants.{Device as CannotRead, Record, Take, Script as Faulty, CannotOpen as NotOpened, BadFrame}
-use Rattle.command_core.specs.Inputs.{Reader, reader, Gives, IsDeviceFault, IsGiven, IsArchive, IsAccepted, IsArchiveRefused, IsFileRefused, IsFirstRefused}
-use Rattle.command_core.specs.Inputs.{IsFramesRefused, IsRefusedArchive, IsRefusedInTurn, IsScriptRefused, IsTextRefused}
+use Rattle.command_core.specs.Inputs.{Reader, reader, Gives, IsDeviceFault, IsGiven, IsArchive, IsAccepted, IsArchiveRefused, IsFileRefused, IsFirstRefused, IsFramesRefused, IsRefusedArchive, IsRefusedInTurn, IsScriptRefused, IsTextRefused}
 use Rattle.archive_laws.specs.Refusals.{EachHoldAlike, HoldAlike, IsUnopened, RefuseOne}
 use Rattle.archive_laws.proofs.Accepted.{file, text}
 use Rattle.archive_laws.proofs.Given.{is_given, known}

@@ -68,16 +68,14 @@ takens_again f (t ∷ ts) (r ∷ rs) = taken_again (f r) t ∷ takens_again f ts
 
 file_again : (f : List ℕ → Bool) (index slice : ℕ) (ts : List Taken) (rs : List (List ℕ)) → rows_again f (file_rows index slice ts) rs ≡ file_rows index slice (takens_again f ts rs)
 unfolding rows_again file_rows takens_again
-file_again f index slice [] rs = refl
-file_again f index slice (t ∷ ts) [] = refl
 file_again f index slice (t ∷ ts) (r ∷ rs) = ap (λ (rest : List AdmitRow). record { file = index; slice = slice; taken = taken_again (f r) t } ∷ rest) (file_again f index (slice + 1) ts rs)
+file_again f index slice ts rs = refl
 
 again_append : (f : List ℕ → Bool) (xs ys : List AdmitRow) (rs ss : List (List ℕ)) → length rs ≡ length xs → rows_again f (xs ++ ys) (rs ++ ss) ≡ rows_again f xs rs ++ rows_again f ys ss
 unfolding rows_again
 again_append f [] ys [] ss long = refl
-again_append f [] ys (_ ∷ _) ss long = absurd (omega (arith, long))
-again_append f (_ ∷ _) ys [] ss long = absurd (omega (arith, long))
 again_append f (x ∷ xs) ys (r ∷ rs) ss long = let rest : length rs ≡ length xs = omega (arith, long) in ap (λ (rows : List AdmitRow). row_again (f r) x ∷ rows) (again_append f xs ys rs ss rest)
+again_append f xs ys rs ss long = absurd (omega (arith, long))
 
 file_long : (index slice : ℕ) (ts : List Taken) → length (file_rows index slice ts) ≡ length ts
 unfolding file_rows

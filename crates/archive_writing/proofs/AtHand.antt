@@ -131,26 +131,23 @@ module _ {S : Type 0} (left2 : S → Option (List ℕ)) (failures2 : S → ℕ) 
     -- what stopped it stops the command
     stops : (cause : MergeCause) (n : ℕ) (fault : CommandFault) → StopsBy (stream left failures l l') other (stream held draft_failures w w') cause n → HasFirst (joining input p) (IsKnown input) draft n
         → IsMergeFaultTold (record { cause = cause; written = n }) fault → StopsAmidst (joining input p) (IsKnown input) draft fault
-    stops cause n (Report k) s f t = absurd t
     stops (Left why) n (Input place says) s f t = ((t.0, (l', refl, why, t.1, t.2, s.refused)), s.out_unfailed, (n, f))
     stops (Left why) n (Output k) s f t = absurd (cc (ap (λ (e : MergeFault). e.cause) t))
     stops (Left why) n OutOfMemory s f t = (s.refused.0.blames.1 (λ device. cc), s.out_unfailed, (n, f))
     stops (Right why) n (Input place says) s f t = absurd (t.2 (right_memory why s.refused))
     stops (Right why) n (Output k) s f t = absurd (cc (ap (λ (e : MergeFault). e.cause) t))
     stops (Right why) n OutOfMemory s f t = (s.left_unfailed, s.out_unfailed, (n, f))
-    stops Write n (Input place says) s f t = absurd t
     stops Write n (Output k) s f t = (s.left_unfailed, s.failed, subst (HasFirst (joining input p) (IsKnown input) draft) (ap (λ (e : MergeFault). e.written) t) f)
-    stops Write n OutOfMemory s f t = absurd t
+    stops cause n fault s f t = absurd t
 
     pub stopped_opened : (e : MergeFault) (fault : CommandFault) → MergesSo (Err e) → IsMergeFaultTold e fault → StopsAmidst (joining input p) (IsKnown input) draft fault
     stopped_opened e fault merges told = stops e.cause e.written fault merges.0 (first e merges) told
 
 -- what is told of OUT is how much was written when the merge was stopped
 pub counted : (e : MergeFault) (fault : CommandFault) (k n : ℕ) → k ≡ e.written → IsMergeFaultTold e fault → fault ≡ Output n → n ≡ k
-counted e (Input at why) k n is told h = cc
 counted e (Output m) k n is told h = cc (ap (λ (f : MergeFault). f.written) told)
 counted e (Report m) k n is told h = absurd told
-counted e OutOfMemory k n is told h = cc
+counted e fault k n is told h = cc
 
 -- its draft took as much
 pub taken_of : {W : Type 0} (held : W → Option (List ℕ)) (failures : W → ℕ) (w w' : W) (e : MergeFault) (fault : CommandFault) → GainsCount (stream held failures w w') e.written → IsMergeFaultTold e fault → HasTaken (writer held failures w w') fault

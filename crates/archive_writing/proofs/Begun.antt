@@ -1,6 +1,6 @@
 -- How a command ends that writes OUT as an input comes, with what its draft has where it is stopped.
 use Rattle.std.proofs.Common.{ℕ, List, [], Option, Result, Ok, Err, refl, inl, inr}
-use Rattle.std.specs.Prelude.{IfSome}
+use Rattle.std.specs.Prelude.{IfSome, ◌++◌}
 use Rattle.std.specs.Io.KnownBytes.{Appends}
 use Rattle.archive_records.specs.Text.{kept}
 use Rattle.byte_device.specs.Devices.{Stream}
@@ -8,7 +8,6 @@ use Rattle.record_merge.specs.Merging.{IsArchiveText, IsBegun, IsTaken}
 use Rattle.record_merge.proofs.Places.{begun_none, begun_whole}
 use Rattle.record_merge.proofs.Unread.{text_none}
 use Rattle.std.specs.List.{concat}
-use Rattle.std.specs.Prelude.{◌++◌}
 use Rattle.command_core.specs.declared.faults.CommandFault.{CommandFault}
 use Rattle.command_core.specs.declared.faults.CommandFault.TheVariants.{Input, Output, Report, OutOfMemory}
 use Rattle.command_core.specs.declared.faults.Status.{Status}

@@ -47,9 +47,8 @@ module _ {R : Type 0} (Makes : Operations → List ℕ → Type 0) (input : Read
   -- what is behind it was refused, or memory wanted for it
   pub told_behind : (fault told : CommandFault) → IsRefusal IsRefusedBehind OthersUnfailed fault → TellsInTurn input fault told → IsKept out → Takes report [] → EndsSo (Err told)
   told_behind (Input at why) told r t = refused at why r told t
-  told_behind (Output n) told r t = absurd r
-  told_behind (Report n) told r t = absurd r
   told_behind OutOfMemory told r t = rw t.0 (wanting (ap (failures_of input.failures) t.1) r)
+  told_behind fault told r t = absurd r
 
   -- what is behind it was read: as the command ends that reads the first input alone and makes the same of it
   pub read_behind : (Others : Operations → List ℕ → Type 0) → OthersUnfailed → Accepted → (Known → IsKnown input) → ((o : Operations) (lines : List ℕ) → Others o lines → Makes o lines) → (Known → (o : Operations) (lines : List ℕ) → Makes o lines → Others o lines)
@@ -81,10 +80,9 @@ one_given IsOf left failures (Err e) new x y one known h k = absurd h
 pub all_given : {S T : Type 0} (IsOf : T → List ℕ → Type 0) (Is : T → Type 0) → ((text : List ℕ) (x y : T) → Is x → Is y → IsOf x text → IsOf y text → x ≡ y) → (inputs : List (Reader S)) (xs ys : List T) → AllByRecursion Is xs → AllByRecursion Is ys → EachKnown inputs
     → AllZip (λ (input : Reader S) (x : T). Gives input (IsOf x)) inputs xs → AllZip (λ (input : Reader S) (x : T). Gives input (IsOf x)) inputs ys → xs ≡ ys
 all_given IsOf Is one [] [] [] are also known h k = refl
-all_given IsOf Is one [] [] (_ ∷ _) are also known h k = absurd k
 all_given IsOf Is one [] (_ ∷ _) ys are also known h k = absurd h
 all_given IsOf Is one (_ ∷ _) [] ys are also known h k = absurd h
-all_given IsOf Is one (_ ∷ _) (_ ∷ _) [] are also known h k = absurd k
 all_given IsOf Is one (i ∷ inputs) (x ∷ xs) (y ∷ ys) are also known h k =
     let first = one_given IsOf i.left i.failures i.old i.new x y (λ text. one text x y are.0 also.0) known.0 h.0 k.0 in
     cc (first, all_given IsOf Is one inputs xs ys are.1 also.1 known.1 h.1 k.1)
+all_given IsOf Is one inputs xs ys are also known h k = absurd k

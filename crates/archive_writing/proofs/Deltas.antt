@@ -48,14 +48,12 @@ module _ {R W : Type 0} (left : R → Option (List ℕ)) (failures : R → ℕ) 
 
   stops : (cause : MergeCause) (n : ℕ) (fault : CommandFault) → StopsCopyBy (stream left failures l l') (stream held draft_failures w w') cause → HasFirst (copying archive s) (IsKnown archive) draft n
       → IsMergeFaultTold (record { cause = cause; written = n }) fault → StopsAmidst (copying archive s) (IsKnown archive) draft fault
-  stops cause n (Report k) st f t = absurd t
   stops (Left why) n (Input place says) st f t = ((t.0, (l', refl, why, t.1, t.2, st.0)), st.1, (n, f))
   stops (Left why) n (Output k) st f t = absurd (cc (ap (λ (e : MergeFault). e.cause) t))
   stops (Left why) n OutOfMemory st f t = (st.0.0.blames.1 (λ device. cc), st.1, (n, f))
   stops (Right why) n fault st f t = absurd st
-  stops Write n (Input place says) st f t = absurd t
   stops Write n (Output k) st f t = (st.0, st.1, subst (HasFirst (copying archive s) (IsKnown archive) draft) (ap (λ (e : MergeFault). e.written) t) f)
-  stops Write n OutOfMemory st f t = absurd t
+  stops cause n fault st f t = absurd t
 
   -- what its draft has then
   pub unfinished_copy : (e : MergeFault) → StopsCopy (stream left failures l l') (stream held draft_failures w w') s e → IsUnfinished archive (Unit {0}) draft

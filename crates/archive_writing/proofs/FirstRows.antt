@@ -36,17 +36,15 @@ last_or (z ∷ xs) x y (suc i) h = elim (last_or xs x y i h) [
 
 along_pairs : {X Y : Type 0} (P Q : X → Y → Type 0) (xs : List X) (ys : List Y) → ((x : X) (y : Y) → P x y → Q x y) → AllZip P xs ys → AllZip Q xs ys
 along_pairs P Q [] [] step all = tt
-along_pairs P Q [] (_ ∷ _) step all = absurd all
-along_pairs P Q (_ ∷ _) [] step all = absurd all
 along_pairs P Q (x ∷ xs) (y ∷ ys) step all = (step x y all.0, along_pairs P Q xs ys step all.1)
+along_pairs P Q xs ys step all = absurd all
 
 pairs_insert : {X Y : Type 0} (R : X → Y → Type 0) (xs : List X) (ys : List Y) (i : ℕ) (x : X) (y : Y) → AllZip R xs ys → R x y → AllZip R (insert xs i x) (insert ys i y)
-pairs_insert R [] [] zero x y all one = (one, tt)
-pairs_insert R [] [] (suc i) x y all one = (one, tt)
 pairs_insert R [] (_ ∷ _) i x y all one = absurd all
 pairs_insert R (_ ∷ _) [] i x y all one = absurd all
 pairs_insert R (a ∷ xs) (b ∷ ys) zero x y all one = (one, all)
 pairs_insert R (a ∷ xs) (b ∷ ys) (suc i) x y all one = (all.0, pairs_insert R xs ys i x y all.1 one)
+pairs_insert R xs ys i x y all one = (one, tt)
 
 -- what stood in a list stands in it with one more
 moved : (xs : List ℕ) (i p m n : ℕ) → slice_get xs i ≡ Some n → (j : ℕ) × (slice_get (insert xs p m) j ≡ Some n)
@@ -56,10 +54,9 @@ moved (x ∷ xs) zero (suc p) m n h = (zero, h)
 moved (x ∷ xs) (suc i) (suc p) m n h = let rest = moved xs i p m n h in (suc rest.0, rest.1)
 
 put_at : (xs : List ℕ) (p m : ℕ) → p ≤ length xs → slice_get (insert xs p m) p ≡ Some m
-put_at [] zero m le = refl
 put_at [] (suc p) m le = absurd (omega (arith, le))
-put_at (x ∷ xs) zero m le = refl
 put_at (x ∷ xs) (suc p) m le = let less : p ≤ length xs = omega (arith, le) in put_at xs p m less
+put_at xs zero m le = refl
 
 -- ---- one row more
 

@@ -84,9 +84,8 @@ module _ (f : List ℕ → Bool) (was : List AdmitRow) (records : List (List ℕ
 
 again_long : (f : List ℕ → Bool) (rows : List AdmitRow) (records : List (List ℕ)) → length (rows_again f rows records) ≡ length rows
 unfolding rows_again
-again_long f [] records = refl
-again_long f (row ∷ rows) [] = refl
 again_long f (row ∷ rows) (r ∷ records) = ap suc (again_long f rows records)
+again_long f rows records = refl
 
 again_at : (f : List ℕ → Bool) (rows : List AdmitRow) (records : List (List ℕ)) (n : ℕ) → length records ≡ length rows → n < length rows → row_at (rows_again f rows records) n ≡ row_again (f (get_or records n [])) (row_at rows n)
 unfolding rows_again

@@ -7,7 +7,7 @@ use Rattle.std.specs.List.{AllByRecursion}
 use Rattle.std.specs.FinSet as set
 use Rattle.std.specs.FinSet.{contains-empty, contains-union, same_set}
 use Rattle.archive_core.specs.Content.{Operations, IsContent, IsMade, content_of, joined}
-use Rattle.archive_core.proofs.Made.{bytes_same, joined_made, joined_made_right, made_again, made_empty}
+use Rattle.archive_core.proofs.Made.{bytes_same, joined_made, joined_made_right, made_again, made_empty, union_assoc}
 use Rattle.archive_records.specs.declared.writing.Sizes.{Sizes}
 use Rattle.archive_records.specs.Text.{IsArchiveOf, written}
 use Rattle.archive_records.proofs.Versions.{one_content}
@@ -27,7 +27,6 @@ use Rattle.archive_writing.proofs.AtHand.{archive_published, join_stopped}
 use Rattle.archive_writing.proofs.Behind.{all_given, read_behind}
 use Rattle.archive_writing.proofs.Joins.{joined_archives}
 use Rattle.archive_writing.proofs.Migrated.{join_with_nothing}
-use Rattle.archive_core.proofs.Made.{union_assoc}
 
 -- the text in memory is that of the join of the files
 pub text_of_join : {S G : Type 0} (held : G → Option (List ℕ)) (r : Result G CommandFault) (files : List (Reader S)) (none p : Operations) → none ≡ set.empty → AreRead (HasJoined files none p) (EachUnfailed files)

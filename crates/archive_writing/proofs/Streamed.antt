@@ -107,9 +107,8 @@ module _ {R S D T : Type 0} (left : R → Option (List ℕ)) (failures : R → �
 module _ {R S D T : Type 0} (input : Reader R) (out : Outs D T) (report : Writer) (result : Result Status CommandFault) where
   pub of_many : (files : List (Reader S)) → (length files ≡ 1 → ⊥) → EndsStreamed (merge_in_turn input files (out_of out).draft) (out_of out) report result
       → EndsStreamed (merge_as_it_comes input files out) (out_of out) report result
-  of_many [] many e = e
   of_many (_ ∷ []) many e = absurd (many refl)
-  of_many (file ∷ next ∷ more) many e = e
+  of_many files many e = e
 
 -- ---- accepted inputs
 

@@ -19,7 +19,7 @@ ghost use Rattle.command_core.specs.Inputs.{IsFirstRefused, IsRefusal, IsRefused
 ghost use Rattle.command_core.specs.Inputs.{IsRefusedFile, ReadsInput, ReadsInputs, reader, readers};
 ghost use Rattle.command_core.specs.Outputs.{out_of, outs, writer};
 
-use crate::arriving::{Arrivals, told_again};
+use crate::arriving::{Arrivals, tell_rows};
 use crate::notes::{Note, note_retired};
 use crate::slicing::slice_file;
 use crate::telling::tell_operations;
@@ -116,7 +116,8 @@ fn tell_arrivals(
         rows,
     } = arrivals;
     note_retired(notes, came.operations(), arrived)?;
-    let again = told_again(rows, &first_rows, arrived);
+    let mut again = rows;
+    tell_rows(&mut again, &first_rows, arrived);
     admit_lines(heap, &again)
 }
 

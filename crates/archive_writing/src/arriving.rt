@@ -153,7 +153,7 @@ fn tell_row(rows: &mut [AdmitRow], number: usize, new: bool)
 }
 
 /// Tells the rows again of which slices came, by what each of these is to IN.
-fn tell_rows(rows: &mut [AdmitRow], first_rows: &[u64], told: &[Arrival])
+pub fn tell_rows(rows: &mut [AdmitRow], first_rows: &[u64], told: &[Arrival])
     requires { (came records : List (List ℕ)) × AreFirstRows came first_rows.now rows.old records
         × (length told.now ≡ length came) }
     ensures { (arrival : List ℕ → Arrival) (came records : List (List ℕ)) → AreFirstRows came first_rows.now rows.old records
@@ -162,19 +162,4 @@ fn tell_rows(rows: &mut [AdmitRow], first_rows: &[u64], told: &[Arrival])
     'told: for (index, arrival) in told.iter().enumerate() {
         tell_row(rows, first_rows[index] as usize, arrival.is_new());
     }
-}
-
-/// The rows, told again by what each of the slices that came is to IN.
-pub fn told_again(
-    mut rows: Vec<AdmitRow, Heap>,
-    first_rows: &[u64],
-    told: &[Arrival],
-) -> Vec<AdmitRow, Heap>
-    requires { (came records : List (List ℕ)) × AreFirstRows came first_rows.now rows.items records
-        × (length told.now ≡ length came) }
-    ensures { (arrival : List ℕ → Arrival) (came records : List (List ℕ)) → AreFirstRows came first_rows.now rows.items records
-        → told.now ≡ map arrival came → result.items ≡ rows_again (λ r. is_new (arrival r)) rows.items records }
-{
-    tell_rows(&mut rows, first_rows, told);
-    rows
 }

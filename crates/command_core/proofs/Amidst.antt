@@ -24,9 +24,8 @@ module _ (Makes : List ℕ → List ℕ → Type 0) (Refuses : InputName → Why
   -- it was stopped
   pub stopped_amidst : (fault : CommandFault) → StopsSo fault → HasTaken out.draft fault → PublishesNothing out → Takes report [] → EndsSo (Err fault)
   stopped_amidst (Input at why) s t nothing unreported = record { stops = s; bytes = t.0; took = t.1; count = t.2; nothing_published = nothing; unreported = unreported }
-  stopped_amidst (Output n) s t nothing unreported = inl (record { stops = s; bytes = t.0; took = t.1; count = t.2; nothing_published = nothing; unreported = unreported })
   stopped_amidst (Report n) s t nothing unreported = absurd s
-  stopped_amidst OutOfMemory s t nothing unreported = inl (record { stops = s; bytes = t.0; took = t.1; count = t.2; nothing_published = nothing; unreported = unreported })
+  stopped_amidst fault s t nothing unreported = inl (record { stops = s; bytes = t.0; took = t.1; count = t.2; nothing_published = nothing; unreported = unreported })
 
 -- what stops one command stops another that makes no more, is refused where that one is, and blames no more readers
 module _ (Makes Others : List ℕ → List ℕ → Type 0) (Refuses RefusesToo : InputName → Why → Type 0) (NoneFailed NoneFailedToo Known KnownToo : Type 0) (draft : Writer)
@@ -77,8 +76,6 @@ module _ (Makes : Operations → List ℕ → Type 0) (Refuses : InputName → W
     nothing_published = kept.1;
     unreported = unreported;
   }
-  refused_in_turn (Output n) r kept unreported = absurd r
-  refused_in_turn (Report n) r kept unreported = absurd r
   refused_in_turn OutOfMemory r kept unreported = inl (record {
     stops = elim r [
       | inl none ↦ inl (none, kept.0.1, (0, λ known text told m. nothing_first Makes out.draft.old out.draft.new text told kept.0.0 m))
@@ -89,6 +86,7 @@ module _ (Makes : Operations → List ℕ → Type 0) (Refuses : InputName → W
     count = no_count_memory;
     nothing_published = kept.1;
     unreported = unreported;
+  refused_in_turn fault r kept unreported = absurd r
   })
 
   -- what ends a command that makes the same and reads less

@@ -8,9 +8,8 @@ module _ {S : Type 0} where
   pub hold_more : (files : List (Reader S)) (contents : List Operations) (file : Reader S) (other : Operations)
       → AllZip HoldsArchive files contents → HoldsArchive file other → AllZip HoldsArchive (files ++ file ∷ []) (contents ++ other ∷ [])
   hold_more [] [] file other each holds = (holds, tt)
-  hold_more [] (_ ∷ _) file other each holds = absurd each
-  hold_more (_ ∷ _) [] file other each holds = absurd each
   hold_more (f ∷ files) (o ∷ contents) file other each holds = (each.0, hold_more files contents file other each.1 holds)
+  hold_more files contents file other each holds = absurd each
 
   pub each_archive : (files : List (Reader S)) (contents : List Operations) → AllZip HoldsArchive files contents → AllByRecursion IsContent contents → AllByRecursion IsArchive files
   each_archive [] contents hold are = tt

@@ -18,11 +18,9 @@ module _ (Makes : List ℕ → List ℕ → Type 0) (Refuses : InputName → Why
   -- the inputs are accepted, and what they make is written and told
   pub given_out : (result : Result Status CommandFault) (text told : List ℕ)
       → NoneFailed → Makes text told → Publishes out report text told result → EndsSo result
-  given_out (Ok status) text told u makes p = (u, record { text = text; told = told; makes = makes; published = p })
   given_out (Err (Input place why)) text told u makes p = absurd p
-  given_out (Err (Output n)) text told u makes p = (u, record { text = text; told = told; makes = makes; published = p })
-  given_out (Err (Report n)) text told u makes p = (u, record { text = text; told = told; makes = makes; published = p })
   given_out (Err OutOfMemory) text told u makes p = (u, inr (record { text = text; told = told; makes = makes; published = p }))
+  given_out result text told u makes p = (u, record { text = text; told = told; makes = makes; published = p })
 
 -- the inputs are accepted, and the archive that they make is published
 pub published : (Makes : Operations → List ℕ → Type 0) (Refuses : InputName → Why → Type 0) (NoneFailed : Type 0) (out : Out) (report : Writer)
@@ -41,7 +39,5 @@ module _ (Makes : Status → List ℕ → Type 0) (Refuses : InputName → Why �
   pub reported : (result : Result Status CommandFault) (status : Status) (text : List ℕ)
       → NoneFailed → Makes status text → Reports report status text result → EndsReportSo result
   reported (Ok _) status text u makes p = (u, record { status = status; text = text; makes = makes; reported = p })
-  reported (Err (Input place why)) status text u makes p = absurd p
-  reported (Err (Output n)) status text u makes p = absurd p
   reported (Err (Report n)) status text u makes p = (u, record { status = status; text = text; makes = makes; reported = p })
-  reported (Err OutOfMemory) status text u makes p = absurd p
+  reported result status text u makes p = absurd p

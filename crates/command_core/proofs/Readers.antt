@@ -39,9 +39,8 @@ all_set P (y ∷ ys) zero x all one = (one, all.1)
 all_set P (y ∷ ys) (suc i) x all one = (all.0, all_set P ys i x all.1 one)
 
 pub all_take : {X : Type 0} (P : X → Type 0) (n : ℕ) (xs : List X) → AllByRecursion P xs → AllByRecursion P (take n xs)
-all_take P zero xs all = tt
-all_take P (suc n) [] all = tt
 all_take P (suc n) (x ∷ xs) all = (all.0, all_take P n xs all.1)
+all_take P n xs all = tt
 
 pub all_more : {X : Type 0} (P : X → Type 0) (xs : List X) (x : X) → AllByRecursion P xs → P x → AllByRecursion P (xs ++ x ∷ [])
 all_more P [] x all one = (one, tt)
@@ -49,9 +48,8 @@ all_more P (y ∷ ys) x all one = (all.0, all_more P ys x all.1 one)
 
 pub pairs_long : {X Y : Type 0} (R : X → Y → Type 0) (xs : List X) (ys : List Y) → AllZip R xs ys → length ys ≡ length xs
 pairs_long R [] [] all = refl
-pairs_long R [] (_ ∷ _) all = absurd all
-pairs_long R (_ ∷ _) [] all = absurd all
 pairs_long R (x ∷ xs) (y ∷ ys) all = ap suc (pairs_long R xs ys all.1)
+pairs_long R xs ys all = absurd all
 
 module _ {S : Type 0} (left : S → Option (List ℕ)) (failures : S → ℕ) where
   abbrev between : List (Result S CannotOpen) → List (Result S CannotOpen) → List (Reader S)
@@ -87,9 +85,8 @@ module _ {S : Type 0} (left : S → Option (List ℕ)) (failures : S → ℕ) wh
 
   -- all were read
   pub all_read : (old now : List (Result S CannotOpen)) → length now ≡ length old → take (length old) (between old now) ≡ between old now
-  all_read [] now long = refl
-  all_read (x ∷ xs) [] long = refl
   all_read (x ∷ xs) (y ∷ ys) long = let rest : length ys ≡ length xs = omega (arith, long) in ap (λ (rs : List (Reader S)). reader left failures x y ∷ rs) (all_read xs ys rest)
+  all_read old now long = refl
 
   pub none_failed : (files : List (Result S CannotOpen)) → EachUnfailed (between files files)
   none_failed [] = tt
@@ -106,9 +103,8 @@ module _ {S : Type 0} (left : S → Option (List ℕ)) (failures : S → ℕ) wh
 
   pub untouched_behind : (old now : List (Result S CannotOpen)) (n : ℕ) → drop n now ≡ drop n old → EachUntouched (drop n (between old now))
   untouched_behind old now zero same = subst (λ (l : List (Result S CannotOpen)). EachUntouched (between old l)) (sym same) (none_touched old)
-  untouched_behind [] now (suc n) same = tt
-  untouched_behind (x ∷ xs) [] (suc n) same = tt
   untouched_behind (x ∷ xs) (y ∷ ys) (suc n) same = untouched_behind xs ys n same
+  untouched_behind old now n same = tt
 
   -- the input at a place is refused, those before it being accepted
   pub refused_at : (asked_of : ℕ → InputName) (IsGood : Reader S → Type 0) (IsRefused : Reader S → Why → Type 0) (old now : List (Result S CannotOpen)) (place : ℕ) (file after : Result S CannotOpen) (fault : CommandFault)
@@ -133,9 +129,8 @@ module _ {S : Type 0} (left : S → Option (List ℕ)) (failures : S → ℕ) wh
         refused = refused.1;
         behind = untouched_behind old (set now place after) (place + 1) (rest_kept now old place after rest);
       }
-  refused_at asked_of IsGood IsRefused old now place file after (Output _) lt long is before rest each refused = absurd refused
-  refused_at asked_of IsGood IsRefused old now place file after (Report _) lt long is before rest each refused = absurd refused
   refused_at asked_of IsGood IsRefused old now place file after OutOfMemory lt long is before rest each refused = unfailed_more old now place file after lt long is each refused
+  refused_at asked_of IsGood IsRefused old now place file after fault lt long is before rest each refused = absurd refused
 
 -- what is of the machine, and no want of memory, is the device's
 pub by_device : (fault : RecordFault) (why : Why) → why ≡ Record fault → (fault.kind ≡ RecordOutOfMemory → ⊥) → IsOfMachine fault.kind → IsDeviceFault why

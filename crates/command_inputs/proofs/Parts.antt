@@ -125,9 +125,8 @@ module _ {R : Type 0} where
 pub refusal_of : (Refuses RefusesToo : InputName → Why → Type 0) (NoneFailed NoneFailedToo : Type 0) (fault : CommandFault) → ((at : InputName) (why : Why) → Refuses at why → RefusesToo at why) → (NoneFailed → NoneFailedToo)
     → IsRefusal Refuses NoneFailed fault → IsRefusal RefusesToo NoneFailedToo fault
 refusal_of Refuses RefusesToo NoneFailed NoneFailedToo (Input at why) refuses unfailed r = refuses at why r
-refusal_of Refuses RefusesToo NoneFailed NoneFailedToo (Output _) refuses unfailed r = r
-refusal_of Refuses RefusesToo NoneFailed NoneFailedToo (Report _) refuses unfailed r = r
 refusal_of Refuses RefusesToo NoneFailed NoneFailedToo OutOfMemory refuses unfailed r = unfailed r
+refusal_of Refuses RefusesToo NoneFailed NoneFailedToo fault refuses unfailed r = r
 
 pub first_refused : {R S : Type 0} (archive : Reader R) (others : List (Reader S)) (fault : CommandFault) → IsRefusal (IsRefusedArchive 0 archive) (Unfailed archive) fault → EachUntouched others → EachUnfailed others
     → IsRefusal (AreRefused archive others) (AreUnfailed archive others) fault
@@ -140,10 +139,9 @@ other_refused archive others fault is unfailed r = refusal_of _ _ _ _ fault (λ 
 -- a command that reports ends so
 pub together_refused : (Makes : Status → List ℕ → Type 0) (Refuses : InputName → Why → Type 0) (NoneFailed : Type 0) (report : Writer) (fault : CommandFault) → IsRefusal Refuses NoneFailed fault → Takes report []
     → EndsReport (record { Makes = Makes; Refuses = Refuses; Unfailed = NoneFailed }) report (Err fault)
-together_refused Makes Refuses NoneFailed report (Input at why) r t = (r, t)
 together_refused Makes Refuses NoneFailed report (Output _) r t = r
 together_refused Makes Refuses NoneFailed report (Report _) r t = absurd r
-together_refused Makes Refuses NoneFailed report OutOfMemory r t = (r, t)
+together_refused Makes Refuses NoneFailed report fault r t = (r, t)
 
 -- memory was wanted before an archive was read
 pub wanting_first : {R S T : Type 0} (archive : Reader R) (left : S → Option (List ℕ)) (failures : S → ℕ) (others : List (Result S CannotOpen)) (IsTrue : T → Operations → Type 0) (result : Result T CommandFault) → IsErrAnd result (λ fault. fault ≡ OutOfMemory) → Unfailed archive

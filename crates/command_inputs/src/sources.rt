@@ -19,7 +19,8 @@ ghost use Rattle.command_inputs.specs.InnerSources.{LendsSource};
 
 use archive_core::{Archive, FindRow, Operation};
 use archive_reading::{
-    Questions, Selects, answer_by_key, list_rows, read_archive, read_ops, read_part, summarize, test_archive,
+    Questions, Selects, answer_by_key, list_rows, read_archive, read_ops, read_part, summarize,
+    test_archive,
 };
 use archive_records::{RecordFault, RecordFaultKind, Summary, read_summary};
 use archive_words::line_at;

@@ -86,10 +86,7 @@ fn next_key<Q: Questions>(questions: &Q) -> Option<SliceKey>
 }
 
 /// Answers all questions by an archive that answers under each of their keys.
-pub fn answer_all<A: Archive, Q: Questions>(
-    questions: &mut Q,
-    archive: &A,
-) -> Result<(), NoMemory>
+pub fn answer_all<A: Archive, Q: Questions>(questions: &mut Q, archive: &A) -> Result<(), NoMemory>
     ensures left { OnOk result (Q.left questions.new ≡ []) }
     ensures answered { OnOk result ((start : Q) (o : Operations)
         → ((key : SliceKey) → Contains (Q.left questions.old) key → length (key_bytes key) ≡ 24
@@ -100,27 +97,6 @@ pub fn answer_all<A: Archive, Q: Questions>(
         questions.answer(archive)?;
     }
     Ok(())
-}
-
-/// Answers questions by the join of archives, of which the records that are picked are held.
-fn answer_parts<A: Archive + Drop, Q: Questions + Drop, S: Selects, R: Source>(
-    heap: Heap,
-    questions: Q,
-    select: &S,
-    archive: &mut Result<R, CannotOpen>,
-    others: &mut [Result<R, CannotOpen>],
-) -> Result<Q, CommandFault>
-    requires picked { (key : SliceKey) → Contains (Q.left questions) key → length (key_bytes key) ≡ 24
-        → (r : List ℕ) → is_under (key_bytes key) r ≡ true → S.picked select.now r ≡ true }
-    requires start { (o : Operations) → Q.answered questions o questions }
-    ensures { ReadsTogether (reader R.left R.failures archive.old archive.new)
-        (readers R.left R.failures others.old others.new) result
-        (λ told o. (Q.left told ≡ []) × Q.answered questions o told) }
-{
-    let kept: A = read_parts(heap, select, archive, others)?;
-    let mut told = questions;
-    answer_all(&mut told, &kept)?;
-    Ok(told)
 }
 
 /// Answers questions by the join of the archives. Of one archive the slices under one key are held at a time; of
@@ -141,8 +117,10 @@ pub fn answer_archives<A: Archive + Drop, Q: Questions + Drop, S: Selects, R: So
         (λ told o. (Q.left told ≡ []) × Q.answered questions o told) }
 {
     if others.is_empty() {
-        answer_input::<A, Q, R>(heap, questions, archive)
-    } else {
-        answer_parts::<A, Q, S, R>(heap, questions, select, archive, others)
+        return answer_input::<A, Q, R>(heap, questions, archive);
     }
+    let kept: A = read_parts(heap, select, archive, others)?;
+    let mut told = questions;
+    answer_all(&mut told, &kept)?;
+    Ok(told)
 }

@@ -1,6 +1,5 @@
 -- Frames by their lines, and the first line that is none.
-use Rattle.std.proofs.Common.{◌≡◌, ◌∙◌, sym, ap, ap₂, refl, ℕ, ◌+◌, List, [], ◌∷◌, ◌++◌, map, arith}
-use Rattle.std.proofs.Common.{Option, Some, None, Result, Ok, Err}
+use Rattle.std.proofs.Common.{◌≡◌, ◌∙◌, sym, ap, ap₂, refl, ℕ, ◌+◌, List, [], ◌∷◌, ◌++◌, map, arith, Option, Some, None, Result, Ok, Err}
 use Rattle.std.proofs.lemmas.List.{append-nil}
 use Rattle.archive_words.specs.Lines.{Line, counting}
 use Rattle.crash_frames.specs.Frames.{AreFrames, IsFirstFault, IsFrames, frame_then, frames_in, frames_of, line_frame, onto}

@@ -1,6 +1,5 @@
 -- A script by its lines, and the first faulty line.
-use Rattle.std.proofs.Common.{◌≡◌, ◌∙◌, sym, ap, refl, arith, ℕ, ◌+◌, ◌≤◌, ◌⊎◌, inl, inr, true, false}
-use Rattle.std.proofs.Common.{List, [], ◌∷◌, ◌++◌, append_assoc, length, map, nat_lt, Option, Some, None, Result, Ok, Err}
+use Rattle.std.proofs.Common.{◌≡◌, ◌∙◌, sym, ap, refl, arith, ℕ, ◌+◌, ◌≤◌, ◌⊎◌, inl, inr, true, false, List, [], ◌∷◌, ◌++◌, append_assoc, length, map, nat_lt, Option, Some, None, Result, Ok, Err}
 use Rattle.std.specs.Prelude.{IsSome, is_some}
 use Rattle.std.proofs.lemmas.Bool.{cases_lt, le-ltb, lt-ltb}
 use Rattle.std.proofs.lemmas.List.{append-nil, length-append, map-append}

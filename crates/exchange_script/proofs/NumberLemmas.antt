@@ -1,6 +1,5 @@
 -- Decimal numbers, and what `parse` reads.
-use Rattle.std.proofs.Common.{◌≡◌, ◌≢◌, ◌∙◌, ◌<◌, ◌^◌, ◌&&◌, ◌||◌, ◌==◌, ℕ, Bool, true, not, sym, ap, arith, List, length, get_or, nat_lt}
-use Rattle.std.proofs.Common.{Some, None, Result, Ok, Err, eq-eqb, zero, suc, lit<}
+use Rattle.std.proofs.Common.{◌≡◌, ◌≢◌, ◌∙◌, ◌<◌, ◌^◌, ◌&&◌, ◌||◌, ◌==◌, ℕ, Bool, true, not, sym, ap, arith, List, length, get_or, nat_lt, Some, None, Result, Ok, Err, eq-eqb, zero, suc, lit<}
 use Rattle.std.specs.Result.{OkIff, result_ok}
 use Rattle.std.specs.Fmt.{decimal}
 use Rattle.std.specs.Str.{all_ascii_digits}

@@ -1,6 +1,5 @@
 -- What the lines say behind those that were read.
-use Rattle.std.proofs.Common.{◌≡◌, ◌∙◌, sym, ap, refl, arith, ℕ, ◌+◌, ◌<◌, ◌≤◌, List, [], ◌∷◌, ◌++◌, append_assoc, length, get_or, drop, nat_lt}
-use Rattle.std.proofs.Common.{true, false, Some, None, Result, Ok, Err, Bor}
+use Rattle.std.proofs.Common.{◌≡◌, ◌∙◌, sym, ap, refl, arith, ℕ, ◌+◌, ◌<◌, ◌≤◌, List, [], ◌∷◌, ◌++◌, append_assoc, length, get_or, drop, nat_lt, true, false, Some, None, Result, Ok, Err, Bor}
 use Rattle.std.proofs.lemmas.Bool.{le-ltb, lt-ltb}
 use Rattle.std.proofs.lemmas.List.{at_drop_more, get_or-map, length-map, map-append}
 use Rattle.exchange_script.specs.declared.event.Event.{Event}

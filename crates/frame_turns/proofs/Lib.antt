@@ -4,6 +4,7 @@ mod FreeLemmas
 mod GivenLemmas
 mod LoopLemmas
 mod MergeLemmas
+mod NameLemmas
 mod NumberLemmas
 mod OwnLemmas
 mod ProgramLemmas

@@ -8,7 +8,9 @@ use Rattle.std.proofs.lemmas.Option.{IfSome_then, get_or_from_slice_get, same_So
 use Rattle.std.proofs.lemmas.List.{get_or_append_left, get_or-append_right, length-map, length_push}
 use Rattle.function_links.specs.Links.{AreFramesOfLink, AreFramesOfRowAndLink, LinkRecord, frame_at_place}
 use Rattle.function_links.specs.LinkViews.{link_view, links_view}
+use Rattle.function_links.specs.NameNumbers.{AreNamesNumbered}
 use Rattle.function_links.specs.declared.links.Link.{Link}
+use Rattle.function_links.specs.declared.links.Links.{Links}
 use Rattle.line_programs.specs.Paths.{PathRecord}
 use Rattle.line_programs.specs.declared.registers.Row.{Row}
 use Rattle.source_frames.specs.Frames.{FrameRecord, path_in, location_of_row}
@@ -16,8 +18,9 @@ use Rattle.source_frames.specs.UnitLines.{LinesRecord}
 use Rattle.source_frames.specs.declared.frame.SourceLocation.{SourceLocation}
 use Rattle.frame_turns.specs.Given.{Takes, TurnRecord}
 use Rattle.frame_turns.specs.Taking.{StillTells}
-use Rattle.frame_turns.specs.UnitNumbers.{AreLinked, ArePartsTold, ArePathNumbers, IsLinked, IsLinkedAt, row_frames}
+use Rattle.frame_turns.specs.UnitNumbers.{AreLinked, AreNameNumbers, ArePartsTold, ArePathNumbers, IsLinked, IsLinkedAt, row_frames}
 use Rattle.frame_turns.specs.declared.merging.UnitParts.{UnitParts}
+use Rattle.frame_turns.specs.declared.names.Names.{Names}
 use Rattle.frame_turns.specs.declared.numbers.Linked.{Linked}
 use Rattle.frame_turns.specs.declared.numbers.Paths.{Paths}
 use Rattle.frame_turns.proofs.GivenLemmas.{takes_more}
@@ -36,6 +39,12 @@ paths_still P Q lines paths still are =
       by_index = λ i. IfSome_then (tree_map.get nat_cmp paths.by_index i) (are.by_index i) (λ n h. still n (path_in lines (Some i)) h);
       last = IfSome_then paths.last are.last (λ k h. still k.1 (path_in lines (Some k.0)) h);
     }
+
+pub names_still : (P Q : ℕ → Option (List ℕ) → Type 0) (links : Links) (names : Names) → StillTells P Q → AreNameNumbers P links names → AreNameNumbers Q links names
+names_still P Q links names still are = record {
+  count = are.count;
+  each = λ i link number there is. still number (link_view link).name (are.each i link number there is);
+}
 
 module _ (P P' : ℕ → Option (List ℕ) → Type 0) (F F' : Option ℕ → List FrameRecord → Type 0) (names : StillTells P P') (frames : StillTells F F') (lines : LinesRecord) (links : List LinkRecord) where
   pub is_linked_still : (link : LinkRecord) (linked : Linked) → IsLinked P F lines links link linked → IsLinked P' F' lines links link linked

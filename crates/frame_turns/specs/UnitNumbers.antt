@@ -7,9 +7,12 @@ use Rattle.line_programs.specs.Paths.{PathRecord}
 use Rattle.line_programs.specs.declared.registers.Row.{Row}
 use Rattle.source_frames.specs.Frames.{FrameRecord, frame_of_row, path_in}
 use Rattle.function_links.specs.Links.{AreCallersBefore, AreFramesOfLink, LinkRecord}
-use Rattle.function_links.specs.LinkViews.{links_view}
+use Rattle.function_links.specs.LinkViews.{link_view, links_view}
+use Rattle.function_links.specs.declared.links.Link.{Link}
+use Rattle.function_links.specs.declared.links.Links.{Links}
 use Rattle.source_frames.specs.UnitLines.{LinesRecord}
 use Rattle.frame_turns.specs.declared.merging.UnitParts.{UnitParts}
+use Rattle.frame_turns.specs.declared.names.Names.{Names}
 use Rattle.frame_turns.specs.declared.numbers.Linked.{Linked}
 use Rattle.frame_turns.specs.declared.numbers.Paths.{Paths}
 
@@ -22,6 +25,12 @@ pub record ArePathNumbers (tells : ℕ → Option PathRecord → Type 0) (lines 
   pub by_index : (index : ℕ) →
       IfSome (tree_map.get nat_cmp paths.by_index index) (IsPathNumber tells lines (Some index))
   pub last : IfSome paths.last (λ known. IsPathNumber tells lines (Some known.0) known.1)
+
+-- each number that is kept is that of the name of the links of its number
+pub record AreNameNumbers (tells : ℕ → Option (List ℕ) → Type 0) (links : Links) (names : Names) : Type 0 where
+  pub count : length names.by_number.items ≡ links.name_count
+  pub each : (i : ℕ) (link : Link) (number : ℕ) → slice_get links.links.items i ≡ Some link
+      → slice_get names.by_number.items link.name_number ≡ Some (Some number) → tells number (link_view link).name
 
 -- the numbers of the name of a link, and of the frames of the links that it stands in, at the call that it is
 pub record IsLinked (names : ℕ → Option (List ℕ) → Type 0) (frames : Option ℕ → List FrameRecord → Type 0)

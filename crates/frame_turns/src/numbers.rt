@@ -5,11 +5,13 @@ ghost use Rattle.std.specs.Ordering.{nat_cmp};
 ghost use Rattle.std.specs.BTreeMap as tree_map;
 ghost use Rattle.frame_turns.specs.Given.{Takes};
 ghost use Rattle.frame_turns.specs.Taking.{StillTells};
-ghost use Rattle.frame_turns.specs.UnitNumbers.{AreLinked, ArePathNumbers, IsPathNumber, row_frames};
+ghost use Rattle.frame_turns.specs.UnitNumbers.{AreLinked, AreNameNumbers, ArePathNumbers, IsPathNumber, row_frames};
 ghost use Rattle.function_links.specs.Links.{AreCallersBefore};
 ghost use Rattle.function_links.specs.LinkViews.{links_view};
+ghost use Rattle.function_links.specs.NameNumbers.{AreNamesNumbered};
 ghost use Rattle.source_frames.specs.FrameViews.{lines_view};
 
+use crate::names::Names;
 use crate::taker::FrameTaker;
 use function_links::{Link, Links};
 use line_programs::Row;
@@ -125,23 +127,27 @@ fn push_linked<'a, T: FrameTaker<'a>>(
     lines: &UnitLines<'a>,
     paths: &mut Paths,
     links: &Links<'a>,
-    names: &mut Vec<Option<u32>, Heap>,
+    names: &mut Names,
     all: &mut Vec<Linked, Heap>,
     taker: &mut T,
 ) -> Result<(), NoMemory>
     requires within { length all.old.items < length links.now.links.items }
     requires callers { AreCallersBefore (links_view links.now.links.items) }
+    requires numbered { AreNamesNumbered links.now.name_count links.now.links.items }
+    requires names { AreNameNumbers (T.tells_name taker.old) links.now names.old }
     requires paths { ArePathNumbers (T.tells_path taker.old) (lines_view lines.now) paths.old }
     requires linked { AreLinked (T.tells_name taker.old) (T.tells_frames taker.old) (lines_view lines.now)
         (links_view links.now.links.items) (length all.old.items) all.old.items }
     ensures count { OnOk result (length all.new.items ≡ length all.old.items + 1) }
     ensures linked { OnOk result (AreLinked (T.tells_name taker.new) (T.tells_frames taker.new) (lines_view lines.now)
         (links_view links.now.links.items) (length all.new.items) all.new.items) }
+    ensures names { OnOk result (AreNameNumbers (T.tells_name taker.new) links.now names.new) }
     ensures kept { OnOk result (ArePathNumbers (T.tells_path taker.new) (lines_view lines.now) paths.new) }
     ensures taken { Takes (T.has_taken taker.old) (T.has_taken taker.new) [] }
 {
-    let link: Link<'a> = links.links[all.len()];
-    let name = name_of_link(names, &link, taker)?;
+    let index = all.len();
+    let link: Link<'a> = links.links[index];
+    let name = names.name_of(links, index, taker)?;
     if link.caller == 0 {
         let callers = taker.no_frames();
         all.push(Linked { name, callers })?;
@@ -169,13 +175,14 @@ pub(crate) fn all_linked<'a, T: FrameTaker<'a>>(
     taker: &mut T,
 ) -> Result<Vec<Linked, Heap>, NoMemory>
     requires callers { AreCallersBefore (links_view links.now.links.items) }
+    requires numbered { AreNamesNumbered links.now.name_count links.now.links.items }
     requires paths { ArePathNumbers (T.tells_path taker.old) (lines_view lines.now) paths.old }
     ensures is { IfOk result (λ all. AreLinked (T.tells_name taker.new) (T.tells_frames taker.new)
         (lines_view lines.now) (links_view links.now.links.items) (length links.now.links.items) all.items) }
     ensures kept { OnOk result (ArePathNumbers (T.tells_path taker.new) (lines_view lines.now) paths.new) }
     ensures taken { OnOk result (Takes (T.has_taken taker.old) (T.has_taken taker.new) []) }
 {
-    let mut names = vec![in heap.clone()?; None; links.name_count]?;
+    let mut names = Names::new(heap.clone()?, links.name_count)?;
     let mut all: Vec<Linked, Heap> = Vec::new(heap);
     'links: while all.len() < links.links.len() {
         push_linked(lines, paths, links, &mut names, &mut all, taker)?;

@@ -5,5 +5,7 @@ pub mod MakingLemmas
 pub mod TakingLemmas
 pub mod StartLemmas
 pub mod RangeLemmas
+pub mod ApartLemmas
 pub mod PartLemmas
+pub mod NameLemmas
 pub mod StepLemmas

@@ -107,6 +107,7 @@ is_made_kept functions old new i child link kept within made last = record {
   of = made.of;
   there = made.there;
   name = made.name;
+  name_number = made.name_number;
   call = made.call;
   count = made.count ∙ ap suc (sym (count_kept old new link.caller kept (let c = made.caller in omega (arith, c, within))));
   child = last;
@@ -124,6 +125,7 @@ pub record IsPushed (functions : List Function) (old new : List Link) (last oute
   pub caller : link.caller ≡ outer
   pub function : link.function ≡ index
   pub name : link.name ≡ of.name
+  pub name_number : link.name_number ≡ of.name_number
   pub call : link.call ≡ of.call
   pub count : link.count ≡ suc (count_at old outer)
   pub child : link.child ≡ 0
@@ -155,6 +157,7 @@ module _ (functions : List Function) (old new : List Link) (last outer index num
     of = p.of;
     there = ap (λ n. slice_get functions n) p.function ∙ p.there;
     name = p.name;
+    name_number = p.name_number;
     call = p.call;
     count = p.count ∙ ap suc (sym (count_kept old new outer pushed_kept p.within) ∙ ap (λ n. count_at new n) (sym p.caller));
     child = subst (λ n. IsChild new (suc (length old)) n) (sym p.child) tt;
@@ -212,18 +215,19 @@ made_before links (suc i) link not is = let same : suc i - 1 ≡ i = omega arith
 
 pub is_pushed : (functions : List Function) (old new : List Link) (last outer index number count : ℕ) (of : Function) → AreMade functions old last → outer ≤ length old → index < length functions
     → of ≡ get_or functions index of → count ≡ count_at old outer
-    → new ≡ old ++ record { name = of.name; call = of.call; caller = outer; function = index; child = 0; count = count + 1 } ∷ [] → number ≡ length new
+    → new ≡ old ++ record { name = of.name; name_number = of.name_number; call = of.call; caller = outer; function = index; child = 0; count = count + 1 } ∷ [] → number ≡ length new
     → IsPushed functions old new last outer index number
 is_pushed functions old new last outer index number count of made within inside is_of is_count is is_number = record {
   made = made;
   within = within;
   of = of;
   there = slice_get-get_or functions index of inside ∙ ap Some (sym is_of);
-  link = record { name = of.name; call = of.call; caller = outer; function = index; child = 0; count = count + 1 };
+  link = record { name = of.name; name_number = of.name_number; call = of.call; caller = outer; function = index; child = 0; count = count + 1 };
   is = is;
   caller = refl;
   function = refl;
   name = refl;
+  name_number = refl;
   call = refl;
   count = omega (arith, is_count);
   child = refl;

@@ -73,13 +73,13 @@ takes_next of index first at found a b c next low one two count is same before h
 
 -- ---- the starts of a range
 
-range_parts : (a : ℕ) (range : CodeRange) → in_ranges a (range ∷ []) ≡ true → (range.low ≤ a) × (a < range.high)
+pub range_parts : (a : ℕ) (range : CodeRange) → in_ranges a (range ∷ []) ≡ true → (range.low ≤ a) × (a < range.high)
 range_parts a range is = elim (or_cases (nat_le range.low a && nat_lt a range.high) false is) [
   | inl both ↦ let p = and_parts (nat_le range.low a) (nat_lt a range.high) both in (leb-true range.low a p.0, ltb-true a range.high p.1)
   | inr never ↦ absurd (cc never)
 ]
 
-range_has : (a : ℕ) (range : CodeRange) → range.low ≤ a → a < range.high → in_ranges a (range ∷ []) ≡ true
+pub range_has : (a : ℕ) (range : CodeRange) → range.low ≤ a → a < range.high → in_ranges a (range ∷ []) ≡ true
 range_has a range low high = rw (and_from (nat_le range.low a) (nat_lt a range.high) (le-leb range.low a low) (lt-ltb a range.high high)) refl
 
 pub start_in : (starts : List ℕ) (range : CodeRange) (first end at : ℕ) → IsCountBelow starts range.low first → IsCountBelow starts range.high end → first ≤ at → at < end → at < length starts
@@ -118,6 +118,15 @@ in_one a (x ∷ xs) zero r there is =
     or_left (nat_le x.low a && nat_lt a x.high) (in_ranges a xs)
     (and_from (nat_le x.low a) (nat_lt a x.high) (le-leb x.low a (subst (λ (z : CodeRange). z.low ≤ a) same p.0)) (lt-ltb a x.high (subst (λ (z : CodeRange). a < z.high) same p.1)))
 in_one a (x ∷ xs) (suc i) r there is = or_right (nat_le x.low a && nat_lt a x.high) (in_ranges a xs) (in_one a xs i r there is)
+
+-- ranges that have the addresses of those of a function are taken in their stead
+pub takes_same : (of : List FunctionRecord) (index : ℕ) (f : FunctionRecord) (ranges parts : List CodeRange) (old new : Taking) → ((a : ℕ) → in_ranges a parts ≡ in_ranges a ranges) → ranges ≡ f.ranges
+    → (((a : ℕ) → in_ranges a parts ≡ true → in_ranges a f.ranges ≡ true) → Takes of index (λ i. in_ranges (slice_index old.starts.items i) parts ≡ true) old new)
+    → Takes of index (λ i. in_ranges (slice_index old.starts.items i) ranges ≡ true) old new
+takes_same of index f ranges parts old new same is takes =
+    takes_weaker of index (λ i. in_ranges (slice_index old.starts.items i) parts ≡ true) (λ i. in_ranges (slice_index old.starts.items i) ranges ≡ true) old new
+    (λ i h has. same (slice_index old.starts.items i) ∙ has)
+    (takes (λ a has. subst (λ (rs : List CodeRange). in_ranges a rs ≡ true) is (sym (same a) ∙ has)))
 
 -- a function is taken by all starts of its ranges: they have those up to it
 pub all_taken : (of : List FunctionRecord) (index : ℕ) (f : FunctionRecord) (old new : Taking) → slice_get of index ≡ Some f → HasSame old new → Takes of index (λ i. in_ranges (slice_index old.starts.items i) f.ranges ≡ true) old new

@@ -36,6 +36,7 @@ pub record IsMade (functions : List Function) (links : List Link) (index : ℕ) 
   pub of : Function
   pub there : slice_get functions link.function ≡ Some of
   pub name : link.name ≡ of.name
+  pub name_number : link.name_number ≡ of.name_number
   pub call : link.call ≡ of.call
   pub count : link.count ≡ suc (count_at links link.caller)
   pub child : IsChild links (suc index) link.child

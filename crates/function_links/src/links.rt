@@ -4,11 +4,13 @@ ghost use Rattle.std.specs.Prelude.{◌≤◌, ◌<◌, ◌↔◌, ℕ, IfOk, le
 ghost use Rattle.std.specs.List.{Contains};
 ghost use Rattle.function_links.specs.Links.{AreLinkSteps, ends_of_ranges};
 ghost use Rattle.function_links.specs.LinkViews.{links_view};
+ghost use Rattle.function_links.specs.NameNumbers.{AreNamesNumbered};
 ghost use Rattle.function_links.specs.Taking.{AreParts};
 ghost use Rattle.source_frames.specs.DebugSections.{DebugSectionsRecord};
 ghost use Rattle.source_frames.specs.DebugUnits.{UnitRecord};
 ghost use Rattle.source_frames.specs.SectionsViews.{sections_view};
 ghost use Rattle.source_frames.specs.UnitViews.{unit_view};
+ghost use Rattle.unit_functions.specs.NameNumbers.{AreNumbered};
 ghost use Rattle.unit_functions.specs.UnitFunctions.{AreFunctions};
 ghost use Rattle.waiting_indexes.specs.Rising.{AreRising};
 
@@ -25,7 +27,7 @@ use waiting_indexes::{Waiting, sorted_once};
 pub struct Link<'a> {
     /// The name of the function.
     pub name: Option<&'a [u8]>,
-    /// The number of the name: links of one number have the same name.
+    /// The number of its name: links of one number have one name.
     pub name_number: usize,
     /// The place of the call that it is.
     pub call: SourceLocation,
@@ -46,7 +48,7 @@ pub struct Links<'a> {
     pub links: Vec<Link<'a>, Heap>,
     pub starts: Vec<u64, Heap>,
     pub numbers: Vec<usize, Heap>,
-    /// How many numbers the names have.
+    /// The numbers of names are below it.
     pub name_count: usize,
 }
 
@@ -66,10 +68,12 @@ fn starts_of(heap: Heap, ranges: &[CodeRange]) -> Result<Vec<u64, Heap>, NoMemor
 impl<'a> Links<'a> {
     /// The links of some functions.
     fn of(heap: Heap, all: &Functions<'a>) -> Result<Links<'a>, NoMemory>
-        requires { AreParts all.now.functions.items all.now.ranges.items }
-        ensures { IfOk result (λ links. (sections : DebugSectionsRecord) (unit : UnitRecord)
+        requires parts { AreParts all.now.functions.items all.now.ranges.items }
+        requires numbered { AreNumbered all.now.functions.items }
+        ensures steps { IfOk result (λ links. (sections : DebugSectionsRecord) (unit : UnitRecord)
             → AreFunctions sections unit all.now.functions.items all.now.ranges.items
             → AreLinkSteps sections unit (links_view links.links.items) links.starts.items links.numbers.items) }
+        ensures names { IfOk result (λ links. AreNamesNumbered links.name_count links.links.items) }
     {
         let starts = starts_of(heap.clone()?, &all.ranges)?;
         let count = starts.len();
@@ -82,29 +86,31 @@ impl<'a> Links<'a> {
         let mut taking = Taking {
             making,
             starts,
-            numbers: vec![in heap; 0; count]?,
+            numbers: vec![in heap.clone()?; 0; count]?,
             waiting,
         };
-        taking.take_all()?;
+        taking.take_all(&heap)?;
         Ok(Links {
             links: taking.making.links,
             starts: taking.starts,
             numbers: taking.numbers,
-            name_count: all.name_count(),
+            name_count: all.functions.len(),
         })
     }
 
     /// The links of a unit, of whose functions and ranges it takes the memory. An address that lies in ranges of
-    /// functions that stand in each other costs its link once: it takes the time of the unit, which is read once, of a
-    /// sort of where ranges begin and end, and of up to 256 functions for each of these addresses.
+    /// functions that stand in each other costs its link once: it takes the time of the unit, which is read once, of
+    /// sorts of each function's ranges and of where all begin and end, and of up to 256 functions for each of these
+    /// addresses.
     pub fn read(
         heap: Heap,
         info: &DebugInfo<'a>,
         unit: &DebugUnit<'a>,
     ) -> Result<Links<'a>, NoMemory>
         requires { unit.now.header.entries_offset ≤ length unit.now.bytes.now }
-        ensures { IfOk result (λ links. AreLinkSteps (sections_view info.now.sections) (unit_view unit.now)
+        ensures steps { IfOk result (λ links. AreLinkSteps (sections_view info.now.sections) (unit_view unit.now)
             (links_view links.links.items) links.starts.items links.numbers.items) }
+        ensures names { IfOk result (λ links. AreNamesNumbered links.name_count links.links.items) }
     {
         let functions = Functions::read(heap.clone()?, info, unit)?;
         Links::of(heap, &functions)

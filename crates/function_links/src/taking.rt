@@ -6,6 +6,7 @@ ghost use Rattle.function_links.specs.Taking.{AreOf, AreParts, Extends, HasBefor
 ghost use Rattle.unit_functions.specs.UnitFunctions.{FunctionRecord};
 ghost use Rattle.waiting_indexes.specs.Waiting.{Waits};
 
+use crate::apart::apart_of;
 use crate::making::Making;
 use code_ranges::CodeRange;
 use memory::{Heap, NoMemory};
@@ -94,8 +95,32 @@ impl<'f, 'a> Taking<'f, 'a> {
         Ok(())
     }
 
-    /// A function contains the starts of its ranges.
+    /// A function contains the starts of some of its ranges.
     fn take_ranges(&mut self, index: usize, ranges: &[CodeRange]) -> Result<(), NoMemory>
+        requires taking { IsTaking self.old }
+        requires index { index < length self.old.making.all.now.functions.items }
+        ensures same { HasSame self.old self.new }
+        ensures taking { OnOk result (IsTaking self.new) }
+        ensures takes { OnOk result ((of : List FunctionRecord) (f : FunctionRecord)
+            → AreOf of self.old.making.all.now.functions.items self.old.making.all.now.ranges.items
+            → slice_get of index ≡ Some f
+            → ((a : ℕ) → in_ranges a ranges.now ≡ true → in_ranges a f.ranges ≡ true)
+            → Takes of index (λ i. in_ranges (slice_index self.old.starts.items i) ranges.now ≡ true) self.old
+            self.new) }
+    {
+        for range in ranges {
+            self.take_range(index, *range)?;
+        }
+        Ok(())
+    }
+
+    /// A function contains the starts of its ranges. It visits each start once, however many of the ranges have it.
+    fn take_function(
+        &mut self,
+        heap: &Heap,
+        index: usize,
+        ranges: &[CodeRange],
+    ) -> Result<(), NoMemory>
         requires taking { IsTaking self.old }
         requires index { index < length self.old.making.all.now.functions.items }
         ensures same { HasSame self.old self.new }
@@ -106,14 +131,15 @@ impl<'f, 'a> Taking<'f, 'a> {
             → Takes of index (λ i. in_ranges (slice_index self.old.starts.items i) ranges.now ≡ true) self.old
             self.new) }
     {
-        for range in ranges {
-            self.take_range(index, *range)?;
+        if ranges.len() < 2 {
+            return self.take_ranges(index, ranges);
         }
-        Ok(())
+        let parts = apart_of(heap, ranges)?;
+        self.take_ranges(index, &parts)
     }
 
     /// Each function contains the starts of its ranges.
-    pub fn take_all(&mut self) -> Result<(), NoMemory>
+    pub fn take_all(&mut self, heap: &Heap) -> Result<(), NoMemory>
         requires taking { IsTaking self.old }
         requires parts { AreParts self.old.making.all.now.functions.items self.old.making.all.now.ranges.items }
         ensures same { HasSame self.old self.new }
@@ -126,7 +152,7 @@ impl<'f, 'a> Taking<'f, 'a> {
         let all = self.making.all;
         let mut begin = 0;
         for (index, function) in all.functions.iter().enumerate() {
-            self.take_ranges(index, &all.ranges[begin..function.ranges_end])?;
+            self.take_function(heap, index, &all.ranges[begin..function.ranges_end])?;
             begin = function.ranges_end;
         }
         Ok(())

@@ -11,7 +11,7 @@ use Rattle.byte_device.specs.declared.disks.CannotOpen.{CannotOpen}
 use Rattle.command_core.specs.Archives.{merged}
 use Rattle.command_core.specs.Inputs.{Reader, reader, readers, EachUnfailed, IsRefusal, ReadsInputs, Unfailed, failures_of}
 use Rattle.command_core.specs.declared.faults.CommandFault.{CommandFault}
-use Rattle.command_core.specs.declared.faults.CommandFault.TheVariants.{Input, Output, Report, OutOfMemory}
+use Rattle.command_core.specs.declared.faults.CommandFault.TheVariants.{Input, OutOfMemory}
 use Rattle.command_core.proofs.Readers.{all_take, readers_long, rest_kept, set_one, unfailed_more, untouched_behind}
 use Rattle.table_index.specs.Text.{placed_of}
 use Rattle.index_inputs.specs.Prefixes.{HoldsNamed}
@@ -22,23 +22,13 @@ use Rattle.index_inputs.specs.Together.{AllThree, AreAllKept, AreLater, AreNamed
 
 three_more : {X Y Z : Type 0} (R : X → Y → Z → Type 0) (xs : List X) (ys : List Y) (zs : List Z) (x : X) (y : Y) (z : Z) → AllThree R xs ys zs → R x y z → AllThree R (xs ++ x ∷ []) (ys ++ y ∷ []) (zs ++ z ∷ [])
 three_more R [] [] [] x y z all one = (one, tt)
-three_more R [] [] (_ ∷ _) x y z all one = absurd all
-three_more R [] (_ ∷ _) [] x y z all one = absurd all
-three_more R [] (_ ∷ _) (_ ∷ _) x y z all one = absurd all
-three_more R (_ ∷ _) [] [] x y z all one = absurd all
-three_more R (_ ∷ _) [] (_ ∷ _) x y z all one = absurd all
-three_more R (_ ∷ _) (_ ∷ _) [] x y z all one = absurd all
 three_more R (a ∷ xs) (b ∷ ys) (c ∷ zs) x y z all one = (all.0, three_more R xs ys zs x y z all.1 one)
+three_more R xs ys zs x y z all one = absurd all
 
 pub three_long : {X Y Z : Type 0} (R : X → Y → Z → Type 0) (xs : List X) (ys : List Y) (zs : List Z) → AllThree R xs ys zs → length zs ≡ length ys
 three_long R [] [] [] all = refl
-three_long R [] [] (_ ∷ _) all = absurd all
-three_long R [] (_ ∷ _) [] all = absurd all
-three_long R [] (_ ∷ _) (_ ∷ _) all = absurd all
-three_long R (_ ∷ _) [] [] all = absurd all
-three_long R (_ ∷ _) [] (_ ∷ _) all = absurd all
-three_long R (_ ∷ _) (_ ∷ _) [] all = absurd all
 three_long R (_ ∷ xs) (_ ∷ ys) (_ ∷ zs) all = ap suc (three_long R xs ys zs all.1)
+three_long R xs ys zs all = absurd all
 
 -- ---- indexes that were read with their archives
 
@@ -79,11 +69,8 @@ module _ {S : Type 0} (left : S → Option (List ℕ)) (failures : S → ℕ) wh
   between old now = readers left failures old now
 
   pub front_kept : (old now : List (Result S CannotOpen)) (place : ℕ) (after : Result S CannotOpen) → take place (between old (set now place after)) ≡ take place (between old now)
-  front_kept [] now place after = refl
-  front_kept (x ∷ xs) [] zero after = refl
-  front_kept (x ∷ xs) [] (suc place) after = refl
-  front_kept (x ∷ xs) (y ∷ ys) zero after = refl
   front_kept (x ∷ xs) (y ∷ ys) (suc place) after = ap (λ (rs : List (Reader S)). reader left failures x y ∷ rs) (front_kept xs ys place after)
+  front_kept old now place after = refl
 
   pub one_of : (old now : List (Result S CannotOpen)) (place : ℕ) (file after : Result S CannotOpen) → place < length old → length now ≡ length old → file ≡ get_or old place file → drop place now ≡ drop place old → EachUnfailed (between old now)
       → IsOneOf (between old (set now place after)) place (reader left failures file after)
@@ -121,12 +108,11 @@ module _ {S : Type 0} (left : S → Option (List ℕ)) (failures : S → ℕ) wh
 
   pub later_readers : (old mid new : List (Result S CannotOpen)) → length new ≡ length mid → AreAllKept left failures old mid → AreLater (between old new) (between mid new)
   later_readers [] [] new long all = tt
-  later_readers [] (_ ∷ _) new long all = absurd all
-  later_readers (_ ∷ _) [] new long all = absurd all
   later_readers (x ∷ xs) (y ∷ ys) [] long all = absurd (omega (arith, long))
   later_readers (x ∷ xs) (y ∷ ys) (z ∷ zs) long all =
       let rest : length zs ≡ length ys = omega (arith, long) in
       (record { left_is = refl; failures_is = refl; new_is = refl; kept = all.0 }, later_readers xs ys zs rest all.1)
+  later_readers old mid new long all = absurd all
 
   pub unfailed_through : (old mid new : List (Result S CannotOpen)) → length mid ≡ length old → length new ≡ length old → EachUnfailed (between old mid) → EachUnfailed (between mid new) → EachUnfailed (between old new)
   unfailed_through [] mid new long more first second = tt
@@ -143,13 +129,11 @@ module _ {S : Type 0} (left : S → Option (List ℕ)) (failures : S → ℕ) wh
   read_earlier indexes [] mid new all long more read = read
   read_earlier indexes (x ∷ xs) [] new all long more read = absurd (omega (arith, long))
   read_earlier indexes (x ∷ xs) (y ∷ ys) [] all long more read = absurd (omega (arith, more))
-  read_earlier [] (x ∷ xs) (y ∷ ys) (z ∷ zs) [] long more read = absurd read
-  read_earlier [] (x ∷ xs) (y ∷ ys) (z ∷ zs) (_ ∷ _) long more read = absurd read
-  read_earlier (_ ∷ _) (x ∷ xs) (y ∷ ys) (z ∷ zs) [] long more read = absurd read
   read_earlier (index ∷ indexes) (x ∷ xs) (y ∷ ys) (z ∷ zs) (entries ∷ all) long more read =
       let rest : length ys ≡ length xs = omega (arith, long) in
       let rest_more : length zs ≡ length xs = omega (arith, more) in
       (record { index_is = read.0.index_is; archive_is = read.0.archive_is }, read_earlier indexes xs ys zs all rest rest_more read.1)
+  read_earlier indexes old mid new all long more read = absurd read
 
 -- ---- one of the indexes, or its archive, is refused
 
@@ -177,12 +161,11 @@ module _ {I P : Type 0} (left : I → Option (List ℕ)) (failures : I → ℕ) 
     archive_is = one_of whole failures_at before seen place archive later lt_at long_at is_at rest_at each_at;
     refused = r;
   }
-  pair_refused all (Output n) read r = absurd r
-  pair_refused all (Report n) read r = absurd r
   pair_refused all OutOfMemory read r = (
     unfailed_more left failures old now place file after lt long is each r.0,
     unfailed_more whole failures_at before seen place archive later lt_at long_at is_at each_at r.1,
   )
+  pair_refused all fault read r = absurd r
 
 -- ---- one of the archives is refused
 
@@ -206,9 +189,8 @@ module _ {P : Type 0} (whole : P → Option (List ℕ)) (failures : P → ℕ) (
     entries_are = slice_get_read all (length all) place entries refl few entries_are;
     refused = r;
   }
-  one_refused o mid (Output n) h r = absurd r
-  one_refused o mid (Report n) h r = absurd r
   one_refused o mid OutOfMemory h r = unfailed_more whole failures before seen place archive later lt long is each r
+  one_refused o mid fault h r = absurd r
 
 -- ---- all of them
 
@@ -216,9 +198,8 @@ module _ {P : Type 0} (whole : P → Option (List ℕ)) (failures : P → ℕ) (
 pub first_refused : {I P : Type 0} (prefixes : List (List ℕ)) (indexes : List (Reader I)) (archives : List (Reader P)) (fault : CommandFault) → IsRefusal (IsFirstRefusedByIndex indexes archives) (EachUnfailed indexes × EachUnfailed archives) fault
     → IsRefusal (AreRefusedTogether prefixes indexes archives) (AreUnfailedTogether indexes archives) fault
 first_refused prefixes indexes archives (Input at why) r = inl r
-first_refused prefixes indexes archives (Output n) r = absurd r
-first_refused prefixes indexes archives (Report n) r = absurd r
 first_refused prefixes indexes archives OutOfMemory r = r
+first_refused prefixes indexes archives fault r = absurd r
 
 module _ {I P : Type 0} (prefixes : List (List ℕ)) (indexes : List (Reader I)) (whole : P → Option (List ℕ)) (failures : P → ℕ) (old mid new : List (Result P CannotOpen)) (all : List (List (List ℕ)))
     (long : length mid ≡ length old) (more : length new ≡ length old) (read : AreReadWith indexes (readers whole failures old mid) all) (unfailed : EachUnfailed indexes × EachUnfailed (readers whole failures old mid)) (kept : AreAllKept whole failures old mid) where
@@ -242,9 +223,8 @@ module _ {I P : Type 0} (prefixes : List (List ℕ)) (indexes : List (Reader I))
         refused = r;
       } in
       inr told
-  refused_later (Output n) r = absurd r
-  refused_later (Report n) r = absurd r
   refused_later OutOfMemory r = (unfailed.0, unfailed_through whole failures old mid new long more unfailed.1 r)
+  refused_later fault r = absurd r
 
   held_later : (p : Operations) → HoldNamed prefixes later all p → HoldTogether prefixes indexes known p
   held_later p named = record {

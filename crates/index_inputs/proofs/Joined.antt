@@ -35,9 +35,8 @@ AreGroups prefixes entries groups text = AllZip (λ (prefix : List ℕ) (records
 
 named_groups : (text : List ℕ) (prefixes : List (List ℕ)) (entries : Entries) (groups : List (List (List ℕ))) → AreGroups prefixes entries groups text → AreNamedUnder prefixes entries text (map made groups)
 named_groups text [] entries [] a = tt
-named_groups text [] entries (g ∷ gs) a = absurd a
-named_groups text (f ∷ fs) entries [] a = absurd a
 named_groups text (f ∷ fs) entries (g ∷ gs) a = (record { records = g; named = a.0; made = refl }, named_groups text fs entries gs a.1)
+named_groups text prefixes entries groups a = absurd a
 
 pub gathered_none : (whole : Option (List ℕ)) (entries : Entries) (old : List (List ℕ)) → HaveGathered whole [] entries old old
 gathered_none whole entries old = record { groups = []; named = known (AreGroups [] entries []) whole (λ text. tt); behind = sym (append-nil old) }
@@ -84,8 +83,7 @@ module _ (whole now : Option (List ℕ)) (prefixes : List KeyPrefix) (i : ℕ) (
 pub fault_then : (prefixes : List (List ℕ)) (entries : Entries) (text : List ℕ) (fault : PlaceFault) → HasIndexedLength entries text → IsFaultAmong prefixes entries text fault → IsFaultUnder prefixes entries text fault
 fault_then prefixes entries text (Stale None) long f = absurd f
 fault_then prefixes entries text (Stale (Some k)) long f = (long, f)
-fault_then prefixes entries text (Device offset) long f = tt
-fault_then prefixes entries text OutOfMemory long f = tt
+fault_then prefixes entries text fault long f = tt
 
 -- what was gathered is taken together, as its groups one after another
 taken_groups : (o : Operations) (groups : List (List (List ℕ))) → IsMade o → with_records o (flat_map (λ (records : List (List ℕ)). records) groups) ≡ merged o (map made groups)

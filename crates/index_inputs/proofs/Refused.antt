@@ -6,7 +6,7 @@ use Rattle.command_core.specs.Ends.{EndsReport}
 use Rattle.command_core.specs.Inputs.{AreRead, Reader, IsRefusal, Unfailed, reader}
 use Rattle.command_core.specs.Outputs.{Takes, Writer}
 use Rattle.command_core.specs.declared.faults.CommandFault.{CommandFault}
-use Rattle.command_core.specs.declared.faults.CommandFault.TheVariants.{Input, Output, Report, OutOfMemory}
+use Rattle.command_core.specs.declared.faults.CommandFault.TheVariants.{Input, OutOfMemory}
 use Rattle.command_core.specs.declared.faults.InputName.{InputName}
 use Rattle.command_core.specs.declared.faults.InputName.TheVariants.{Index}
 use Rattle.command_core.specs.declared.faults.Status.{Status}
@@ -47,9 +47,8 @@ module _ {S : Type 0} (left : S → Option (List ℕ)) (failures : S → ℕ) (s
       → IsRefusal (λ at why. (at ≡ Index number) × (why ≡ IndexFaulty fault) × (fault.kind ≢ IndexOutOfMemory)) (fault.kind ≡ IndexOutOfMemory) told
       → IsRefusal (λ at why. (at ≡ Index number) × IsUnreadIndex index why) (Unfailed index) told
   index_refused number fault (Input at why) reads r = (r.0, (after, refl, fault, r.1, r.2, reads))
-  index_refused number fault (Output n) reads r = absurd r
-  index_refused number fault (Report n) reads r = absurd r
   index_refused number fault OutOfMemory reads r = subst (λ (kind : IndexFaultKind). Blames (failures source) (failures after) kind) r reads.counts
+  index_refused number fault told reads r = absurd r
 
 -- ---- INDEX and its archive
 
@@ -60,9 +59,8 @@ module _ {R S : Type 0} (number : ℕ) (index : Reader R) (archive : Reader S) w
   -- the archive is, whose index was read
   pub archive_refused : (fault : CommandFault) (entries : Entries) → HoldsIndex index entries → Unfailed index → IsRefusal (IsOfOtherLength number archive entries) (Unfailed archive) fault → RefusedSo fault
   archive_refused (Input at why) entries holds unfailed r = inr (entries, holds, unfailed, r)
-  archive_refused (Output n) entries holds unfailed r = absurd r
-  archive_refused (Report n) entries holds unfailed r = absurd r
   archive_refused OutOfMemory entries holds unfailed r = (unfailed, r)
+  archive_refused fault entries holds unfailed r = absurd r
 
 -- ---- how a command ends so
 

@@ -143,21 +143,19 @@ module _ (os : List Operations) (texts : List (List ℕ)) (indexes : List (List 
   all_before : (key : SliceKey) (x : EntryAt) (a : List ℕ) (xs : List EntryAt) (ss : List (List ℕ)) → IsAnsweringSlice key x a → AllZip (IsAnsweringSlice key) xs ss → ((k : ℕ) → k < length xs → StandsBefore x (get_or xs k x))
       → AllByRecursion (λ s. on admission_record (slice_cmp nat_cmp) a s ≡ Less) ss
   all_before key x a [] [] is all stands = tt
-  all_before key x a [] (s ∷ ss) is all stands = absurd all
-  all_before key x a (y ∷ xs) [] is all stands = absurd all
   all_before key x a (y ∷ xs) (s ∷ ss) is all stands =
       (before key x y a s is all.0 (stands 0 (omega arith)), all_before key x a xs ss is all.1 (λ k lt. stands (suc k) (omega (arith, lt))))
+  all_before key x a xs ss is all stands = absurd all
 
   ascending : (key : SliceKey) (xs : List EntryAt) (ss : List (List ℕ)) → AllZip (IsAnsweringSlice key) xs ss → ((i j : ℕ) (none : EntryAt) → i < j → j < length xs → StandsBefore (get_or xs i none) (get_or xs j none))
       → IsStrictlySortedBy (on admission_record (slice_cmp nat_cmp)) ss
   unfolding IsStrictlySortedBy
   ascending key [] [] all stands = tt
-  ascending key [] (s ∷ ss) all stands = absurd all
-  ascending key (x ∷ xs) [] all stands = absurd all
   ascending key (x ∷ xs) (s ∷ ss) all stands = (
     all_before key x s xs ss all.0 all.1 (λ k lt. stands 0 (suc k) x (omega arith) (omega (arith, lt))),
     ascending key xs ss all.1 (λ i j none lt within. stands (suc i) (suc j) none (omega (arith, lt)) (omega (arith, within))),
   )
+  ascending key xs ss all stands = absurd all
 
   -- ---- what is told of them
 
@@ -169,11 +167,10 @@ module _ (os : List Operations) (texts : List (List ℕ)) (indexes : List (List 
 
   rows_right : (key : SliceKey) (asked : Where) (xs : List EntryAt) (ss : List (List ℕ)) (rows : List OwnRow) → AllZip (IsAnsweringSlice key) xs ss → AllZip (IsToldRowAt texts asked) xs rows → AllZip (IsOwnRow asked) ss rows
   rows_right key asked [] [] [] all told = tt
-  rows_right key asked [] [] (row ∷ rows) all told = absurd told
   rows_right key asked [] (s ∷ ss) rows all told = absurd all
   rows_right key asked (x ∷ xs) [] rows all told = absurd all
-  rows_right key asked (x ∷ xs) (s ∷ ss) [] all told = absurd told
   rows_right key asked (x ∷ xs) (s ∷ ss) (row ∷ rows) all told = (row_right key asked x s row all.0 told.0, rows_right key asked xs ss rows all.1 told.1)
+  rows_right key asked xs ss rows all told = absurd told
 
   no_slice : (key : SliceKey) (ss : List (List ℕ)) → AllZip (IsAnsweringSlice key) [] ss → ss ≡ []
   no_slice key [] all = refl
@@ -201,11 +198,10 @@ module _ (os : List Operations) (texts : List (List ℕ)) (indexes : List (List 
 
   each_right : (key : SliceKey) (asked : Where) (xs : List EntryAt) (ss : List (List ℕ)) (lists : List (List FrameRecord)) → AllZip (IsAnsweringSlice key) xs ss → AllZip (AreFramesToldAt texts asked) xs lists → AllZip (AreFramesAt asked) ss lists
   each_right key asked [] [] [] all told = tt
-  each_right key asked [] [] (list ∷ lists) all told = absurd told
   each_right key asked [] (s ∷ ss) lists all told = absurd all
   each_right key asked (x ∷ xs) [] lists all told = absurd all
-  each_right key asked (x ∷ xs) (s ∷ ss) [] all told = absurd told
   each_right key asked (x ∷ xs) (s ∷ ss) (list ∷ lists) all told = (frames_right key asked x s list all.0 told.0, each_right key asked xs ss lists all.1 told.1)
+  each_right key asked xs ss lists all told = absurd told
 
   shown_right : (key : SliceKey) (lines : Bool) (asked : Where) (xs : List EntryAt) (ss : List (List ℕ)) (lists : List (List FrameRecord)) → AllZip (IsAnsweringSlice key) xs ss → AreShownAmong texts lines asked xs lists → AreShown lines asked ss lists
   shown_right key true asked xs ss lists all shown = each_right key asked xs ss lists all shown

@@ -29,10 +29,9 @@ use Rattle.index_writing.specs.InnerIndexing.{IndexesAmidst}
 
 -- of a refusal no count of bytes is told
 uncounted : (fault : IndexingFault) (told : CommandFault) (n k : ℕ) → TellsRefusal fault told → told ≡ Output n → n ≡ k
-uncounted fault (Input at why) n k tells is = cc
 uncounted fault (Output m) n k tells is = absurd tells
 uncounted fault (Report m) n k tells is = absurd tells
-uncounted fault OutOfMemory n k tells is = cc
+uncounted fault told n k tells is = cc
 
 module _ {R D : Type 0} (left : R → Option (List ℕ)) (failures : R → ℕ) (source after : R) (held : D → Option (List ℕ)) (writes : D → ℕ) (start end : D) where
   -- what the draft took is counted where it failed

@@ -5,7 +5,7 @@ ghost use Rattle.index_writing.specs.Index.{index_line};
 
 use archive_records::Sizes;
 use byte_device::Sink;
-use command_core::{CommandFault, Output, Status, Target, publish_report, publish_output};
+use command_core::{CommandFault, Output, Status, Target, publish_output, publish_report};
 use memory::{Heap, NoMemory};
 
 /// The line of `index`: how many entries were written, and how many bytes.

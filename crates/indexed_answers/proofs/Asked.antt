@@ -106,8 +106,7 @@ module _ {D : Type 0} (whole : D → Option (List ℕ)) (failures : D → ℕ) (
     text_is = ap (slice_get texts) h.0 ∙ at;
     lacks = h.2;
   }
-  says_of (Err (Device input offset)) texts text at h = tt
-  says_of (Err OutOfMemory) texts text at h = tt
+  says_of r texts text at h = tt
 
   counts_of : (r : Result EntryAnswers AnswerFault) → MatchResult r (λ _. failures after ≡ failures before) (BlamesOne lines x (failures before) (failures after))
       → MatchResult r (λ _. each_known failures news ≡ each_known failures devices) (BlamesAmong lines answering (each_known failures devices) (each_known failures news))

@@ -27,9 +27,8 @@ rows_more f v xs i x before after y lt is grown same all =
 -- what is told otherwise of each pair
 pub zip_as : {X Y : Type 0} (R S : X → Y → Type 0) (xs : List X) (ys : List Y) → ((x : X) (y : Y) → R x y → S x y) → AllZip R xs ys → AllZip S xs ys
 zip_as R S [] [] to all = tt
-zip_as R S [] (_ ∷ _) to all = absurd all
-zip_as R S (_ ∷ _) [] to all = absurd all
 zip_as R S (x ∷ xs) (y ∷ ys) to all = (to x y all.0, zip_as R S xs ys to all.1)
+zip_as R S xs ys to all = absurd all
 
 -- an element, whatever stands for one past the end
 pub any_default : {X : Type 0} (xs : List X) (i : ℕ) (d e : X) → i < length xs → get_or xs i d ≡ get_or xs i e

@@ -11,8 +11,8 @@ use Rattle.command_core.specs.Ends.{EndsReport}
 use Rattle.command_core.specs.Inputs.{Reader, readers, EachUnfailed, EachUntouched, Gives, IsRefusal, IsRefusedFrames, Unfailed}
 use Rattle.command_core.specs.Outputs.{Takes, Writer}
 use Rattle.command_core.specs.declared.faults.CommandFault.{CommandFault}
-use Rattle.command_core.specs.declared.faults.CommandFault.TheVariants.{Input, Output, Report, OutOfMemory}
 use Rattle.command_core.specs.declared.faults.Status.{Status}
+use Rattle.command_inputs.proofs.Parts.{refusal_of, together_refused}
 use Rattle.indexed_answers.specs.AmongAsked.{HaveTexts}
 use Rattle.index_inputs.specs.Several.{AreUnfailedTogether}
 use Rattle.index_inputs.specs.Together.{AreAllKept, AreReadWith, IsFirstRefusedByIndex}
@@ -27,18 +27,14 @@ module _ {C I P : Type 0} (lines : Bool) (frames : Reader C) (indexes : List (Re
   -- the frames are refused, before anything else is touched
   pub frames_first : (fault : CommandFault) → IsRefusal (IsRefusedFrames frames) (Unfailed frames) fault → EachUntouched indexes → EachUntouched archives → AreUnfailedTogether indexes archives → Takes report []
       → EndsReport (frames_at lines frames indexes archives) report (Err fault)
-  frames_first (Input at why) r named known unfailed t = (inl (r, named, known), t)
-  frames_first (Output n) r named known unfailed t = absurd r
-  frames_first (Report n) r named known unfailed t = absurd r
-  frames_first OutOfMemory r named known unfailed t = ((r, unfailed), t)
+  frames_first fault r named known unfailed t =
+      together_refused _ _ _ report fault (refusal_of _ _ _ _ fault (λ at why refused. inl (refused, named, known)) (λ u. (u, unfailed)) r) t
 
   -- after the frames were read another is refused
   pub refused_after : (listed : List Frame) (fault : CommandFault) → Gives frames (λ bytes. frames_of bytes ≡ Ok listed) → Unfailed frames → IsRefusal (AreRefusedAt lines indexes archives listed) (AreUnfailedTogether indexes archives) fault → Takes report []
       → EndsReport (frames_at lines frames indexes archives) report (Err fault)
-  refused_after listed (Input at why) gives unfailed r t = (inr (listed, gives, unfailed, r), t)
-  refused_after listed (Output n) gives unfailed r t = absurd r
-  refused_after listed (Report n) gives unfailed r t = absurd r
-  refused_after listed OutOfMemory gives unfailed r t = ((unfailed, r), t)
+  refused_after listed fault gives unfailed r t =
+      together_refused _ _ _ report fault (refusal_of _ _ _ _ fault (λ at why refused. inr (listed, gives, unfailed, refused)) (λ u. (unfailed, u)) r) t
 
 same_members : (keys : List (List ℕ)) → HaveSameMembers keys keys
 same_members keys = λ b. (λ there. there, λ there. there)
@@ -46,10 +42,8 @@ same_members keys = λ b. (λ there. there, λ there. there)
 -- an index is refused, whatever the frames
 pub index_refused_at : {I P : Type 0} (lines : Bool) (indexes : List (Reader I)) (archives : List (Reader P)) (listed : List Frame) (fault : CommandFault)
     → IsRefusal (IsFirstRefusedByIndex indexes archives) (AreUnfailedTogether indexes archives) fault → IsRefusal (AreRefusedAt lines indexes archives listed) (AreUnfailedTogether indexes archives) fault
-index_refused_at lines indexes archives listed (Input at why) r = (keys_of listed, same_members (keys_of listed), inl r)
-index_refused_at lines indexes archives listed (Output n) r = absurd r
-index_refused_at lines indexes archives listed (Report n) r = absurd r
-index_refused_at lines indexes archives listed OutOfMemory r = r
+index_refused_at lines indexes archives listed fault r =
+    refusal_of _ _ _ _ fault (λ at why refused. (keys_of listed, same_members (keys_of listed), inl refused)) (λ u. u) r
 
 -- ---- told
 
@@ -57,9 +51,8 @@ index_refused_at lines indexes archives listed OutOfMemory r = r
 module _ (AreTexts AreOthers : List (List ℕ) → Type 0) (from : (texts : List (List ℕ)) → AreOthers texts → AreTexts texts) (all : List (List (List ℕ))) (lines : Bool) where
   each_from : (frames : List Frame) (rows : List Answered) → AllZip (IsFrameByTables AreTexts all lines) frames rows → AllZip (IsFrameByTables AreOthers all lines) frames rows
   each_from [] [] a = tt
-  each_from [] (_ ∷ _) a = absurd a
-  each_from (_ ∷ _) [] a = absurd a
   each_from (frame ∷ frames) (row ∷ rows) a = ((a.0.0, record { answer_is = λ texts are. a.0.1.answer_is texts (from texts are); none_shown = a.0.1.none_shown }), each_from frames rows a.1)
+  each_from frames rows a = absurd a
 
   pub tell_from : (frames : List Frame) (status : Status) (text : List ℕ) → TellTablesOfFrames AreTexts all lines frames status text → TellTablesOfFrames AreOthers all lines frames status text
   tell_from frames status text told = record {

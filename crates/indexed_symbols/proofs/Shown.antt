@@ -80,9 +80,8 @@ module _ (AreTexts : List (List ℕ) → Type 0) (all : List (List (List ℕ))) 
 
   each_by_tables : (frames : List Frame) (rows : List Answered) → AllZip (IsFrameTold told lines) frames rows → AllZip (IsFrameByTables AreTexts all lines) frames rows
   each_by_tables [] [] a = tt
-  each_by_tables [] (_ ∷ _) a = absurd a
-  each_by_tables (_ ∷ _) [] a = absurd a
   each_by_tables (frame ∷ frames) (row ∷ rows) a = (by_tables frame row a.0, each_by_tables frames rows a.1)
+  each_by_tables frames rows a = absurd a
 
   -- what is shown of frames is what tables tell of them
   pub frames_by_tables : (frames : List Frame) (status : Status) (text : List ℕ) → ShowsFrames told lines frames status text → TellTablesOfFrames AreTexts all lines frames status text

@@ -43,11 +43,10 @@ same_table once r t u a b = elim (cases_Bool (is_admission r)) [
 
 pub same_tables : HaveOneTable → (rs ts us : List (List ℕ)) → AllZip IsTableOf rs ts → AllZip IsTableOf rs us → ts ≡ us
 same_tables once [] [] [] a b = refl
-same_tables once [] [] (u ∷ us) a b = absurd b
 same_tables once [] (t ∷ ts) us a b = absurd a
 same_tables once (r ∷ rs) [] us a b = absurd a
-same_tables once (r ∷ rs) (t ∷ ts) [] a b = absurd b
 same_tables once (r ∷ rs) (t ∷ ts) (u ∷ us) a b = cc (same_table once r t u a.0 b.0, same_tables once rs ts us a.1 b.1)
+same_tables once rs ts us a b = absurd b
 
 pub one_of_content : HaveOneTable → (o : Operations) (text other : List ℕ) → IsIndexOf o text → IsIndexOf o other → text ≡ other
 one_of_content once o text other a b =

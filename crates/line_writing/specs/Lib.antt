@@ -1,5 +1,6 @@
 pub mod Numbering
 pub mod Numbers
+pub mod Marks
 pub mod Kept
 pub mod KeptViews
 pub mod FirstUses

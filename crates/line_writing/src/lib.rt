@@ -8,8 +8,8 @@
 //!
 //! Decided:
 //!
-//! - Texts are borrowed, and compared where they lie. Text, file and location are told by number as soon as they come,
-//!   so that what is kept of an address is 16 bytes.
+//! - Texts are borrowed, and compared by a mark first, then where they lie. Text, file and location are told by number
+//!   as soon as they come, so that what is kept of an address is 16 bytes.
 //! - A location is a frame with the number of the location that it is inlined into. So numbers are equal where chains
 //!   of frames are, and frames are compared no more once they have come.
 //! - A table has its numbers in the order of first use, which is known at the end: there each number gets another.

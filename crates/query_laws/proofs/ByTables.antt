@@ -41,11 +41,10 @@ pub record AreTextsOf {I : Type 0} (inputs : List (Reader I)) (os : List Operati
 
 pub texts_of : {I : Type 0} (inputs : List (Reader I)) (os : List Operations) → AreIndexesGiven inputs os → AreTextsOf inputs os
 texts_of [] [] are = record { texts = []; given = tt; files = tt }
-texts_of [] (_ ∷ _) are = absurd are
-texts_of (_ ∷ _) [] are = absurd are
 texts_of (input ∷ inputs) (o ∷ os) (first, rest) =
     let more = texts_of inputs os rest in
     record { texts = first.0 ∷ more.texts; given = (first.1, more.given); files = (first.2, more.files) }
+texts_of inputs os are = absurd are
 
 module _ {I P : Type 0} (inputs : List (Reader I)) (archives : List (Reader P)) (all : List (List (List ℕ))) (read : AreReadWith inputs archives all) where
   texts_read : (texts : List (List ℕ)) → AreGiven inputs texts → AllZip IsIndexText texts all
@@ -63,12 +62,11 @@ module _ {I P : Type 0} (inputs : List (Reader I)) (archives : List (Reader P)) 
 
     frames_rows : (lines : Bool) (frames : List Frame) (rows : List Answered) → ((frame : Frame) → Contains frames frame → IsKey frame.key) → AllZip (IsFrameByTables (AreGiven inputs) all lines) frames rows → AllZip (IsFrameAnswered lines (all_joined os)) frames rows
     frames_rows lines [] [] keys zip = tt
-    frames_rows lines [] (_ ∷ _) keys zip = absurd zip
-    frames_rows lines (_ ∷ _) [] keys zip = absurd zip
     frames_rows lines (frame ∷ frames) (row ∷ rows) keys (one, more) = (
       (one.0, row_told frame.key frame.load lines row (keys frame (in_front frame frames)) one.1),
       frames_rows lines frames rows (λ f there. keys f (in_rest frame frames f there)) more,
     )
+    frames_rows lines frames rows keys zip = absurd zip
 
 module _ {I P : Type 0} (inputs : List (Reader I)) (archives : List (Reader P)) (os : List Operations) (are : AreIndexesGiven inputs os) (tell : DigestsTell os) where
   pub told_by_tables : (key : SliceKey) (load : Option ℕ) (lines : Bool) (addresses : List ℕ) (status : Status) (text : List ℕ) → IsKey key → TellsByTables inputs archives key load lines addresses status text → TellsAddresses (all_joined os) key load lines addresses status text

@@ -80,25 +80,19 @@ same_bytes text slice sent rest k behind long stands =
 -- one of the archives, later, has the text of the content at its place
 own_at : {I P : Type 0} (inputs : List (Reader I)) (archives : List (Reader P)) (os : List Operations) (later : List (Reader P)) (n : ℕ) (archive : Reader P) (o : Operations) → AreOwnIndexes inputs archives os → AreLater archives later
     → slice_get later n ≡ Some archive → slice_get os n ≡ Some o → IsGiven archive (written o)
-own_at inputs archives [] later n archive o own are in_later in_os = absurd cc
-own_at inputs archives (w ∷ os) [] n archive o own are in_later in_os = absurd cc
 own_at inputs [] (w ∷ os) (l ∷ later) n archive o own are in_later in_os = absurd are
 own_at [] (a ∷ archives) (w ∷ os) (l ∷ later) n archive o own are in_later in_os = absurd own
 own_at (i ∷ inputs) (a ∷ archives) (w ∷ os) (l ∷ later) zero archive o own are in_later in_os =
     let given : IsGiven l (written w) = still_given a l (written w) are.0 own.0.1 in
     subst (λ (v : Reader _). IsGiven v (written o)) (same_Some l archive in_later) (subst (λ (u : Operations). IsGiven l (written u)) (same_Some w o in_os) given)
 own_at (i ∷ inputs) (a ∷ archives) (w ∷ os) (l ∷ later) (suc n) archive o own are in_later in_os = own_at inputs archives os later n archive o own.1 are.1 in_later in_os
+own_at inputs archives os later n archive o own are in_later in_os = absurd cc
 
 -- the indexes of these very archives are the indexes of their contents
 pub indexed_own : {I P : Type 0} (inputs : List (Reader I)) (archives : List (Reader P)) (os : List Operations) → AreOwnIndexes inputs archives os → AreIndexed inputs archives os
 indexed_own [] [] [] own = tt
-indexed_own [] [] (_ ∷ _) own = absurd own
-indexed_own [] (_ ∷ _) [] own = absurd own
-indexed_own [] (_ ∷ _) (_ ∷ _) own = absurd own
-indexed_own (_ ∷ _) [] [] own = absurd own
-indexed_own (_ ∷ _) [] (_ ∷ _) own = absurd own
-indexed_own (_ ∷ _) (_ ∷ _) [] own = absurd own
 indexed_own (input ∷ inputs) (archive ∷ archives) (o ∷ os) own = ((own.0.0, inl own.0.1), indexed_own inputs archives os own.1)
+indexed_own inputs archives os own = absurd own
 
 -- ---- the slice of an entry
 

@@ -45,8 +45,7 @@ short_number text n short h =
 
 two_numbers : (a b : Option ℕ) (arch : ArchKey) → ((n : ℕ) → a ≡ Some n → n < 2 ^ 32) → ((n : ℕ) → b ≡ Some n → n < 2 ^ 32) → arch_key_of a b ≡ Some arch → IsArch arch
 two_numbers (Some m) (Some n) arch first second h = subst IsArch (same_Some (arch_key m n) arch h) (record { cputype = first m refl; cpusubtype = second n refl })
-two_numbers (Some m) None arch first second h = absurd cc
-two_numbers None b arch first second h = absurd cc
+two_numbers a b arch first second h = absurd cc
 
 eight : (text : List ℕ) → length (take 8 text) ≤ 8
 eight text = omega (arith, length-take 8 text)
@@ -121,18 +120,11 @@ frame_read : (u : Option (List ℕ)) (a : Option ArchKey) (l : Option (Option �
 frame_read (Some u) (Some a) (Some l) (Some d) frame f g h =
     subst (λ (fr : Frame). IsKey fr.key) (same_Some (record { key = record { uuid = u; arch = a }; load = l; address = d }) frame h)
     (record { uuid = f u refl; cputype = (g a refl).cputype; cpusubtype = (g a refl).cpusubtype })
-frame_read (Some u) (Some a) (Some l) None frame f g h = absurd cc
-frame_read (Some u) (Some a) None d frame f g h = absurd cc
-frame_read (Some u) None l d frame f g h = absurd cc
-frame_read None a l d frame f g h = absurd cc
+frame_read u a l d frame f g h = absurd cc
 
 fields_read : (fs : List Field) (frame : Frame) → fields_frame fs ≡ Some frame → IsKey frame.key
-fields_read [] frame h = absurd cc
-fields_read (u ∷ []) frame h = absurd cc
-fields_read (u ∷ a ∷ []) frame h = absurd cc
-fields_read (u ∷ a ∷ l ∷ []) frame h = absurd cc
 fields_read (u ∷ a ∷ l ∷ d ∷ []) frame h = frame_read (parsed u) (arch_of a) _ _ frame (uuid_read u) (arch_read a) h
-fields_read (u ∷ a ∷ l ∷ d ∷ more ∷ rest) frame h = absurd cc
+fields_read fs frame h = absurd cc
 
 frames_read : (lines : List (ℕ × Line)) (listed : List Frame) (frame : Frame) → frames_in lines ≡ Ok listed → Contains listed frame → IsKey frame.key
 frames_read [] listed frame h there =

@@ -127,12 +127,11 @@ rows_one r row rs rows one all = record {
 
 rows_of_entries : (es rs : List (List ℕ)) (rows : List FindRow) → AllZip IsEntryOf es rs → AllZip IsEntryRow es rows → AreRowsOf rs rows
 rows_of_entries [] [] [] of told = record { operations = []; are = λ i d lt. absurd (omega arith); keys_are = λ i d lt. absurd (omega arith); records_are = refl; rows_are = refl }
-rows_of_entries [] [] (row ∷ rows) of told = absurd told
 rows_of_entries [] (r ∷ rs) rows of told = absurd of
 rows_of_entries (e ∷ es) [] rows of told = absurd of
-rows_of_entries (e ∷ es) (r ∷ rs) [] of told = absurd told
 rows_of_entries (e ∷ es) (r ∷ rs) (row ∷ rows) of told =
     rows_one r row rs rows (row_of_entry of.0.offset r row of.0.is of.0.keyed (subst (λ (x : List ℕ). IsEntryRow x row) of.0.entry_is told.0)) (rows_of_entries es rs rows of.1 told.1)
+rows_of_entries es rs rows of told = absurd told
 
 module _ (prefix : List ℕ) (short : length prefix ≤ 24) where
   -- those under a prefix

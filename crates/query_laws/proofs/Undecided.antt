@@ -52,11 +52,10 @@ module _ (os : List Operations) (texts : List (List ℕ)) (all : List (List (Lis
 
   rows_so : (xs : List EntryAt) (ss : List (List ℕ)) (rows : List FindRow) → AllZip (IsAnsweringSlice os texts all key) xs ss → AllZip IsRowAt xs rows → AllZip IsRowOfSlice ss rows
   rows_so [] [] [] zip told = tt
-  rows_so [] [] (row ∷ rows) zip told = absurd told
   rows_so [] (s ∷ ss) rows zip told = absurd zip
   rows_so (x ∷ xs) [] rows zip told = absurd zip
-  rows_so (x ∷ xs) (s ∷ ss) [] zip told = absurd told
   rows_so (x ∷ xs) (s ∷ ss) (row ∷ rows) zip told = (row_so x s row zip.0 told.0, rows_so xs ss rows zip.1 told.1)
+  rows_so xs ss rows zip told = absurd told
 
 -- the rows of slices say of them what is so
 rows_of_slices : (ss : List (List ℕ)) → AllZip IsRowOfSlice ss (map slice_row ss)
@@ -142,12 +141,11 @@ row_is slice row is row_key slice_key =
 
 rows_same : (ss : List (List ℕ)) (rows : List FindRow) → AllZip IsRowOfSlice ss rows → ((row : FindRow) → Contains rows row → IsKey row.key) → ((s : List ℕ) → Contains ss s → IsKey (key_of s)) → rows ≡ map slice_row ss
 rows_same [] [] all keyed keys = refl
-rows_same [] (row ∷ rows) all keyed keys = absurd all
-rows_same (s ∷ ss) [] all keyed keys = absurd all
 rows_same (s ∷ ss) (row ∷ rows) all keyed keys =
     let first : row ≡ slice_row s = row_is s row all.0 (keyed row (in_front row rows)) (keys s (in_front s ss)) in
     let more : rows ≡ map slice_row ss = rows_same ss rows all.1 (λ r there. keyed r (in_rest row rows r there)) (λ t there. keys t (in_rest s ss t there)) in
     λ i. first i ∷ more i
+rows_same ss rows all keyed keys = absurd all
 
 -- slices of which none is wanted, and that answer, are under the key
 keys_so : (o : Operations) (key : SliceKey) (digest : Option Digest) (slices : List (List ℕ)) → IsKey key → AreUndecided o key digest slices → (s : List ℕ) → Contains slices s → IsKey (key_of s)

@@ -17,8 +17,7 @@ use Rattle.std.proofs.lemmas.List.Sums.{length-filter}
 use Rattle.std.proofs.lemmas.Map.Keys.{sorted_head, sorted_tail}
 use Rattle.archive_core.specs.Content.{Operations}
 use Rattle.archive_core.specs.Record.{record_bytes}
-use Rattle.archive_core.specs.Find.{is_arch, is_dsym, is_image, answering_count, arch_cmp, find_cmp, key_in, row_of, IsFinds}
-use Rattle.archive_core.specs.Find.{is_key}
+use Rattle.archive_core.specs.Find.{is_arch, is_dsym, is_image, answering_count, arch_cmp, find_cmp, key_in, row_of, IsFinds, is_key}
 use Rattle.archive_core.specs.Lists.{list_cmp, IsList, rows_under}
 use Rattle.archive_core.specs.Names.{key_cmp}
 use Rattle.archive_core.specs.declared.keys.ArchKey.{ArchKey}

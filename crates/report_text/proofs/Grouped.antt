@@ -3,11 +3,10 @@ use Rattle.std.proofs.Common.{◌≡◌, ◌∙◌, ℕ, suc, ◌+◌, ◌<◌, 
 use Rattle.std.specs.List.{prefix_len, flat_map, slice_get}
 use Rattle.std.proofs.lemmas.Bool.{eq-eqb}
 use Rattle.archive_core.specs.declared.keys.SliceKey.{SliceKey}
-use Rattle.archive_core.specs.Find.{is_key}
+use Rattle.archive_core.specs.Find.{is_key, answering_count}
 use Rattle.std.proofs.lemmas.Slice.Eq.{bytes_eq-Decides}
 use Rattle.report_text.specs.declared.finds.KeyForm.{KeyForm}
 use Rattle.archive_core.specs.declared.find.FindRow.{FindRow}
-use Rattle.archive_core.specs.Find.{answering_count}
 use Rattle.archive_core.proofs.Answering.{one_key}
 use Rattle.report_text.specs.Finds.{Group, with_row, groups, group_lines, groups_lines, find_row_text, conflict_line}
 use Rattle.report_text.specs.Report.{line}

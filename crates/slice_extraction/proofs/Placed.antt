@@ -7,7 +7,7 @@ use Rattle.archive_core.specs.declared.keys.SliceKey.{SliceKey}
 use Rattle.command_core.specs.Inputs.{Reader}
 use Rattle.command_core.specs.Outputs.{Outs, IsPublished, PublishesNothing, Publishes, Reports, Takes, Writer, out_of, writer}
 use Rattle.command_core.specs.declared.faults.CommandFault.{CommandFault}
-use Rattle.command_core.specs.declared.faults.CommandFault.TheVariants.{Input, Output, Report, OutOfMemory}
+use Rattle.command_core.specs.declared.faults.CommandFault.TheVariants.{Output, Report}
 use Rattle.command_core.specs.declared.faults.Status.{Status}
 use Rattle.command_core.specs.declared.faults.Status.TheVariants.{Done}
 use Rattle.indexed_answers.specs.Among.{EntryAt}
@@ -57,10 +57,8 @@ module _ {D T : Type 0} (out : Outs D T) (report : Writer) where
 
       told_so : (told : List ℕ) (result : Result Status CommandFault) → Reports report Done told result → Publishes (out_of out) report slice told result
       told_so told (Ok ended) reported = (reported.0, places, reported.1)
-      told_so told (Err (Input at why)) reported = absurd reported
-      told_so told (Err (Output n)) reported = absurd reported
       told_so told (Err (Report n)) reported = (places, reported)
-      told_so told (Err OutOfMemory) reported = absurd reported
+      told_so told result reported = absurd reported
 
       pub placed_so : (text told : List ℕ) (result : Result Status CommandFault) → text ≡ told → Reports report Done text result → Publishes (out_of out) report slice told result
       placed_so text told result is reported = told_so told result (subst (λ (t : List ℕ). Reports report Done t result) is reported)

@@ -5,8 +5,7 @@ use Rattle.byte_device.specs.Devices.{stream}
 use Rattle.byte_device.specs.declared.disks.CannotOpen.{CannotOpen}
 use Rattle.byte_device.specs.Places.{Stands}
 use Rattle.placed_passes.specs.Copies.{IsCopied}
-use Rattle.placed_passes.specs.Sending.{HaveOther, HaveSome, StopsSending}
-use Rattle.placed_passes.specs.Sending.{Hinders as HindersSending}
+use Rattle.placed_passes.specs.Sending.{HaveOther, HaveSome, StopsSending, Hinders as HindersSending}
 use Rattle.placed_passes.specs.declared.sending.SendFault.{SendFault}
 use Rattle.placed_passes.specs.declared.sending.SendFault.TheVariants.{Other, Device, Sink}
 use Rattle.command_core.specs.Inputs.{Gives, Reader, Unfailed, reader}

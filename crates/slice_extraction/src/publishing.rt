@@ -10,7 +10,7 @@ use crate::choosing::{Choice, choose};
 use crate::sending::line_of;
 use archive_core::{Archive, CheckedSlice, Digest, FindRow, SliceKey};
 use byte_device::{Sink, push_all};
-use command_core::{CommandFault, Output, Status, Target, publish_report, publish_output};
+use command_core::{CommandFault, Output, Status, Target, publish_output, publish_report};
 use memory::{Heap, NoMemory};
 use report_text::find_lines;
 

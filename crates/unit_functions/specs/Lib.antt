@@ -1,2 +1,4 @@
+pub mod NameNumbers
 pub mod OpenFunctions
+pub mod Origins
 pub mod UnitFunctions

@@ -1,16 +1,20 @@
 //! The functions of a unit, and the ranges of their code.
 
-ghost use Rattle.std.specs.Prelude.{◌≡◌, ◌≤◌, ◌++◌, IfOk, OnOk, length};
+ghost use Rattle.std.specs.Prelude.{◌≡◌, ◌≤◌, ◌++◌, ◌⊎◌, IfOk, IfSome, OnOk, length, true};
+ghost use Rattle.std.specs.Option.{option_map};
 ghost use Rattle.code_ranges.specs.UnitViews.{unit_view as ranges_view};
 ghost use Rattle.debug_entries.specs.EntryViews.{entry_view, unread_view};
 ghost use Rattle.source_frames.specs.ChainSteps.{scope_of};
+ghost use Rattle.source_frames.specs.Names.{IsName};
 ghost use Rattle.source_frames.specs.Scopes.{left_after_scope, scope_ranges};
 ghost use Rattle.source_frames.specs.SectionsViews.{sections_view};
 ghost use Rattle.source_frames.specs.UnitViews.{unit_view};
+ghost use Rattle.unit_functions.specs.NameNumbers.{AreNumbered, HasName};
 ghost use Rattle.unit_functions.specs.OpenFunctions.{Adds, AreAmong, Closes, Takes};
+ghost use Rattle.unit_functions.specs.Origins.{AreNamed, IsNamedAt};
 ghost use Rattle.unit_functions.specs.UnitFunctions.{AreFunctions};
 
-use crate::origins::Origins;
+use crate::origins::{Origins, nameless_origin};
 use code_ranges::{CodeRange, Ranges, UnitRanges};
 use debug_entries::{Entries, Entry, UnreadEntry};
 use memory::{Heap, NoMemory};
@@ -21,7 +25,7 @@ use source_frames::{DebugInfo, DebugUnit, SourceLocation, is_function, scope_ran
 pub struct Function<'a> {
     /// Its name.
     pub name: Option<&'a [u8]>,
-    /// The number of its name: functions of one number have the same name.
+    /// The index of a function that has the same name: functions of one number have one name.
     pub name_number: usize,
     /// The place of the call that it is.
     pub call: SourceLocation,
@@ -29,6 +33,13 @@ pub struct Function<'a> {
     pub end: usize,
     /// How many ranges there are up to its last.
     pub ranges_end: usize,
+}
+
+/// A name, and the index of a function that has it.
+#[derive(Clone, Copy)]
+struct Named<'a> {
+    name: Option<&'a [u8]>,
+    number: usize,
 }
 
 /// A function in which further ones may stand: its depth and its index.
@@ -43,8 +54,8 @@ pub(crate) struct Open {
 pub struct Functions<'a> {
     pub functions: Vec<Function<'a>, Heap>,
     pub ranges: Vec<CodeRange, Heap>,
-    /// The names of the entries that others lead to.
-    pub(crate) origins: Origins<'a>,
+    /// Those that have the names of entries that others lead to.
+    origins: Origins,
 }
 
 /// Adds ranges.
@@ -67,6 +78,7 @@ impl<'a> Functions<'a> {
     fn close(&mut self, opened: &mut Vec<Open, Heap>, depth: usize)
         requires { AreAmong (length self.old.functions.items) opened.old.items }
         ensures ranges { self.new.ranges ≡ self.old.ranges }
+        ensures origins { self.new.origins ≡ self.old.origins }
         ensures closed { Closes depth opened.old.items opened.new.items
             self.old.functions.items self.new.functions.items }
     {
@@ -79,6 +91,36 @@ impl<'a> Functions<'a> {
         opened.truncate(left);
     }
 
+    /// The name of an entry, which may be that of the entry at a place.
+    fn named(
+        &self,
+        info: &DebugInfo<'a>,
+        unit: &DebugUnit<'a>,
+        entry: &Entry<'a>,
+        origin: Option<u64>,
+    ) -> Named<'a>
+        requires named { AreNamed (sections_view info.now.sections) self.now.functions.items self.now.origins }
+        requires origin { IfSome origin
+            (IsNamedAt (record { unit = unit_view unit.now; entry = entry_view entry.now })) }
+        ensures name { IsName (sections_view info.now.sections)
+            (record { unit = unit_view unit.now; entry = entry_view entry.now })
+            (option_map (λ n. n.now) result.name) }
+        ensures number { (result.number ≡ length self.now.functions.items)
+            ⊎ HasName self.now.functions.items result.number (option_map (λ n. n.now) result.name) }
+    {
+        if let Some(number) = self.origins.get(origin) {
+            let name = self.functions[number].name;
+            return Named { name, number };
+        }
+        let of = UnitEntry {
+            unit: *unit,
+            entry: *entry,
+        };
+        let name = info.name_of(&of);
+        let number = self.functions.len();
+        Named { name, number }
+    }
+
     /// Adds an entry that is of a function, if it has ranges.
     fn push_entry(
         &mut self,
@@ -89,11 +131,14 @@ impl<'a> Functions<'a> {
         entry: &Entry<'a>,
         ranges: Ranges<'a>,
     ) -> Result<(), NoMemory>
+        requires { AreNamed (sections_view info.now.sections) self.old.functions.items self.old.origins }
         ensures ranges { OnOk result (self.new.ranges.items ≡ self.old.ranges.items ++ ranges.entry) }
         ensures added { OnOk result (Adds (sections_view info.now.sections) (unit_view unit.now)
             (record { depth = depth; entry = entry_view entry.now; ranges = ranges.entry })
             (length self.new.ranges.items) opened.old.items opened.new.items
             self.old.functions.items self.new.functions.items) }
+        ensures named { OnOk result
+            (AreNamed (sections_view info.now.sections) self.new.functions.items self.new.origins) }
     {
         let before = self.ranges.len();
         push_ranges(&mut self.ranges, ranges)?;
@@ -101,15 +146,18 @@ impl<'a> Functions<'a> {
             return Ok(());
         }
         let index = self.functions.len();
-        let named = self.origins.name_of(info, unit, entry);
+        let origin = nameless_origin(unit, entry);
+        let named = self.named(info, unit, entry, origin);
+        let call = SourceLocation::of_call(entry);
         self.functions.push(Function {
             name: named.name,
             name_number: named.number,
-            call: SourceLocation::of_call(entry),
+            call,
             end: index + 1,
             ranges_end: self.ranges.len(),
         })?;
         opened.push(Open { depth, index })?;
+        self.origins.keep(origin, named.number);
         Ok(())
     }
 
@@ -125,7 +173,8 @@ impl<'a> Functions<'a> {
         depth: usize,
         entry: &UnreadEntry<'_, 'a>,
     ) -> Result<(), NoMemory>
-        requires { AreAmong (length self.old.functions.items) opened.old.items }
+        requires among { AreAmong (length self.old.functions.items) opened.old.items }
+        requires named { AreNamed (sections_view info.now.sections) self.old.functions.items self.old.origins }
         ensures left { OnOk result (left.new
             ≡ left_after_scope (ranges_view ranges.now) left.old (unread_view entry.now)) }
         ensures ranges { OnOk result (self.new.ranges.items ≡ self.old.ranges.items
@@ -134,6 +183,8 @@ impl<'a> Functions<'a> {
             (scope_of (ranges_view ranges.now) left.old depth (unread_view entry.now))
             (length self.new.ranges.items) opened.old.items opened.new.items
             self.old.functions.items self.new.functions.items) }
+        ensures named { OnOk result
+            (AreNamed (sections_view info.now.sections) self.new.functions.items self.new.origins) }
     {
         self.close(opened, depth);
         if !is_function(entry) {
@@ -145,15 +196,16 @@ impl<'a> Functions<'a> {
     }
 
     /// The functions of a unit. It takes the time of the unit, which is read once, and of their names, and the memory
-    /// of 100 bytes for each and of 16 for each of their ranges.
+    /// of 100 bytes for each, of 16 for each of their ranges, and of 24 KiB for the places that have names.
     pub fn read(
         heap: Heap,
         info: &DebugInfo<'a>,
         unit: &DebugUnit<'a>,
     ) -> Result<Functions<'a>, NoMemory>
         requires { unit.now.header.entries_offset ≤ length unit.now.bytes.now }
-        ensures { IfOk result (λ all. AreFunctions (sections_view info.now.sections) (unit_view unit.now)
+        ensures are { IfOk result (λ all. AreFunctions (sections_view info.now.sections) (unit_view unit.now)
             all.functions.items all.ranges.items) }
+        ensures numbered { IfOk result (λ all. AreNumbered all.functions.items) }
     {
         let ranges = unit.unit_ranges(&info.sections);
         let mut left = unit.entries_of_lists();

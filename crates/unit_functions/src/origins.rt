@@ -1,86 +1,94 @@
-//! The names of entries that others lead to, kept by place.
+//! Functions that have the names of entries that others lead to, kept by place.
+
+ghost use Rattle.std.specs.Prelude.{◌≡◌, ◌⊎◌, IfOk, IfSome, Some};
+ghost use Rattle.debug_entries.specs.EntryViews.{entry_view};
+ghost use Rattle.source_frames.specs.Names.{origin_place};
+ghost use Rattle.source_frames.specs.UnitViews.{unit_view};
+ghost use Rattle.unit_functions.specs.Origins.{IsKept, IsNamedAt};
+ghost use Rattle.unit_functions.specs.declared.origins.Origin.{Origin};
 
 use debug_entries::Entry;
 use memory::{Heap, NoMemory};
-use source_frames::{DebugInfo, DebugUnit, UnitEntry};
+use source_frames::DebugUnit;
 
 /// How many places are kept at most.
-const PLACES_MAX: usize = 1024;
+const PLACES_MAX: u64 = 1024;
 
-/// The name of the entry at a place, and its number.
+/// The place of an entry, and the index of a function that has its name.
 #[derive(Clone, Copy)]
-struct Origin<'a> {
-    place: u64,
-    named: Named<'a>,
+pub(crate) struct Origin {
+    pub place: u64,
+    pub function: usize,
 }
 
-/// A name and its number: names of one number are the same.
-#[derive(Clone, Copy)]
-pub(crate) struct Named<'a> {
-    pub name: Option<&'a [u8]>,
-    pub number: usize,
-}
-
-/// The names of some entries, each under the remainder of its place.
+/// Functions that have the names of some entries, each under the remainder of the entry's place.
 #[derive(Drop)]
-pub(crate) struct Origins<'a> {
-    slots: Vec<Option<Origin<'a>>, Heap>,
-    /// How many numbers were given.
-    pub count: usize,
+pub(crate) struct Origins {
+    slots: Vec<Option<Origin>, Heap>,
 }
 
-/// The place whose entry has the name of an entry, if that has no name of its own.
-fn nameless_origin(unit: &DebugUnit<'_>, entry: &Entry<'_>) -> Option<u64> {
+/// The place that an entry leads to by DW_AT_abstract_origin, and else by DW_AT_specification.
+#[tactic(auto, unfolding(source_frames::specs::Names::origin_place))]
+fn origin_place<'a>(unit: &DebugUnit<'a>, entry: &Entry<'a>) -> Option<u64>
+    ensures { result ≡ origin_place (record { unit = unit_view unit.now; entry = entry_view entry.now }) }
+{
     let attributes = &entry.attributes;
-    if attributes.name.is_some()
-        || attributes.linkage_name.is_some()
-        || attributes.mips_linkage_name.is_some()
-    {
-        return None;
-    }
     let value = attributes.abstract_origin.or(attributes.specification)?;
     unit.place_of(&value)
 }
 
-impl<'a> Origins<'a> {
+/// The place of an entry that has the name of another one, if that leads there and has no name itself.
+pub(crate) fn nameless_origin<'a>(unit: &DebugUnit<'a>, entry: &Entry<'a>) -> Option<u64>
+    ensures { IfSome result (IsNamedAt (record { unit = unit_view unit.now; entry = entry_view entry.now })) }
+{
+    let attributes = &entry.attributes;
+    if attributes.name.is_some() {
+        return None;
+    }
+    if attributes.linkage_name.is_some() || attributes.mips_linkage_name.is_some() {
+        return None;
+    }
+    origin_place(unit, entry)
+}
+
+/// Where the function of a place is kept.
+fn slot_of(place: u64) -> usize {
+    (place % PLACES_MAX) as usize
+}
+
+impl Origins {
     /// None.
-    pub fn new(heap: Heap) -> Result<Origins<'a>, NoMemory> {
+    pub fn new(heap: Heap) -> Result<Origins, NoMemory>
+        ensures { IfOk result (λ all. (o : Origin) → IsKept all o → ⊥) }
+    {
         Ok(Origins {
-            slots: vec![in heap; None; PLACES_MAX]?,
-            count: 0,
+            slots: vec![in heap; None; PLACES_MAX as usize]?,
         })
     }
 
-    /// The name of an entry, which gets a new number.
-    fn find(&mut self, info: &DebugInfo<'a>, unit: &DebugUnit<'a>, entry: &Entry<'a>) -> Named<'a> {
-        let of = UnitEntry {
-            unit: *unit,
-            entry: *entry,
-        };
-        let name = info.name_of(&of);
-        let number = self.count;
-        self.count += 1;
-        Named { name, number }
+    /// The index of a function that has the name of the entry at a place, if that is kept.
+    pub fn get(&self, place: Option<u64>) -> Option<usize>
+        ensures { IfSome result (λ function. (o : Origin) × IsKept self.now o × (place ≡ Some o.place)
+            × (o.function ≡ function)) }
+    {
+        let place = place?;
+        match self.slots.get(slot_of(place)) {
+            Some(Some(origin)) if origin.place == place => Some(origin.function),
+            _ => None,
+        }
     }
 
-    /// The name of an entry.
-    pub fn name_of(
-        &mut self,
-        info: &DebugInfo<'a>,
-        unit: &DebugUnit<'a>,
-        entry: &Entry<'a>,
-    ) -> Named<'a> {
-        let Some(place) = nameless_origin(unit, entry) else {
-            return self.find(info, unit, entry);
+    /// Keeps the index of a function that has the name of the entry at a place, if there is one.
+    pub fn keep(&mut self, place: Option<u64>, function: usize)
+        ensures { (o : Origin) → IsKept self.new o
+            → IsKept self.old o ⊎ ((place ≡ Some o.place) × (o.function ≡ function)) }
+    {
+        let Some(place) = place else {
+            return;
         };
-        let slot = (place % PLACES_MAX as u64) as usize;
-        if let Some(known) = self.slots[slot] {
-            if known.place == place {
-                return known.named;
-            }
+        let slot = slot_of(place);
+        if slot < self.slots.len() {
+            self.slots[slot] = Some(Origin { place, function });
         }
-        let named = self.find(info, unit, entry);
-        self.slots[slot] = Some(Origin { place, named });
-        named
     }
 }

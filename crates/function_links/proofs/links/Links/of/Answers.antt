@@ -1,4 +1,4 @@
-use Rattle.std.proofs.Common.{◌≡◌, ℕ, ◌∙◌, ◌<◌, List, ap, get_or, length, replicate, rules, slice_index, sym, subst}
+use Rattle.std.proofs.Common.{◌≡◌, arith, ℕ, ◌∙◌, ◌<◌, List, ap, get_or, length, replicate, rules, slice_index, sym, subst}
 use Rattle.std.specs.Prelude.{◌↔◌}
 use Rattle.std.specs.List.{Contains}
 use Rattle.std.proofs.lemmas.List.{get_or-replicate}
@@ -7,12 +7,13 @@ use Rattle.function_links.specs.Links.{ends_of_ranges}
 use Rattle.function_links.specs.Making.{AreMade}
 use Rattle.unit_functions.specs.UnitFunctions.{functions_of}
 use Rattle.unit_functions.specs.declared.functions.Function.{Function}
+use Rattle.function_links.proofs.NameLemmas.{names_numbered}
 use Rattle.function_links.proofs.StepLemmas.{are_of, link_steps}
 use Rattle.function_links.proofs.TakingLemmas.{up_to_first}
 use Rattle.function_links.proofs.links.Links.of.Goals as goal
 
-pub returns : goal.returns
-returns c = λ sections unit are.
+pub returns-clause-steps : goal.returns-clause-steps
+returns-clause-steps c = λ sections unit are.
     let of = functions_of sections unit in
     let functions : List Function = c.args.all.now.functions.items in
     let ranges : List CodeRange = c.args.all.now.ranges.items in
@@ -32,3 +33,11 @@ returns c = λ sections unit are.
     (λ a. subst (λ (s : List ℕ). Contains s a ↔ Contains (ends_of_ranges ranges) a) (sym same_starts)
     (subst (λ (rs : List CodeRange). Contains starts a ↔ Contains (ends_of_ranges rs) a) c.deref.ensures.value (c.in_ok-starts.ensures.same a)))
     taking.count (λ i h. up_to i (subst (λ (s : List ℕ). i < length s) same_starts h))
+
+pub returns-clause-names : goal.returns-clause-names
+returns-clause-names c =
+    let functions : List Function = c.args.all.now.functions.items in
+    let now = c.take_all.new.self in
+    let same_functions : now.making.all.now.functions.items ≡ functions = λ j. (c.take_all.ensures.same.all j).now.functions.items in
+    names_numbered functions now.making.links.items now.making.last c.len.result c.requires.numbered
+    (subst (λ (fs : List Function). AreMade fs now.making.links.items now.making.last) same_functions c.in_ok-take_all.ensures.taking.made) (omega (arith, c.args.all.now.functions.ok.0))

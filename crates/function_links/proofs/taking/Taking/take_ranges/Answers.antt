@@ -29,7 +29,7 @@ loop-range-preserved c =
           (takes_trans of c.args.index (λ k. in_ranges (slice_index starts k) (take r ranges) ≡ true) (λ k. in_ranges (slice_index c.loop-range.self.starts.items k) (range ∷ []) ≡ true)
           c.args.self.now c.loop-range.self c.take_range.new.self i.same (i.takes of f are there is)
           (c.in_ok-take_range.ensures.takes of f (are_same of c.args.self.now c.loop-range.self i.same are) there
-          (λ a has. subst (λ (rs : List CodeRange). in_ranges a rs ≡ true) is (in_one a ranges r range (slice_get-get_or ranges r none c.loop-range-test.true) has))));
+          (λ a has. is a (in_one a ranges r range (slice_get-get_or ranges r none c.loop-range-test.true) has))));
     }
 
 pub returns-clause-takes : goal.returns-clause-takes

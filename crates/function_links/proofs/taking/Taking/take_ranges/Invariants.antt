@@ -1,4 +1,4 @@
-use Rattle.std.proofs.Common.{◌≡◌, List, Some, slice_get, slice_index, take, true}
+use Rattle.std.proofs.Common.{◌≡◌, ℕ, List, Some, slice_get, slice_index, take, true}
 use Rattle.code_ranges.specs.Lists.{in_ranges}
 use Rattle.function_links.specs.Taking.{AreOf, HasSame, IsTaking, Takes}
 use Rattle.unit_functions.specs.UnitFunctions.{FunctionRecord}
@@ -9,5 +9,5 @@ invariant-loop-range l = record {
   taking : IsTaking l.self;
   same : HasSame l.fn.self l.self;
   takes : (of : List FunctionRecord) (f : FunctionRecord) → AreOf of l.fn.self.making.all.now.functions.items l.fn.self.making.all.now.ranges.items → slice_get of l.index ≡ Some f
-      → l.ranges ≡ f.ranges → Takes of l.index (λ i. in_ranges (slice_index l.fn.self.starts.items i) (take l.range-index l.ranges) ≡ true) l.fn.self l.self;
+      → ((a : ℕ) → in_ranges a l.ranges ≡ true → in_ranges a f.ranges ≡ true) → Takes of l.index (λ i. in_ranges (slice_index l.fn.self.starts.items i) (take l.range-index l.ranges) ≡ true) l.fn.self l.self;
 }

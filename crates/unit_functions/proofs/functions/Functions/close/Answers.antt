@@ -6,12 +6,14 @@ use Rattle.unit_functions.proofs.functions.Functions.close.Goals as goal
 pub opened-init : goal.opened-init
 opened-init c = record {
   ranges = refl;
+  origins = refl;
   so_far = closed_from_end c.args.depth c.len-left.result c.args.opened.now.items c.args.self.now.functions.items (omega (arith, c.args.opened.now.ok.0));
 }
 
 pub opened-preserved : goal.opened-preserved
 opened-preserved c = record {
   ranges = c.opened.invariant.ranges;
+  origins = c.opened.invariant.origins;
   so_far = closed_from_next c.args.depth c.opened.left c.args.opened.now.items c.args.self.now.functions.items c.opened.self.functions.items
       c.index.result.now c.index-in-opened.result.now c.index_mut.result.now c.len-count.result
       c.opened-test.true c.requires c.index.ensures c.if-index-depth.true c.index-in-opened.ensures c.index_mut.ensures.value

@@ -7,6 +7,7 @@ use Rattle.source_frames.specs.Scopes.{is_function, left_after_scope}
 use Rattle.source_frames.specs.SectionsViews.{sections_view}
 use Rattle.source_frames.specs.UnitViews.{unit_view}
 use Rattle.unit_functions.proofs.AddingLemmas.{none_pushed, ranges_added, takes_added, takes_none}
+use Rattle.unit_functions.proofs.NameLemmas.{named_closed}
 use Rattle.unit_functions.proofs.functions.Functions.take.Goals as goal
 use Rattle.source_frames.proofs.SettledLemmas.{none_taken}
 
@@ -20,7 +21,11 @@ returns-then-not-is_function c =
       left = none_taken u c.args.left.now entry none;
       ranges = ap (λ v. v.items) c.close.ensures.ranges ∙ none_pushed u c.args.left.now entry ranges none;
       taken = takes_none (sections_view c.args.info.now.sections) (unit_view c.args.unit.now) u c.args.left.now c.args.depth entry _ _ _ _ _ none c.close.ensures.closed;
+      named = rw c.close.ensures.origins (named_closed c.args.depth _ _ _ _ c.close.ensures.closed (sections_view c.args.info.now.sections) c.args.self.now.origins c.requires.named);
     }
+
+pub push_entry-requires : goal.push_entry-requires
+push_entry-requires c = rw c.close.ensures.origins (named_closed c.args.depth _ _ _ _ c.close.ensures.closed (sections_view c.args.info.now.sections) c.args.self.now.origins c.requires.named)
 
 pub returns : goal.returns
 returns c =
@@ -32,4 +37,5 @@ returns c =
       left = on_ok_weaker c.push_entry.result (λ more. c.scope_ranges-own.ensures.left ∙ ap (left_after_scope u c.args.left.now) c.read-entry.ensures) c.push_entry.ensures.ranges;
       ranges = on_ok_weaker c.push_entry.result (λ more. ranges_added u c.args.left.now entry read _ _ _ _ c.read-entry.ensures c.scope_ranges-own.ensures.ranges kept more) c.push_entry.ensures.ranges;
       taken = on_ok_weaker c.push_entry.result (λ added. takes_added (sections_view c.args.info.now.sections) (unit_view c.args.unit.now) u c.args.left.now c.args.depth entry read _ _ _ _ _ _ _ _ c.read-entry.ensures c.scope_ranges-own.ensures.ranges c.close.ensures.closed added) c.push_entry.ensures.added;
+      named = c.push_entry.ensures.named;
     }

@@ -1,0 +1,22 @@
+-- The names of links by number.
+use Rattle.std.proofs.Common.{◌≡◌, ◌∙◌, ℕ, List, length, map, slice_get, Option, Some, ap, subst, sym}
+use Rattle.std.specs.Option.{option_map}
+use Rattle.std.proofs.lemmas.List.{length-map}
+use Rattle.std.proofs.lemmas.Option.{slice_get-map}
+use Rattle.unit_functions.specs.NameNumbers.{AreNumbered, name_of}
+use Rattle.unit_functions.specs.declared.functions.Function.{Function}
+use Rattle.function_links.specs.LinkViews.{link_view}
+use Rattle.function_links.specs.Making.{AreMade}
+use Rattle.function_links.specs.NameNumbers.{AreNamesNumbered}
+use Rattle.function_links.specs.declared.links.Link.{Link}
+
+-- the numbers of functions are those of their links
+pub names_numbered : (functions : List Function) (links : List Link) (last count : ℕ) → AreNumbered functions → AreMade functions links last → count ≡ length functions → AreNamesNumbered count links
+names_numbered functions links last count numbered made is_count = record {
+  names = map name_of functions;
+  count_is = length-map functions name_of ∙ sym is_count;
+  each = λ i link there.
+      let m = made.each i link there in
+      ap (λ n. slice_get (map name_of functions) n) m.name_number
+      ∙ (slice_get-map name_of functions m.of.name_number ∙ (numbered link.function m.of m.there ∙ ap (λ n. Some (option_map (λ t. t.now) n)) (sym m.name)));
+}

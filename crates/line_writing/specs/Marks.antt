@@ -1,0 +1,11 @@
+-- The mark of a text, by which texts are told apart before their bytes.
+use Rattle.std.specs.Prelude.{ℕ, List, ◌+◌, ◌*◌, ◌%◌, ◌^◌}
+use Rattle.std.specs.List.{fold}
+
+-- the mark of a text that has one byte more
+abbrev pub mark_with : ℕ → ℕ → ℕ
+mark_with mark byte = (mark * 1099511628211 % 2 ^ 64 + byte) % 2 ^ 64
+
+-- the mark of a text
+unfoldable pub mark_of : List ℕ → ℕ
+mark_of text = fold mark_with 0 text
