@@ -108,20 +108,6 @@ pub(crate) struct Linked {
     pub callers: Option<u32>,
 }
 
-/// The number of the name of a link, which is kept under the number that the unit has for it.
-fn name_of_link<'a, T: FrameTaker<'a>>(
-    names: &mut Vec<Option<u32>, Heap>,
-    link: &Link<'a>,
-    taker: &mut T,
-) -> Result<u32, NoMemory> {
-    if let Some(known) = names[link.name_number] {
-        return Ok(known);
-    }
-    let number = taker.name(link.name)?;
-    names[link.name_number] = Some(number);
-    Ok(number)
-}
-
 /// Adds the numbers of the next link, those of the links before it being known.
 fn push_linked<'a, T: FrameTaker<'a>>(
     lines: &UnitLines<'a>,

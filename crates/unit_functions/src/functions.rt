@@ -18,7 +18,7 @@ use crate::origins::{Origins, nameless_origin};
 use code_ranges::{CodeRange, Ranges, UnitRanges};
 use debug_entries::{Entries, Entry, UnreadEntry};
 use memory::{Heap, NoMemory};
-use source_frames::{DebugInfo, DebugUnit, SourceLocation, is_function, scope_ranges};
+use source_frames::{DebugInfo, DebugUnit, SourceLocation, UnitEntry, is_function, scope_ranges};
 
 /// A function of a unit.
 #[derive(Clone, Copy)]
@@ -69,11 +69,6 @@ fn push_ranges(all: &mut Vec<CodeRange, Heap>, ranges: Ranges<'_>) -> Result<(),
 }
 
 impl<'a> Functions<'a> {
-    /// How many numbers the names have.
-    pub fn name_count(&self) -> usize {
-        self.origins.count
-    }
-
     /// Closes the functions in which an entry of a depth does not stand.
     fn close(&mut self, opened: &mut Vec<Open, Heap>, depth: usize)
         requires { AreAmong (length self.old.functions.items) opened.old.items }
