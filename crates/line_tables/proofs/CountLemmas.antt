@@ -36,4 +36,4 @@ few_in s (Some unit) address frames are =
     (omega (arith, length-reverse are.chain, few_entries 256 address _ None are.chain are.contain))
 
 pub few_frames : (image : List ℕ) (address : ℕ) (frames : List FrameRecord) → AreFramesOf image address frames → length frames ≤ 256
-few_frames image address frames are = few_in (debug_sections image) (option_and_then (read_unit (debug_sections image)) are.location) address frames are.are_frames
+few_frames image address frames are = few_in (debug_sections image) (option_and_then (read_unit (debug_sections image)) are.place) address frames are.are_frames
