@@ -41,7 +41,7 @@ fn lowest_first(
     let mut digits = Vec::new(alloc);
     let mut rest = count;
     for _ in 0..len {
-        digits.push(zero.wrapping_add((rest % base.max(1)) as u8))?;
+        digits.push(zero.wrapping_add((rest % base.max(1) & 0xff) as u8))?;
         rest /= base.max(1);
     }
     Ok(digits)

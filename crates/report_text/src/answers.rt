@@ -46,7 +46,7 @@ fn plain(name: &[u8]) -> Option<&str>
     str::from_utf8(name).ok()
 }
 
-#[tactic(auto, using(crate::proofs::Escapes::two_digits), unfolding(crate::specs::Escapes::escaped_byte))]
+#[tactic(auto, using(archive_words::proofs::Digits::padded_hex2), unfolding(crate::specs::Escapes::escaped_byte))]
 impl fmt::Display for EscapedByte {
     ghost use Rattle.std.specs.Prelude.{Some};
     ghost use Rattle.report_text.specs.Escapes.{escaped_byte};
