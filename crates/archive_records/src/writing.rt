@@ -1,5 +1,5 @@
-//! Archives, summaries and deltas that are written to a sink. Where it failed, it has gained the first `written` bytes of
-//! the text, which are fewer than all.
+//! Archives, summaries and deltas that are written to a sink. Where it failed, it has gained the first `written` bytes
+//! of the text, which are fewer than all.
 
 ghost use Rattle.std.specs.Prelude.{◌≡◌, ◌+◌, ◌<◌, ◌≤◌, ◌^◌, ◌++◌, ◌∷◌, [], length, take, map, OnOk, IfOk};
 ghost use Rattle.std.specs.FinSet as set;
