@@ -86,8 +86,8 @@ module _ (Makes : Operations → List ℕ → Type 0) (Refuses : InputName → W
     count = no_count_memory;
     nothing_published = kept.1;
     unreported = unreported;
-  refused_in_turn fault r kept unreported = absurd r
   })
+  refused_in_turn fault r kept unreported = absurd r
 
   -- what ends a command that makes the same and reads less
   module _ (Others : Operations → List ℕ → Type 0) (Refused : InputName → Why → Type 0) (Whole KnownToo : Type 0) (forth : (text told : List ℕ) → MakesArchive Others text told → MakesArchive Makes text told)
