@@ -76,7 +76,9 @@ module _ (draft target folder : List ℕ) (other : draft ≢ target) (tests : Li
       → IsWhole text (fold (behind target) d (take n placed))
   three text d zero still is = unrenamed text d still.0 still.1
   three text d (suc zero) still is = unrenamed text _ still.0 still.1
-  three text d n still is = record { synced = λ _. refl; bytes = λ _. is; untouched = still.1 }
+  three text d (suc (suc zero)) still is = record { synced = λ _. refl; bytes = λ _. is; untouched = still.1 }
+  three text d (suc (suc (suc zero))) still is = record { synced = λ _. refl; bytes = λ _. is; untouched = still.1 }
+  three text d (suc (suc (suc (suc n)))) still is = record { synced = λ _. refl; bytes = λ _. is; untouched = still.1 }
 
   ends : (text : List ℕ) (d : DraftState) (n : ℕ) → IsStill d → d.bytes ≡ text
       → IsWhole text (fold (behind target) d (take n last))
