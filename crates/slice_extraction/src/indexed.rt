@@ -15,6 +15,7 @@ use crate::sending::publish_named;
 use archive_core::{Archive, Digest, SliceKey};
 use byte_device::{CannotOpen, Placed, Sink};
 use command_core::{CommandFault, Output, Status, Target};
+use command_inputs::bytes_of;
 use index_inputs::{KeyPrefix, read_indexes, read_prefixes};
 use indexed_answers::NamedSlice;
 use memory::Heap;
