@@ -40,11 +40,12 @@ along_pairs P Q (x ∷ xs) (y ∷ ys) step all = (step x y all.0, along_pairs P 
 along_pairs P Q xs ys step all = absurd all
 
 pairs_insert : {X Y : Type 0} (R : X → Y → Type 0) (xs : List X) (ys : List Y) (i : ℕ) (x : X) (y : Y) → AllZip R xs ys → R x y → AllZip R (insert xs i x) (insert ys i y)
+pairs_insert R [] [] zero x y all one = (one, tt)
+pairs_insert R [] [] (suc i) x y all one = (one, tt)
 pairs_insert R [] (_ ∷ _) i x y all one = absurd all
 pairs_insert R (_ ∷ _) [] i x y all one = absurd all
 pairs_insert R (a ∷ xs) (b ∷ ys) zero x y all one = (one, all)
 pairs_insert R (a ∷ xs) (b ∷ ys) (suc i) x y all one = (all.0, pairs_insert R xs ys i x y all.1 one)
-pairs_insert R xs ys i x y all one = (one, tt)
 
 -- what stood in a list stands in it with one more
 moved : (xs : List ℕ) (i p m n : ℕ) → slice_get xs i ≡ Some n → (j : ℕ) × (slice_get (insert xs p m) j ≡ Some n)
