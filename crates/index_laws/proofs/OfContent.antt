@@ -55,8 +55,9 @@ less_before (r ∷ rs) (suc i) (suc j) some lt within =
     omega (arith, less_before rs i j (λ k h. some (suc k) (omega (arith, h))) (omega (arith, lt)) (omega (arith, within)), length-append r (concat (take i rs)), length-append r (concat (take j rs)))
 
 below_all : (rs : List (List ℕ)) (i : ℕ) → length (concat (take i rs)) ≤ length (concat rs)
+below_all rs zero = omega arith
+below_all [] (suc i) = omega arith
 below_all (r ∷ rs) (suc i) = omega (arith, below_all rs i, length-append r (concat (take i rs)), length-append r (concat rs))
-below_all rs i = omega arith
 
 -- the entry at a place
 entry_at : (offset at : ℕ) (rs ts : List (List ℕ)) (i : ℕ) → AllZip IsTableOf rs ts → i < length rs

@@ -126,6 +126,8 @@ module _ {S : Type 0} (left : S → Option (List ℕ)) (failures : S → ℕ) wh
   -- one failed, and no other
   pub fails_alone : (old new : List (Result S CannotOpen)) (input was now : ℕ) → slice_get (each_known failures old) input ≡ Some (Ok was) → FailedIn was now → each_known failures new ≡ slice_set (each_known failures old) input (Ok now) → FailsAlone (between old new) input
   fails_alone [] new input was now at failed same = absurd (cc at)
+  fails_alone (x ∷ xs) [] zero was now at failed same = absurd (omega (arith, ap length same))
+  fails_alone (x ∷ xs) [] (suc input) was now at failed same = absurd (omega (arith, ap length same))
   fails_alone (x ∷ xs) (y ∷ ys) zero was now at failed same =
       let first : known_of failures x ≡ Ok was = cc in
       let head : known_of failures y ≡ Ok now = cc in
@@ -149,4 +151,3 @@ module _ {S : Type 0} (left : S → Option (List ℕ)) (failures : S → ℕ) wh
         before = (unfailed_one x y head, rest.before);
         after = subst (λ (n : ℕ). EachUnfailed (drop n (between (x ∷ xs) (y ∷ ys)))) (sym next) rest.after;
       }
-  fails_alone old new input was now at failed same = absurd (omega (arith, ap length same))
