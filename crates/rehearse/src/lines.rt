@@ -1,5 +1,6 @@
 //! The lines of `rehearse`.
 ghost use Rattle.std.specs.Prelude.{◌≡◌, ◌<◌, ◌++◌, [], All, OnOk, length, slice_index_or, string_bytes};
+ghost use Rattle.std.specs.List.{count_by};
 ghost use Rattle.rehearse.specs.EventLines.{IsSentAmong, event_lines, is_added, is_known, is_skipped, outcome_text};
 ghost use Rattle.rehearse.specs.EventLines.{site_line, took_text};
 ghost use Rattle.report_text.specs.Report.{line};
@@ -50,11 +51,23 @@ fn is_added(row: &Taken) -> bool
     matches!(row, Taken::Added(..))
 }
 
+fn added_count(rows: &[Taken]) -> usize
+    ensures { result ≡ count_by is_added rows.now }
+{
+    rows.iter().filter(|row| is_added(row)).count()
+}
+
 // Whether a slice was known: there, or covered by a retirement.
 fn is_known(row: &Taken) -> bool
     ensures { result ≡ is_known row.now }
 {
     matches!(row, Taken::Known(..))
+}
+
+fn known_count(rows: &[Taken]) -> usize
+    ensures { result ≡ count_by is_known rows.now }
+{
+    rows.iter().filter(|row| is_known(row)).count()
 }
 
 fn is_skipped(row: &Taken) -> bool
@@ -63,13 +76,19 @@ fn is_skipped(row: &Taken) -> bool
     matches!(row, Taken::Skipped)
 }
 
+fn skipped_count(rows: &[Taken]) -> usize
+    ensures { result ≡ count_by is_skipped rows.now }
+{
+    rows.iter().filter(|row| is_skipped(row)).count()
+}
+
 #[tactic(auto, unfolding(crate::specs::EventLines::took_text))]
 fn push_took(text: &mut String<Heap>, rows: &[Taken]) -> Result<(), NoMemory>
     ensures { OnOk result (string_bytes text.new ≡ string_bytes text.old ++ line (took_text rows.now)) }
 {
-    let added = rows.iter().filter(|row| is_added(row)).count();
-    let known = rows.iter().filter(|row| is_known(row)).count();
-    let skipped = rows.iter().filter(|row| is_skipped(row)).count();
+    let added = added_count(rows);
+    let known = known_count(rows);
+    let skipped = skipped_count(rows);
     writeln!(text, "took {added} {known} {skipped}")
 }
 
