@@ -33,7 +33,7 @@ pub fn tell_image(bytes: &[u8], told: &mut String) -> Ended {
     let image = Image::read(bytes)?;
     tell_header(&image, told)?;
     tell_symtab(&image, told)?;
-    writeln!(told, "commands {}", image.commands().count())?;
+    tell_commands(&image, told)?;
     Ok(tell_sections(&image, told)?)
 }
 
@@ -63,6 +63,14 @@ fn tell_symtab(image: &Image, told: &mut String) -> Result<(), NoMemory> {
         }
         None => writeln!(told, "symtab -"),
     }
+}
+
+fn tell_commands(image: &Image, told: &mut String) -> Result<(), NoMemory> {
+    let mut commands: u32 = 0;
+    for _ in image.commands() {
+        commands = commands.saturating_add(1);
+    }
+    writeln!(told, "commands {commands}")
 }
 
 fn tell_sections(image: &Image, told: &mut String) -> Result<(), NoMemory> {
