@@ -22,8 +22,8 @@ LINK = re.compile(r"\]\(([^)\s]+)\)")
 INNER = {
     "archive_core/Beside",
     "archive_records/Reader",
-    "archive_updates/Copying",
-    "archive_updates/Joining",
+    "archive_writing/Copying",
+    "archive_writing/Joining",
     "macho_symbols/Halving",
     "macho_symbols/Overlaps",
     "macho_symbols/SectionNumbers",

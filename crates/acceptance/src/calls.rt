@@ -2,19 +2,19 @@
 
 use crate::changes::tell_change;
 use crate::desk::{Desk, Tried};
-use crate::subjects::{Act, ArchiveAct, Change, SiteAct};
-use crate::worlds::tell_world;
+use crate::subjects::Change;
 use archive_core::Archive;
+use archive_exchange::run;
 use case_parts::{
     CaseFault, End, Ended, Failing, Left, Picked, Texts, addresses_of, bytes_of, first_word,
     number, tell_asked, tell_fat, tell_front, tell_heaps, tell_image, tell_kind, tell_merging,
     tell_named, tell_nearest, tell_operations, tell_pairs, tell_part, tell_reading, tell_slice,
-    tell_summary, tell_whole, tell_writing,
+    tell_summary, tell_text, tell_whole, tell_writing, text_of,
 };
 use command_line::Line;
+use exchange_script::{Script, read_script};
 use memory::Heap;
 use plan_commands::Plan;
-use rehearsal::read_script;
 use sorted_archive::{IndexedArchive, PlainArchive};
 
 /// A call below the commands.
@@ -171,31 +171,31 @@ impl<'a> Desk<'a> {
 
     // A call on an archive, or at a site, of which the words say the rest.
     fn change(self, call: Call<'a>) -> Result<Change<'a>, CaseFault> {
-        let (act, words) = self.act(call)?;
-        let (input, questions) = match act {
-            Act::OnArchive(ArchiveAct::Ask) => ("-", words),
-            _ => first_word(words),
+        let (verb, saved, words) = self.act(call)?;
+        let (input, questions) = if saved.is_none() && verb == "ask" {
+            ("-", words)
+        } else {
+            first_word(words)
         };
         Ok(Change {
             alloc: self.alloc,
+            verb,
             held: self.named(call.name)?,
-            act,
+            saved,
             input: self.given(input)?,
             growths: self.limits.growths,
             questions,
         })
     }
 
-    // What is done to an archive, or at a site, and the words behind that.
-    fn act(self, call: Call<'a>) -> Result<(Act<'a>, &'a str), CaseFault> {
+    // What is done to an archive, or at a site that has saved one, and the words behind that.
+    fn act(self, call: Call<'a>) -> Result<(&'a str, Option<&'a [u8]>, &'a str), CaseFault> {
         if call.verb != "site" {
-            let act = ArchiveAct::of_verb(call.verb).ok_or(CaseFault::BadLine)?;
-            return Ok((Act::OnArchive(act), call.words));
+            return Ok((call.verb, None, call.words));
         }
         let (saved, words) = first_word(call.words);
         let (verb, words) = first_word(words);
-        let act = SiteAct::of_verb(verb).ok_or(CaseFault::BadLine)?;
-        Ok((Act::AtSite(act, self.given(saved)?), words))
+        Ok((verb, Some(self.given(saved)?), words))
     }
 
     // Two archives and operations, of which the words say the rest.
@@ -228,4 +228,21 @@ fn failing_of(words: &str) -> Result<(Failing, usize), CaseFault> {
     let (failing, size) = first_word(words);
     let failing = Failing::of_word(failing).ok_or(CaseFault::BadLine)?;
     Ok((failing, number(size)? as usize))
+}
+
+// Carries out the events of a script on so many sites, and tells how many there were, and what each site holds.
+fn tell_world<A: Archive + Drop>(
+    heap: Heap,
+    script: &Script,
+    sites: u32,
+    told: &mut String,
+) -> Ended {
+    let alloc = *told.allocator();
+    let (world, outcomes) = run::<A>(heap, sites, &script.events)?;
+    writeln!(told, "{} events", outcomes.len())?;
+    for number in 0..world.sites() {
+        write!(told, "site {number} ")?;
+        tell_text(&text_of(alloc, world.site(number).archive())?, told)?;
+    }
+    Ok(())
 }

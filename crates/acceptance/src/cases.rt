@@ -4,10 +4,8 @@
 //! need stands above the first one. A line `use NAME` stands for the lines of the file NAME of the folder `shared`. Any
 //! other line is carried out, and what has to come of it stands after it, in lines that begin with two spaces.
 //!
-//! A subject runs by itself, from its first line on, and what a line keeps is there for all that follow. So a case that
-//! is asked for alone is carried out after all that stands above it, of which nothing is said.
-//!
-//! A line is cut into words at each space; `words` has the form of a word with spaces, `"-[A b]"`.
+//! What a line keeps is there for all that follow, so a case that is asked for alone is carried out after all that
+//! stands above it. A line is cut into words at each space; `words` has the form of a word with spaces, `"-[A b]"`.
 //!
 //! Files in memory, and what holds for the next call or command line alone:
 //!
@@ -20,15 +18,14 @@
 //!   a call that reads;
 //! - `hold opened N`: there is memory to open the first N inputs of a command, in the order of the words;
 //! - `hold out N`, `hold report N`: OUT, or the report, fails when it took N bytes; `hold places 0`: OUT takes all
-//!   bytes, and cannot be put in place;
+//!   bytes, and cannot be published;
 //! - `hold cut NAME N`: a file has its first N bytes alone; `hold read NAME N`: it fails when it gave N bytes;
 //! - `each cut NAME`, `each read NAME`, `each out`, `each report`, `each pieces N` carry the next one out at each
 //!   place, and print places in a row that have one outcome in one line;
 //! - `each growth` carries it out with 0, 1, .. growths until none is refused, and prints how many runs met a refusal
-//!   on either archive. A refused run leaves its report empty and nothing in place, and OUT's draft empty or whole; one
-//!   that writes as it reads leaves a beginning there. The first run that meets none ends as with ample memory, be it
-//!   with a fault of its input. Where no run meets one, the sweep shows nothing, and is `WRONG`; that a call takes no
-//!   memory is shown by `hold growths 0`.
+//!   on either archive. A refused run leaves no report and nothing published, and OUT's draft empty or whole; one that
+//!   writes as it reads leaves a beginning there. The first run that meets none ends as with ample memory. Where
+//!   no run meets one, the sweep is `WRONG`: `hold growths 0` shows that a call takes no memory.
 //!
 //! Files of the system, in a folder of this run's own:
 //!
@@ -44,7 +41,7 @@
 //!
 //! - `plan WORD..` prints what a command line asks for, or why it is refused; `-` stands for no words;
 //! - `run WORD..` carries a command line out, and prints the report, after `OUT` the length and the SHA-256 of what was
-//!   put in place, or after `draft` those of what was not, the fault and the status. OUT, or its draft, is kept as a
+//!   published, or after `draft` those of what was not, the fault and the status. OUT, or its draft, is kept as a
 //!   file where it took bytes.
 //!
 //! Calls below the commands. What one gives stands after `|`, or is `nothing`, and its fault stands in a line of its
@@ -80,10 +77,9 @@
 //! - `room N`: what memory with N growths holds: the numbers that one vector takes, and which of three vectors take
 //!   one, before and after a growth more is granted; `room-of-bytes N`: how many numbers of 8 bytes one vector takes in
 //!   memory with N bytes;
-//! - `heaps ARCHIVE OTHER OPS`: two archives, each in a memory of its own, one of which is wanting. Operations are
-//!   copied from a memory that is wanting to another one, and then to one that is wanting. The archive joins the other
-//!   where its own memory is wanting, and then where the other's is, and takes the operations; the other takes them
-//!   where the archive's is. And the same of the join by value;
+//! - `heaps ARCHIVE OTHER OPS`: operations are copied from a memory that is wanting, and to one. Of two archives, each
+//!   in a memory of its own, one joins the other where its own memory is wanting, and where the other's is, and takes
+//!   the operations; the other takes them where the first one's is wanting. And the same of the join by value;
 //! - `world SCRIPT N`: `run` of a script's events on N sites: their number, and the length and the SHA-256 of the text
 //!   that each site holds.
 //!
@@ -106,10 +102,9 @@
 //! the call promises, and to answer as an archive does that is read from its text; calls that take no memory have to
 //! succeed; and the call made again has to end as it ends at once, and to come to the same.
 //!
-//! Each call and each command line is carried out on the plain archive and on the indexed one, and has to end alike;
-//! what is printed is of the first. One that is not swept is carried out on the first with inputs in pieces of 1 byte,
-//! too, and on the second in pieces of 7. A report of more than 40 lines is printed as their number and the SHA-256 of
-//! all: `5000 lines SHA256`. What contradicts itself is printed in a line that has the word `WRONG`.
+//! Each call and each command line is carried out on the plain archive and on the indexed one, and has to end alike.
+//! One that is not swept is carried out on the first with inputs in pieces of 1 byte, too, and on the second in pieces
+//! of 7. A report of more than 40 lines is printed as `5000 lines SHA256`. What contradicts itself is printed as `WRONG`.
 
 use crate::calls::Task;
 use crate::desk::{Desk, Tried};
@@ -404,7 +399,7 @@ fn tell_others(desk: Desk, task: Task, left: &Left, told: &mut String) -> Result
     for (tried, pieces) in [(Tried::Plain, 1), (Tried::Indexed, 7)] {
         let mut other = Desk { tried, ..desk };
         other.limits.pieces = pieces;
-        if !other.carry_out(task)?.is_as(left) {
+        if other.carry_out(task)? != *left {
             writeln!(
                 told,
                 "  WRONG: another end on {tried:?} with inputs in pieces of {pieces}"

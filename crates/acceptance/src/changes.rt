@@ -1,6 +1,6 @@
 //! Calls that may change an archive, and what they leave where memory is refused.
 
-use crate::subjects::{Act, Change, Observation, Subject};
+use crate::subjects::{Change, Observation, Subject};
 use archive_core::Archive;
 use case_parts::{CallFault, Ended, answers_of, read, tell_text};
 use memory::{Heap, NoMemory};
@@ -25,7 +25,7 @@ pub fn tell_change<A: Archive + Drop>(change: Change, told: &mut String) -> Ende
         }
         Err(_) => {
             let seen = subject.see(&heap, change, told)?;
-            if !seen.is_as(&seen_before::<A>(change, told)?) {
+            if seen != seen_before::<A>(change, told)? {
                 writeln!(told, "WRONG: refused, and changed")?;
             }
         }
@@ -36,7 +36,7 @@ pub fn tell_change<A: Archive + Drop>(change: Change, told: &mut String) -> Ende
 fn tell_seen(seen: &Observation, change: Change, told: &mut String) -> Result<(), NoMemory> {
     told.push_str("held: ")?;
     tell_text(&seen.held, told)?;
-    if let Act::AtSite(_, _) = change.act {
+    if change.saved.is_some() {
         told.push_str("saved: ")?;
         tell_text(&seen.saved, told)?;
     }
@@ -83,11 +83,11 @@ fn tell_stopped<A: Archive + Drop>(change: Change, told: &mut String) -> Ended {
     let (_, stopped) = seen_after::<A>(change, told)?;
     tell_other_answers::<A>(&stopped, change, told)?;
     let before = seen_before::<A>(change, told)?;
-    let stands = if change.act.is_done_in_parts() {
+    let stands = if change.is_done_in_parts() {
         let (_, whole) = seen_after::<A>(change.with_ample_memory(), told)?;
         is_between::<A>(change, &before, &stopped, &whole)?
     } else {
-        stopped.is_as(&before)
+        stopped == before
     };
     if !stands {
         writeln!(told, "WRONG: refused, and left otherwise")?;
@@ -122,7 +122,7 @@ fn tell_again<A: Archive + Drop>(
     let ended = subject.act(heap, change, &mut aside);
     let again = subject.see(heap, change, told)?;
     let (ended_at_once, at_once) = seen_after::<A>(change, told)?;
-    if ended != ended_at_once || !again.is_as(&at_once) {
+    if ended != ended_at_once || again != at_once {
         writeln!(told, "WRONG: made again, it comes to something else")?;
     }
     Ok(())

@@ -9,7 +9,7 @@ use archive_core::Archive;
 use archive_files::{AtTurn, Disk};
 use byte_device::{CannotOpen, PlacedPieces};
 use case_parts::{End, Left, Shelf, StrictSink, StrictSource};
-use command_ends::Output;
+use command_core::Output;
 use command_line::Line;
 use memory::{Heap, NoMemory};
 use plan_commands::{Plan, execute_on};
@@ -29,7 +29,7 @@ impl<'a> Disk for Desk<'a> {
 
     ghost path_of = { λ _. [] };
 
-    ghost place_of = { λ _. [] };
+    ghost opened_at = { λ _. [] };
 
     ghost opened = { λ _. None };
 

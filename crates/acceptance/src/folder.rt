@@ -76,7 +76,7 @@ impl<'a, R: Files + AllocGlobal> Folder<'a, R> {
     }
 
     /// Carries out the words of a command line over files of the folder, with a report that takes so many bytes, and
-    /// tells the report, what was said on standard error, and the status.
+    /// tells the report, standard error, and the status.
     pub fn run(&self, words: &str, most: usize, told: &mut String) -> Result<(), CaseFault> {
         self.tell_run(Ok(self.line_of(words)?), most, told)
     }
@@ -102,7 +102,7 @@ impl<'a, R: Files + AllocGlobal> Folder<'a, R> {
         let mut files = SystemFiles::new(self.rt.alloc(), self.rt, self.process);
         let status = run(words, &mut files, &mut report, &mut errors);
         tell_report(report.as_slice(), told)?;
-        self.tell_said(errors.as_slice(), told)?;
+        self.tell_errors(errors.as_slice(), told)?;
         Ok(writeln!(told, "  status {status}")?)
     }
 
@@ -120,8 +120,8 @@ impl<'a, R: Files + AllocGlobal> Folder<'a, R> {
     }
 
     // Tells the lines of standard error, in which `@` stands for the folder.
-    fn tell_said(&self, said: &[u8], told: &mut String) -> Result<(), CaseFault> {
-        let text = str::from_utf8(said).ok().ok_or(CaseFault::BadLine)?;
+    fn tell_errors(&self, errors: &[u8], told: &mut String) -> Result<(), CaseFault> {
+        let text = str::from_utf8(errors).ok().ok_or(CaseFault::BadLine)?;
         for line in text.lines() {
             match line.split_once(self.path.as_str()) {
                 Some((before, behind)) => writeln!(told, "  {before}@{behind}")?,

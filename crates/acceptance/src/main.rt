@@ -12,7 +12,6 @@
 //! - `desk`: what a case goes over;
 //! - `commands`: a line, carried out;
 //! - `subjects`, `changes`: calls that may change an archive, and what they leave where memory is refused;
-//! - `worlds`: events, carried out on sites;
 //! - `calls`: calls below the commands;
 //! - `outcomes`, `sweeps`: one case at each place of a device;
 //! - `cases`: the lines of cases, their language.
@@ -33,7 +32,6 @@ mod subjects;
 mod sweeps;
 mod texts;
 mod verdicts;
-mod worlds;
 
 use folder::Folder;
 use std::process::ExitCode;

@@ -1,20 +1,12 @@
-//! One case at each place of a device.
+//! One case at each point of a device.
 
 use crate::calls::Task;
 use crate::desk::{Desk, Tried};
-use crate::outcomes::Outcome;
+use crate::outcomes::outcome_at;
 use case_parts::{CaseFault, Left, Sweep};
 use memory::NoMemory;
 
-// Places in a row with one outcome.
-#[derive(Clone, Copy, PartialEq, Eq)]
-struct Group {
-    first: usize,
-    last: usize,
-    outcome: Outcome,
-}
-
-/// Carries out a case at each place of a sweep, the last of which is the uncut one, and tells the places in groups of
+/// Carries out a case at each point of a sweep, the last of which is the uncut one, and tells the points in groups of
 /// one outcome.
 pub fn tell_sweep<'a>(
     desk: Desk<'a>,
@@ -23,44 +15,51 @@ pub fn tell_sweep<'a>(
     told: &mut String,
 ) -> Result<(), CaseFault> {
     let whole = desk.carry_out(task)?;
-    let groups = sweep_places(desk, sweep, task, &whole)?;
-    tell_groups(&groups, told)?;
+    let groups = sweep_points(desk, sweep, task, &whole)?;
+    told.push_str(&groups)?;
     let tried = Tried::Indexed;
-    if sweep_places(Desk { tried, ..desk }, sweep, task, &whole)? != groups {
+    if sweep_points(Desk { tried, ..desk }, sweep, task, &whole)? != groups {
         writeln!(told, "  WRONG: other outcomes on {tried:?}")?;
     }
     Ok(())
 }
 
-// Carries out a case at each place, and groups them.
-fn sweep_places<'a>(
+// Carries out a case at each point, and tells points in a row that have one outcome in one line.
+fn sweep_points<'a>(
     desk: Desk<'a>,
     sweep: Sweep<'a>,
     task: Task,
     whole: &Left,
-) -> Result<Vec<Group>, CaseFault> {
-    let mut groups = Vec::new(desk.alloc);
-    for place in 0..=last_place(desk, sweep, whole)? {
-        let limits = sweep.limits(desk.limits, place);
+) -> Result<String, CaseFault> {
+    let mut groups = String::new(desk.alloc);
+    let mut first = 0;
+    let mut before = String::new(desk.alloc);
+    let last = last_point(desk, sweep, whole)?;
+    for point in 0..=last {
+        let limits = sweep.limits(desk.limits, point);
         let left = Desk { limits, ..desk }.carry_out(task)?;
-        add_place(&mut groups, place, Outcome::at(place, &left, whole))?;
+        let outcome = outcome_at(desk.alloc, point, &left, whole)?;
+        if outcome != before {
+            tell_group(first, point, &before, &mut groups)?;
+            first = point;
+            before = outcome;
+        }
     }
+    tell_group(first, last.saturating_add(1), &before, &mut groups)?;
     Ok(groups)
 }
 
-fn tell_groups(groups: &[Group], told: &mut String) -> Result<(), NoMemory> {
-    for group in groups {
-        write!(told, "  {}", group.first)?;
-        if group.first < group.last {
-            write!(told, " to {}", group.last)?;
-        }
-        writeln!(told, ": {}", group.outcome)?;
+// Tells the outcome of the points from one to before another, if there are some.
+fn tell_group(first: usize, end: usize, outcome: &str, told: &mut String) -> Result<(), NoMemory> {
+    match end.saturating_sub(first) {
+        0 => Ok(()),
+        1 => writeln!(told, "  {first}: {outcome}"),
+        _ => writeln!(told, "  {first} to {}: {outcome}", end.saturating_sub(1)),
     }
-    Ok(())
 }
 
-// The place at which nothing is cut any more, and no device fails.
-fn last_place(desk: Desk, sweep: Sweep, whole: &Left) -> Result<usize, CaseFault> {
+// The point at which nothing is cut any more, and no device fails.
+fn last_point(desk: Desk, sweep: Sweep, whole: &Left) -> Result<usize, CaseFault> {
     match sweep {
         Sweep::Cut(name) => Ok(desk.store.named(name)?.len()),
         Sweep::Read(name) => Ok(desk.store.named(name)?.len().saturating_add(1)),
@@ -68,22 +67,6 @@ fn last_place(desk: Desk, sweep: Sweep, whole: &Left) -> Result<usize, CaseFault
         Sweep::Report => Ok(whole.report.len()),
         Sweep::Pieces(most) => Ok(most),
     }
-}
-
-// Adds a place to the last group, where it has its outcome, or else as a new one.
-fn add_place(groups: &mut Vec<Group>, place: usize, outcome: Outcome) -> Result<(), NoMemory> {
-    if let Some(group) = groups.last_mut()
-        && group.outcome == outcome
-    {
-        group.last = place;
-        return Ok(());
-    }
-    groups.push(Group {
-        first: place,
-        last: place,
-        outcome,
-    })?;
-    Ok(())
 }
 
 // How many growths are granted at most before a sweep of them gives up.
@@ -110,7 +93,7 @@ fn tell_refusals(
         desk.limits.growths = growths;
         let left = desk.carry_out(task)?;
         if !left.end.wants_memory() {
-            return tell_last_growth(tried, growths, left.is_as(whole), told);
+            return tell_last_growth(tried, growths, left == *whole, told);
         }
         if !left.may_want_memory(whole, task.writes_as_it_reads()) {
             writeln!(

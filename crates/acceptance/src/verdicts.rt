@@ -47,8 +47,8 @@ pub fn first_other_line(wanted: &str, came: &str) -> Option<usize>
         return None;
     }
     let same = common_length(wanted.as_bytes(), came.as_bytes());
-    let front = &wanted.as_bytes()[..same];
-    Some(front.iter().filter(|byte| **byte == b'\n').count())
+    let before = &wanted.as_bytes()[..same];
+    Some(before.iter().filter(|byte| **byte == b'\n').count())
 }
 
 impl Step {

@@ -25,7 +25,7 @@ pub taking_none : (xs : List (List ℕ)) (o : Operations) (rows : List Taken) �
 unfolding taken_rows
 taking_none xs o rows is = record { content = refl; rows_are = is }
 
-front_more : (xs : List (List ℕ)) (i : ℕ) (x : List ℕ) → slice_get xs i ≡ Some x → take (i + 1) xs ≡ take i xs ++ x ∷ []
+pub front_more : (xs : List (List ℕ)) (i : ℕ) (x : List ℕ) → slice_get xs i ≡ Some x → take (i + 1) xs ≡ take i xs ++ x ∷ []
 front_more xs i x is =
     (take_at_read xs i x (slice_get_within xs i x is)).1
     ∙ ap (λ y. take i xs ++ y ∷ []) (get_or_from_slice_get xs i x x is)
@@ -64,9 +64,6 @@ in_part file i old new is =
       some = omega (arith, ap length whole, length-append kept rest);
       content = is ∙ ap (admitted old) (sym (ap (take (length kept)) whole ∙ take-append_seam kept rest));
     }
-
-pub none_taken : (file : List ℕ) (old new : Operations) → new ≡ old → HoldsFirstParts file old new
-none_taken file old new is = in_part file 0 old new is
 
 -- of a universal file
 module _ (file : List ℕ) (fat : is_fat (kind_of file) ≡ true) where

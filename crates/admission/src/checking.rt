@@ -24,7 +24,6 @@ pub enum AcceptedFile<'a> {
     Universal(Universal<'a>, [Option<SliceFacts>; MOST_PARTS]),
 }
 
-/// Whether a part of a file begins as a 64-bit little-endian image.
 pub(crate) fn begins_as_image(part: &[u8]) -> bool
     ensures { result ≡ is_admissible part.now }
 {
@@ -62,7 +61,6 @@ fn check_thin(file: &[u8]) -> Result<CheckedSlice<'_>, TakeFault>
     }
 }
 
-/// Checks the slices of a universal file.
 fn check_universal(file: &[u8]) -> Result<AcceptedFile<'_>, TakeFault>
     requires { is_fat (kind_of file.now) ≡ true }
     ensures accepted { OnOk result (IsAcceptedFile file.now) }

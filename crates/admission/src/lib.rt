@@ -10,12 +10,6 @@
 //! - `taking`: a file's slices taken into an archive;
 //! - [`laws`]: what holds of files, and of what their taking makes.
 //!
-//! # What is proved
-//!
-//! - [`check_file`] accepts exactly the accepted files and gives what each was accepted as, otherwise the fault of the
-//!   definition. [`take_accepted`] takes all slices of such a file, in order; after want of memory some first ones may
-//!   be taken, and taking the file again comes to the same (`laws::taking_resumed`).
-//!
 //! # Why it is so
 //!
 //! - A file is checked whole before it is taken, and what the check found out is handed on, so each slice is checked

@@ -24,7 +24,6 @@ fn taken_if(changed: bool, key: SliceKey, digest: Digest) -> Taken
     }
 }
 
-/// Takes a slice, and tells what became of it.
 fn take_slice<A: Archive>(archive: &mut A, mut slice: Slice) -> Result<Taken, NoMemory>
     ensures content { OnOk result (A.content archive.new ≡ admitted (A.content archive.old) (slice ∷ [])) }
     ensures row { IfOk result (λ row. row ≡ taken_of (A.content archive.old) slice) }
@@ -60,7 +59,6 @@ fn take_part<A: Archive>(
     }
 }
 
-/// Takes the slice that a thin file is, which is its only part.
 fn take_thin<A: Archive>(
     archive: &mut A,
     heap: Heap,

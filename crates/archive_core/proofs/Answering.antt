@@ -19,7 +19,7 @@ use Rattle.archive_core.specs.Key.{IsKey, key_bytes}
 use Rattle.archive_core.specs.Valid.{IsValid, key_of}
 use Rattle.archive_core.specs.Record.{admission, admission_record}
 use Rattle.archive_core.specs.Content.{Operations, IsContent, IsLive, IsAnswering}
-use Rattle.archive_core.specs.Find.{arch_cmp, find_cmp, row_of, is_arch, is_dsym, is_image, is_kind, answering_count, IsFinds, AreAnswering}
+use Rattle.archive_core.specs.Find.{arch_cmp, find_cmp, row_of, is_arch, is_dsym, is_image, is_kind, answering_count, IsFinds, AreAnswering, is_key}
 use Rattle.archive_core.specs.declared.keys.ArchKey.{ArchKey}
 use Rattle.archive_core.specs.declared.keys.SliceKey.{SliceKey}
 use Rattle.archive_core.specs.declared.find.FindRow.{FindRow}
@@ -31,6 +31,8 @@ use Rattle.archive_core.proofs.Records.{same_parts, length-key_of}
 use Rattle.archive_core.proofs.Made.{and_false}
 use Rattle.archive_core.proofs.Members.{in_front, in_filter, to_filter, in_map, to_map, ascending_finer, ascending_map}
 use Rattle.std.specs.Int.{w64, to_be_bytes}
+use Rattle.std.specs.Str.{bytes_eq}
+use Rattle.std.proofs.lemmas.Slice.Eq.{bytes_eq-Decides}
 
 arch_total : IsTotalOrder arch_cmp
 arch_total = then_total (on_total (λ arch. arch.cputype) nat_cmp_total) (on_total (λ arch. arch.cpusubtype) nat_cmp_total)
@@ -45,6 +47,17 @@ one_arch a b h =
 
 pub is_arch_of : (a b : ArchKey) → a ≡ b → is_arch a b ≡ true
 is_arch_of a b e = λ i. (Decides-eqb a.cputype b.cputype).1 (ap (λ k. k.cputype) e) i && (Decides-eqb a.cpusubtype b.cpusubtype).1 (ap (λ k. k.cpusubtype) e) i
+
+-- and that of keys
+pub one_key : (a b : SliceKey) → is_key a b ≡ true → a ≡ b
+one_key a b h =
+    let parts = and_parts (bytes_eq a.uuid b.uuid) _ h in
+    let uuid = (bytes_eq-Decides a.uuid b.uuid).0 parts.0 in
+    let arch = one_arch a.arch b.arch parts.1 in
+    λ i. record { uuid = uuid i; arch = arch i }
+
+pub is_key_of : (a b : SliceKey) → a ≡ b → is_key a b ≡ true
+is_key_of a b e = λ i. (bytes_eq-Decides a.uuid b.uuid).1 (ap (λ k. k.uuid) e) i && is_arch_of a.arch b.arch (ap (λ k. k.arch) e) i
 
 -- a row of one kind of live slices of an architecture
 abbrev is_kind_row : Bool → ArchKey → FindRow → Bool

@@ -16,9 +16,9 @@ use Rattle.archive_core.specs.Summary.{entry}
 pub slice_of : (s : List ℕ) → IsValid s → drop 33 (admission_record s) ≡ s
 unfolding admission
 slice_of s valid =
-    let front : List ℕ = key_bytes (key_of s) ++ to_be_bytes w64 (length s) in
+    let prefix : List ℕ = key_bytes (key_of s) ++ to_be_bytes w64 (length s) in
     ap (drop 32) (sym (append_assoc (key_bytes (key_of s)) (to_be_bytes w64 (length s)) s))
-    ∙ drop_at front s 32 (omega (arith, length-append (key_bytes (key_of s)) (to_be_bytes w64 (length s)), length-key_of s valid))
+    ∙ drop_at prefix s 32 (omega (arith, length-append (key_bytes (key_of s)) (to_be_bytes w64 (length s)), length-key_of s valid))
 
 key_at : (s : List ℕ) → IsValid s → take 24 (drop 1 (admission_record s)) ≡ key_bytes (key_of s)
 unfolding admission

@@ -69,7 +69,7 @@ taken_towards o p mid rs a b is part =
     }
 
 -- what operations make that are taken into nothing, in another order
-gathered : (operations sorted : List Operation) (p : Operations) → IsPermutation operations sorted → p ≡ with_records set.empty (map record_bytes sorted) → p ≡ content_of (set.from_list (map record_bytes operations))
+pub gathered : (operations sorted : List Operation) (p : Operations) → IsPermutation operations sorted → p ≡ with_records set.empty (map record_bytes sorted) → p ≡ content_of (set.from_list (map record_bytes operations))
 gathered operations sorted p permuted is =
     is
     ∙ taken_are_joined set.empty (map record_bytes sorted) made_empty

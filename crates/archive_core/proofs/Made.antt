@@ -6,9 +6,7 @@ use Rattle.std.specs.Cmp.{both_ways}
 use Rattle.std.specs.Cmp.Lexicographic.{slice_cmp, nat_list_cmp_total}
 use Rattle.std.specs.FinSet as set
 use Rattle.std.specs.FinSet.{contains, union, contains-union, contains-insert, contains-empty, same_set}
-pub use Rattle.archive_core.specs.Order.{bytes_same, and_left, and_right, and_true, and_false, not_true, either, or_left, or_right, by_test}
-pub use Rattle.archive_core.specs.Order.{contains_made, from_made, uncovered, uncovered_admission, kept, covers_same, free, made_again, made_antisymmetric}
-pub use Rattle.archive_core.specs.Order.{below_reflexive, below_transitive, below_antisymmetric, below_made, below_left, below_right, joined_below, joined_content}
+pub use Rattle.archive_core.specs.Order.{bytes_same, and_left, and_right, and_true, and_false, not_true, either, or_left, or_right, by_test, contains_made, from_made, uncovered, uncovered_admission, kept, covers_same, free, made_again, made_antisymmetric, below_reflexive, below_transitive, below_antisymmetric, below_made, below_left, below_right, joined_below, joined_content}
 use Rattle.archive_core.specs.Content.{Operations, is_admission, covering, is_covered, content_of, IsMade, IsBelow, joined}
 
 -- Two sets that have the same retirements, and of the admissions the same that no retirement covers.
@@ -62,6 +60,12 @@ made_part o p is part = made_of_uncovered o (λ r h. grind (arith, part (coverin
 -- no operations make no content but themselves
 pub made_empty : IsMade set.empty
 made_empty = made_of_uncovered set.empty (λ r h. cc (contains-empty (slice_cmp nat_cmp) r))
+
+-- contents are united in any order
+pub union_assoc : (a b c : Operations) → union (union a b) c ≡ union a (union b c)
+union_assoc a b c = same_set nat_list_cmp_total bytes_same (union (union a b) c) (union a (union b c)) (λ r.
+    let united : (o p : Operations) → contains (union o p) r ≡ (contains o r || contains p r) = λ o p. contains-union nat_list_cmp_total o p r in
+    grind (arith, united (union a b) c, united a b, united a (union b c), united b c))
 
 -- what two sets make, joined, is what both together make
 pub joined_made : (o p : Operations) → joined (content_of o) (content_of p) ≡ content_of (union o p)

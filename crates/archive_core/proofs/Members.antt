@@ -1,9 +1,9 @@
 -- What is among a list, its values and its parts, lists with the same members, and a list put in order.
-use Rattle.std.proofs.Common.{◌≡◌, ◌↔◌, ◌<◌, true, List, sym, ◌∙◌, ◌⊎◌, ◌+◌, zero, suc, Bool, false, [], ◌∷◌, length, get_or, map, filter, refl, ap, inl, inr, arith, subst, add-one}
+use Rattle.std.proofs.Common.{◌≡◌, ◌↔◌, ◌<◌, true, List, sym, ◌∙◌, ◌⊎◌, ◌+◌, zero, suc, Bool, false, [], ◌∷◌, ◌++◌, length, get_or, map, filter, refl, ap, inl, inr, arith, subst, add-one}
 use Rattle.std.specs.declared.cmp.Ordering.{Ordering}
 use Rattle.std.specs.Ordering.{eq_by_cmp, is_eq, is_lt, on, ordering_reverse}
-use Rattle.std.specs.Cmp.{IsTotalOrder, Equal-is, tied_itself}
-use Rattle.std.specs.List.{Contains, AllByRecursion, IsDistinct, flat_map}
+use Rattle.std.specs.Cmp.{IsTotalOrder, tied_itself}
+use Rattle.std.specs.List.{Contains, AllByRecursion, IsDistinct, flat_map, AllZip}
 use Rattle.std.specs.FinSet.{FinSet, from_list, contains, IsAntisymmetric, contains-from_list}
 use Rattle.std.proofs.lemmas.Bool.{cond_both}
 use Rattle.std.proofs.lemmas.Cmp.{eq_by_cmp_equiv}
@@ -11,26 +11,25 @@ use Rattle.std.proofs.lemmas.List.{length-map, get_or-map}
 use Rattle.std.proofs.lemmas.Map.Views.{list_any-from_Contains, Contains-from_any}
 use Rattle.join_core.specs.Listing.{listing}
 use Rattle.join_core.proofs.Listing.{any_listing}
+use Rattle.join_core.proofs.Members.{one_key}
+use Rattle.join_core.proofs.Place.{along}
 use Rattle.std.specs.declared.cmp.Ordering.TheVariants.{Less}
 use Rattle.std.specs.List.Sorted.{IsSorted, IsStrictlySortedBy}
-use Rattle.std.proofs.lemmas.List.Elements.{All-from_recursion, recursion_from_All, All-weaker, All-contains, All-contains_itself, All-filter, filter_passes, Contains-get_or, Contains-append_left, Contains-append_right, Contains-append_cases}
+use Rattle.std.proofs.lemmas.List.Elements.{All-from_recursion, All-contains, All-contains_itself, All-filter, filter_passes, Contains-get_or, Contains-append_left, Contains-append_right, Contains-append_cases}
 
 module _ {K : Type 0} {R : K → K → Ordering} (o : IsTotalOrder R) (same : IsAntisymmetric R) where
-  one_key : (x y : K) → eq_by_cmp R x y ≡ true → x ≡ y
-  one_key x y h = same x y ((Equal-is (R x y)).0 h)
-
   -- a set's list has its members
   pub in_listing : (s : FinSet R) (k : K) → Contains (listing s) k ↔ (contains s k ≡ true)
   in_listing s k = (
     λ h. sym (any_listing o s k) ∙ list_any-from_Contains (eq_by_cmp_equiv o) k (listing s) h,
-    λ h. Contains-from_any one_key k (listing s) (any_listing o s k ∙ h),
+    λ h. Contains-from_any (one_key o same) k (listing s) (any_listing o s k ∙ h),
   )
 
   -- a set that is made of a list has what the list has
   pub in_made : (xs : List K) (k : K) → Contains xs k ↔ (contains (from_list {R = R} xs) k ≡ true)
   in_made xs k = (
     λ h. contains-from_list o xs k ∙ list_any-from_Contains (eq_by_cmp_equiv o) k xs h,
-    λ h. Contains-from_any one_key k xs (sym (contains-from_list o xs k) ∙ h),
+    λ h. Contains-from_any (one_key o same) k xs (sym (contains-from_list o xs k) ∙ h),
   )
 
   -- a list that is put in order has what it had
@@ -68,10 +67,6 @@ module _ {X : Type 0} where
         let more = to_filter p xs a there t in
         cond_both (p x) (x ∷ filter p xs) (filter p xs) (λ ys. Contains ys a) (λ _. in_rest x (filter p xs) a more) (λ _. more)
   ]
-
-  -- what follows from a fact at each element follows along a list
-  pub along : (P Q : X → Type 0) → ((x : X) → P x → Q x) → (xs : List X) → AllByRecursion P xs → AllByRecursion Q xs
-  along P Q f xs h = recursion_from_All Q xs (All-weaker P Q f xs (All-from_recursion P xs h))
 
   -- among elements that have a fact, an order that follows from another ascends where that does
   pub ascending_finer : (P : X → Type 0) (R S : X → X → Ordering) → ((x y : X) → P x → P y → R x y ≡ Less → S x y ≡ Less) → (xs : List X) → AllByRecursion P xs → IsStrictlySortedBy R xs → IsStrictlySortedBy S xs
@@ -128,6 +123,18 @@ module _ {X : Type 0} where
             | inr here ↦ cc (tied_itself o x, o.trans x y x (above x y xs up_xs.0 here) (above y x ys up_ys.0 there))
           ]
         ]
+
+-- a test of values is one of what they are the values of
+pub filter_map_swap : {X Y : Type 0} (p : Y → Bool) (f : X → Y) (xs : List X) → filter p (map f xs) ≡ map f (filter (λ x. p (f x)) xs)
+filter_map_swap p f [] = refl
+filter_map_swap p f (x ∷ xs) = grind (arith, filter_map_swap p f xs)
+
+-- a relation of two lists, with one element more in each
+pub pairs_more : {X Y : Type 0} (R : X → Y → Type 0) (xs : List X) (ys : List Y) (x : X) (y : Y) → AllZip R xs ys → R x y → AllZip R (xs ++ x ∷ []) (ys ++ y ∷ [])
+pairs_more R [] [] x y all one = (one, tt)
+pairs_more R [] (_ ∷ _) x y all one = absurd all
+pairs_more R (_ ∷ _) [] x y all one = absurd all
+pairs_more R (a ∷ xs) (b ∷ ys) x y all one = (all.0, pairs_more R xs ys x y all.1 one)
 
 module _ {X Y : Type 0} where
   -- what is among the values of a function

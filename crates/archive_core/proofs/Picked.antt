@@ -24,29 +24,29 @@ use Rattle.archive_core.proofs.Made.{bytes_same, made_part, and_left, and_true}
 
 -- ---- what begins so
 
-begins : (front bytes rest : List ℕ) → bytes ≡ front ++ rest → bytes_eq front (take (length front) bytes) ≡ true
-begins front bytes rest e = (bytes_eq-Decides front (take (length front) bytes)).1 (sym (ap (take (length front)) e ∙ take_at front rest (length front) refl))
+begins : (prefix bytes rest : List ℕ) → bytes ≡ prefix ++ rest → bytes_eq prefix (take (length prefix) bytes) ≡ true
+begins prefix bytes rest e = (bytes_eq-Decides prefix (take (length prefix) bytes)).1 (sym (ap (take (length prefix)) e ∙ take_at prefix rest (length prefix) refl))
 
-pub admission_under : (front rest slice : List ℕ) → key_bytes (key_of slice) ≡ front ++ rest → is_under front (admission_record slice) ≡ true
+pub admission_under : (prefix rest slice : List ℕ) → key_bytes (key_of slice) ≡ prefix ++ rest → is_under prefix (admission_record slice) ≡ true
 unfolding is_under admission
-admission_under front rest slice e =
+admission_under prefix rest slice e =
     let more : List ℕ = to_be_bytes w64 (length slice) ++ slice in
-    begins front (admission slice) (rest ++ more) (ap (λ (t : List ℕ). t ++ more) e ∙ append_assoc front rest more)
+    begins prefix (admission slice) (rest ++ more) (ap (λ (t : List ℕ). t ++ more) e ∙ append_assoc prefix rest more)
 
-pub retirement_under : (front rest : List ℕ) (key : SliceKey) (digest : List ℕ) → key_bytes key ≡ front ++ rest → is_under front (retirement_record key digest) ≡ true
+pub retirement_under : (prefix rest : List ℕ) (key : SliceKey) (digest : List ℕ) → key_bytes key ≡ prefix ++ rest → is_under prefix (retirement_record key digest) ≡ true
 unfolding is_under
-retirement_under front rest key digest e = begins front (key_bytes key ++ digest) (rest ++ digest) (ap (λ (t : List ℕ). t ++ digest) e ∙ append_assoc front rest digest)
+retirement_under prefix rest key digest e = begins prefix (key_bytes key ++ digest) (rest ++ digest) (ap (λ (t : List ℕ). t ++ digest) e ∙ append_assoc prefix rest digest)
 
 -- ---- contents that are alike there
 
-pub alike_back : (front : List ℕ) (o p : Operations) → AreAlikeUnder front o p → AreAlikeUnder front p o
-alike_back front o p same = λ r h. sym (same r h)
+pub alike_back : (prefix : List ℕ) (o p : Operations) → AreAlikeUnder prefix o p → AreAlikeUnder prefix p o
+alike_back prefix o p same = λ r h. sym (same r h)
 
-live_alike : (front rest : List ℕ) (o p : Operations) (key : SliceKey) (slice : List ℕ) → key_bytes key ≡ front ++ rest → AreAlikeUnder front o p → IsLive o key slice → IsLive p key slice
-live_alike front rest o p key slice e same live = record {
-  admitted = sym (same (admission_record slice) (admission_under front rest slice (ap key_bytes live.under ∙ e))) ∙ live.admitted;
+live_alike : (prefix rest : List ℕ) (o p : Operations) (key : SliceKey) (slice : List ℕ) → key_bytes key ≡ prefix ++ rest → AreAlikeUnder prefix o p → IsLive o key slice → IsLive p key slice
+live_alike prefix rest o p key slice e same live = record {
+  admitted = sym (same (admission_record slice) (admission_under prefix rest slice (ap key_bytes live.under ∙ e))) ∙ live.admitted;
   under = live.under;
-  kept = sym (same (retirement_record key (sha256 slice)) (retirement_under front rest key (sha256 slice) e)) ∙ live.kept;
+  kept = sym (same (retirement_record key (sha256 slice)) (retirement_under prefix rest key (sha256 slice) e)) ∙ live.kept;
 }
 
 -- ---- answers
@@ -136,8 +136,8 @@ names_alike o p name rows same is = record {
 pub contains_part : (o : Operations) (picks : List ℕ → Bool) (r : List ℕ) → set.contains (part o picks) r ≡ (set.contains o r && picks r)
 contains_part o picks r = contains-retain o picks r (λ x e. ap picks (sym (bytes_same r x e)))
 
-pub part_alike : (o : Operations) (picks : List ℕ → Bool) (front : List ℕ) → ((r : List ℕ) → is_under front r ≡ true → picks r ≡ true) → AreAlikeUnder front (part o picks) o
-part_alike o picks front all = λ r h. cc (contains_part o picks r, all r h, and_true (set.contains o r))
+pub part_alike : (o : Operations) (picks : List ℕ → Bool) (prefix : List ℕ) → ((r : List ℕ) → is_under prefix r ≡ true → picks r ≡ true) → AreAlikeUnder prefix (part o picks) o
+part_alike o picks prefix all = λ r h. cc (contains_part o picks r, all r h, and_true (set.contains o r))
 
 pub part_content : (o : Operations) (picks : List ℕ → Bool) → IsContent o → IsContent (part o picks)
 part_content o picks content = record {

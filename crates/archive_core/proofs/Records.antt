@@ -57,7 +57,7 @@ no_record_begins r s rest (inr a) (inr b) e =
     nil_from_length rest (omega (arith, length-retirement_record a.key a.digest a.is_key a.long, length-retirement_record b.key b.digest b.is_key b.long, ap length a.is, ap length b.is, ap length e, length-append r rest))
 
 -- keys with the same bytes are the same
-one_key : (k l : SliceKey) → IsKey k → IsKey l → key_bytes k ≡ key_bytes l → k ≡ l
+pub one_key : (k l : SliceKey) → IsKey k → IsKey l → key_bytes k ≡ key_bytes l → k ≡ l
 unfolding key_bytes
 one_key k l is_k is_l e =
     let uuid = same_parts k.uuid l.uuid _ _ (is_k.uuid ∙ sym is_l.uuid) e in

@@ -31,7 +31,7 @@ order = slice_cmp nat_cmp
 abbrev set_of : List (List ℕ) → set.FinSet order
 set_of xs = from_list xs
 
--- ---- fronts
+-- ---- prefixes
 
 -- what is below another does not begin with more
 pub begins_below : (n : ℕ) (x y : List ℕ) → order x y ≡ Less → is_lt (order (take n y) (take n x)) ≡ false
@@ -46,17 +46,17 @@ begins_below (suc n) (a ∷ ass) (b ∷ bs) h =
     below : (p q r s : Ordering) → q ≡ ordering_reverse p → ordering_then p r ≡ Less → (r ≡ Less → is_lt s ≡ false) → is_lt (ordering_then q s) ≡ false
     below p q r s turned h rest = grind arith
 
-fronts_sorted : (n : ℕ) (xs : List (List ℕ)) → IsStrictlySortedBy order xs → IsSortedBy (λ x y. is_lt (order (take n x) (take n y))) xs
-fronts_sorted n xs h i d _ lt = begins_below n _ _ (Less-from_sorted order xs i (i + 1) d h (omega arith) lt)
+prefixes_sorted : (n : ℕ) (xs : List (List ℕ)) → IsStrictlySortedBy order xs → IsSortedBy (λ x y. is_lt (order (take n x) (take n y))) xs
+prefixes_sorted n xs h i d _ lt = begins_below n _ _ (Less-from_sorted order xs i (i + 1) d h (omega arith) lt)
 
 -- a search by how they begin finds one where one is there
-pub front_there : (xs : List (List ℕ)) (front : List ℕ) (r : Result ℕ ℕ) → IsStrictlySortedBy order xs → IsSearchInRange r (length xs) → IsBinarySearchResult (λ x. order (take 25 x) front) xs r
-    → (c : List ℕ) → take 25 c ≡ front → contains (set_of xs) c ≡ true → is_ok r ≡ true
-front_there xs front (Ok i) up lt at c e h = refl
-front_there xs front (Err i) up le parted c e h =
+pub prefix_there : (xs : List (List ℕ)) (prefix : List ℕ) (r : Result ℕ ℕ) → IsStrictlySortedBy order xs → IsSearchInRange r (length xs) → IsBinarySearchResult (λ x. order (take 25 x) prefix) xs r
+    → (c : List ℕ) → take 25 c ≡ prefix → contains (set_of xs) c ≡ true → is_ok r ≡ true
+prefix_there xs prefix (Ok i) up lt at c e h = refl
+prefix_there xs prefix (Err i) up le parted c e h =
     let found = (in_made nat_list_cmp_total bytes_same xs c).1 h in
-    let parts = parted (searchable_from_sorted nat_list_cmp_total (take 25) xs front (fronts_sorted 25 xs up)) in
-    let tied : order (take 25 (get_or xs found.0 c)) front ≡ Equal = ap (λ (t : List ℕ). order (take 25 t) front) found.2 ∙ ap (λ (t : List ℕ). order t front) e ∙ tied_itself nat_list_cmp_total front in
+    let parts = parted (searchable_from_sorted nat_list_cmp_total (take 25) xs prefix (prefixes_sorted 25 xs up)) in
+    let tied : order (take 25 (get_or xs found.0 c)) prefix ≡ Equal = ap (λ (t : List ℕ). order (take 25 t) prefix) found.2 ∙ ap (λ (t : List ℕ). order t prefix) e ∙ tied_itself nat_list_cmp_total prefix in
     elim (cases_lt found.0 i) [
       | inl lt ↦ cc (parts.0 found.0 c (omega arith) lt)
       | inr ge ↦ cc (parts.1 found.0 c ge found.1)
@@ -67,8 +67,8 @@ begins_at_most : (n : ℕ) (x y : List ℕ) → is_gt (order x y) ≡ false → 
 begins_at_most n x y h = grind (arith, begins_below n x y, bytes_same x y, tied_itself nat_list_cmp_total (take n y))
 
 -- what lies between two that begin alike begins so
-pub begins_between : (n : ℕ) (low x high front : List ℕ) → take n low ≡ front → take n high ≡ front → is_gt (order low x) ≡ false → is_gt (order x high) ≡ false → is_eq (order (take n x) front) ≡ true
-begins_between n low x high front l h above below = between (order (take n x) front) (order front (take n x)) (nat_list_cmp_total.antisymm front (take n x))
+pub begins_between : (n : ℕ) (low x high prefix : List ℕ) → take n low ≡ prefix → take n high ≡ prefix → is_gt (order low x) ≡ false → is_gt (order x high) ≡ false → is_eq (order (take n x) prefix) ≡ true
+begins_between n low x high prefix l h above below = between (order (take n x) prefix) (order prefix (take n x)) (nat_list_cmp_total.antisymm prefix (take n x))
     (ap (λ (t : List ℕ). is_lt (order (take n x) t)) (sym l) ∙ begins_at_most n low x above)
     (ap (λ (t : List ℕ). is_lt (order t (take n x))) (sym h) ∙ begins_at_most n x high below)
   where
@@ -87,15 +87,15 @@ zeros_least (a ∷ ass) (b ∷ bs) long zero_each =
     first : (r : Ordering) → (a == 0) ≡ true → is_gt r ≡ false → is_gt (ordering_then (nat_cmp a b) r) ≡ false
     first r none rest = grind (arith, nat_tests)
 
-same_front : (front x y : List ℕ) → order (front ++ x) (front ++ y) ≡ order x y
-same_front [] x y = refl
-same_front (a ∷ ass) x y = rw (tied_itself nat_cmp_total a) (same_front ass x y)
+same_prefix : (prefix x y : List ℕ) → order (prefix ++ x) (prefix ++ y) ≡ order x y
+same_prefix [] x y = refl
+same_prefix (a ∷ ass) x y = rw (tied_itself nat_cmp_total a) (same_prefix ass x y)
 
--- a front with zeros behind it is at most what begins so
-pub least_begins : (front zeros r : List ℕ) → length front ≡ 25 → length zeros ≡ 32 → list_all (λ n. n == 0) zeros ≡ true → take 25 r ≡ front → length r ≡ 57 → is_gt (order (front ++ zeros) r) ≡ false
-least_begins front zeros r f z each begins long =
-    let whole : front ++ drop 25 r ≡ r = ap (λ (t : List ℕ). t ++ drop 25 r) (sym begins) ∙ take-append-drop 25 r in
-    ap (λ (t : List ℕ). is_gt (order (front ++ zeros) t)) (sym whole) ∙ ap is_gt (same_front front zeros (drop 25 r)) ∙ zeros_least zeros (drop 25 r) (omega (arith, z, length-drop 25 r, long)) each
+-- a prefix with zeros behind it is at most what begins so
+pub least_begins : (prefix zeros r : List ℕ) → length prefix ≡ 25 → length zeros ≡ 32 → list_all (λ n. n == 0) zeros ≡ true → take 25 r ≡ prefix → length r ≡ 57 → is_gt (order (prefix ++ zeros) r) ≡ false
+least_begins prefix zeros r f z each begins long =
+    let whole : prefix ++ drop 25 r ≡ r = ap (λ (t : List ℕ). t ++ drop 25 r) (sym begins) ∙ take-append-drop 25 r in
+    ap (λ (t : List ℕ). is_gt (order (prefix ++ zeros) t)) (sym whole) ∙ ap is_gt (same_prefix prefix zeros (drop 25 r)) ∙ zeros_least zeros (drop 25 r) (omega (arith, z, length-drop 25 r, long)) each
 
 -- ---- what is there
 
@@ -104,8 +104,8 @@ pub nothing_there : (xs : List (List ℕ)) (c : List ℕ) (b : Bool) → (contai
 nothing_there xs c b h none = by_test _ (contains (set_of xs) c) (λ t. absurd (false≢true (sym none ∙ h t))) (λ f. f)
 
 -- a retirement begins with its key
-pub retirement_front : (key : SliceKey) (digest : List ℕ) → length (key_bytes key) ≡ 24 → take 25 (retirement_record key digest) ≡ 1 ∷ key_bytes key
-retirement_front key digest long = ap (λ (t : List ℕ). 1 ∷ t) (take_at (key_bytes key) digest 24 long)
+pub retirement_prefix : (key : SliceKey) (digest : List ℕ) → length (key_bytes key) ≡ 24 → take 25 (retirement_record key digest) ≡ 1 ∷ key_bytes key
+retirement_prefix key digest long = ap (λ (t : List ℕ). 1 ∷ t) (take_at (key_bytes key) digest 24 long)
 
 -- what a search says that its result is
 pub is_there : (xs : List (List ℕ)) (x : List ℕ) (r : Result ℕ ℕ) → IsFound order xs x r → is_ok r ≡ contains (set_of xs) x

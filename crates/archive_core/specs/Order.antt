@@ -12,8 +12,7 @@ use Rattle.std.specs.FinSet.{nat_cmp-IsAntisymmetric, slice_cmp-IsAntisymmetric}
 use Rattle.join_core.specs.Bound.{IsLeastAbove}
 use Rattle.archive_core.specs.Record.{IsRecord}
 use Rattle.archive_core.specs.Content.{Operations, is_admission, covering, is_covered, content_of, IsMade, IsContent}
-use Rattle.archive_core.specs.Content.{IsBelow}
-use Rattle.archive_core.specs.Content.{joined}
+use Rattle.archive_core.specs.Content.{IsBelow, joined}
 
 -- byte strings that the byte order ties are one
 pub bytes_same : IsAntisymmetric (slice_cmp nat_cmp)

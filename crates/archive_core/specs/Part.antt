@@ -9,7 +9,7 @@ use Rattle.archive_core.specs.Content.{Operations}
 
 -- the bytes behind the tag of a record begin with these: a UUID, or a key
 unfoldable pub is_under : List ℕ → List ℕ → Bool
-is_under front r = bytes_eq front (take (length front) (drop 1 r))
+is_under prefix r = bytes_eq prefix (take (length prefix) (drop 1 r))
 
 -- the operations of a content that are picked, each by its record
 abbrev pub part : Operations → (List ℕ → Bool) → Operations
@@ -17,7 +17,7 @@ part o picks = set.retain o picks
 
 -- the two have the same records that begin so behind their tags
 abbrev pub AreAlikeUnder : List ℕ → Operations → Operations → Type 0
-AreAlikeUnder front o p = (r : List ℕ) → is_under front r ≡ true → set.contains o r ≡ set.contains p r
+AreAlikeUnder prefix o p = (r : List ℕ) → is_under prefix r ≡ true → set.contains o r ≡ set.contains p r
 
 -- the two have the same retirements, and the same admissions of slices with a candidate of the name
 pub record AreAlikeNamed (name : List ℕ) (o p : Operations) : Type 0 where

@@ -7,7 +7,7 @@ use Rattle.archive_core.specs.declared.keys.SliceKey.{SliceKey}
 use Rattle.archive_core.specs.declared.operations.Operation.{Operation}
 use Rattle.archive_core.specs.declared.operations.Operation.TheVariants.{Admit, Retire}
 use Rattle.archive_core.specs.declared.operations.Record.{Record}
-use Rattle.archive_core.specs.declared.operations.Record.TheVariants.{Admit as Lent_Admit, Retire as Lent_Retire}
+use Rattle.archive_core.specs.declared.operations.Record.TheVariants.{Admit as Borrowed_Admit, Retire as Borrowed_Retire}
 
 -- an admission's record behind its tag: the key, the length in 8 bytes, the slice
 unfoldable pub admission : List ℕ → List ℕ
@@ -49,11 +49,11 @@ abbrev pub record_bytes : Operation → List ℕ
 record_bytes (Admit slice) = admission_record slice
 record_bytes (Retire key digest) = retirement_record key digest.0
 
--- the operation that is lent
-abbrev pub operation_lent : Record → Operation
-operation_lent (Lent_Admit slice) = Admit slice
-operation_lent (Lent_Retire key digest) = Retire key digest
+-- the operation that is borrowed
+abbrev pub operation_borrowed : Record → Operation
+operation_borrowed (Borrowed_Admit slice) = Admit slice
+operation_borrowed (Borrowed_Retire key digest) = Retire key digest
 
--- the record of an operation that is lent
-abbrev pub lent_bytes : Record → List ℕ
-lent_bytes operation = record_bytes (operation_lent operation)
+-- the record of an operation that is borrowed
+abbrev pub borrowed_bytes : Record → List ℕ
+borrowed_bytes operation = record_bytes (operation_borrowed operation)

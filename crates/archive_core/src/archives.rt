@@ -2,7 +2,7 @@
 ghost use Rattle.std.specs.Prelude.{◌≡◌, ◌<◌, ◌↔◌, IfOk, OnOk, OnErr, map, slice_index_or, []};
 ghost use Rattle.std.specs.FinSet as set;
 ghost use Rattle.join_core.specs.Listing.{listing};
-ghost use Rattle.archive_core.specs.Record.{record_bytes, lent_bytes};
+ghost use Rattle.archive_core.specs.Record.{record_bytes, borrowed_bytes};
 ghost use Rattle.join_core.specs.Bound.{IsTowards};
 ghost use Rattle.archive_core.specs.Content.{Operations, IsContent, IsBelow, with_record, changes, joined};
 ghost use Rattle.archive_core.specs.Find.{AreAnswering, IsFinds};
@@ -86,7 +86,7 @@ pub trait Archive: Join<Content = Contents> {
     /// The operation at an index, from 0 on, among all in ascending order of their records.
     fn record_at(&self, index: u64) -> Record<'_>
         requires { index < set.len (Self.content self.now) }
-        ensures { lent_bytes result ≡ slice_index_or (listing (Self.content self.now)) index [] };
+        ensures { borrowed_bytes result ≡ slice_index_or (listing (Self.content self.now)) index [] };
 
     ghost is_content_is: { (o : Operations) → Self.Join.is_content o ↔ IsContent o };
 

@@ -28,13 +28,13 @@ impl FindRow {
     ghost use Rattle.std.specs.Prelude.{◌≡◌};
     ghost use Rattle.archive_core.specs.Key.{IsKey};
     ghost use Rattle.archive_core.specs.Find.{row_of};
-    ghost use Rattle.archive_core.specs.Record.{IsOperation, operation_lent};
+    ghost use Rattle.archive_core.specs.Record.{IsOperation, operation_borrowed};
     ghost use Rattle.archive_core.specs.declared.operations.Operation.TheVariants.{Retire};
 
     /// The row of a record. Its slice is hashed where that was not done before.
     pub fn of(record: &Record<'_>) -> FindRow
-        ensures row { result ≡ row_of (operation_lent record.now) }
-        ensures operation { IsOperation (operation_lent record.now) }
+        ensures row { result ≡ row_of (operation_borrowed record.now) }
+        ensures operation { IsOperation (operation_borrowed record.now) }
         ensures key { IsKey result.key }
     {
         match record {

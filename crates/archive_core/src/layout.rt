@@ -28,7 +28,7 @@ fn lay_key(part: &mut [u8], key: &SliceKey)
 }
 
 /// The bytes of a key, as they stand behind a record's tag.
-pub fn key_front(key: &SliceKey) -> [u8; 24]
+pub fn key_prefix(key: &SliceKey) -> [u8; 24]
     ensures { result ≡ key_bytes key.now }
 {
     let mut whole = [0; 24];

@@ -116,7 +116,7 @@ pub struct OwnedNameRow {
 }
 
 impl OwnedNameRow {
-    /// The row, lent.
+    /// The row, borrowed.
     pub fn lend(&self) -> NameRow<'_>
         ensures { name_view result ≡ owned_name_view self.now }
     {

@@ -2,7 +2,9 @@
 ghost use Rattle.std.specs.Prelude.{◌≡◌, IfOk};
 ghost use Rattle.std.specs.Ordering.{nat_cmp};
 ghost use Rattle.std.specs.Cmp.Lexicographic.{slice_cmp};
-ghost use Rattle.archive_core.specs.Record.{record_bytes, lent_bytes, operation_lent, admission, retirement_record};
+ghost use Rattle.archive_core.specs.Record.{IsOperation, record_bytes, borrowed_bytes, operation_borrowed};
+ghost use Rattle.archive_core.specs.Record.{admission, retirement_record};
+ghost use Rattle.archive_core.specs.declared.operations.Operation.TheVariants.{Retire};
 ghost use Rattle.archive_core.specs.Find.{key_in};
 ghost use Rattle.archive_core.specs.Valid.{key_of};
 
@@ -21,13 +23,21 @@ pub enum Operation {
     Retire(SliceKey, Digest),
 }
 
-/// An operation that is lent, by an archive that holds it or a text that it is read from.
+/// An operation that is borrowed, by an archive that holds it or a text that it is read from.
 #[derive(Drop)]
 pub enum Record<'a> {
     /// The slice is kept, under its own key.
     Admit(CheckedSlice<'a>),
     /// The slices under that key whose bytes have that digest are retired.
     Retire(SliceKey, Digest),
+}
+
+/// The retirement of the slices under the key that have the digest.
+pub fn retirement(key: SliceKey, digest: Digest) -> Operation
+    ensures is { result ≡ Retire key digest }
+    ensures operation { IsOperation (Retire key digest) }
+{
+    Operation::Retire(key, digest)
 }
 
 impl Operation {
@@ -38,10 +48,10 @@ impl Operation {
         self.lend().copy(heap)
     }
 
-    /// The operation, lent.
+    /// The operation, borrowed.
     pub fn lend(&self) -> Record<'_>
-        ensures record { lent_bytes result ≡ record_bytes self.now }
-        ensures operation { operation_lent result ≡ self.now }
+        ensures record { borrowed_bytes result ≡ record_bytes self.now }
+        ensures operation { operation_borrowed result ≡ self.now }
     {
         match self {
             Operation::Admit(slice) => Record::Admit(slice.lend()),
@@ -100,7 +110,7 @@ impl Operation {
 impl<'a> Record<'a> {
     /// The same operation, kept: its slice is copied, and not checked again.
     pub fn copy(&self, heap: Heap) -> Result<Operation, NoMemory>
-        ensures { IfOk result (λ operation. operation ≡ operation_lent self.now) }
+        ensures { IfOk result (λ operation. operation ≡ operation_borrowed self.now) }
     {
         match self {
             Record::Admit(slice) => Ok(Operation::Admit(slice.admit(heap)?)),
@@ -110,7 +120,7 @@ impl<'a> Record<'a> {
 
     /// Compares two records, byte by byte, without building them.
     pub fn compare(&self, other: &Record<'_>) -> Ordering
-        ensures { result ≡ slice_cmp nat_cmp (lent_bytes self.now) (lent_bytes other.now) }
+        ensures { result ≡ slice_cmp nat_cmp (borrowed_bytes self.now) (borrowed_bytes other.now) }
     {
         match self {
             Record::Admit(slice) => match other {

@@ -11,7 +11,7 @@ ghost use Rattle.archive_core.specs.Key.{key_bytes};
 ghost use Rattle.archive_core.specs.Valid.{key_of};
 ghost use Rattle.archive_core.specs.Record.{retirement_record};
 
-use crate::layout::{RETIREMENT, key_front, retirement_bytes};
+use crate::layout::{RETIREMENT, key_prefix, retirement_bytes};
 use crate::{CheckedSlice, SliceKey};
 use memory::{Heap, NoMemory};
 use std::cmp::Ordering;
@@ -19,7 +19,7 @@ use std::collections::BTreeSet;
 use std::marker::Model;
 
 // How many bytes of a record its tag and its key are.
-const FRONT: usize = 25;
+const PREFIX_LEN: usize = 25;
 
 /// The records of retirements. A contract sees them as a list, of which the order says nothing.
 ///
@@ -45,21 +45,21 @@ impl Model for Retirements {
 }
 
 // The tag and the key of the retirements of a key.
-fn front_of(key: &SliceKey) -> [u8; 25]
-    ensures front { result ≡ 1 ∷ key_bytes key.now }
+fn prefix_of(key: &SliceKey) -> [u8; 25]
+    ensures prefix { result ≡ 1 ∷ key_bytes key.now }
     ensures long { length (key_bytes key.now) ≡ 24 }
 {
-    let mut front = [0; FRONT];
-    front[0] = RETIREMENT;
-    front[1..].copy_from_slice(&key_front(key));
-    front
+    let mut prefix = [0; PREFIX_LEN];
+    prefix[0] = RETIREMENT;
+    prefix[1..].copy_from_slice(&key_prefix(key));
+    prefix
 }
 
 // Compares a record with the tag and the key of one.
-fn compare_front(kept: &[u8; 57], front: &[u8; 25]) -> Ordering
-    ensures { result ≡ slice_cmp nat_cmp (take 25 kept.now) front.now }
+fn compare_prefix(kept: &[u8; 57], prefix: &[u8; 25]) -> Ordering
+    ensures { result ≡ slice_cmp nat_cmp (take 25 kept.now) prefix.now }
 {
-    kept[..FRONT].cmp(&front[..])
+    kept[..PREFIX_LEN].cmp(&prefix[..])
 }
 
 // Compares two records.
@@ -89,34 +89,34 @@ fn pop_if_last(records: &mut Vec<[u8; 57], Heap>, retirement: &[u8; 57])
 }
 
 // Whether a record that begins so is among these, which ascend.
-fn has_front(records: &[[u8; 57]], front: &[u8; 25]) -> bool
+fn has_prefix(records: &[[u8; 57]], prefix: &[u8; 25]) -> bool
     requires { IsStrictlySortedBy (slice_cmp nat_cmp) records.now }
-    ensures { (r : List ℕ) → take 25 r ≡ front.now
+    ensures { (r : List ℕ) → take 25 r ≡ prefix.now
         → set.contains (set.from_list {R = slice_cmp nat_cmp} records.now) r ≡ true → result ≡ true }
 {
     records
-        .binary_search_by(|kept| compare_front(kept, front))
+        .binary_search_by(|kept| compare_prefix(kept, prefix))
         .is_ok()
 }
 
 // The least record that begins so.
-fn least_of(front: &[u8; 25]) -> [u8; 57]
-    ensures front { take 25 result ≡ front.now }
-    ensures least { (r : List ℕ) → take 25 r ≡ front.now → length r ≡ 57
+fn least_of(prefix: &[u8; 25]) -> [u8; 57]
+    ensures prefix { take 25 result ≡ prefix.now }
+    ensures least { (r : List ℕ) → take 25 r ≡ prefix.now → length r ≡ 57
         → is_gt (slice_cmp nat_cmp result r) ≡ false }
 {
     let mut least = [0; 57];
-    least[..FRONT].copy_from_slice(front);
+    least[..PREFIX_LEN].copy_from_slice(prefix);
     least
 }
 
 // Whether a record that begins so is among these.
-fn has_other_front(records: &BTreeSet<[u8; 57], Heap>, front: &[u8; 25]) -> bool
-    ensures { (r : List ℕ) → take 25 r ≡ front.now → length r ≡ 57
+fn has_other_prefix(records: &BTreeSet<[u8; 57], Heap>, prefix: &[u8; 25]) -> bool
+    ensures { (r : List ℕ) → take 25 r ≡ prefix.now → length r ≡ 57
         → set.contains (set.from_list {R = slice_cmp nat_cmp} records.now.keys) r ≡ true → result ≡ true }
 {
-    match records.range(least_of(front)..).next() {
-        Some(first) => compare_front(first, front).is_eq(),
+    match records.range(least_of(prefix)..).next() {
+        Some(first) => compare_prefix(first, prefix).is_eq(),
         None => false,
     }
 }
@@ -138,8 +138,8 @@ impl Retirements {
             → set.contains (set.from_list {R = slice_cmp nat_cmp} self.now) (retirement_record key.now digest) ≡ true
             → result ≡ true }
     {
-        let front = front_of(key);
-        has_front(&self.ascending, &front) || has_other_front(&self.others, &front)
+        let prefix = prefix_of(key);
+        has_prefix(&self.ascending, &prefix) || has_other_prefix(&self.others, &prefix)
     }
 
     // Whether the retirement is there.

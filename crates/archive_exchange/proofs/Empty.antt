@@ -9,7 +9,7 @@ use Rattle.archive_core.proofs.Made.{made_empty}
 use Rattle.archive_records.specs.Text.{written}
 use Rattle.exchange_model.specs.World.{start}
 use Rattle.archive_exchange.specs.SiteState.{SiteState}
-use Rattle.archive_exchange.specs.Rehearsal.{IsSite, Represents}
+use Rattle.archive_exchange.specs.WorldState.{IsSite, Represents}
 
 empty_content : IsContent set.empty
 empty_content = record { itself = made_empty; records = λ r h. cc (contains-empty (slice_cmp nat_cmp) r) }

@@ -18,7 +18,7 @@ use Rattle.admission.specs.File.{IsAcceptedFile, IsTakeFault, admissible, parts}
 use Rattle.admission.specs.Take.{admitted}
 use Rattle.archive_exchange.specs.SiteState.{SiteState, IsArchiveTextOf, HasJoined, IsDeliverFault, IsReplyFault, RepliesTo}
 use Rattle.archive_exchange.specs.ModelEvent.{IsFile, OutcomeIs, fault_told, part_record}
-use Rattle.archive_exchange.specs.Rehearsal.{message_text, IsSound, Represents}
+use Rattle.archive_exchange.specs.WorldState.{message_text, IsSound, Represents}
 use Rattle.archive_exchange.specs.InnerEvents.{Follows}
 use Rattle.admission.specs.declared.fault.TakeFault.{TakeFault}
 use Rattle.admission.specs.declared.fault.TakeFault.TheVariants.{OutOfMemory}

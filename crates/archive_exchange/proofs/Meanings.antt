@@ -7,8 +7,8 @@ use Rattle.archive_exchange.specs.ModelEvent.{ModelEvent, IsFile, IsSeen, AreSee
 use Rattle.archive_exchange.specs.InnerEvents.{SeenFile}
 use Rattle.admission.specs.declared.fault.TakeFault.{TakeFault}
 use Rattle.admission.specs.declared.fault.TakeFault.TheVariants.{OutOfMemory}
-use Rattle.rehearsal.specs.declared.event.Event.{Event}
-use Rattle.rehearsal.specs.declared.event.Event.TheVariants.{Take, Retire, Full, Ask, Reply, Deliver, Save, Stop}
+use Rattle.exchange_script.specs.declared.event.Event.{Event}
+use Rattle.exchange_script.specs.declared.event.Event.TheVariants.{Take, Retire, Full, Ask, Reply, Deliver, Save, Stop}
 
 module _ (decide : (file : List ℕ) → IsAcceptedFile file ⊎ ((f : TakeFault) × (f ≢ OutOfMemory) × IsTakeFault file f)) where
   file_is : (file : List ℕ) → (is : SeenFile) × IsFile file is
@@ -40,18 +40,11 @@ module _ (one : (file : List ℕ) (f g : TakeFault) → IsTakeFault file f → I
 
   one_event : (event : Event) (a b : ModelEvent) → IsSeen event a → IsSeen event b → a ≡ b
   one_event (Take site file) a b p q = p.2 ∙ ap (λ (f : SeenFile). model.Take site f) (one_file file.items p.0 q.0 p.1 q.1) ∙ sym q.2
-  one_event (Retire site key digest) a b p q = p ∙ sym q
-  one_event (Full site) a b p q = p ∙ sym q
-  one_event (Ask site) a b p q = p ∙ sym q
-  one_event (Reply site message) a b p q = p ∙ sym q
-  one_event (Deliver site message) a b p q = p ∙ sym q
-  one_event (Save site) a b p q = p ∙ sym q
-  one_event (Stop site) a b p q = p ∙ sym q
+  one_event event a b p q = p ∙ sym q
 
   pub one_list : (events : List Event) (a b : List ModelEvent) → AreSeen events a → AreSeen events b → a ≡ b
   one_list [] [] [] p q = refl
-  one_list [] [] (y ∷ b) p q = absurd q
   one_list [] (x ∷ a) b p q = absurd p
   one_list (event ∷ events) [] b p q = absurd p
-  one_list (event ∷ events) (x ∷ a) [] p q = absurd q
   one_list (event ∷ events) (x ∷ a) (y ∷ b) p q = ap (λ z. z ∷ a) (one_event event x y p.0 q.0) ∙ ap (λ l. y ∷ l) (one_list events a b p.1 q.1)
+  one_list events a b p q = absurd q

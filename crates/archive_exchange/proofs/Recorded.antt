@@ -11,8 +11,8 @@ use Rattle.archive_core.specs.declared.keys.Digest.{Digest}
 use Rattle.exchange_model.specs.World as model
 use Rattle.archive_exchange.specs.ModelEvent.{ModelEvent, IsFile, IsSeen}
 use Rattle.archive_exchange.specs.InnerEvents.{SeenFile, IsRecorded}
-use Rattle.rehearsal.specs.declared.event.Event.{Event}
-use Rattle.rehearsal.specs.declared.event.Event.TheVariants.{Take, Retire, Full, Ask, Reply, Deliver, Save, Stop}
+use Rattle.exchange_script.specs.declared.event.Event.{Event}
+use Rattle.exchange_script.specs.declared.event.Event.TheVariants.{Take, Retire, Full, Ask, Reply, Deliver, Save, Stop}
 use Rattle.archive_exchange.proofs.Gained.{recorded_take, recorded_retire}
 
 none : (r : List ℕ) → set.contains (set.empty {R = slice_cmp nat_cmp}) r ≡ true → IsRecord r
@@ -26,12 +26,7 @@ file i bytes (Ok given) h = rw h.1 (recorded_take i bytes h.0)
 pub recorded_by : (event : Event) (seen : ModelEvent) → ((site : ℕ) (key : SliceKey) (digest : Digest) → event ≡ Retire site key digest → IsRecord (retirement_record key digest.0)) → IsSeen event seen → IsRecorded seen
 recorded_by (Take site bytes) seen is h = rw h.2 (file site bytes.items h.0 h.1)
 recorded_by (Retire site key digest) seen is h = rw h (recorded_retire site (retirement_record key digest.0) (is site key digest refl))
-recorded_by (Full site) seen is h = rw h none
-recorded_by (Ask site) seen is h = rw h none
-recorded_by (Reply site message) seen is h = rw h none
-recorded_by (Deliver site message) seen is h = rw h none
-recorded_by (Save site) seen is h = rw h none
-recorded_by (Stop site) seen is h = rw h none
+recorded_by event seen is h = rw h none
 
 pub on_ok : {T E : Type 0} (P : Type 0) (r : Result T E) → P → OnOk r P
 on_ok P (Ok x) p = p

@@ -8,28 +8,22 @@ use Rattle.archive_core.specs.Content.{Operations, IsContent}
 use Rattle.archive_records.specs.Text.{written}
 use Rattle.exchange_model.specs.World.{World, Message, updated, with_held, with_saved, with_sent}
 use Rattle.archive_exchange.specs.SiteState.{SiteState}
-use Rattle.archive_exchange.specs.Rehearsal.{message_text, IsSound, IsSite, Represents}
+use Rattle.archive_exchange.specs.WorldState.{message_text, IsSound, IsSite, Represents}
 
 -- a list with one element set
 other : {X : Type 0} (xs : List X) (i j : ℕ) (x y : X) → j ≢ i → slice_get (slice_set xs i x) j ≡ Some y → slice_get xs j ≡ Some y
-other [] zero j x y ne h = h
-other [] (suc i) j x y ne h = h
 other (z ∷ xs) zero zero x y ne h = absurd (ne refl)
-other (z ∷ xs) zero (suc j) x y ne h = h
-other (z ∷ xs) (suc i) zero x y ne h = h
 other (z ∷ xs) (suc i) (suc j) x y ne h = other xs i j x y (λ e. ne (ap suc e)) h
+other xs i j x y ne h = h
 
 same : {X : Type 0} (xs : List X) (i : ℕ) (x y : X) → slice_get (slice_set xs i x) i ≡ Some y → x ≡ y
-same [] zero x y h = cc
-same [] (suc i) x y h = cc
-same (z ∷ xs) zero x y h = cc
 same (z ∷ xs) (suc i) x y h = same xs i x y h
+same xs i x y h = cc
 
 pub set_same : {X : Type 0} (xs : List X) (i : ℕ) (x : X) → slice_get xs i ≡ Some x → slice_set xs i x ≡ xs
-set_same [] zero x h = refl
-set_same [] (suc i) x h = refl
 set_same (z ∷ xs) zero x h = let e : z ≡ x = cc in ap (λ y. y ∷ xs) (sym e)
 set_same (z ∷ xs) (suc i) x h = ap (λ ys. z ∷ ys) (set_same xs i x h)
+set_same xs i x h = refl
 
 -- sites with one of them updated
 updated_same : (f : ℕ → Operations) (i : ℕ) (o : Operations) → updated f i o i ≡ o

@@ -15,9 +15,9 @@ use Rattle.exchange_model.proofs.Between.{and_left}
 use Rattle.archive_exchange.specs.SiteState.{SiteState}
 use Rattle.archive_exchange.specs.ModelEvent.{IsSeen, AreSeen, OutcomeIs}
 use Rattle.archive_exchange.specs.InnerEvents.{IsRecorded, Happens, HasRun}
-use Rattle.archive_exchange.specs.Rehearsal.{Represents}
+use Rattle.archive_exchange.specs.WorldState.{Represents}
 use Rattle.archive_exchange.specs.Alike.{AreAlike}
-use Rattle.rehearsal.specs.declared.event.Event as code
+use Rattle.exchange_script.specs.declared.event.Event as code
 use Rattle.archive_exchange.specs.declared.outcome.Outcome as answered
 use Rattle.admission.specs.declared.fault.TakeFault.{TakeFault}
 
@@ -38,14 +38,9 @@ module _ (sites : ℕ) (events : List (Event TakeFault)) where
   -- an accepted event is of a site that is there
   inside : (sent : List ℕ) (e : Event TakeFault) → is_accepted sites events sent (Some e) ≡ true → nat_lt (site_of e) sites ≡ true
   inside sent (Take i (Err f)) h = cc
-  inside sent (Take i (Ok parts)) h = h
-  inside sent (Retire i r) h = h
-  inside sent (Full i) h = h
-  inside sent (Ask i) h = h
   inside sent (Reply i m) h = and_left _ _ h
   inside sent (Deliver i m) h = and_left _ _ h
-  inside sent (Save i) h = h
-  inside sent (Stop i) h = h
+  inside sent e h = h
 
   -- what is recorded below i and at i is recorded below i + 1
   recorded_more : (i : ℕ) (e : Event TakeFault) → slice_get events i ≡ Some e → (site_of e < sites → IsRecorded e)

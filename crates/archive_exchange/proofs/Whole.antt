@@ -15,7 +15,7 @@ use Rattle.admission.specs.declared.checking.AcceptedFile.{AcceptedFile}
 use Rattle.admission.specs.declared.checking.AcceptedFile.TheVariants.{Thin, Universal}
 use Rattle.admission.specs.Take.{admitted, HoldsFirstParts}
 use Rattle.archive_exchange.specs.SiteState.{SiteState, IsWhole, IsBetween}
-use Rattle.archive_exchange.specs.Rehearsal.{RunState, AreSites, Represents}
+use Rattle.archive_exchange.specs.WorldState.{RunState, AreSites, Represents}
 use Rattle.archive_exchange.proofs.Gained.{all_in, content_gain, recorded_retire}
 use Rattle.admission.proofs.Resumed.{grows, above_old, below_asked}
 

@@ -10,7 +10,7 @@ use Rattle.exchange_model.specs.Reached.{is_accepted, senders}
 use Rattle.exchange_model.specs.Issued.{issues}
 use Rattle.archive_exchange.specs.SiteState.{SiteState}
 use Rattle.archive_exchange.specs.ModelEvent.{OutcomeIs}
-use Rattle.archive_exchange.specs.Rehearsal.{Represents}
+use Rattle.archive_exchange.specs.WorldState.{Represents}
 use Rattle.archive_exchange.specs.declared.outcome.Outcome.{Outcome}
 use Rattle.admission.specs.declared.fault.TakeFault.{TakeFault}
 

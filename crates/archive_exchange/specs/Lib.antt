@@ -1,5 +1,5 @@
 pub mod Alike
 pub mod SiteState
-pub mod Rehearsal
+pub mod WorldState
 pub mod ModelEvent
 pub mod InnerEvents

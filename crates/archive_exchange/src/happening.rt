@@ -10,10 +10,9 @@ use crate::{DeliverFault, EventFault, Outcome, ReplyFault, Site};
 use admission::TakeFault;
 use admission::laws::one_take_fault;
 use archive_core::{Archive, Digest, SliceKey};
+use exchange_script::Event;
 use memory::{Heap, NoMemory};
-use rehearsal::Event;
 
-/// Sends a text, and answers its number.
 fn send(messages: &mut Vec<Message, Heap>, text: Vec<u8, Heap>) -> Result<Outcome, NoMemory>
     ensures sent { OnOk result (messages.new.items ≡ messages.old.items ++ text.items ∷ []) }
     ensures number { IfOk result (λ outcome. outcome ≡ Outcome.Sent (length messages.old.items)) }
@@ -23,7 +22,6 @@ fn send(messages: &mut Vec<Message, Heap>, text: Vec<u8, Heap>) -> Result<Outcom
     Ok(Outcome::Sent(number))
 }
 
-/// Takes a file at a site.
 fn take<A: Archive + Drop>(site: &mut Site<A>, file: &[u8]) -> Result<Outcome, NoMemory>
     ensures { IfOk result (λ outcome. (i : ℕ) (is : SeenFile) (texts : List (List ℕ))
         → IsFile file.now is
@@ -39,7 +37,6 @@ fn take<A: Archive + Drop>(site: &mut Site<A>, file: &[u8]) -> Result<Outcome, N
     }
 }
 
-/// Takes a retirement at a site.
 fn retire<A: Archive + Drop>(
     site: &mut Site<A>,
     key: SliceKey,
@@ -53,7 +50,6 @@ fn retire<A: Archive + Drop>(
     Ok(Outcome::Retired(new))
 }
 
-/// Sends a site's archive.
 fn full<A: Archive + Drop>(
     site: &Site<A>,
     messages: &mut Vec<Message, Heap>,
@@ -66,7 +62,6 @@ fn full<A: Archive + Drop>(
     Ok(outcome)
 }
 
-/// Saves a site, and sends the summary of what it saved.
 fn ask<A: Archive + Drop>(
     site: &mut Site<A>,
     messages: &mut Vec<Message, Heap>,
@@ -79,7 +74,6 @@ fn ask<A: Archive + Drop>(
     Ok(outcome)
 }
 
-/// Sends what a site holds beyond a summary.
 fn reply<A: Archive + Drop>(
     site: &Site<A>,
     messages: &mut Vec<Message, Heap>,
@@ -103,7 +97,6 @@ fn reply<A: Archive + Drop>(
     }
 }
 
-/// Joins a message at a site.
 fn deliver<A: Archive + Drop>(
     site: &mut Site<A>,
     messages: &[Message],
@@ -122,7 +115,6 @@ fn deliver<A: Archive + Drop>(
     }
 }
 
-/// Saves a site.
 fn save<A: Archive + Drop>(site: &mut Site<A>) -> Result<Outcome, NoMemory>
     ensures { IfOk result (λ outcome. (i : ℕ) (texts : List (List ℕ))
         → Follows (model.Save i) site.old site.new texts texts outcome) }
@@ -131,7 +123,6 @@ fn save<A: Archive + Drop>(site: &mut Site<A>) -> Result<Outcome, NoMemory>
     Ok(Outcome::Saved)
 }
 
-/// Stops a site, which begins again from what it saved.
 fn stop<A: Archive + Drop>(site: &mut Site<A>) -> Result<Outcome, NoMemory>
     ensures { IfOk result (λ outcome. (i : ℕ) (texts : List (List ℕ))
         → Follows (model.Stop i) site.old site.new texts texts outcome) }
@@ -140,7 +131,6 @@ fn stop<A: Archive + Drop>(site: &mut Site<A>) -> Result<Outcome, NoMemory>
     Ok(Outcome::Stopped)
 }
 
-/// What an event does at its site.
 fn happen_at<A: Archive + Drop>(
     site: &mut Site<A>,
     messages: &mut Vec<Message, Heap>,

@@ -20,14 +20,12 @@ impl Model for Message {
 impl Message {
     ghost use Rattle.std.specs.Prelude.{◌≡◌};
 
-    /// The message of a text.
     pub(crate) fn new(text: Vec<u8, Heap>) -> Message
         ensures { result ≡ text.items }
     {
         Message { text }
     }
 
-    /// Its text.
     pub(crate) fn text(&self) -> &[u8]
         ensures { result.now ≡ self.now }
     {

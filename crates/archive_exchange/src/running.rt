@@ -7,7 +7,7 @@ ghost use Rattle.exchange_model.specs.Reached.{reached};
 ghost use Rattle.exchange_model.specs.Issued.{AreIssued, AreRecords, IsDigestTelling, IsExchange, IsQuiet};
 ghost use Rattle.archive_exchange.specs.SiteState.{SiteState};
 ghost use Rattle.archive_exchange.specs.ModelEvent.{ModelEvent, OfEvents, OutcomeIs};
-ghost use Rattle.archive_exchange.specs.Rehearsal.{Represents};
+ghost use Rattle.archive_exchange.specs.WorldState.{Represents};
 ghost use Rattle.archive_exchange.specs.Alike.{AreAlike};
 ghost use Rattle.archive_exchange.specs.InnerEvents.{HasRun};
 
@@ -19,10 +19,9 @@ use archive_core::Archive;
 use exchange_model::laws::{
     answered_agree, delta_lifts, issued_and_kept, reached_is_held, same_reached,
 };
+use exchange_script::Event;
 use memory::{Heap, NoMemory};
-use rehearsal::Event;
 
-/// Empty sites.
 fn empty_sites<A: Archive + Drop>(heap: &Heap, sites: u32) -> Result<Vec<Site<A>, Heap>, NoMemory>
     ensures number { IfOk result (λ row. length row.items ≡ sites) }
     ensures empty { IfOk result (λ row. Represents row.items [] start) }
@@ -34,8 +33,7 @@ fn empty_sites<A: Archive + Drop>(heap: &Heap, sites: u32) -> Result<Vec<Site<A>
     Ok(row)
 }
 
-/// Carries the events out, one after another.
-fn rehearse<A: Archive + Drop>(
+fn carry_out<A: Archive + Drop>(
     heap: Heap,
     sites: u32,
     events: &[Event],
@@ -124,6 +122,6 @@ pub fn run<A: Archive + Drop>(
     issued_and_kept::<TakeFault>();
     delta_lifts::<TakeFault>();
     answered_agree::<TakeFault>();
-    let done = rehearse(heap, sites, events)?;
+    let done = carry_out(heap, sites, events)?;
     Ok(done)
 }

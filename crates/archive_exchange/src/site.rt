@@ -22,7 +22,6 @@ use byte_device::{Bytes, Grown};
 use memory::{Heap, NoMemory};
 use std::marker::Model;
 
-/// The text of an archive.
 fn archive_text<A: Archive>(heap: Heap, archive: &A) -> Result<Vec<u8, Heap>, NoMemory>
     ensures { IfOk result (λ text. IsArchiveTextOf text.items (A.content archive.now)) }
 {
@@ -33,7 +32,6 @@ fn archive_text<A: Archive>(heap: Heap, archive: &A) -> Result<Vec<u8, Heap>, No
     }
 }
 
-/// The archive of a text.
 fn archive_in<A: Archive + Drop>(heap: Heap, text: &[u8]) -> Result<A, DeliverFault>
     ensures gives { IfOk result (λ archive. Gives text.now (A.content archive)) }
     ensures refused { IfErr result (IsDeliverFault text.now) }
@@ -48,7 +46,6 @@ fn archive_in<A: Archive + Drop>(heap: Heap, text: &[u8]) -> Result<A, DeliverFa
     }
 }
 
-/// The text of the summary of an archive.
 fn text_of_summary<A: Archive>(heap: Heap, archive: &A) -> Result<Vec<u8, Heap>, NoMemory>
     ensures { IfOk result (λ text. text.items ≡ summary_text (summary (A.content archive.now))) }
 {
@@ -60,7 +57,6 @@ fn text_of_summary<A: Archive>(heap: Heap, archive: &A) -> Result<Vec<u8, Heap>,
     }
 }
 
-/// The summary of a text.
 fn summary_in(heap: Heap, text: &[u8]) -> Result<Summary, ReplyFault>
     ensures names { IfOk result (Names text.now) }
     ensures alone { IfOk result (λ summary. (other : Entries) → Names text.now other → summary ≡ other) }
@@ -125,7 +121,6 @@ impl<A: Archive + Drop> Site<A> {
         Ok(Site { archive, saved })
     }
 
-    /// The archive that the site holds.
     pub fn archive(&self) -> &A
         ensures content { A.content result.now ≡ self.now.held }
         ensures whole { IsWhole self.now }
@@ -170,7 +165,6 @@ impl<A: Archive + Drop> Site<A> {
         self.archive.take(Operation::Retire(key, digest))
     }
 
-    /// The text of the archive.
     pub fn full(&self) -> Result<Vec<u8, Heap>, NoMemory>
         ensures { IfOk result (λ text. IsArchiveTextOf text.items self.now.held) }
     {

@@ -1,7 +1,7 @@
 //! What a rehearsal leaves.
 ghost use Rattle.std.specs.Prelude.{◌≡◌, ◌<◌, Some, length, slice_get};
 ghost use Rattle.archive_exchange.specs.SiteState.{IsWhole};
-ghost use Rattle.archive_exchange.specs.Rehearsal.{AreSites};
+ghost use Rattle.archive_exchange.specs.WorldState.{AreSites};
 
 use crate::Site;
 use crate::message::Message;
@@ -17,7 +17,7 @@ pub struct World<A: Archive> {
 }
 
 impl<A: Archive> Model for World<A> {
-    ghost use Rattle.archive_exchange.specs.Rehearsal.{RunState, run_state_code, AreSites};
+    ghost use Rattle.archive_exchange.specs.WorldState.{RunState, run_state_code, AreSites};
 
     ghost Value = { RunState };
 
@@ -29,7 +29,6 @@ impl<A: Archive> Model for World<A> {
 }
 
 impl<A: Archive> World<A> {
-    /// The world of these sites and messages.
     pub(crate) fn new(sites: Vec<Site<A>, Heap>, messages: Vec<Message, Heap>) -> World<A>
         requires { AreSites sites.items }
         ensures sites { result.sites ≡ sites.items }
@@ -38,14 +37,12 @@ impl<A: Archive> World<A> {
         World { sites, messages }
     }
 
-    /// The number of the sites.
     pub fn sites(&self) -> u32
         ensures { result ≡ length self.now.sites }
     {
         self.sites.len() as u32
     }
 
-    /// The site of a number.
     pub fn site(&self, number: u32) -> &Site<A>
         requires { number < length self.now.sites }
         ensures site { slice_get self.now.sites number ≡ Some result.now }
@@ -54,14 +51,6 @@ impl<A: Archive> World<A> {
         &self.sites[number as usize]
     }
 
-    /// The number of the messages.
-    pub fn messages(&self) -> u64
-        ensures { result ≡ length self.now.messages }
-    {
-        self.messages.len() as u64
-    }
-
-    /// The text of the message of a number.
     pub fn message(&self, number: u64) -> &[u8]
         requires { number < length self.now.messages }
         ensures { slice_get self.now.messages number ≡ Some result.now }

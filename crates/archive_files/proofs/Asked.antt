@@ -1,6 +1,5 @@
 -- Inputs that are made one after another.
-use Rattle.std.proofs.Common.{◌≡◌, ◌∙◌, ℕ, ◌+◌, ◌<◌, List, [], ◌∷◌, ◌++◌, length, take, map, get_or, ap, sym}
-use Rattle.std.proofs.Common.{Option, append_assoc, refl}
+use Rattle.std.proofs.Common.{◌≡◌, ◌∙◌, ℕ, ◌+◌, ◌<◌, List, [], ◌∷◌, ◌++◌, length, take, map, get_or, ap, sym, Option, append_assoc, refl}
 use Rattle.std.proofs.lemmas.List.{map_more, take-map}
 use Rattle.std.specs.List.{AllZip}
 use Rattle.byte_device.specs.Disks.{FileAt, Path}
@@ -9,17 +8,10 @@ use Rattle.byte_device.specs.declared.Placed.{Ghosts as Places}
 use Rattle.archive_files.specs.AtTurns.{told_by}
 use Rattle.archive_files.specs.declared.disks.Disk.{Ghosts as Disks}
 use Rattle.archive_files.specs.declared.input_state.AtTurn.{AtTurn}
-use Rattle.archive_files.specs.InputStates.{AreFirstAsked, IsWaiting, Open, Unopened, Waiting, bytes_at, left_in, stage_of}
+use Rattle.archive_files.specs.InputStates.{AreFirstAsked, IsWaiting, Waiting, bytes_at, left_in, stage_of}
 use Rattle.archive_files.specs.declared.input_state.InputState.{InputState}
 use Rattle.archive_files.specs.declared.input_state.InputState.TheVariants as state
-
--- relations hold along lists with one more element each
-zip_more : {A B : Type 0} (R : A → B → Type 0) (xs : List A) (ys : List B) (x : A) (y : B)
-    → AllZip R xs ys → R x y → AllZip R (xs ++ x ∷ []) (ys ++ y ∷ [])
-zip_more R [] [] x y all one = (one, tt)
-zip_more R [] (b ∷ ys) x y all one = absurd all
-zip_more R (a ∷ xs) [] x y all one = absurd all
-zip_more R (a ∷ xs) (b ∷ ys) x y all one = (all.0, zip_more R xs ys x y all.1 one)
+use Rattle.command_core.proofs.Readers.{pairs_more as zip_more}
 
 -- one more input is made
 pub inputs_more : {B X P : Type 0} (R : P → B → Type 0) (f : X → P) (xs : List X) (i : ℕ) (ys zs : List B) (d : X)
@@ -46,18 +38,7 @@ first_asked f xs i first last is = (i, is ∙ ap (λ more. first ++ more) (sym (
 waits_for : {I P : Type 0} (left : I → Option (List ℕ)) (file : FileAt) (t : InputState I P) → stage_of t ≡ Waiting
     → left_in left file t ≡ bytes_at file
 waits_for left file state.Waiting is = refl
-waits_for left file (state.Open input) is = absurd (apart is)
-  where
-    apart : Open ≡ Waiting → ⊥
-    apart e = cc
-waits_for left file (state.Placed places) is = absurd (apart is)
-  where
-    apart : Open ≡ Waiting → ⊥
-    apart e = cc
-waits_for left file (state.Unopened why) is = absurd (apart is)
-  where
-    apart : Unopened why ≡ Waiting → ⊥
-    apart e = cc
+waits_for left file t is = cc
 
 -- and it waits
 pub is_waiting : {D I P : Type 0} (disk : Disks D I P) (input : Sources I) (places : Places P)

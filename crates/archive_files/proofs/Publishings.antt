@@ -1,93 +1,58 @@
 -- What was called for OUT, one call more at a time.
-use Rattle.std.proofs.Common.{◌≡◌, ◌∙◌, ◌⊎◌, ℕ, true, false, List, [], ◌∷◌, ◌++◌, length, map, Ok, Option, Some, None, refl, sym, ap, inl, inr}
-use Rattle.std.proofs.Common.{append_assoc, append-nil, arith, subst, ◌<◌, ◌+◌, ◌==◌, take, ◌≤◌}
+use Rattle.std.proofs.Common.{◌≡◌, ◌∙◌, ◌⊎◌, ℕ, true, false, List, [], ◌∷◌, ◌++◌, length, map, Ok, Option, Some, None, refl, sym, ap, inl, inr, append_assoc, append-nil, arith, subst, ◌<◌, ◌+◌, ◌==◌, take, ◌≤◌}
 use Rattle.std.proofs.lemmas.List.{length-append, length-take-le, map-append}
 use Rattle.std.proofs.lemmas.Bool.{and_parts}
 use Rattle.std.proofs.lemmas.Grind.{not_there}
 use Rattle.std.specs.List.{concat}
 use Rattle.archive_records.proofs.Puts.{concat-push}
-use Rattle.archive_files.specs.FileCalls.{FileCall, Creates, Opens, Writes, Syncs, Renames, SyncsFolder, Removes}
-use Rattle.archive_files.specs.FileCalls.{Agrees, Covers, FindsFile, FindsNoArchive, FindsNoLink, FindsNothing, FindsOther, Leads, Loses}
-use Rattle.archive_files.specs.FileCalls.{are_looks, bytes_in, drafting, publishing, writing}
-use Rattle.archive_files.specs.OutFiles.{IsSoFar, Stage, Untouched, Through, Drafted, Refused, Removed, Settled}
-use Rattle.archive_files.specs.OutFiles.{WritesTo, draft_account, has_calls, is_drafted, is_settled, takes_bytes}
+use Rattle.archive_files.specs.FileCalls.{FileCall, Creates, Opens, Writes, Syncs, Removes, are_probes, bytes_in, drafting, publishing, writing}
+use Rattle.archive_files.specs.OutFiles.{IsSoFar, Stage, Untouched, Through, Drafted, WritesTo, draft_account, has_calls, is_drafted, is_settled, takes_bytes}
 use Rattle.archive_files.specs.declared.out_file.OutState.{OutState}
 use Rattle.archive_files.specs.declared.out_file.OutState.TheVariants as state
-use Rattle.archive_files.specs.Publishing.{HandsOn, IsBeside, IsDrafted, IsPublished, IsTargetOf, IsTested, IsWritable}
-use Rattle.archive_files.specs.Publishing.{IsWrittenThrough, account, folder_of, number_of, place, took_nothing}
+use Rattle.archive_files.specs.Publishing.{HandsOn, IsBeside, IsDrafted, IsPublished, IsTargetOf, IsTested, IsWritable, IsWrittenThrough, account, folder_of, number_of, place, took_nothing}
 use Rattle.archive_files.specs.declared.replaceable.Replaces.{Replaces}
-use Rattle.archive_files.specs.declared.replaceable.Replaces.TheVariants.{OwnFiles, ArchivesBelow, SameBytes}
+use Rattle.archive_files.specs.declared.replaceable.Replaces.TheVariants.{ArchivesBelow}
 
 -- the bytes of some calls and of others behind them
 pub bytes_append : (xs ys : List FileCall) → bytes_in (xs ++ ys) ≡ bytes_in xs ++ bytes_in ys
 bytes_append [] ys = refl
-bytes_append (FindsFile p ∷ xs) ys = bytes_append xs ys
-bytes_append (FindsOther p ∷ xs) ys = bytes_append xs ys
-bytes_append (FindsNothing p ∷ xs) ys = bytes_append xs ys
-bytes_append (FindsNoLink p ∷ xs) ys = bytes_append xs ys
-bytes_append (Leads p q ∷ xs) ys = bytes_append xs ys
-bytes_append (FindsNoArchive p ∷ xs) ys = bytes_append xs ys
-bytes_append (Covers p q ∷ xs) ys = bytes_append xs ys
-bytes_append (Loses p q ∷ xs) ys = bytes_append xs ys
-bytes_append (Agrees p q ∷ xs) ys = bytes_append xs ys
-bytes_append (Creates p ∷ xs) ys = bytes_append xs ys
-bytes_append (Opens p ∷ xs) ys = bytes_append xs ys
-bytes_append (Writes b ∷ xs) ys = ap (λ t. b ++ t) (bytes_append xs ys) ∙ sym (append_assoc b (bytes_in xs) (bytes_in ys))
-bytes_append (Syncs ∷ xs) ys = bytes_append xs ys
-bytes_append (Renames p q ∷ xs) ys = bytes_append xs ys
-bytes_append (SyncsFolder p ∷ xs) ys = bytes_append xs ys
-bytes_append (Removes p ∷ xs) ys = bytes_append xs ys
+bytes_append (call ∷ xs) ys = grind (arith, bytes_append xs ys, append_assoc)
 
 -- calls that write nothing leave the bytes
 pub bytes_same : (xs ys : List FileCall) → bytes_in ys ≡ [] → bytes_in (xs ++ ys) ≡ bytes_in xs
 bytes_same xs ys none = bytes_append xs ys ∙ ap (λ t. bytes_in xs ++ t) none ∙ append-nil (bytes_in xs)
 
 -- calls that only ask write nothing
-pub looks_bytes : (looks : List FileCall) → are_looks looks ≡ true → bytes_in looks ≡ []
-looks_bytes [] are = refl
-looks_bytes (FindsFile p ∷ looks) are = looks_bytes looks are
-looks_bytes (FindsOther p ∷ looks) are = looks_bytes looks are
-looks_bytes (FindsNothing p ∷ looks) are = looks_bytes looks are
-looks_bytes (FindsNoLink p ∷ looks) are = looks_bytes looks are
-looks_bytes (Leads p q ∷ looks) are = looks_bytes looks are
-looks_bytes (FindsNoArchive p ∷ looks) are = looks_bytes looks are
-looks_bytes (Covers p q ∷ looks) are = looks_bytes looks are
-looks_bytes (Loses p q ∷ looks) are = looks_bytes looks are
-looks_bytes (Agrees p q ∷ looks) are = looks_bytes looks are
-looks_bytes (Creates p ∷ looks) are = cc
-looks_bytes (Opens p ∷ looks) are = cc
-looks_bytes (Writes b ∷ looks) are = cc
-looks_bytes (Syncs ∷ looks) are = cc
-looks_bytes (Renames p q ∷ looks) are = cc
-looks_bytes (SyncsFolder p ∷ looks) are = cc
-looks_bytes (Removes p ∷ looks) are = cc
+pub probes_bytes : (probes : List FileCall) → are_probes probes ≡ true → bytes_in probes ≡ []
+probes_bytes [] are = refl
+probes_bytes (call ∷ probes) are = grind (arith, are, probes_bytes probes)
 
-bytes_behind : (looks ys : List FileCall) → are_looks looks ≡ true → bytes_in (looks ++ ys) ≡ bytes_in ys
-bytes_behind looks ys are = bytes_append looks ys ∙ ap (λ t. t ++ bytes_in ys) (looks_bytes looks are)
+bytes_behind : (probes ys : List FileCall) → are_probes probes ≡ true → bytes_in (probes ++ ys) ≡ bytes_in ys
+bytes_behind probes ys are = bytes_append probes ys ∙ ap (λ t. t ++ bytes_in ys) (probes_bytes probes are)
 
-pub writable_looks : (path : List ℕ) (looks : List FileCall) → IsWritable path looks → are_looks looks ≡ true
-writable_looks path looks (inl other) = ap are_looks other
-writable_looks path looks (inr descriptor) = ap are_looks descriptor.0
+pub writable_probes : (path : List ℕ) (probes : List FileCall) → IsWritable path probes → are_probes probes ≡ true
+writable_probes path probes (inl other) = ap are_probes other
+writable_probes path probes (inr descriptor) = ap are_probes descriptor.0
 
-pub target_looks : (path target : List ℕ) (looks : List FileCall) → IsTargetOf path target looks → are_looks looks ≡ true
-target_looks path target looks (inl none) = ap are_looks none.1
-target_looks path target looks (inr (inl file)) = ap are_looks file.1
-target_looks path target looks (inr (inr link)) = ap are_looks link
+pub target_probes : (path target : List ℕ) (probes : List FileCall) → IsTargetOf path target probes → are_probes probes ≡ true
+target_probes path target probes (inl none) = ap are_probes none.1
+target_probes path target probes (inr (inl file)) = ap are_probes file.1
+target_probes path target probes (inr (inr link)) = ap are_probes link
 
 -- OUT is begun
-pub begun_through : (path : List ℕ) (looks new : List FileCall) → IsWritable path looks → new ≡ looks ++ Opens path ∷ []
+pub begun_through : (path : List ℕ) (probes new : List FileCall) → IsWritable path probes → new ≡ probes ++ Opens path ∷ []
     → IsSoFar (Some path) Through new × (bytes_in new ≡ [])
-begun_through path looks new writable is = (
-  (path, refl, [], record { looks = looks; pieces = []; writable = writable; whole = refl; calls_are = is }),
-  ap bytes_in is ∙ bytes_behind looks (Opens path ∷ []) (writable_looks path looks writable),
+begun_through path probes new writable is = (
+  (path, refl, [], record { probes = probes; pieces = []; writable = writable; whole = refl; calls_are = is }),
+  ap bytes_in is ∙ bytes_behind probes (Opens path ∷ []) (writable_probes path probes writable),
 )
 
-pub begun_drafted : (path draft target : List ℕ) (looks new : List FileCall) → IsTargetOf path target looks
-    → IsBeside draft target → new ≡ looks ++ Creates draft ∷ []
+pub begun_drafted : (path draft target : List ℕ) (probes new : List FileCall) → IsTargetOf path target probes
+    → IsBeside draft target → new ≡ probes ++ Creates draft ∷ []
     → IsSoFar (Some path) (Drafted draft target) new × (bytes_in new ≡ [])
-begun_drafted path draft target looks new led beside is = (
-  (path, refl, record { looks = looks; pieces = []; target_is = led; beside = beside; calls_are = is }),
-  ap bytes_in is ∙ bytes_behind looks (Creates draft ∷ []) (target_looks path target looks led),
+begun_drafted path draft target probes new led beside is = (
+  (path, refl, record { probes = probes; pieces = []; target_is = led; beside = beside; calls_are = is }),
+  ap bytes_in is ∙ bytes_behind probes (Creates draft ∷ []) (target_probes path target probes led),
 )
 
 bytes_written : (pieces : List (List ℕ)) → bytes_in (map Writes pieces) ≡ concat pieces
@@ -97,50 +62,35 @@ bytes_written (piece ∷ pieces) = ap (λ t. piece ++ t) (bytes_written pieces)
 pub more_through : (path text bytes : List ℕ) (calls : List FileCall) → IsWrittenThrough path text calls
     → IsWrittenThrough path (text ++ bytes) (calls ++ Writes bytes ∷ [])
 more_through path text bytes calls w = record {
-  looks = w.looks;
+  probes = w.probes;
   pieces = w.pieces ++ bytes ∷ [];
   writable = w.writable;
   whole = concat-push w.pieces bytes ∙ ap (λ t. t ++ bytes) w.whole;
   calls_are = ap (λ cs. cs ++ Writes bytes ∷ []) w.calls_are
-      ∙ append_assoc w.looks (writing path w.pieces) (Writes bytes ∷ [])
-      ∙ ap (λ cs. w.looks ++ Opens path ∷ cs) (sym (map-append Writes w.pieces (bytes ∷ [])));
+      ∙ append_assoc w.probes (writing path w.pieces) (Writes bytes ∷ [])
+      ∙ ap (λ cs. w.probes ++ Opens path ∷ cs) (sym (map-append Writes w.pieces (bytes ∷ [])));
 }
 
 pub more_drafted : (path draft target bytes : List ℕ) (calls : List FileCall) → IsDrafted path draft target calls
     → IsDrafted path draft target (calls ++ Writes bytes ∷ [])
 more_drafted path draft target bytes calls d = record {
-  looks = d.looks;
+  probes = d.probes;
   pieces = d.pieces ++ bytes ∷ [];
   target_is = d.target_is;
   beside = d.beside;
   calls_are = ap (λ cs. cs ++ Writes bytes ∷ []) d.calls_are
-      ∙ append_assoc d.looks (drafting draft d.pieces) (Writes bytes ∷ [])
-      ∙ ap (λ cs. d.looks ++ Creates draft ∷ cs) (sym (map-append Writes d.pieces (bytes ∷ [])));
+      ∙ append_assoc d.probes (drafting draft d.pieces) (Writes bytes ∷ [])
+      ∙ ap (λ cs. d.probes ++ Creates draft ∷ cs) (sym (map-append Writes d.pieces (bytes ∷ [])));
 }
 
 -- more bytes are written
 pub more_so_far : (path : Option (List ℕ)) (stage : Stage) (calls : List FileCall) (bytes : List ℕ)
     → takes_bytes stage ≡ true → IsSoFar path stage calls → IsSoFar path stage (calls ++ Writes bytes ∷ [])
-more_so_far path Untouched calls bytes takes so = absurd (never takes)
-  where
-    never : false ≡ true → ⊥
-    never h = cc
 more_so_far path Through calls bytes takes so =
     (so.0, so.1, so.2 ++ bytes, more_through so.0 so.2 bytes calls so.3)
 more_so_far path (Drafted draft target) calls bytes takes so =
     (so.0, so.1, more_drafted so.0 draft target bytes calls so.2)
-more_so_far path (Refused fault) calls bytes takes so = absurd (never takes)
-  where
-    never : false ≡ true → ⊥
-    never h = cc
-more_so_far path Removed calls bytes takes so = absurd (never takes)
-  where
-    never : false ≡ true → ⊥
-    never h = cc
-more_so_far path Settled calls bytes takes so = absurd (never takes)
-  where
-    never : false ≡ true → ⊥
-    never h = cc
+more_so_far path stage calls bytes takes so = cc
 
 -- what went through is at the path
 pub hands_on_through : (path : Option (List ℕ)) (replaces : Replaces) (calls : List FileCall)
@@ -150,22 +100,21 @@ hands_on_through path replaces calls so =
       so.0,
       so.1,
       inr (record {
-        looks = w.looks;
+        probes = w.probes;
         pieces = w.pieces;
         writable = w.writable;
         whole = sym (ap bytes_in w.calls_are
-            ∙ bytes_behind w.looks (writing so.0 w.pieces) (writable_looks so.0 w.looks w.writable)
+            ∙ bytes_behind w.probes (writing so.0 w.pieces) (writable_probes so.0 w.probes w.writable)
             ∙ bytes_written w.pieces);
         calls_are = w.calls_are;
       }),
     )
 
-pub tested_looks : (replaces : Replaces) (draft target : List ℕ) (tests : List FileCall)
-    → IsTested replaces draft target tests → are_looks tests ≡ true
-tested_looks OwnFiles draft target tests is = ap are_looks is
-tested_looks ArchivesBelow draft target tests (inl none) = ap are_looks none
-tested_looks ArchivesBelow draft target tests (inr covers) = ap are_looks covers
-tested_looks SameBytes draft target tests is = ap are_looks is
+pub tested_probes : (replaces : Replaces) (draft target : List ℕ) (tests : List FileCall)
+    → IsTested replaces draft target tests → are_probes tests ≡ true
+tested_probes ArchivesBelow draft target tests (inl none) = ap are_probes none
+tested_probes ArchivesBelow draft target tests (inr covers) = ap are_probes covers
+tested_probes replaces draft target tests is = ap are_probes is
 
 -- and so is what was drafted and put in place
 pub hands_on_draft : (path : Option (List ℕ)) (replaces : Replaces) (draft target : List ℕ) (calls new : List FileCall)
@@ -177,24 +126,24 @@ hands_on_draft path replaces draft target calls new so put =
     let d : IsDrafted so.0 draft target calls = so.2 in
     let tests = put.0 in
     let last = publishing draft target (folder_of target) in
-    let calls_are : new ≡ d.looks ++ drafting draft d.pieces ++ tests ++ last =
+    let calls_are : new ≡ d.probes ++ drafting draft d.pieces ++ tests ++ last =
     put.2 ∙ ap (λ cs. cs ++ tests ++ last) d.calls_are in (
       so.0,
       so.1,
       inl (record {
         draft = draft;
         target = target;
-        looks = d.looks;
+        probes = d.probes;
         pieces = d.pieces;
         target_is = d.target_is;
         beside = d.beside;
         tests = tests;
         tested = put.1;
         whole = sym (ap bytes_in calls_are
-            ∙ bytes_same (d.looks ++ drafting draft d.pieces ++ tests) last refl
-            ∙ bytes_same (d.looks ++ drafting draft d.pieces) tests
-            (looks_bytes tests (tested_looks replaces draft target tests put.1))
-            ∙ bytes_behind d.looks (drafting draft d.pieces) (target_looks so.0 target d.looks d.target_is)
+            ∙ bytes_same (d.probes ++ drafting draft d.pieces ++ tests) last refl
+            ∙ bytes_same (d.probes ++ drafting draft d.pieces) tests
+            (probes_bytes tests (tested_probes replaces draft target tests put.1))
+            ∙ bytes_behind d.probes (drafting draft d.pieces) (target_probes so.0 target d.probes d.target_is)
             ∙ bytes_written d.pieces);
         calls_are = calls_are;
       }),
@@ -206,57 +155,41 @@ pub published_bytes : (replaces : Replaces) (draft target folder : List ℕ) (ca
     → bytes_in new ≡ bytes_in calls
 published_bytes replaces draft target folder calls new put =
     ap bytes_in put.2 ∙ bytes_same (calls ++ put.0) (publishing draft target folder) refl
-    ∙ bytes_same calls put.0 (looks_bytes put.0 (tested_looks replaces draft target put.0 put.1))
+    ∙ bytes_same calls put.0 (probes_bytes put.0 (tested_probes replaces draft target put.0 put.1))
 
 -- and so has one that was removed
 pub removed_bytes : (draft : List ℕ) (calls new : List FileCall)
-    → (tests : List FileCall) × (are_looks tests ≡ true)
+    → (tests : List FileCall) × (are_probes tests ≡ true)
     × ((new ≡ calls ++ tests ++ Removes draft ∷ []) ⊎ (new ≡ calls ++ tests ++ Syncs ∷ Removes draft ∷ []))
     → bytes_in new ≡ bytes_in calls
 removed_bytes draft calls new (tests, are, inl removed) =
     ap bytes_in removed ∙ bytes_same (calls ++ tests) (Removes draft ∷ []) refl
-    ∙ bytes_same calls tests (looks_bytes tests are)
+    ∙ bytes_same calls tests (probes_bytes tests are)
 removed_bytes draft calls new (tests, are, inr synced) =
     ap bytes_in synced ∙ bytes_same (calls ++ tests) (Syncs ∷ Removes draft ∷ []) refl
-    ∙ bytes_same calls tests (looks_bytes tests are)
+    ∙ bytes_same calls tests (probes_bytes tests are)
 
 -- ---- states
 
 drafted_has_calls : (stage : Stage) → is_drafted stage ≡ true → has_calls stage ≡ false → ⊥
-drafted_has_calls Untouched drafted without = cc
-drafted_has_calls Through drafted without = cc
 drafted_has_calls (Drafted d t) drafted without = cc
-drafted_has_calls (Refused f) drafted without = cc
-drafted_has_calls Removed drafted without = cc
-drafted_has_calls Settled drafted without = cc
+drafted_has_calls stage drafted without = cc
 
 pub takes_has_calls : (stage : Stage) → takes_bytes stage ≡ true → has_calls stage ≡ false → ⊥
-takes_has_calls Untouched takes without = cc
-takes_has_calls Through takes without = cc
 takes_has_calls (Drafted d t) takes without = cc
-takes_has_calls (Refused f) takes without = cc
-takes_has_calls Removed takes without = cc
-takes_has_calls Settled takes without = cc
+takes_has_calls stage takes without = cc
 
 takes_unsettled : (stage : Stage) → takes_bytes stage ≡ true → is_settled stage ≡ false
-takes_unsettled Untouched takes = cc
-takes_unsettled Through takes = refl
 takes_unsettled (Drafted d t) takes = refl
-takes_unsettled (Refused f) takes = refl
-takes_unsettled Removed takes = refl
-takes_unsettled Settled takes = cc
+takes_unsettled stage takes = cc
 
 -- a draft was created
 drafted_some : (path : Option (List ℕ)) (stage : Stage) (calls : List FileCall) → is_drafted stage ≡ true → calls ≡ []
     → IsSoFar path stage calls → ⊥
-drafted_some path Untouched calls drafted none so = cc
-drafted_some path Through calls drafted none so = cc
 drafted_some path (Drafted d t) calls drafted none so =
-    let some = ap length (sym none ∙ so.2.calls_are) ∙ length-append so.2.looks (drafting d so.2.pieces) in
+    let some = ap length (sym none ∙ so.2.calls_are) ∙ length-append so.2.probes (drafting d so.2.pieces) in
     grind (arith, some)
-drafted_some path (Refused f) calls drafted none so = cc
-drafted_some path Removed calls drafted none so = cc
-drafted_some path Settled calls drafted none so = cc
+drafted_some path stage calls drafted none so = cc
 
 -- what was neither begun nor has what was called is as it was
 pub kept_empty : (old new : Stage) (calls after : List FileCall)
@@ -323,19 +256,6 @@ failed_some bytes failures none =
 -- what was taken is so whatever an error would have said
 pub written_anyhow : {T : Type 0} (D E : Type 0) (contents : T → Option (List ℕ)) (old new : OutState T) (n : ℕ) (bytes : List ℕ)
     → WritesTo {E = D} contents old new (Ok n) bytes → WritesTo {E = E} contents old new (Ok n) bytes
-written_anyhow D E contents state.Untouched new n bytes writes = cc
 written_anyhow D E contents (state.Through f) state.Untouched n bytes writes = writes
-written_anyhow D E contents (state.Through f) (state.Through g) n bytes writes = writes
-written_anyhow D E contents (state.Through f) (state.Drafted g) n bytes writes = writes
-written_anyhow D E contents (state.Through f) (state.Refused g) n bytes writes = writes
-written_anyhow D E contents (state.Through f) state.Removed n bytes writes = writes
-written_anyhow D E contents (state.Through f) state.Settled n bytes writes = writes
 written_anyhow D E contents (state.Drafted f) state.Untouched n bytes writes = writes
-written_anyhow D E contents (state.Drafted f) (state.Through g) n bytes writes = writes
-written_anyhow D E contents (state.Drafted f) (state.Drafted g) n bytes writes = writes
-written_anyhow D E contents (state.Drafted f) (state.Refused g) n bytes writes = writes
-written_anyhow D E contents (state.Drafted f) state.Removed n bytes writes = writes
-written_anyhow D E contents (state.Drafted f) state.Settled n bytes writes = writes
-written_anyhow D E contents (state.Refused f) new n bytes writes = cc
-written_anyhow D E contents state.Removed new n bytes writes = cc
-written_anyhow D E contents state.Settled new n bytes writes = cc
+written_anyhow D E contents old new n bytes writes = writes

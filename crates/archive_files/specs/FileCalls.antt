@@ -61,28 +61,20 @@ abbrev pub compared : List ℕ → List ℕ → ℕ → FileCall
 compared draft target lost = if lost == 0 then Covers draft target else Loses draft target
 
 -- a call that only asks
-abbrev pub is_look : FileCall → Bool
-is_look (FindsFile path) = true
-is_look (FindsOther path) = true
-is_look (FindsNothing path) = true
-is_look (FindsNoLink path) = true
-is_look (Leads path target) = true
-is_look (FindsNoArchive path) = true
-is_look (Covers draft target) = true
-is_look (Loses draft target) = true
-is_look (Agrees draft target) = true
-is_look (Creates path) = false
-is_look (Opens path) = false
-is_look (Writes bytes) = false
-is_look Syncs = false
-is_look (Renames draft target) = false
-is_look (SyncsFolder path) = false
-is_look (Removes path) = false
+abbrev pub is_probe : FileCall → Bool
+is_probe (Creates path) = false
+is_probe (Opens path) = false
+is_probe (Writes bytes) = false
+is_probe Syncs = false
+is_probe (Renames draft target) = false
+is_probe (SyncsFolder path) = false
+is_probe (Removes path) = false
+is_probe _ = true
 
 -- the calls only ask
-abbrev pub are_looks : List FileCall → Bool
-are_looks [] = true
-are_looks (call ∷ calls) = is_look call && are_looks calls
+abbrev pub are_probes : List FileCall → Bool
+are_probes [] = true
+are_probes (call ∷ calls) = is_probe call && are_probes calls
 
 -- pieces of a text go to a draft
 abbrev pub drafting : List ℕ → List (List ℕ) → List FileCall

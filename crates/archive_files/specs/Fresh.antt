@@ -8,7 +8,7 @@ use Rattle.archive_files.specs.declared.replaceable.Replaces.TheVariants.{OwnFil
 use Rattle.archive_files.specs.declared.system_files.SystemFiles.{SystemFiles}
 
 -- No input was compared with OUT, which has no path, may replace each of symarch's files and did not fail, for which
--- nothing was called, and of which nothing is in place.
+-- nothing was called, and of which nothing is published.
 abbrev pub AreFresh : {F T E : Type 0} {reads : Reads T} {writes : Writes T} {seeks : Seeks T} {lists : Reads E}
     → SystemFiles F T E reads writes seeks lists → Type 0
 AreFresh files =

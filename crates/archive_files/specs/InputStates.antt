@@ -90,12 +90,12 @@ GivesState left failures path_of file (state.Unopened why.OutOfMemory) = ⊤
 -- The same of one that is opened to be read from any place.
 abbrev pub GivesPlaces : {I P : Type 0} → (P → Option (List ℕ)) → (P → ℕ) → (P → List Path) → FileAt
     → InputState I P → Type 0
-GivesPlaces whole failures place_of file state.Waiting = ⊥
-GivesPlaces whole failures place_of file (state.Open input) = ⊥
-GivesPlaces whole failures place_of file (state.Placed places) = IsOpened whole failures place_of file (Ok places)
-GivesPlaces whole failures place_of file (state.Unopened (why.Refused refused)) =
-    IsOpened whole failures place_of file (Err refused)
-GivesPlaces whole failures place_of file (state.Unopened why.OutOfMemory) = ⊤
+GivesPlaces whole failures opened_at file state.Waiting = ⊥
+GivesPlaces whole failures opened_at file (state.Open input) = ⊥
+GivesPlaces whole failures opened_at file (state.Placed places) = IsOpened whole failures opened_at file (Ok places)
+GivesPlaces whole failures opened_at file (state.Unopened (why.Refused refused)) =
+    IsOpened whole failures opened_at file (Err refused)
+GivesPlaces whole failures opened_at file (state.Unopened why.OutOfMemory) = ⊤
 
 -- An input may be so far, of whose file this is known: what is not there is not open; what is known to be there is not
 -- refused, nor is another for want of memory.

@@ -71,7 +71,7 @@ is_drafted (Refused fault) = false
 is_drafted Removed = false
 is_drafted Settled = false
 
--- it was put in place, and handed on
+-- it was published, and handed on
 abbrev pub is_settled : Stage → Bool
 is_settled Untouched = false
 is_settled Through = false
@@ -80,7 +80,7 @@ is_settled (Refused fault) = false
 is_settled Removed = false
 is_settled Settled = true
 
--- why it was not begun or not put in place, if it was not
+-- why it was not begun or not published, if it was not
 abbrev pub fault_of : Stage → Option OutFault
 fault_of Untouched = None
 fault_of Through = None
@@ -91,8 +91,8 @@ fault_of Settled = None
 
 -- OUT is written so, of whose path the system said this
 abbrev pub IsWayTo : List ℕ → Way → List FileCall → Type 0
-IsWayTo path way.Through looks = IsWritable path looks
-IsWayTo path (way.Beside target access) looks = IsTargetOf path (string_bytes target) looks
+IsWayTo path way.Through probes = IsWritable path probes
+IsWayTo path (way.Beside target access) probes = IsTargetOf path (string_bytes target) probes
 
 -- what was called for OUT so far, which has this path, if it has one
 abbrev pub IsSoFar : Option (List ℕ) → Stage → List FileCall → Type 0
@@ -103,12 +103,12 @@ IsSoFar path (Refused fault) calls = IsRemoved path calls
 IsSoFar path Removed calls = IsRemoved path calls
 IsSoFar path Settled calls = calls ≡ []
 
--- What is known of OUT's draft: the same; and nothing of one that was put in place.
+-- What is known of OUT's draft: the same; and nothing of one that was published.
 abbrev pub draft_account : Bool → Option (List ℕ) → Replaces → List FileCall → List ℕ
 draft_account true path replaces calls = []
 draft_account false path replaces calls = account path replaces (bytes_in calls)
 
--- What is known of what was put in place: its path, which files could be replaced there, and the bytes that were
+-- What is known of what was published: its path, which files could be replaced there, and the bytes that were
 -- written for it.
 abbrev pub published_account : Option Published → Option (List ℕ)
 published_account None = None

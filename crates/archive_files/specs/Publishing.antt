@@ -1,11 +1,11 @@
--- How a text is put in place at OUT's path.
+-- How a text is published at OUT's path.
 use Rattle.std.specs.Prelude.{◌≡◌, ◌≢◌, ◌≤◌, ◌<◌, ◌⊎◌, ℕ, suc, Bool, true, ◌&&◌, ◌==◌, List, [], ◌∷◌, ◌++◌}
 use Rattle.std.specs.Prelude.{All, Contains, codes, if◌then◌else◌, length, Option, Some, None, unwrap_or}
 use Rattle.std.specs.Fmt.{decimal}
 use Rattle.std.specs.List.{concat}
 use Rattle.std.specs.Path.{path_parent, path_with_file_name}
 use Rattle.archive_files.specs.FileCalls.{Agrees, Covers, FileCall, FindsFile, FindsNoArchive, FindsNoLink, FindsNothing}
-use Rattle.archive_files.specs.FileCalls.{FindsOther, Leads, Removes, Syncs, are_looks, bytes_in, drafting, publishing}
+use Rattle.archive_files.specs.FileCalls.{FindsOther, Leads, Removes, Syncs, are_probes, bytes_in, drafting, publishing}
 use Rattle.archive_files.specs.FileCalls.{writing}
 use Rattle.archive_files.specs.declared.replaceable.Replaces.{Replaces}
 use Rattle.archive_files.specs.declared.replaceable.Replaces.TheVariants.{OwnFiles, ArchivesBelow, SameBytes}
@@ -53,14 +53,14 @@ pub record IsBeside (draft target : List ℕ) : Type 0 where
 -- What a path leads to is replaced at the target, as the system said: a regular file, or nothing, at the path itself;
 -- or a regular file that a link leads to.
 abbrev pub IsTargetOf : List ℕ → List ℕ → List FileCall → Type 0
-IsTargetOf path target looks =
-    ((target ≡ path) × (looks ≡ FindsNothing path ∷ FindsNoLink path ∷ []))
-    ⊎ ((target ≡ path) × (looks ≡ FindsFile path ∷ FindsNoLink path ∷ []))
-    ⊎ (looks ≡ FindsFile path ∷ Leads path target ∷ [])
+IsTargetOf path target probes =
+    ((target ≡ path) × (probes ≡ FindsNothing path ∷ FindsNoLink path ∷ []))
+    ⊎ ((target ≡ path) × (probes ≡ FindsFile path ∷ FindsNoLink path ∷ []))
+    ⊎ (probes ≡ FindsFile path ∷ Leads path target ∷ [])
 
 -- What a path leads to is written to: the system said that it is no regular file, or it is a descriptor.
 abbrev pub IsWritable : List ℕ → List FileCall → Type 0
-IsWritable path looks = (looks ≡ FindsOther path ∷ []) ⊎ ((looks ≡ []) × IsDescriptor path)
+IsWritable path probes = (probes ≡ FindsOther path ∷ []) ⊎ ((probes ≡ []) × IsDescriptor path)
 
 -- The draft may take the place of what is at the target: each of symarch's own files may be replaced; or else what is
 -- there is no archive, or one of which the draft has or covers each record; or it has no other bytes than the draft.
@@ -74,22 +74,22 @@ IsTested SameBytes draft target tests = tests ≡ Agrees draft target ∷ []
 pub record IsReplaced (path : List ℕ) (replaces : Replaces) (text : List ℕ) (calls : List FileCall) : Type 0 where
   pub draft : List ℕ
   pub target : List ℕ
-  pub looks : List FileCall
+  pub probes : List FileCall
   pub pieces : List (List ℕ)
-  pub target_is : IsTargetOf path target looks
+  pub target_is : IsTargetOf path target probes
   pub beside : IsBeside draft target
   pub tests : List FileCall
   pub tested : IsTested replaces draft target tests
   pub whole : concat pieces ≡ text
-  pub calls_are : calls ≡ looks ++ drafting draft pieces ++ tests ++ publishing draft target (folder_of target)
+  pub calls_are : calls ≡ probes ++ drafting draft pieces ++ tests ++ publishing draft target (folder_of target)
 
 -- Pieces of the text went to what is at the path, which is no regular file, or a descriptor.
 pub record IsWrittenThrough (path text : List ℕ) (calls : List FileCall) : Type 0 where
-  pub looks : List FileCall
+  pub probes : List FileCall
   pub pieces : List (List ℕ)
-  pub writable : IsWritable path looks
+  pub writable : IsWritable path probes
   pub whole : concat pieces ≡ text
-  pub calls_are : calls ≡ looks ++ writing path pieces
+  pub calls_are : calls ≡ probes ++ writing path pieces
 
 -- The text is at the path: it was put in the place of what was there, or went to what is there.
 abbrev pub IsPublished : List ℕ → Replaces → List ℕ → List FileCall → Type 0
@@ -97,11 +97,11 @@ IsPublished path replaces text calls = IsReplaced path replaces text calls ⊎ I
 
 -- Pieces of a text went to a draft beside the target of a path.
 pub record IsDrafted (path draft target : List ℕ) (calls : List FileCall) : Type 0 where
-  pub looks : List FileCall
+  pub probes : List FileCall
   pub pieces : List (List ℕ)
-  pub target_is : IsTargetOf path target looks
+  pub target_is : IsTargetOf path target probes
   pub beside : IsBeside draft target
-  pub calls_are : calls ≡ looks ++ drafting draft pieces
+  pub calls_are : calls ≡ probes ++ drafting draft pieces
 
 -- They did, and the draft, which may have been compared and synced before, was removed.
 pub record IsDraftRemoved (path : List ℕ) (calls : List FileCall) : Type 0 where
@@ -110,7 +110,7 @@ pub record IsDraftRemoved (path : List ℕ) (calls : List FileCall) : Type 0 whe
   pub drafted : List FileCall
   pub is_drafted : IsDrafted path draft target drafted
   pub tests : List FileCall
-  pub are_tests : are_looks tests ≡ true
+  pub are_tests : are_probes tests ≡ true
   pub calls_are : (calls ≡ drafted ++ tests ++ Removes draft ∷ [])
       ⊎ (calls ≡ drafted ++ tests ++ Syncs ∷ Removes draft ∷ [])
 
@@ -118,7 +118,7 @@ pub record IsDraftRemoved (path : List ℕ) (calls : List FileCall) : Type 0 whe
 -- or, at this path, it is no regular file, and bytes went to it.
 abbrev pub IsRemoved : Option (List ℕ) → List FileCall → Type 0
 IsRemoved path calls =
-    (calls ≡ []) ⊎ ((p : List ℕ) × (path ≡ Some p) × (are_looks calls ≡ true))
+    (calls ≡ []) ⊎ ((p : List ℕ) × (path ≡ Some p) × (are_probes calls ≡ true))
     ⊎ ((p : List ℕ) × (path ≡ Some p) × IsDraftRemoved p calls)
     ⊎ ((p : List ℕ) × (path ≡ Some p) × (text : List ℕ) × IsWrittenThrough p text calls)
 

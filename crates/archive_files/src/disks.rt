@@ -21,7 +21,7 @@ pub trait Disk {
     ghost path_of: { Self.Input → List Path };
 
     // The same of one that is read from any place.
-    ghost place_of: { Self.Places → List Path };
+    ghost opened_at: { Self.Places → List Path };
 
     // The paths that were opened, in their order, where they are known.
     ghost opened: { Self → Option (List Path) };
@@ -41,7 +41,7 @@ pub trait Disk {
     /// Opens it to be read from any place.
     fn open_places(&mut self, path: &str) -> Result<Result<Self::Places, CannotOpen>, NoMemory>
         ensures places { IfOk result
-            (λ places. IsOpened Self.Places.whole Self.Places.failures place_of (file_at self.old path.now) places) }
+            (λ places. IsOpened Self.Places.whole Self.Places.failures opened_at (file_at self.old path.now) places) }
         ensures files { file_at self.new ≡ file_at self.old }
         ensures opened { opened self.new ≡ opened_with (opened self.old) (path.now ∷ []) }
         ensures wanting { MatchResult result (λ _. wanting self.new ≡ wanting self.old)

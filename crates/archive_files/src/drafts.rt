@@ -3,7 +3,7 @@
 
 ghost use Rattle.std.specs.Prelude.{◌≡◌, ◌∷◌, ◌++◌, ◌⊎◌, [], IfOk, List, OnErr, OnOk, string_bytes, true};
 ghost use Rattle.std.specs.Path.{path_with_file_name};
-ghost use Rattle.archive_files.specs.FileCalls.{FileCall, Removes, Syncs, SyncsFolder, are_looks, publishing};
+ghost use Rattle.archive_files.specs.FileCalls.{FileCall, Removes, Syncs, SyncsFolder, are_probes, publishing};
 ghost use Rattle.archive_files.specs.Publishing.{IsBeside, IsTested, draft_name, folder_of};
 
 use crate::file_calls::FileCalls;
@@ -136,7 +136,7 @@ pub fn put_draft<F: Files>(
         × (calls.new.entries ≡ calls.old.entries ++ tests
         ++ publishing (string_bytes draft.now.path) (string_bytes draft.now.target)
         (folder_of (string_bytes draft.now.target)))) }
-    ensures removed { OnErr result ((tests : List FileCall) × (are_looks tests ≡ true)
+    ensures removed { OnErr result ((tests : List FileCall) × (are_probes tests ≡ true)
         × ((calls.new.entries ≡ calls.old.entries ++ tests ++ Removes (string_bytes draft.now.path) ∷ [])
         ⊎ (calls.new.entries ≡ calls.old.entries ++ tests ++ Syncs ∷ Removes (string_bytes draft.now.path) ∷ []))) }
 {
@@ -169,7 +169,7 @@ fn test_place<F: Files>(
     ensures tested { OnOk result ((tests : List FileCall)
         × IsTested replaces (string_bytes draft.now.path) (string_bytes draft.now.target) tests
         × (calls.new.entries ≡ calls.old.entries ++ tests)) }
-    ensures refused { OnErr result ((tests : List FileCall) × (are_looks tests ≡ true)
+    ensures refused { OnErr result ((tests : List FileCall) × (are_probes tests ≡ true)
         × (calls.new.entries ≡ calls.old.entries ++ tests)) }
 {
     match replaces {

@@ -115,7 +115,7 @@ fn open<D: Disk>(disk: &mut D, path: &str) -> InputState<D::Input, D::Places>
 
 /// Opens the file at a path, to be read from any place.
 fn open_places<D: Disk>(disk: &mut D, path: &str) -> InputState<D::Input, D::Places>
-    ensures state { GivesPlaces D.Places.whole D.Places.failures D.place_of (D.file_at disk.old path.now) result }
+    ensures state { GivesPlaces D.Places.whole D.Places.failures D.opened_at (D.file_at disk.old path.now) result }
     ensures files { D.file_at disk.new ≡ D.file_at disk.old }
     ensures opened { D.opened disk.new ≡ opened_with (D.opened disk.old) (path.now ∷ []) }
     ensures wanting { SaysWanting (D.wanting disk.old) (D.wanting disk.new) (stage_of result) path.now }
@@ -151,7 +151,7 @@ fn begin_places<D: Disk>(disk: &mut D, path: &str, state: &mut InputState<D::Inp
     ensures waited { stage_of state.old ≡ Waiting
         → (D.opened disk.new ≡ opened_with (D.opened disk.old) (path.now ∷ []))
         × SaysWanting (D.wanting disk.old) (D.wanting disk.new) (stage_of state.new) path.now
-        × GivesPlaces D.Places.whole D.Places.failures D.place_of (D.file_at disk.old path.now) state.new }
+        × GivesPlaces D.Places.whole D.Places.failures D.opened_at (D.file_at disk.old path.now) state.new }
     ensures holds { HoldsFile D.Places.whole (D.file_at disk.old path.now) state.old
         → HoldsFile D.Places.whole (D.file_at disk.old path.now) state.new }
     ensures came { stage_of state.old ≢ Waiting

@@ -11,56 +11,46 @@
 //! - `replaceable`: which file at OUT's path may be replaced;
 //! - `losses`: what would be lost of an archive in its place; `sameness`: whether it has the same bytes;
 //! - `drafts`: a file beside OUT, which is renamed when it is whole;
-//! - `published`: an output that is in place;
-//! - `out_file`: OUT before it is in place;
+//! - `published`: a published output;
+//! - `out_file`: OUT before it is published;
 //! - `out_path`: OUT's path, at which it is put;
 //! - `system_files`: the files of one command.
 //!
 //! # What is proved
 //!
-//! - [`OutFile`], the draft of OUT, is begun with the first byte, takes bytes only if it was begun, and says if it
-//!   could not be. The bytes that a push is given are written (`WritesBegun`). What was called for it is known at each
-//!   state (`FileCalls`): a file was created beside a target, under a name that is not the target's, and took these
-//!   bytes; and nothing was called if it neither took a byte nor failed.
-//! - [`OutPath`] has nothing, or the whole text by the calls of `IsPublished`: created, written, compared with what
-//!   is at the target, if not each of symarch's own files is replaced, synced, renamed over the target, and the target's folder synced, in this
-//!   order; or opened and written. A draft that is not put in place is removed (`IsRemoved`).
+//! - What was called of the system for OUT is known at each state (`FileCalls`): a file was created beside a target,
+//!   under a name that is not the target's, took these bytes, and was published by the calls of `IsPublished` or
+//!   removed (`IsRemoved`); nothing was called if it neither took a byte nor failed.
 //! - The target is OUT's path, or what the system said that a link there leads to (`IsTargetOf`); and only what it said
 //!   is no regular file, or a descriptor, is written through (`IsWritable`).
 //! - [`SystemFiles::begin`](SystemFiles) gives OUT its path if each input was found to be another file, and otherwise
-//!   none. `SystemFiles` notes the paths that it makes inputs for.
+//!   none.
 //! - [`AtTurn`], an input over any disk, opens its path with the first call for its bytes, once, and no other path
-//!   (`IsAtTurn`). If it is not opened, that call fails, and each after it; one that is not opened for want of memory
-//!   is not reported as one that cannot be opened, and that memory was wanting is reported only where the system said
-//!   so. A file that is read from its start is closed at its end
-//!   ([`OpenedFile`]).
+//!   (`IsAtTurn`). If it is not opened, that call fails, and each after it; that memory was wanting is reported only
+//!   where the system said so. A file that is read from its start is closed at its end ([`OpenedFile`]).
 //!
 //! # Why it is so
 //!
-//! - What was called of the system is a list that only clauses read (`CallLog`; for OUT `FileCalls`). What fills it
-//!   does nothing at run time, and is proved by hand. Nothing ties a list to the system: each note stands beside the
-//!   call that it notes, in private fields. Without it a body that opens an input twice, or renames a draft before it
-//!   is synced, would meet its contract. `FileCalls` notes the number of a call, and `call_of` gives the call, so one
-//!   proof by hand serves them all. What the system said is noted as a call too: by its metadata, by the number of
-//!   records that a comparison gave, so that no body says of a file what the system did not.
+//! - What was called is a list that only clauses read (`CallLog`; for OUT `FileCalls`). What fills it does nothing at
+//!   run time, and is proved by hand. Nothing ties a list to the system: each entry stands beside its call, in private
+//!   fields. Without it a body that opens an input twice, or renames a draft before it is synced, would meet its
+//!   contract. `FileCalls` takes the number of a call, and `call_of` gives the call, so one proof by hand serves them
+//!   all. What the system said is an entry too, so that no body says of a file what the system did not.
 //! - Facts by cases in a ghost field have to be propositions: what was called so far stands in `∥ ∥₁`.
 //! - What OUT's draft holds, for a clause, is its path, which files it may replace, and after these the bytes that it
-//!   took (`account`). A text that is gained comes after them, so they stay. That the draft is the same file at each push
-//!   is in no contract.
+//!   took (`account`). That the draft is the same file at each push is in no contract.
 //! - OUT's bytes go to a draft beside it with a name of its own, since a name may have 255 bytes already. It is created
 //!   new, under the first of a hundred names that is free. A killed run leaves it, since std has no handler for
 //!   signals; no later run removes it, since it may be that of one that still writes.
 //! - What is no regular file is written through, since a rename would put a file in the place of a device. So is a
-//!   descriptor, by its path: `/dev/stdout` may be a regular file that the shell holds. Any other path to a regular
-//!   file, below `/dev/` or not, leads to a draft.
+//!   descriptor, by its path: `/dev/stdout` may be a regular file that the shell holds.
 //! - OUT is opened for reading and writing before its draft is created: to rename over a file takes rights in its
 //!   folder alone, and one that may not be written is refused. Its first eight bytes are read by the same opening, and
 //!   say whether it is one of symarch's own; more would cost a pass over it.
 //! - An archive gives way only to one above it, by the order of contents and not by a number of records. The test is a
-//!   merge of both that writes nowhere (`lost_operations`), made over the whole draft; no command has a case of its
-//!   own. A damaged archive is not replaced: nobody can say what it has. `delta`, `summary` and `index` replace each of
-//!   symarch's own files, since what they write is made anew. A slice gives way to itself alone (`SameBytes`): so of a
-//!   file at OUT nothing is read before the draft is whole, and then both, piece by piece.
+//!   merge of both that writes nowhere (`lost_operations`), made over the whole draft. A damaged archive is not
+//!   replaced: nobody can say what it has. `delta`, `summary` and `index` replace each of symarch's own files, since
+//!   what they write is made anew. A slice gives way to itself alone (`SameBytes`), compared once the draft is whole.
 //! - Between the test and the renaming another program may put an archive at OUT, which is then lost: the system has no
 //!   call that renames over one file and no other.
 //! - A link that leads to nothing is refused, since `canonicalize` cannot say where it leads. Hard links keep the old
@@ -68,9 +58,7 @@
 //!   call for access lists and extended attributes.
 //! - A sync of the draft that fails is `cannot replace`. One of the folder is not reported: some file systems cannot do
 //!   it, and no command can take the rename back.
-//! - An input is opened with the first call for its bytes and closed with the call that gives none, so commands know
-//!   nothing of paths, and one rule says what is refused first. Each input has a disk of its own, since what a shared
-//!   cell holds is in no contract; the log of a disk is of one input.
+//! - Each input has a disk of its own, since what a shared cell holds is in no contract; so its log is of one input.
 //! - What a missing file has left is, for a clause, a number that no byte is (256), so nothing follows from reading it.
 //! - OUT and each input are compared by device and file number before any input is opened, links followed, regular
 //!   files only; a number of 0 counts as unknown. A file that is put there later is not noticed.

@@ -1,7 +1,7 @@
 //! What would be lost of an archive where a draft takes its place. What files hold is in no contract.
 
 ghost use Rattle.std.specs.Prelude.{◌≡◌, ◌≢◌, ◌∷◌, ◌++◌, [], IfOk, List, Ok, OnErr, OnOk, false, true};
-ghost use Rattle.archive_files.specs.FileCalls.{FileCall, FindsNoArchive, are_looks, compared};
+ghost use Rattle.archive_files.specs.FileCalls.{FileCall, FindsNoArchive, are_probes, compared};
 ghost use Rattle.archive_files.specs.Publishing.{IsTested};
 ghost use Rattle.archive_files.specs.declared.replaceable.Replaces.TheVariants.{ArchivesBelow};
 
@@ -30,7 +30,7 @@ pub fn test_losses<F: Files>(
 ) -> Result<(), OutFault>
     ensures tested { OnOk result ((tests : List FileCall) × IsTested ArchivesBelow draft.now target.now tests
         × (calls.new.entries ≡ calls.old.entries ++ tests)) }
-    ensures refused { OnErr result ((tests : List FileCall) × (are_looks tests ≡ true)
+    ensures refused { OnErr result ((tests : List FileCall) × (are_probes tests ≡ true)
         × (calls.new.entries ≡ calls.old.entries ++ tests)) }
 {
     match is_archive_at(files, target, calls) {

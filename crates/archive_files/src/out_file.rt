@@ -1,9 +1,9 @@
-//! OUT, whose draft is created with its first bytes, and put in place when it is whole. What the files hold is in no
+//! OUT, whose draft is created with its first bytes, and published when it is whole. What the files hold is in no
 //! contract; what was called of the system is.
 
 ghost use Rattle.std.specs.Prelude.{◌≡◌, ◌≢◌, ◌⊎◌, ◌≤◌, ◌<◌, ◌-◌, ◌^◌, ℕ, List, Option, None, Some, IfSome, IfOk};
 ghost use Rattle.std.specs.Prelude.{IsSome, OnErr, OnOk, length, true, false, [], option_map, string_bytes};
-ghost use Rattle.archive_files.specs.FileCalls.{are_looks, bytes_in};
+ghost use Rattle.archive_files.specs.FileCalls.{are_probes, bytes_in};
 ghost use Rattle.archive_files.specs.OutFiles.{IsSoFar, Settled, Untouched, WritesBegun, WritesTo};
 ghost use Rattle.archive_files.specs.OutFiles.{draft_account, fault_of};
 ghost use Rattle.archive_files.specs.OutFiles.{has_calls, is_drafted, is_settled, stage_of, takes_bytes};
@@ -24,7 +24,7 @@ use std::{fs, mem};
 /// How often a device fails at most.
 pub const MOST_FAILURES: u64 = u64::MAX;
 
-/// OUT before it is in place. It begins with the first bytes, so that a command that is refused before them leaves
+/// OUT before it is published. It begins with the first bytes, so that a command that is refused before them leaves
 /// nothing; a push of no bytes begins nothing. Bytes go to a draft beside OUT, or to OUT where that is no regular file.
 #[derive(Drop)]
 pub struct OutFile<'a, F: Files> {
@@ -54,16 +54,16 @@ enum OutState<T> {
     Through(T),
     /// Bytes go to a draft.
     Drafted(Draft<T>),
-    /// It could not be begun, or not be put in place.
+    /// It could not be begun, or not be published.
     Refused(OutFault),
     /// Its draft was removed.
     Removed,
-    /// It was put in place, and what was called for it handed on.
+    /// It was published, and what was called for it handed on.
     Settled,
 }
 
 /// What bytes go to first, where OUT has this path.
-#[tactic(auto, using(crate::proofs::Publishings::begun_drafted, crate::proofs::Publishings::looks_bytes))]
+#[tactic(auto, using(crate::proofs::Publishings::begun_drafted, crate::proofs::Publishings::probes_bytes))]
 fn begun<F: Files>(
     alloc: Global,
     files: &F,
@@ -76,7 +76,7 @@ fn begun<F: Files>(
         (λ state. IsSoFar (Some path.now) (stage_of state) calls.new.entries) }
     ensures bytes { calls.old.entries ≡ [] → bytes_in calls.new.entries ≡ [] }
     ensures begun { IfOk result (λ state. has_calls (stage_of state) ≡ true) }
-    ensures refused { calls.old.entries ≡ [] → OnErr result (are_looks calls.new.entries ≡ true) }
+    ensures refused { calls.old.entries ≡ [] → OnErr result (are_probes calls.new.entries ≡ true) }
 {
     match way_to(alloc, files, path, replaces, calls)? {
         Way::Through => {
@@ -159,7 +159,7 @@ fn write<T: Write>(state: &mut OutState<T>, bytes: &[u8]) -> Result<usize, Optio
     }
 }
 
-/// Puts what was written in place, and tells whether that was done. A draft that could not be put there is removed.
+/// Publishes what was written, and tells whether that was done. A draft that could not be put there is removed.
 fn finish<F: Files>(
     alloc: Global,
     files: &F,
@@ -195,7 +195,7 @@ fn finish<F: Files>(
     }
 }
 
-/// Removes the draft of an output that was not put in place.
+/// Removes the draft of an output that was not published.
 fn remove<F: Files>(files: &F, state: &mut OutState<F::File>, calls: &mut FileCalls)
     ensures so_far { (path : Option (List ℕ)) → IsSoFar path (stage_of state.old) calls.old.entries
         → IsSoFar path (stage_of state.new) calls.new.entries }
@@ -264,7 +264,7 @@ impl<'a, F: Files> OutFile<'a, F> {
         self.files
     }
 
-    /// Why it was not begun, or not put in place, if it was not.
+    /// Why it was not begun, or not published, if it was not.
     pub fn fault(&self) -> Option<OutFault>
         ensures { result ≡ fault_of (stage_of self.now.state) }
     {
@@ -292,7 +292,7 @@ impl<'a, F: Files> OutFile<'a, F> {
         }
     }
 
-    /// Puts what was written in place, and hands on what was called for it. A draft that could not be put there is
+    /// Publishes what was written, and hands on what was called for it. A draft that could not be put there is
     /// removed.
     pub fn settle(&mut self) -> Option<Published>
         ensures published { IfSome result (λ published.
@@ -327,7 +327,7 @@ impl<'a, F: Files> OutFile<'a, F> {
         }
     }
 
-    /// Removes the draft of an output that was not put in place.
+    /// Removes the draft of an output that was not published.
     pub fn discard(&mut self)
         ensures removed { ∥ IsRemoved (option_map string_bytes self.new.path) self.new.calls.entries ∥₁ }
         ensures path { self.new.path ≡ self.old.path }
@@ -365,7 +365,7 @@ impl<'a, F: Files> Sink for OutFile<'a, F> {
         ensures written { 0 < length bytes.now → self.old.failures ≢ 2 ^ 64 - 1
             → WritesBegun ⟦<F::File as Write>⟧.contents self.old.state self.new.state result bytes.now }
 
-        // No bytes begin nothing, and what was not begun or not put in place stays so.
+        // No bytes begin nothing, and what was not begun or not published stays so.
         ensures path { self.new.path ≡ self.old.path }
         ensures replaces { self.new.replaces ≡ self.old.replaces }
         ensures empty { bytes.now ≡ [] → self.new.state ≡ self.old.state }

@@ -1,4 +1,4 @@
-//! The path of OUT, at which its draft is put in place.
+//! The path of OUT, at which its draft is published.
 
 ghost use Rattle.std.specs.Prelude.{◌≡◌, None};
 ghost use Rattle.archive_files.specs.OutFiles.{published_account};
@@ -6,10 +6,10 @@ ghost use Rattle.archive_files.specs.OutFiles.{published_account};
 use crate::out_file::{MOST_FAILURES, OutFile};
 use crate::published::Published;
 use byte_device::Failed;
-use command_ends::Target;
+use command_core::Target;
 use std::rt::Files;
 
-/// What was put in place at OUT's path, if anything was.
+/// What was published at OUT's path, if anything was.
 #[derive(Drop)]
 pub struct OutPath<'a, F: Files> {
     files: &'a F,

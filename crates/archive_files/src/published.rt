@@ -1,4 +1,4 @@
-//! An output that is in place.
+//! A published output.
 
 ghost use Rattle.std.specs.Prelude.{string_bytes};
 ghost use Rattle.archive_files.specs.FileCalls.{bytes_in};
@@ -7,7 +7,7 @@ ghost use Rattle.archive_files.specs.Publishing.{IsPublished};
 use crate::file_calls::FileCalls;
 use crate::replaceable::Replaces;
 
-/// The path of an output that is in place, which files could be replaced there, and what was called for it.
+/// The path of a published output, which files could be replaced there, and what was called for it.
 #[derive(Drop)]
 pub struct Published {
     pub path: String,

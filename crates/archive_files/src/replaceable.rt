@@ -15,7 +15,7 @@ const OWN: [Format; 4] = [
 /// What an index begins with.
 const INDEX_MAGIC: &[u8] = b"MSYMIDX1";
 
-/// Why OUT takes no bytes, or was not put in place.
+/// Why OUT takes no bytes, or was not published.
 #[derive(Clone, Copy, Debug)]
 pub enum OutFault {
     /// It could not be created, or what is there may not be written, with what the system said, if it was the system

@@ -1,7 +1,7 @@
 //! Whether what is at OUT has no other bytes than a draft. What files hold is in no contract.
 
 ghost use Rattle.std.specs.Prelude.{◌≡◌, ◌++◌, List, OnErr, OnOk, true};
-ghost use Rattle.archive_files.specs.FileCalls.{FileCall, are_looks};
+ghost use Rattle.archive_files.specs.FileCalls.{FileCall, are_probes};
 ghost use Rattle.archive_files.specs.Publishing.{IsTested};
 ghost use Rattle.archive_files.specs.declared.replaceable.Replaces.TheVariants.{SameBytes};
 
@@ -24,7 +24,7 @@ pub fn test_sameness<F: Files>(
 ) -> Result<(), OutFault>
     ensures tested { OnOk result ((tests : List FileCall) × IsTested SameBytes draft.now target.now tests
         × (calls.new.entries ≡ calls.old.entries ++ tests)) }
-    ensures refused { OnErr result ((tests : List FileCall) × (are_looks tests ≡ true)
+    ensures refused { OnErr result ((tests : List FileCall) × (are_probes tests ≡ true)
         × (calls.new.entries ≡ calls.old.entries ++ tests)) }
 {
     match agrees(files, draft, target) {

@@ -118,7 +118,7 @@ impl<'a, F: Files> Disk for SystemDisk<'a, F> {
 
     ghost path_of = { λ file. file.at.entries };
 
-    ghost place_of = { λ file. file.at.entries };
+    ghost opened_at = { λ file. file.at.entries };
 
     ghost opened = { λ disk. Some disk.opened.entries };
 

@@ -1,8 +1,8 @@
 //! How OUT is written: what its path leads to, as the system says it. A call that asks is noted with its answer.
 
-ghost use Rattle.std.specs.Prelude.{◌≡◌, ◌≢◌, ◌∷◌, ◌++◌, [], IfErr, IfOk, OnErr, OnOk, false, string_bytes, true};
+ghost use Rattle.std.specs.Prelude.{◌≡◌, ◌≢◌, ◌∷◌, ◌++◌, [], IfErr, IfOk, OnErr, false, string_bytes, true};
 ghost use Rattle.std.specs.IoError.{error_kind};
-ghost use Rattle.archive_files.specs.FileCalls.{FindsFile, FindsNoLink, FindsNothing, Leads, are_looks, found};
+ghost use Rattle.archive_files.specs.FileCalls.{FindsFile, FindsNoLink, FindsNothing, Leads, are_probes, found};
 ghost use Rattle.archive_files.specs.OutFiles.{IsWayTo};
 ghost use Rattle.archive_files.specs.Publishing.{IsTargetOf};
 
@@ -106,7 +106,7 @@ pub fn way_to<F: Files>(
     calls: &mut FileCalls,
 ) -> Result<Way, OutFault>
     ensures way { calls.old.entries ≡ [] → IfOk result (λ way. IsWayTo path.now way calls.new.entries) }
-    ensures refused { calls.old.entries ≡ [] → OnErr result (are_looks calls.new.entries ≡ true) }
+    ensures refused { calls.old.entries ≡ [] → OnErr result (are_probes calls.new.entries ≡ true) }
 {
     if is_descriptor(path) {
         return Ok(Way::Through);
@@ -134,7 +134,7 @@ fn absent<F: Files>(
     ensures way { calls.old.entries ≡ FindsNothing path.now ∷ []
         → IfOk result (λ way. IsWayTo path.now way calls.new.entries) }
     ensures refused { calls.old.entries ≡ FindsNothing path.now ∷ []
-        → OnErr result (are_looks calls.new.entries ≡ true) }
+        → OnErr result (are_probes calls.new.entries ≡ true) }
 {
     let is_no_name = path.is_empty() || path.ends_with('/');
     if is_no_name || is_link(files, path, calls) {
@@ -155,7 +155,7 @@ fn replaced<F: Files>(
     ensures way { calls.old.entries ≡ FindsFile path.now ∷ []
         → IfOk result (λ way. IsWayTo path.now way calls.new.entries) }
     ensures refused { calls.old.entries ≡ FindsFile path.now ∷ []
-        → OnErr result (are_looks calls.new.entries ≡ true) }
+        → OnErr result (are_probes calls.new.entries ≡ true) }
 {
     let mut file = match OpenOptions::new().read(true).write(true).open(files, path) {
         Ok(file) => file,
@@ -179,7 +179,7 @@ fn target_of<F: Files>(
     ensures target { calls.old.entries ≡ FindsFile path.now ∷ []
         → IfOk result (λ target. IsTargetOf path.now (string_bytes target) calls.new.entries) }
     ensures refused { calls.old.entries ≡ FindsFile path.now ∷ []
-        → OnErr result (are_looks calls.new.entries ≡ true) }
+        → OnErr result (are_probes calls.new.entries ≡ true) }
 {
     if !is_link(files, path, calls) {
         return Ok(String::from_str(alloc, path)?);

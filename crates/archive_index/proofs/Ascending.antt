@@ -11,16 +11,16 @@ use Rattle.std.proofs.lemmas.List.Elements.{All-from_recursion, recursion_from_A
 use Rattle.join_core.specs.Listing.{listing}
 use Rattle.join_core.proofs.Listing.{any_listing, listed}
 use Rattle.archive_core.specs.Summary.{Entries}
-use Rattle.archive_records.proofs.Puts.{bytes_same}
+use Rattle.archive_core.proofs.Made.{bytes_same}
 use Rattle.archive_records.proofs.Contents.{order, along}
 use Rattle.archive_index.specs.Entry.{IsPlacedEntry}
 use Rattle.archive_index.specs.Index.{AreIndexEntries, AreIndexed}
 use Rattle.archive_index.specs.Text.{AreAscending}
 
-along_list : (P Q : List ℕ → Type 0) → ((x : List ℕ) → P x → Q x) → (xs : List (List ℕ)) → AllByRecursion P xs → AllByRecursion Q xs
+pub along_list : (P Q : List ℕ → Type 0) → ((x : List ℕ) → P x → Q x) → (xs : List (List ℕ)) → AllByRecursion P xs → AllByRecursion Q xs
 along_list P Q f xs h = recursion_from_All Q xs (All-weaker P Q f xs (All-from_recursion P xs h))
 
-less_is : (o : Ordering) → is_lt o ≡ true → o ≡ Less
+pub less_is : (o : Ordering) → is_lt o ≡ true → o ≡ Less
 less_is o e = grind arith
 
 -- entries that ascend are strictly sorted, and above what they are above

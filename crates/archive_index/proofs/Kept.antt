@@ -15,7 +15,7 @@ use Rattle.join_core.proofs.Members.{from_list_same}
 use Rattle.join_core.proofs.Merge.{map_dedup, from_list_permuted}
 use Rattle.archive_core.proofs.Members.{in_listing, in_order, ascending_map}
 use Rattle.archive_core.proofs.Taken.{tied_is}
-use Rattle.archive_records.proofs.Puts.{bytes_same}
+use Rattle.archive_core.proofs.Made.{bytes_same}
 use Rattle.archive_records.proofs.Contents.{order, along}
 use Rattle.archive_index.specs.Entry.{IsPlacedEntry}
 use Rattle.archive_index.specs.Index.{AreIndexEntries, AreIndexed}

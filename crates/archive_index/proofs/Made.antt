@@ -2,7 +2,7 @@
 use Rattle.std.proofs.Common.{◌≡◌, ℕ, ◌≤◌, List, [], ◌++◌, length, take, Option, Some, None, Err, refl, sym, ap, ◌∙◌, subst, inl, inr, arith, length-take}
 use Rattle.std.specs.Prelude.{IfSome}
 use Rattle.std.specs.List.{concat}
-use Rattle.std.specs.Io.KnownBytes.{Consumes, IsAtEnd}
+use Rattle.std.specs.Io.KnownBytes.{Consumes}
 use Rattle.std.proofs.lemmas.List.{append-nil, take_all}
 use Rattle.archive_records.specs.declared.fault.RecordFaultKind.TheVariants.{OutOfMemory, Truncated}
 use Rattle.archive_records.specs.declared.format.Format.{Format}
@@ -73,12 +73,6 @@ wanted a c taken = inr (
 )
 
 -- ---- the whole text
-
--- what was taken up to the end is all that there was
-pub taken_whole : (a b : Option (List ℕ)) (x : List ℕ) → Consumes a b x → IsAtEnd b → IfSome a (λ t. t ≡ x)
-taken_whole None b x taken end = tt
-taken_whole (Some t) None x taken end = absurd taken
-taken_whole (Some t) (Some ys) x taken end = taken ∙ ap (λ (r : List ℕ). x ++ r) end ∙ append-nil x
 
 -- the same text
 pub text_along : (a : Option (List ℕ)) (x y : List ℕ) → x ≡ y → IfSome a (λ t. t ≡ x) → IfSome a (λ t. t ≡ y)

@@ -151,15 +151,15 @@ in_under front s e h =
     let kept = in_filter (is_under front) (listing s) e h in
     ((in_listing nat_list_cmp_total bytes_same s e).0 kept.0, kept.1)
 
-key_front : (n : ℕ) (slice : List ℕ) → n ≤ 24 → IsValid slice → take n (drop 1 (admission_record slice)) ≡ take n (key_bytes (key_of slice))
+key_prefix : (n : ℕ) (slice : List ℕ) → n ≤ 24 → IsValid slice → take n (drop 1 (admission_record slice)) ≡ take n (key_bytes (key_of slice))
 unfolding admission
-key_front n slice short valid = take-append-le n (key_bytes (key_of slice)) (to_be_bytes w64 (length slice) ++ slice) (omega (arith, length-key_of slice valid))
+key_prefix n slice short valid = take-append-le n (key_bytes (key_of slice)) (to_be_bytes w64 (length slice) ++ slice) (omega (arith, length-key_of slice valid))
 
 entry_key : (n : ℕ) (r : List ℕ) → n ≤ 24 → IsRecord r → take n (drop 1 (entry r)) ≡ take n (drop 1 r)
 entry_key n r short (inl a) =
     ap (λ (x : List ℕ). take n (drop 1 x)) (ap entry a.is ∙ admission_entry a.slice a.valid)
     ∙ take-append-le n (key_bytes (key_of a.slice)) (sha256 a.slice) (omega (arith, length-key_of a.slice a.valid))
-    ∙ sym (ap (λ (x : List ℕ). take n (drop 1 x)) a.is ∙ key_front n a.slice short a.valid)
+    ∙ sym (ap (λ (x : List ℕ). take n (drop 1 x)) a.is ∙ key_prefix n a.slice short a.valid)
 entry_key n r short (inr b) = ap (λ (x : List ℕ). take n (drop 1 x)) (ap entry b.is ∙ retirement_entry b.key b.digest ∙ sym b.is)
 
 front_same : (n offset : ℕ) (r : List ℕ) → n ≤ 24 → IsRecord r → take n (drop 1 (placed_entry offset r)) ≡ take n (drop 1 r)

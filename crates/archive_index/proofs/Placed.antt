@@ -1,7 +1,6 @@
 -- The entries of records that stand one after another.
-use Rattle.std.proofs.Common.{◌≡◌, ℕ, ◌+◌, ◌<◌, ◌^◌, Bool, true, cond, ◌&&◌, ◌||◌, eqb, List, [], ◌∷◌, ◌++◌, length, take, drop, get_or, sym, ap, ◌∙◌, inl, inr, arith, length-append, nat_le}
+use Rattle.std.proofs.Common.{◌≡◌, ℕ, ◌+◌, ◌<◌, ◌^◌, Bool, true, cond, ◌&&◌, ◌||◌, eqb, List, ◌∷◌, ◌++◌, length, take, drop, get_or, sym, ap, ◌∙◌, inl, inr, arith, length-append, nat_le}
 use Rattle.std.specs.Int.{w64, to_be_bytes, from_be_bytes}
-use Rattle.std.specs.List.{AllByRecursion}
 use Rattle.std.proofs.Math.ListN.{get_or-append}
 use Rattle.std.proofs.Math.Seq.{take-append_seam, drop-append_seam, drop-append-add}
 use Rattle.std.proofs.lemmas.List.{take_all, take_at, get_or_at, drop-drop}
@@ -14,12 +13,9 @@ use Rattle.archive_core.specs.Content.{is_admission}
 use Rattle.archive_core.specs.Summary.{entry}
 use Rattle.archive_core.proofs.Records.{length-admission_record, length-retirement_record}
 use Rattle.archive_core.proofs.Entries.{admission_entry, retirement_entry, length-entry}
-use Rattle.archive_records.specs.declared.format.Format.TheVariants.{Archive}
 use Rattle.archive_records.specs.Layout.{largest_slice}
-use Rattle.archive_records.specs.Text.{InOrder}
 use Rattle.archive_records.proofs.SliceFacts.{short_slice}
 use Rattle.archive_index.specs.Entry.{kind_byte, placed_entry, length_in, offset_in, IsPlacedEntry}
-use Rattle.archive_index.specs.Index.{placed_entries}
 
 -- ---- the parts of an entry
 
@@ -112,7 +108,3 @@ module _ (offset : ℕ) (r : List ℕ) where
 pub is_placed : (offset : ℕ) (r : List ℕ) → IsRecord r → IsPlacedEntry (placed_entry offset r)
 is_placed offset r (inl a) = admitted_entry offset r a
 is_placed offset r (inr b) = retired_entry offset r b
-
-pub are_placed : (low : List ℕ) (k : ℕ) (rs : List (List ℕ)) → InOrder Archive low rs → AllByRecursion IsPlacedEntry (placed_entries k rs)
-are_placed low k [] a = tt
-are_placed low k (r ∷ rs) a = (is_placed k r a.0, are_placed r (k + length r) rs a.2)

@@ -1,5 +1,5 @@
 -- Entries of one tag under a front stand together.
-use Rattle.std.proofs.Common.{◌≡◌, ℕ, suc, ◌+◌, ◌<◌, ◌≤◌, Bool, true, false, ◌&&◌, eqb, nat_lt, List, [], ◌∷◌, length, map, take, drop, get_or, refl, sym, ap, ◌∙◌, subst, arith, eq-eqb}
+use Rattle.std.proofs.Common.{◌≡◌, ℕ, zero, suc, ◌+◌, ◌-◌, ◌<◌, ◌≤◌, Bool, true, false, ◌&&◌, eqb, nat_lt, List, [], ◌∷◌, length, map, take, drop, get_or, refl, sym, ap, ◌∙◌, subst, arith, eq-eqb, length-drop}
 use mathlib.Core.Bool.{true≢false}
 use Rattle.std.specs.declared.cmp.Ordering.{Ordering}
 use Rattle.std.specs.declared.cmp.Ordering.TheVariants.{Less, Equal, Greater}
@@ -16,10 +16,13 @@ use Rattle.std.proofs.lemmas.List.Elements.{All-from_recursion}
 use Rattle.std.proofs.lemmas.Map.Keys.{Less-from_sorted}
 use Rattle.std.proofs.lemmas.Slice.Eq.{bytes_eq-Decides}
 use Rattle.std.proofs.Math.ListN.{get_or-map, length-map}
+use Rattle.std.proofs.Math.Seq.{take-nil}
+use Rattle.std.specs.Prelude.{filter}
 use Rattle.archive_core.specs.Part.{is_under}
 use Rattle.archive_core.proofs.Compare.{slice_cmp-append}
 use Rattle.archive_core.proofs.Made.{and_left, and_right, bytes_same, by_test}
 use Rattle.archive_index.specs.Runs.{IsRun, is_tagged}
+use Rattle.join_core.proofs.Search.{eq_of_lt, eq_of_gt, eq_of_both}
 
 abbrev order : List ℕ → List ℕ → Ordering
 order = slice_cmp nat_cmp
@@ -74,18 +77,21 @@ tagged tag front (x ∷ xs) some =
     let front_is : front ≡ take (length front) xs = (bytes_eq-Decides front (take (length front) xs)).0 (and_right (eqb x tag) _ h) in
     ap (λ (l : List ℕ). is_eq (order l (tag ∷ front))) (first ∙ (λ i. tag_is i ∷ sym front_is i)) ∙ ap is_eq (tied_itself nat_list_cmp_total (tag ∷ front)))
 
--- the three tests of a comparison
-eq_of_lt : (r : Ordering) → is_lt r ≡ true → is_eq r ≡ false
-eq_of_lt r h = grind arith
-
-eq_of_gt : (r : Ordering) → is_le r ≡ false → is_eq r ≡ false
-eq_of_gt r h = grind arith
-
-eq_of_both : (r : Ordering) → is_lt r ≡ false → is_le r ≡ true → is_eq r ≡ true
-eq_of_both r h g = grind arith
-
 le_of_lt : (r : Ordering) → is_lt r ≡ true → is_le r ≡ true
 le_of_lt r h = grind arith
+
+module _ {X : Type 0} where
+  -- where none passes from one place up to another, none more is kept
+  pub past : (p : X → Bool) (xs : List X) (n m : ℕ) → n ≤ m → AllWithin (λ x. p x ≡ false) xs n m → filter p (take m xs) ≡ filter p (take n xs)
+  past p [] n m le none = rw (take-nil n, take-nil m)
+  past p (x ∷ xs) zero zero le none = refl
+  past p (x ∷ xs) zero (suc m) le none = rw (none 0 x (omega arith) (omega arith)) (past p xs 0 m (omega arith) (λ k d low high. none (suc k) d (omega arith) (omega arith)))
+  past p (x ∷ xs) (suc n) zero le none = absurd (omega arith)
+  past p (x ∷ xs) (suc n) (suc m) le none = rw (past p xs n m (omega arith) (λ k d low high. none (suc k) d (omega arith) (omega arith)))
+
+  -- a run is as long as it says
+  pub length_run : (xs : List X) (start stop : ℕ) → start ≤ stop → stop ≤ length xs → length (take (stop - start) (drop start xs)) ≡ stop - start
+  length_run xs start stop ordered within = length-take-le (stop - start) (drop start xs) (omega (arith, length-drop start xs, ordered, within))
 
 module _ {X : Type 0} (bytes_of : X → List ℕ) where
   -- what is true of items at places is true of their bytes

@@ -14,10 +14,10 @@ use Rattle.join_core.proofs.Listing.{ascending_ascending_of, one_listing}
 use Rattle.archive_core.specs.Record.{IsRecord}
 use Rattle.archive_core.specs.Content.{Operations, IsContent}
 use Rattle.archive_core.proofs.Taken.{tied_is}
+use Rattle.archive_core.proofs.Made.{bytes_same}
 use Rattle.archive_records.specs.declared.format.Format.TheVariants.{Archive}
 use Rattle.archive_records.specs.Text.{InOrder, written, end_record}
 use Rattle.archive_records.specs.Kind.{magic}
-use Rattle.archive_records.proofs.Puts.{bytes_same}
 use Rattle.archive_records.proofs.Ends.{length-end_record}
 use Rattle.archive_records.proofs.Contents.{order, InOrder-listing}
 use Rattle.archive_index.specs.Entry.{placed_entry, length_in, offset_in}

@@ -7,7 +7,7 @@ use Rattle.archive_records.specs.declared.fault.RecordFaultKind.TheVariants.{Bad
 use Rattle.archive_records.specs.declared.format.Format.TheVariants.{OldArchive as Old_format}
 use Rattle.archive_records.specs.declared.kind.TextKind.TheVariants.{Archive as Archive_text}
 use Rattle.archive_records.specs.Fault.{IsMagicFault}
-use Rattle.archive_records.specs.Kind.{magic, old_magic}
+use Rattle.archive_records.specs.Kind.{old_magic}
 use Rattle.archive_records.specs.Reading.{IsOfMachine}
 use Rattle.archive_records.specs.Reader.{StopsInMagicOf}
 use Rattle.archive_index.specs.declared.fault.IndexingFault.{IndexingFault}

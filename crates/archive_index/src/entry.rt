@@ -5,7 +5,7 @@ ghost use Rattle.std.specs.Int.{w64, to_be_bytes};
 ghost use Rattle.std.specs.Ordering.{nat_cmp};
 ghost use Rattle.std.specs.Cmp.Lexicographic.{slice_cmp};
 ghost use Rattle.archive_core.specs.Key.{key_bytes};
-ghost use Rattle.archive_core.specs.Record.{lent_bytes};
+ghost use Rattle.archive_core.specs.Record.{borrowed_bytes};
 ghost use Rattle.archive_reading.specs.InnerRows.{IsRowOf};
 ghost use Rattle.archive_index.specs.Entry.{dsym_byte, placed_bytes, placed_entry, tag_byte};
 
@@ -62,9 +62,9 @@ impl PlacedEntry {
     /// The entry of a record that stands at this offset and is so long. Its slice is hashed where that was not done
     /// before.
     pub fn of_record(record: &Record<'_>, offset: u64, size: u64) -> PlacedEntry
-        requires { size ≡ length (lent_bytes record.now) }
-        ensures bytes { placed_bytes result ≡ placed_entry offset (lent_bytes record.now) }
-        ensures row { IsRowOf (lent_bytes record.now) result.row }
+        requires { size ≡ length (borrowed_bytes record.now) }
+        ensures bytes { placed_bytes result ≡ placed_entry offset (borrowed_bytes record.now) }
+        ensures row { IsRowOf (borrowed_bytes record.now) result.row }
     {
         PlacedEntry {
             row: FindRow::of(record),

@@ -11,17 +11,17 @@ use Rattle.archive_records.specs.Text.{IsOperationsText, summary_text}
 use Rattle.archive_records.specs.declared.kind.TextKind.{TextKind}
 use Rattle.archive_records.specs.declared.kind.TextKind.TheVariants.{Archive as ArchiveFile, Operations as OperationsFile, Summary as SummaryFile}
 use Rattle.byte_device.specs.declared.disks.CannotOpen.{CannotOpen}
-use Rattle.command_ends.specs.declared.faults.InputName.{InputName}
-use Rattle.command_ends.specs.declared.faults.Why.{Why}
+use Rattle.command_core.specs.declared.faults.InputName.{InputName}
+use Rattle.command_core.specs.declared.faults.Why.{Why}
 use Rattle.admission.specs.File.{IsAcceptedFile, IsTakeFault}
 use Rattle.admission.specs.declared.fault.TakeFault.{TakeFault}
 use Rattle.admission.specs.declared.fault.TakeFault.TheVariants.{OutOfMemory as TakeOutOfMemory}
-use Rattle.archive_updates.specs.Admit.{admit}
-use Rattle.archive_updates.specs.Apply.{apply}
-use Rattle.archive_updates.specs.Delta.{delta}
-use Rattle.archive_updates.specs.Merge.{merge}
-use Rattle.command_ends.specs.Inputs.{Reader, reader, IsDeviceFault, IsGiven, IsArchiveRefused, IsFileRefused, IsTextRefused, IsGivenArchive}
-use Rattle.command_ends.proofs.Readers.{by_device}
+use Rattle.archive_writing.specs.Admit.{admit}
+use Rattle.archive_writing.specs.Apply.{apply}
+use Rattle.archive_writing.specs.Delta.{delta}
+use Rattle.archive_writing.specs.Merge.{merge}
+use Rattle.command_core.specs.Inputs.{Reader, reader, IsDeviceFault, IsGiven, IsArchiveRefused, IsFileRefused, IsTextRefused, IsGivenArchive}
+use Rattle.command_core.proofs.Readers.{by_device}
 use Rattle.archive_laws.proofs.Given.{known}
 
 -- a text of some meaning

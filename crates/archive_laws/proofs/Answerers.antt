@@ -23,11 +23,8 @@ use Rattle.archive_core.specs.Find.{is_key, AreAnswering}
 use Rattle.archive_core.specs.Order.{not_true}
 use Rattle.archive_core.specs.declared.keys.SliceKey.{SliceKey}
 use Rattle.sorted_archive.proofs.Held.{bytes_same}
-use Rattle.archive_core.proofs.Members.{in_front, in_filter, to_filter, ascending_by}
-use Rattle.archive_core.proofs.Members.{in_map, to_map}
-use Rattle.archive_core.proofs.Answering.{both}
-use Rattle.sorted_archive.proofs.Lookups.{one_key, is_key_of}
-use Rattle.archive_core.proofs.Members.{in_listing}
+use Rattle.archive_core.proofs.Members.{in_front, in_filter, to_filter, ascending_by, in_map, to_map, in_listing}
+use Rattle.archive_core.proofs.Answering.{both, one_key, is_key_of}
 
 module _ (o : Operations) (key : SliceKey) where
   -- what stands behind the key and the length in a record

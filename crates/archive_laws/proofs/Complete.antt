@@ -10,7 +10,7 @@ use Rattle.archive_core.specs.Key.{key_bytes}
 use Rattle.archive_core.specs.Valid.{key_of}
 use Rattle.archive_core.specs.declared.operations.Operation.{Operation}
 use Rattle.archive_core.specs.Record.{IsRecord}
-use Rattle.archive_core.specs.Content.{Operations, IsContent}
+use Rattle.archive_core.specs.Content.{Operations, IsContent, is_covered}
 use Rattle.archive_core.specs.Summary.{Entries}
 use Rattle.archive_records.specs.Entry.{AreEntries}
 use Rattle.archive_records.specs.declared.fault.RecordFaultKind.{RecordFaultKind}
@@ -21,8 +21,7 @@ use Rattle.archive_records.specs.Kind.{magic_of, kind_of, archive_format, IsItem
 use Rattle.archive_records.specs.Text.{ending, text_of, IsArchiveOf, taken_of, InOrder, AreApart, last_of, IsOperationsText, IsSummaryText}
 use Rattle.archive_records.specs.Fault.{is_end, next, FailsNext, FailsBehind, Fails, RefusesSlice, Refuses, IsTrailing, IsUnended, IsFault, IsOperationsFault, IsSummaryFault, IsFaultOf}
 use Rattle.archive_records.specs.Front.{IsGoodFront, front_length}
-use Rattle.archive_core.specs.Content.{is_covered}
-use Rattle.archive_records.proofs.Formats.{kind_archive}
+use Rattle.archive_records.proofs.Formats.{kind_archive, length-magic}
 use Rattle.archive_records.proofs.Versions.{Formed, formed_content, formed_text}
 use Rattle.archive_records.proofs.Apart.{apart_none, push_apart}
 use Rattle.archive_records.specs.declared.kind.TextKind.TheVariants.{Archive as Archive_text}
@@ -30,12 +29,10 @@ use Rattle.archive_records.proofs.Framed.{same_body, framed-whole}
 use Rattle.archive_records.proofs.Holds.{holds, Holds-nine, Holds-end, next-framed, next-above, next-counts, done, whole-admission}
 use Rattle.archive_records.proofs.SliceFacts.{slice_or_fault}
 use Rattle.archive_records.proofs.Forms.{IsBytes, IsBytes-take, IsBytes-drop, retires, admits, item-framed, archive_framed, entry-of}
-use Rattle.archive_records.proofs.Ends.{ends}
+use Rattle.archive_records.proofs.Ends.{ends, is_three, ending_is}
 use Rattle.archive_records.proofs.Puts.{concat-push}
 use Rattle.archive_records.proofs.Longest.{Takes, is_end-grows}
 use Rattle.archive_records.proofs.Steps.{InOrder-push}
-use Rattle.archive_records.proofs.Ends.{is_three, ending_is}
-use Rattle.archive_records.proofs.Formats.{length-magic}
 use Rattle.archive_records.proofs.Listed.{operations_in, IsOperationsText-text}
 use Rattle.archive_records.proofs.Contents.{AreEntries-entries, text_of_summary, summary_text-entries}
 use Rattle.archive_records.specs.declared.format.Format.{Format}

@@ -6,6 +6,7 @@ use Rattle.archive_core.specs.Valid.{IsValid, key_of}
 use Rattle.archive_core.specs.Record.{IsRecord, admission_record, retirement_record}
 use Rattle.archive_core.specs.Content.{covering, is_covered}
 use Rattle.archive_core.proofs.Entries.{covering_admission}
+use Rattle.archive_core.proofs.Made.{and_left, and_right}
 use Rattle.archive_records.specs.declared.format.Format.{Format}
 use Rattle.archive_records.specs.declared.format.Format.TheVariants.{Archive, OldArchive, Operations, Summary}
 use Rattle.archive_records.specs.declared.fault.RecordFaultKind.{RecordFaultKind}
@@ -16,7 +17,7 @@ use Rattle.archive_records.specs.Text.{last_of}
 use Rattle.archive_records.specs.Fault.{IsFault, IsFaultOf, IsFaultBehind, FailsNext, FailsBehind, Fails, IsMagicFault}
 use Rattle.archive_records.specs.Front.{IsGoodFront, IsLongestFront, front_length}
 use Rattle.archive_records.specs.Reader.{set_of}
-use Rattle.archive_records.proofs.Apart.{in_set, from_set, and_first, and_second, not_covering}
+use Rattle.archive_records.proofs.Apart.{in_set, from_set, not_covering}
 use Rattle.archive_records.proofs.FaultKinds.{fails_not_covered}
 use Rattle.archive_records.proofs.Exact.{fault_longest}
 use Rattle.archive_records.proofs.Formats.{format_magic}
@@ -50,9 +51,9 @@ StandsCovered text records slice rest =
 -- a record that is covered admits a slice
 covered_slice : (records : List (List ℕ)) (item : List ℕ) → IsRecord item → is_covered (set_of records) item ≡ true → (slice : List ℕ) × IsValid slice × (item ≡ admission_record slice) × Contains records (retirement_record (key_of slice) (sha256 slice))
 covered_slice records item (inl a) c =
-    let at : Contains records (covering item) = from_set records (covering item) (and_second _ _ c) in
+    let at : Contains records (covering item) = from_set records (covering item) (and_right _ _ c) in
     (a.slice, a.valid, a.is, subst (Contains records) (ap covering a.is ∙ covering_admission a.slice a.valid) at)
-covered_slice records item (inr t) c = absurd (not_covering item _ (and_first _ _ c) t.is)
+covered_slice records item (inr t) c = absurd (not_covering item _ (and_left _ _ c) t.is)
 
 -- a covered slice, as words tell it
 abbrev IsCoveredThere : List ℕ → RecordFault → Type 0

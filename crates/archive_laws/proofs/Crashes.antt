@@ -5,13 +5,10 @@ use Rattle.std.specs.Str.{bytes_eq}
 use Rattle.std.proofs.lemmas.Bool.{and_parts, false_from_ne_true, or_right}
 use Rattle.std.proofs.lemmas.List.{append-nil, take_all}
 use Rattle.std.proofs.lemmas.Slice.Eq.{bytes_eq-Decides}
-use Rattle.archive_files.specs.FileCalls.{FileCall, Creates, Opens, Writes, Syncs, Renames, SyncsFolder, Removes}
-use Rattle.archive_files.specs.FileCalls.{FindsFile, FindsOther, FindsNothing, FindsNoLink, Leads, FindsNoArchive}
-use Rattle.archive_files.specs.FileCalls.{Agrees, Covers, Loses, are_looks, drafting, is_look, publishing, writing}
-use Rattle.archive_files.specs.Publishing.{IsDescriptor, IsDraftRemoved, IsDrafted, IsReplaced, IsTargetOf}
-use Rattle.archive_files.specs.Publishing.{IsWritable, IsWrittenThrough, folder_of}
+use Rattle.archive_files.specs.FileCalls.{FileCall, Creates, Opens, Writes, Syncs, Renames, SyncsFolder, Removes, FindsFile, FindsOther, FindsNothing, FindsNoLink, Leads, FindsNoArchive, Agrees, Covers, Loses, are_probes, drafting, is_probe, publishing, writing}
+use Rattle.archive_files.specs.Publishing.{IsDescriptor, IsDraftRemoved, IsDrafted, IsReplaced, IsTargetOf, IsWritable, IsWrittenThrough, folder_of}
 use Rattle.archive_files.specs.declared.replaceable.Replaces.{Replaces}
-use Rattle.archive_files.proofs.Publishings.{target_looks, tested_looks}
+use Rattle.archive_files.proofs.Publishings.{target_probes, tested_probes}
 use Rattle.archive_laws.specs.Crashes.{DraftState, MayBeAt, Old, New, Torn, Touched, behind, no_draft, replay}
 
 -- Where it was renamed it has the whole text, and that is on the disk; the target itself was not touched.
@@ -30,45 +27,37 @@ IsStill d = (d.renamed ≡ false) × (d.touched ≡ false)
 
 -- ---- calls that only ask
 
-asks : (target : List ℕ) (d : DraftState) (call : FileCall) → is_look call ≡ true → behind target d call ≡ d
-asks target d (FindsFile p) look = refl
-asks target d (FindsOther p) look = refl
-asks target d (FindsNothing p) look = refl
-asks target d (FindsNoLink p) look = refl
-asks target d (Leads p q) look = refl
-asks target d (FindsNoArchive p) look = refl
-asks target d (Covers p q) look = refl
-asks target d (Agrees p q) look = refl
-asks target d (Loses p q) look = refl
-asks target d (Creates p) look = cc
-asks target d (Opens p) look = cc
-asks target d (Writes b) look = cc
-asks target d Syncs look = cc
-asks target d (Renames p q) look = cc
-asks target d (SyncsFolder p) look = cc
-asks target d (Removes p) look = cc
+asks : (target : List ℕ) (d : DraftState) (call : FileCall) → is_probe call ≡ true → behind target d call ≡ d
+asks target d (Creates p) probe = cc
+asks target d (Opens p) probe = cc
+asks target d (Writes b) probe = cc
+asks target d Syncs probe = cc
+asks target d (Renames p q) probe = cc
+asks target d (SyncsFolder p) probe = cc
+asks target d (Removes p) probe = cc
+asks target d call probe = refl
 
 -- what holds behind any of some calls holds behind any of them where calls that only ask come first
-behind_looks : (target : List ℕ) (P : DraftState → Type 0) (looks rest : List FileCall) (n : ℕ) (d : DraftState)
-    → are_looks looks ≡ true → ((m : ℕ) → P (fold (behind target) d (take m rest)))
-    → P (fold (behind target) d (take n (looks ++ rest)))
-behind_looks target P [] rest n d are holds = holds n
-behind_looks target P (look ∷ looks) rest zero d are holds = holds zero
-behind_looks target P (look ∷ looks) rest (suc n) d are holds =
-    let parts = and_parts (is_look look) (are_looks looks) are in
-    subst (λ e. P (fold (behind target) e (take n (looks ++ rest)))) (sym (asks target d look parts.0))
-    (behind_looks target P looks rest n d parts.1 holds)
+behind_probes : (target : List ℕ) (P : DraftState → Type 0) (probes rest : List FileCall) (n : ℕ) (d : DraftState)
+    → are_probes probes ≡ true → ((m : ℕ) → P (fold (behind target) d (take m rest)))
+    → P (fold (behind target) d (take n (probes ++ rest)))
+behind_probes target P [] rest n d are holds = holds n
+behind_probes target P (probe ∷ probes) rest zero d are holds = holds zero
+behind_probes target P (probe ∷ probes) rest (suc n) d are holds =
+    let parts = and_parts (is_probe probe) (are_probes probes) are in
+    subst (λ e. P (fold (behind target) e (take n (probes ++ rest)))) (sym (asks target d probe parts.0))
+    (behind_probes target P probes rest n d parts.1 holds)
 
 -- and they change nothing
-fold_looks : (target : List ℕ) (looks rest : List FileCall) (d : DraftState) → are_looks looks ≡ true
-    → fold (behind target) d (looks ++ rest) ≡ fold (behind target) d rest
-fold_looks target [] rest d are = refl
-fold_looks target (look ∷ looks) rest d are =
-    let parts = and_parts (is_look look) (are_looks looks) are in
-    ap (λ e. fold (behind target) e (looks ++ rest)) (asks target d look parts.0)
-    ∙ fold_looks target looks rest d parts.1
+fold_probes : (target : List ℕ) (probes rest : List FileCall) (d : DraftState) → are_probes probes ≡ true
+    → fold (behind target) d (probes ++ rest) ≡ fold (behind target) d rest
+fold_probes target [] rest d are = refl
+fold_probes target (probe ∷ probes) rest d are =
+    let parts = and_parts (is_probe probe) (are_probes probes) are in
+    ap (λ e. fold (behind target) e (probes ++ rest)) (asks target d probe parts.0)
+    ∙ fold_probes target probes rest d parts.1
 
-module _ (draft target folder : List ℕ) (other : draft ≢ target) (tests : List FileCall) (are : are_looks tests ≡ true) where
+module _ (draft target folder : List ℕ) (other : draft ≢ target) (tests : List FileCall) (are : are_probes tests ≡ true) where
   abbrev placed : List FileCall
   placed = publishing draft target folder
 
@@ -93,7 +82,7 @@ module _ (draft target folder : List ℕ) (other : draft ≢ target) (tests : Li
 
   ends : (text : List ℕ) (d : DraftState) (n : ℕ) → IsStill d → d.bytes ≡ text
       → IsWhole text (fold (behind target) d (take n last))
-  ends text d n still is = behind_looks target (IsWhole text) tests placed n d are (λ m. three text d m still is)
+  ends text d n still is = behind_probes target (IsWhole text) tests placed n d are (λ m. three text d m still is)
 
   -- behind some of them all
   each : (text : List ℕ) (pieces : List (List ℕ)) (d : DraftState) (n : ℕ) → IsStill d → d.bytes ++ concat pieces ≡ text
@@ -110,7 +99,7 @@ module _ (draft target folder : List ℕ) (other : draft ≢ target) (tests : Li
 
   -- behind all of them the renaming is on the disk
   all : (pieces : List (List ℕ)) (d : DraftState) → (fold (behind target) d (map Writes pieces ++ last)).kept ≡ true
-  all [] d = ap (λ e. e.kept) (fold_looks target tests placed d are) ∙ or_right d.renamed (bytes_eq target target) ((bytes_eq-Decides target target).1 refl)
+  all [] d = ap (λ e. e.kept) (fold_probes target tests placed d are) ∙ or_right d.renamed (bytes_eq target target) ((bytes_eq-Decides target target).1 refl)
   all (piece ∷ pieces) d = all pieces (behind target d (Writes piece))
 
   at_end : (pieces : List (List ℕ)) → (replay target (drafting draft pieces ++ last)).kept ≡ true
@@ -161,41 +150,40 @@ leaves_text text before _ d is kept (Touched touched left) = cc (is.untouched)
 
 leaves_it : (before left : Option (List ℕ)) (d : DraftState) → IsStill d → MayBeAt before d left → left ≡ before
 leaves_it before _ d still (Old kept) = refl
-leaves_it before _ d still (New renamed synced) = cc still.0
-leaves_it before _ d still (Torn renamed unsynced left) = cc still.0
 leaves_it before _ d still (Touched touched left) = cc still.1
+leaves_it before _ d still a = cc still.0
 
 -- ---- behind some of the calls, and behind all
 
 -- the calls from the first that does more than ask
-flat : (looks drafted tests rest calls : List FileCall) → calls ≡ looks ++ drafted ++ tests ++ rest
-    → calls ≡ looks ++ (drafted ++ (tests ++ rest))
-flat looks drafted tests rest calls is =
-    is ∙ append_assoc (looks ++ drafted) tests rest ∙ append_assoc looks drafted (tests ++ rest)
+flat : (probes drafted tests rest calls : List FileCall) → calls ≡ probes ++ drafted ++ tests ++ rest
+    → calls ≡ probes ++ (drafted ++ (tests ++ rest))
+flat probes drafted tests rest calls is =
+    is ∙ append_assoc (probes ++ drafted) tests rest ∙ append_assoc probes drafted (tests ++ rest)
 
-flat_removed : (looks drafted tests rest before calls : List FileCall) → before ≡ looks ++ drafted
-    → calls ≡ before ++ tests ++ rest → calls ≡ looks ++ (drafted ++ (tests ++ rest))
-flat_removed looks drafted tests rest before calls first is =
-    flat looks drafted tests rest calls (is ∙ ap (λ cs. cs ++ tests ++ rest) first)
+flat_removed : (probes drafted tests rest before calls : List FileCall) → before ≡ probes ++ drafted
+    → calls ≡ before ++ tests ++ rest → calls ≡ probes ++ (drafted ++ (tests ++ rest))
+flat_removed probes drafted tests rest before calls first is =
+    flat probes drafted tests rest calls (is ∙ ap (λ cs. cs ++ tests ++ rest) first)
 
 module _ (path text : List ℕ) (replaces : Replaces) (calls : List FileCall) (is : IsReplaced path replaces text calls) where
   abbrev end : List FileCall
   end = publishing is.draft is.target (folder_of is.target)
 
-  asking : are_looks is.tests ≡ true
-  asking = tested_looks replaces is.draft is.target is.tests is.tested
+  are_probed : are_probes is.tests ≡ true
+  are_probed = tested_probes replaces is.draft is.target is.tests is.tested
 
-  are_flat : calls ≡ is.looks ++ (drafting is.draft is.pieces ++ (is.tests ++ end))
-  are_flat = flat is.looks (drafting is.draft is.pieces) is.tests end calls is.calls_are
+  are_flat : calls ≡ is.probes ++ (drafting is.draft is.pieces ++ (is.tests ++ end))
+  are_flat = flat is.probes (drafting is.draft is.pieces) is.tests end calls is.calls_are
 
   whole_at : (done : ℕ) → IsWhole text (replay is.target (take done calls))
   whole_at done =
       subst (λ cs. IsWhole text (replay is.target (take done cs))) (sym are_flat)
-      (subst (λ t. IsWhole t (replay is.target (take done (is.looks ++ (drafting is.draft is.pieces ++ (is.tests ++ end))))))
+      (subst (λ t. IsWhole t (replay is.target (take done (is.probes ++ (drafting is.draft is.pieces ++ (is.tests ++ end))))))
       is.whole
-      (behind_looks is.target (IsWhole (concat is.pieces)) is.looks (drafting is.draft is.pieces ++ (is.tests ++ end)) done
-      no_draft (target_looks path is.target is.looks is.target_is)
-      (λ m. prefix is.draft is.target (folder_of is.target) is.beside.apart is.tests asking is.pieces m)))
+      (behind_probes is.target (IsWhole (concat is.pieces)) is.probes (drafting is.draft is.pieces ++ (is.tests ++ end)) done
+      no_draft (target_probes path is.target is.probes is.target_is)
+      (λ m. prefix is.draft is.target (folder_of is.target) is.beside.apart is.tests are_probed is.pieces m)))
 
   pub any_moment : (before left : Option (List ℕ)) (done : ℕ) → MayBeAt before (replay is.target (take done calls)) left
       → (left ≡ before) ⊎ (left ≡ Some text)
@@ -207,19 +195,19 @@ module _ (path text : List ℕ) (replaces : Replaces) (calls : List FileCall) (i
       (subst (λ cs. IsWhole text (replay is.target cs)) (take_all (length calls) calls (omega arith))
       (whole_at (length calls)))
       (ap (λ cs. (replay is.target cs).kept) are_flat
-      ∙ ap (λ d. d.kept) (fold_looks is.target is.looks (drafting is.draft is.pieces ++ (is.tests ++ end)) no_draft
-      (target_looks path is.target is.looks is.target_is))
-      ∙ at_end is.draft is.target (folder_of is.target) is.beside.apart is.tests asking is.pieces) may
+      ∙ ap (λ d. d.kept) (fold_probes is.target is.probes (drafting is.draft is.pieces ++ (is.tests ++ end)) no_draft
+      (target_probes path is.target is.probes is.target_is))
+      ∙ at_end is.draft is.target (folder_of is.target) is.beside.apart is.tests are_probed is.pieces) may
 
   pub place_is : (is.target ≡ path) ⊎ Contains calls (Leads path is.target)
   place_is = by_case is.target_is
     where
-      by_case : IsTargetOf path is.target is.looks → (is.target ≡ path) ⊎ Contains calls (Leads path is.target)
+      by_case : IsTargetOf path is.target is.probes → (is.target ≡ path) ⊎ Contains calls (Leads path is.target)
       by_case (inl none) = inl none.0
       by_case (inr (inl file)) = inl file.0
       by_case (inr (inr link)) =
           inr (subst (λ cs. Contains cs (Leads path is.target))
-          (sym (are_flat ∙ ap (λ looks. looks ++ (drafting is.draft is.pieces ++ (is.tests ++ end))) link))
+          (sym (are_flat ∙ ap (λ probes. probes ++ (drafting is.draft is.pieces ++ (is.tests ++ end))) link))
           (1, grind arith, refl))
 
 removed_at : (path : List ℕ) (calls : List FileCall) (done : ℕ) (is : IsDraftRemoved path calls)
@@ -227,16 +215,16 @@ removed_at : (path : List ℕ) (calls : List FileCall) (done : ℕ) (is : IsDraf
 removed_at path calls done is =
     let d : IsDrafted path is.draft is.target is.drafted = is.is_drafted in
     let drafted = drafting is.draft d.pieces in
-    let asks_first = target_looks path is.target d.looks d.target_is in
+    let asks_first = target_probes path is.target d.probes d.target_is in
     let still : (rest : List FileCall)
     → ((e : DraftState) (n : ℕ) → IsStill e → IsStill (fold (behind is.target) e (take n rest)))
     → calls ≡ is.drafted ++ is.tests ++ rest → IsStill (replay is.target (take done calls)) =
     λ rest stays are.
     subst (λ cs. IsStill (replay is.target (take done cs)))
-    (sym (flat_removed d.looks drafted is.tests rest is.drafted calls d.calls_are are))
-    (behind_looks is.target IsStill d.looks (drafted ++ (is.tests ++ rest)) done no_draft asks_first
+    (sym (flat_removed d.probes drafted is.tests rest is.drafted calls d.calls_are are))
+    (behind_probes is.target IsStill d.probes (drafted ++ (is.tests ++ rest)) done no_draft asks_first
     (λ m. unplaced is.draft is.target [] d.beside.apart [] refl (is.tests ++ rest)
-    (λ e n before. behind_looks is.target IsStill is.tests rest n e is.are_tests (λ k. stays e k before)) d.pieces m)) in
+    (λ e n before. behind_probes is.target IsStill is.tests rest n e is.are_tests (λ k. stays e k before)) d.pieces m)) in
     elim is.calls_are [
       | inl removed ↦ still (Removes is.draft ∷ [])
           (ends_removed is.draft is.target [] d.beside.apart [] refl) removed
@@ -253,8 +241,8 @@ pub no_file : (path text : List ℕ) (calls : List FileCall) (is : IsWrittenThro
     → Contains calls (FindsOther path) ⊎ IsDescriptor path
 no_file path text calls is = by_case is.writable
   where
-    by_case : IsWritable path is.looks → Contains calls (FindsOther path) ⊎ IsDescriptor path
+    by_case : IsWritable path is.probes → Contains calls (FindsOther path) ⊎ IsDescriptor path
     by_case (inl other) =
         inl (subst (λ cs. Contains cs (FindsOther path))
-        (sym (is.calls_are ∙ ap (λ looks. looks ++ writing path is.pieces) other)) (0, grind arith, refl))
+        (sym (is.calls_are ∙ ap (λ probes. probes ++ writing path is.pieces) other)) (0, grind arith, refl))
     by_case (inr descriptor) = inr descriptor.1

@@ -14,16 +14,15 @@ use Rattle.report_text.specs.Answers.{answer_lines}
 use Rattle.source_frames.specs.AddressFrames.{AreFramesOf}
 use Rattle.source_frames.specs.Frames.{FrameRecord}
 use Rattle.byte_device.specs.declared.disks.CannotOpen.{CannotOpen}
-use Rattle.command_ends.specs.declared.faults.InputName.{InputName}
-use Rattle.command_ends.specs.declared.faults.Status.{Status}
-use Rattle.command_ends.specs.declared.faults.Status.TheVariants.{Done, Partial}
-use Rattle.command_ends.specs.declared.faults.Why.{Why}
-use Rattle.command_ends.specs.declared.faults.Why.TheVariants.{Device as CannotRead, BadFrame, CannotOpen as NotOpened}
-use Rattle.archive_queries.specs.Frames.{IsFrameAnswered, TellsFrames, MakesFramed, RefusesFrames, Told, IsToldAlone, SymbolicatesEach, is_done}
-use Rattle.command_ends.specs.Inputs.{Reader, reader, Gives, HoldsContent, IsDeviceFault, IsFramesRefused, IsGiven}
-use Rattle.archive_queries.specs.Symbolicate.{Answered, IsAnswered, TellsAddresses, is_symbol, answers_status, answers_text}
-use Rattle.archive_updates.specs.Merge.{merge}
-use Rattle.archive_laws.specs.Joins.{IsGivenJoin}
+use Rattle.command_core.specs.declared.faults.InputName.{InputName}
+use Rattle.command_core.specs.declared.faults.Status.{Status}
+use Rattle.command_core.specs.declared.faults.Status.TheVariants.{Done, Partial}
+use Rattle.command_core.specs.declared.faults.Why.{Why}
+use Rattle.command_core.specs.declared.faults.Why.TheVariants.{Device as CannotRead, BadFrame, CannotOpen as NotOpened}
+use Rattle.address_queries.specs.Frames.{IsFrameAnswered, TellsFrames, MakesFramed, RefusesFrames, Told, IsToldAlone, SymbolicatesEach, is_done}
+use Rattle.command_core.specs.Inputs.{Reader, reader, Gives, HoldsContent, IsDeviceFault, IsFramesRefused, IsGiven}
+use Rattle.address_queries.specs.Symbolicate.{Answered, IsAnswered, TellsAddresses, is_symbol, answers_status, answers_text}
+use Rattle.archive_laws.specs.Joins.{IsGivenJoin, IsMergedFile}
 use Rattle.archive_laws.proofs.Joins.{alone_held, as_merged, holds_join, join_refused, told_of_join}
 use Rattle.archive_laws.proofs.Given.{gives, is_given}
 use Rattle.archive_laws.proofs.Viewed.{alike_told, one_seen, seen}
@@ -61,11 +60,10 @@ each_alone lines input others o _ _ given all = absurd all
 one_row : (lines : Bool) (o : Operations) (frame : Frame) (told : Told) (rows : List Answered) → map (λ (row : Answered). row.address) rows ≡ frame.address ∷ []
     → AllByRecursion (IsAnswered o frame.key frame.load lines) rows → told.status ≡ answers_status rows → told.text ≡ answers_text rows
     → (row : Answered) × IsFrameAnswered lines o frame row × (told ≡ alone_told row)
-one_row lines o frame told [] are all status text = cc
 one_row lines o frame told (row ∷ []) are all status text =
     let address : row.address ≡ frame.address = cc in
     (row, (address, all.0), λ i. record { status = status i; text = text i })
-one_row lines o frame told (row ∷ next ∷ rows) are all status text = cc
+one_row lines o frame told rows are all status text = cc
 
 each_row : {S T : Type 0} (lines : Bool) (input : Reader S) (others : List (Reader T)) (o : Operations) (frames : List Frame) (told : List Told) → IsGivenJoin input others o
     → AllZip (IsToldAlone lines input others) frames told → (rows : List Answered) × AllZip (IsFrameAnswered lines o) frames rows × (told ≡ map alone_told rows)
@@ -79,36 +77,36 @@ each_row lines input others o _ _ given all = absurd all
 
 -- ---- frames of archives that have this content together
 
-pub command_fault_of : {R S T : Type 0} (lines : Bool) (input : Reader R) (first : Reader S) (others : List (Reader T)) (bytes : List ℕ) (said : List Frame) (o : Operations) (status : Status) (text : List ℕ)
-    → IsGiven input bytes → frames_of bytes ≡ Ok said → IsGivenJoin first others o → MakesFramed lines input first others status text → TellsFrames lines o said status text
-command_fault_of lines input first others bytes said o status text is says given_join makes =
-    let also = is_given input bytes (λ b. frames_of b ≡ Ok makes.said) is makes.frames_are in
-    let frames : makes.said ≡ said = cc in
-    subst (λ (fs : List Frame). TellsFrames lines o fs status text) frames (told_of_join first others o given_join (λ p. TellsFrames lines p makes.said status text) makes.tells)
+pub frames_of_join : {R S T : Type 0} (lines : Bool) (input : Reader R) (first : Reader S) (others : List (Reader T)) (bytes : List ℕ) (listed : List Frame) (o : Operations) (status : Status) (text : List ℕ)
+    → IsGiven input bytes → frames_of bytes ≡ Ok listed → IsGivenJoin first others o → MakesFramed lines input first others status text → TellsFrames lines o listed status text
+frames_of_join lines input first others bytes listed o status text is says given_join makes =
+    let also = is_given input bytes (λ b. frames_of b ≡ Ok makes.listed) is makes.frames_are in
+    let frames : makes.listed ≡ listed = cc in
+    subst (λ (fs : List Frame). TellsFrames lines o fs status text) frames (told_of_join first others o given_join (λ p. TellsFrames lines p makes.listed status text) makes.tells)
 
-pub each_is : {R S T : Type 0} (lines : Bool) (input : Reader R) (first : Reader S) (others : List (Reader T)) (bytes : List ℕ) (said : List Frame) (o : Operations) (status : Status) (text : List ℕ)
-    → IsGiven input bytes → frames_of bytes ≡ Ok said → IsGivenJoin first others o → MakesFramed lines input first others status text ↔ SymbolicatesEach lines first others said status text
-each_is lines input first others bytes said o status text is says given_join = (to, back)
+pub each_is : {R S T : Type 0} (lines : Bool) (input : Reader R) (first : Reader S) (others : List (Reader T)) (bytes : List ℕ) (listed : List Frame) (o : Operations) (status : Status) (text : List ℕ)
+    → IsGiven input bytes → frames_of bytes ≡ Ok listed → IsGivenJoin first others o → MakesFramed lines input first others status text ↔ SymbolicatesEach lines first others listed status text
+each_is lines input first others bytes listed o status text is says given_join = (to, back)
   where
-    to : MakesFramed lines input first others status text → SymbolicatesEach lines first others said status text
+    to : MakesFramed lines input first others status text → SymbolicatesEach lines first others listed status text
     to makes =
-        let tells = command_fault_of lines input first others bytes said o status text is says given_join makes in
+        let tells = frames_of_join lines input first others bytes listed o status text is says given_join makes in
         record {
           told = map alone_told tells.rows;
-          alone = each_alone lines first others o said tells.rows given_join tells.answered;
+          alone = each_alone lines first others o listed tells.rows given_join tells.answered;
           status_is = tells.status_is ∙ ap (λ (all : Bool). if all then Done else Partial) (all_done tells.rows);
           text_is = tells.text_is ∙ one_text tells.rows;
         }
 
-    back : SymbolicatesEach lines first others said status text → MakesFramed lines input first others status text
+    back : SymbolicatesEach lines first others listed status text → MakesFramed lines input first others status text
     back each =
-        let rows = each_row lines first others o said each.told given_join each.alone in
+        let rows = each_row lines first others o listed each.told given_join each.alone in
         let symbols = ap (list_all (λ (one : Told). is_done one.status)) rows.2 ∙ sym (all_done rows.0) in
         let printed = ap (flat_map (λ (one : Told). one.text)) rows.2 ∙ sym (one_text rows.0) in
         record {
-          said = said;
-          frames_are = gives input bytes (λ b. frames_of b ≡ Ok said) is says;
-          tells = holds_join first others o given_join (λ p. TellsFrames lines p said status text) (record {
+          listed = listed;
+          frames_are = gives input bytes (λ b. frames_of b ≡ Ok listed) is says;
+          tells = holds_join first others o given_join (λ p. TellsFrames lines p listed status text) (record {
             rows = rows.0;
             answered = rows.1;
             status_is = each.status_is ∙ ap (λ (all : Bool). if all then Done else Partial) symbols;
@@ -117,18 +115,18 @@ each_is lines input first others bytes said o status text is says given_join = (
         }
 
 -- what they tell is what the file tells that `merge` of them writes
-pub as_one : {Q R S T : Type 0} (lines : Bool) (input : Reader Q) (first : Reader R) (others : List (Reader S)) (file : Reader T) (o : Operations) (made told : List ℕ) (status : Status) (text : List ℕ)
-    → IsGivenJoin first others o → (merge first others).Makes made told → IsGiven file made → MakesFramed lines input first others status text ↔ MakesFramed {T = S} lines input file [] status text
-as_one lines input first others file o made told status text given_join makes is = (
-  λ m. record { said = m.said; frames_are = m.frames_are; tells = (as_merged first others file o made told (λ p. TellsFrames lines p m.said status text) given_join makes is).0 m.tells },
-  λ m. record { said = m.said; frames_are = m.frames_are; tells = (as_merged first others file o made told (λ p. TellsFrames lines p m.said status text) given_join makes is).1 m.tells },
+pub as_one : {Q R S T : Type 0} (lines : Bool) (input : Reader Q) (first : Reader R) (others : List (Reader S)) (file : Reader T) → IsMergedFile first others file → (status : Status) (text : List ℕ)
+    → MakesFramed lines input first others status text ↔ MakesFramed {T = S} lines input file [] status text
+as_one lines input first others file merged status text = (
+  λ m. record { listed = m.listed; frames_are = m.frames_are; tells = (as_merged first others file merged (λ p. TellsFrames lines p m.listed status text)).0 m.tells },
+  λ m. record { listed = m.listed; frames_are = m.frames_are; tells = (as_merged first others file merged (λ p. TellsFrames lines p m.listed status text)).1 m.tells },
 )
 
 pub as_alone : {Q R S : Type 0} (lines : Bool) (input : Reader Q) (first : Reader R) (status : Status) (text : List ℕ)
-    → MakesFramed {T = S} lines input first [] status text ↔ ((said : List Frame) × Gives input (λ bytes. frames_of bytes ≡ Ok said) × HoldsContent first (λ o. TellsFrames lines o said status text))
+    → MakesFramed {T = S} lines input first [] status text ↔ ((listed : List Frame) × Gives input (λ bytes. frames_of bytes ≡ Ok listed) × HoldsContent first (λ o. TellsFrames lines o listed status text))
 as_alone lines input first status text = (
-  λ m. (m.said, m.frames_are, (alone_held first (λ o. TellsFrames lines o m.said status text)).0 m.tells),
-  λ m. record { said = m.0; frames_are = m.1; tells = (alone_held first (λ o. TellsFrames lines o m.0 status text)).1 m.2 },
+  λ m. (m.listed, m.frames_are, (alone_held first (λ o. TellsFrames lines o m.listed status text)).0 m.tells),
+  λ m. record { listed = m.0; frames_are = m.1; tells = (alone_held first (λ o. TellsFrames lines o m.0 status text)).1 m.2 },
 )
 
 -- ---- one report
@@ -155,26 +153,26 @@ module _ (one : (o : Operations) (key : SliceKey) (place : Where) (answer other 
       (status other_status : Status) (text other_text : List ℕ) → IsGiven input bytes → IsGiven also bytes → IsGivenJoin first others o → IsGivenJoin other more o
       → MakesFramed lines input first others status text → MakesFramed lines also other more other_status other_text → (status ≡ other_status) × (text ≡ other_text)
   one_made lines input first others also other more bytes o status other_status text other_text is also_is first_given other_given makes other_makes =
-      let says = is_given input bytes (λ b. frames_of b ≡ Ok makes.said) is makes.frames_are in
-      one_told lines o makes.said status other_status text other_text
-      (command_fault_of lines input first others bytes makes.said o status text is says first_given makes)
-      (command_fault_of lines also other more bytes makes.said o other_status other_text also_is says other_given other_makes)
+      let says = is_given input bytes (λ b. frames_of b ≡ Ok makes.listed) is makes.frames_are in
+      one_told lines o makes.listed status other_status text other_text
+      (frames_of_join lines input first others bytes makes.listed o status text is says first_given makes)
+      (frames_of_join lines also other more bytes makes.listed o other_status other_text also_is says other_given other_makes)
 
 -- ---- inputs that are accepted
 
-pub frames_alone : {S : Type 0} (left : S → Option (List ℕ)) (failures : S → ℕ) (old new : Result S CannotOpen) (bytes : List ℕ) (said : List Frame) (why : Why)
-    → IsGiven (reader left failures old new) bytes → frames_of bytes ≡ Ok said → IsFramesRefused (reader left failures old new) why → IsDeviceFault why
-frames_alone left failures (Ok source) new bytes said NotOpened is says refused = refused
-frames_alone left failures (Err _) new bytes said NotOpened is says refused = absurd is
-frames_alone left failures old new bytes said CannotRead is says refused = tt
-frames_alone left failures old new bytes said (BadFrame line flaw) is says refused =
+pub frames_alone : {S : Type 0} (left : S → Option (List ℕ)) (failures : S → ℕ) (old new : Result S CannotOpen) (bytes : List ℕ) (listed : List Frame) (why : Why)
+    → IsGiven (reader left failures old new) bytes → frames_of bytes ≡ Ok listed → IsFramesRefused (reader left failures old new) why → IsDeviceFault why
+frames_alone left failures (Ok source) new bytes listed NotOpened is says refused = refused
+frames_alone left failures (Err _) new bytes listed NotOpened is says refused = absurd is
+frames_alone left failures old new bytes listed CannotRead is says refused = tt
+frames_alone left failures old new bytes listed (BadFrame line flaw) is says refused =
     let bad = is_given (reader left failures old new) bytes (λ b. (frames_of b ≡ Err line) × (flaw ≡ frame_flaw (line_at b line))) is refused.1 in cc (sym bad.0 ∙ says)
-frames_alone left failures old new bytes said _ is says refused = absurd refused
+frames_alone left failures old new bytes listed _ is says refused = absurd refused
 
-pub not_refused : {R S T : Type 0} (input : Reader R) (first : Reader S) (others : List (Reader T)) (bytes : List ℕ) (said : List Frame) (o : Operations) (place : InputName) (why : Why)
-    → IsGiven input bytes → frames_of bytes ≡ Ok said → IsGivenJoin first others o → RefusesFrames input first others place why → IsDeviceFault why
-not_refused input first others bytes said o place why is says given_join refused =
+pub not_refused : {R S T : Type 0} (input : Reader R) (first : Reader S) (others : List (Reader T)) (bytes : List ℕ) (listed : List Frame) (o : Operations) (place : InputName) (why : Why)
+    → IsGiven input bytes → frames_of bytes ≡ Ok listed → IsGivenJoin first others o → RefusesFrames input first others place why → IsDeviceFault why
+not_refused input first others bytes listed o place why is says given_join refused =
     elim refused [
-      | inl p ↦ frames_alone input.left input.failures input.old input.new bytes said why is says p.0.1
+      | inl p ↦ frames_alone input.left input.failures input.old input.new bytes listed why is says p.0.1
       | inr p ↦ join_refused first others o given_join place why p.2
     ]

@@ -6,7 +6,7 @@ use Rattle.archive_core.specs.Content.{Operations, IsContent}
 use Rattle.archive_records.specs.Text.{IsArchiveOf}
 use Rattle.archive_records.proofs.Versions.{one_content}
 use Rattle.byte_device.specs.declared.disks.CannotOpen.{CannotOpen}
-use Rattle.command_ends.specs.Inputs.{Reader, Gives, Holds, HoldsArchive, IsGiven, IsGivenArchive}
+use Rattle.command_core.specs.Inputs.{Reader, Gives, Holds, HoldsArchive, IsGiven, IsGivenArchive}
 
 pub known : (left : Option (List ℕ)) (bytes : List ℕ) (P : List ℕ → Type 0) → left ≡ Some bytes → IfSome left P → P bytes
 known left bytes P is p = let q : IfSome (Some bytes) P = subst (λ (l : Option (List ℕ)). IfSome l P) is p in q

@@ -4,12 +4,12 @@ use Rattle.std.specs.List.{AllByRecursion, AllZip}
 use Rattle.archive_core.specs.Content.{Operations, IsContent, joined}
 use Rattle.archive_core.proofs.Made.{joined_content}
 use Rattle.archive_records.specs.Text.{IsArchiveOf, written}
-use Rattle.command_ends.specs.declared.faults.InputName.{InputName}
-use Rattle.command_ends.specs.declared.faults.Why.{Why}
-use Rattle.command_ends.specs.Archives.{AreRefused, HoldTogether, merged}
-use Rattle.command_ends.specs.Inputs.{Reader, HoldsArchive, HoldsContent, IsDeviceFault, IsGiven, IsGivenArchive}
-use Rattle.archive_updates.specs.Merge.{merge}
-use Rattle.archive_laws.specs.Joins.{IsGivenJoin}
+use Rattle.command_core.specs.declared.faults.InputName.{InputName}
+use Rattle.command_core.specs.declared.faults.Why.{Why}
+use Rattle.command_core.specs.Archives.{AreRefused, HoldTogether, merged}
+use Rattle.command_core.specs.Inputs.{Reader, HoldsArchive, HoldsContent, IsDeviceFault, IsGiven, IsGivenArchive}
+use Rattle.archive_writing.specs.Merge.{merge}
+use Rattle.archive_laws.specs.Joins.{IsGivenJoin, IsMergedFile}
 use Rattle.archive_laws.proofs.Accepted.{merge_refused}
 use Rattle.archive_laws.proofs.Given.{contents_given, gives, one_given}
 
@@ -23,7 +23,7 @@ each_holds [] [] given = tt
 each_holds (file ∷ files) (o ∷ contents) given = (holds file o given.0, each_holds files contents given.1)
 each_holds _ _ given = absurd given
 
-merged_is : (o : Operations) (contents : List Operations) → IsContent o → AllByRecursion IsContent contents → IsContent (merged o contents)
+pub merged_is : (o : Operations) (contents : List Operations) → IsContent o → AllByRecursion IsContent contents → IsContent (merged o contents)
 merged_is o [] content are = content
 merged_is o (p ∷ contents) content are = merged_is (joined o p) contents (joined_content o p content are.0) are.1
 
@@ -49,9 +49,9 @@ module _ {R S : Type 0} (archive : Reader R) (others : List (Reader S)) (o : Ope
     is_true = subst IsTrue given.join_is is;
   }
 
-  pub join_refused : (place : InputName) (why : Why) → AreRefused archive others place why → IsDeviceFault why
-  join_refused place why refused =
-      merge_refused archive others given.content given.contents place why given.is_content given.are_contents given.archive_is given.others_are
+  pub join_refused : (at : InputName) (why : Why) → AreRefused archive others at why → IsDeviceFault why
+  join_refused at why refused =
+      merge_refused archive others given.content given.contents at why given.is_content given.are_contents given.archive_is given.others_are
       (elim refused [ inl first ↦ inl first.0 | inr behind ↦ inr behind ])
 
   -- the file that `merge` of them writes is the text of their join
@@ -72,12 +72,12 @@ module _ {R S : Type 0} (archive : Reader R) (others : List (Reader S)) (o : Ope
       }
 
 -- the same of a file that holds the join
-pub as_merged : {R S T : Type 0} (archive : Reader R) (others : List (Reader S)) (file : Reader T) (o : Operations) (made told : List ℕ) (IsTrue : Operations → Type 0)
-    → IsGivenJoin archive others o → (merge archive others).Makes made told → IsGiven file made → HoldTogether archive others IsTrue ↔ HoldTogether {S = S} file [] IsTrue
-as_merged archive others file o made told IsTrue given makes is =
-    let one = merge_given archive others o given file made told makes is in (
-      λ held. holds_join file [] o one IsTrue (told_of_join archive others o given IsTrue held),
-      λ held. holds_join archive others o given IsTrue (told_of_join file [] o one IsTrue held),
+pub as_merged : {R S T : Type 0} (archive : Reader R) (others : List (Reader S)) (file : Reader T) → IsMergedFile archive others file → (IsTrue : Operations → Type 0)
+    → HoldTogether archive others IsTrue ↔ HoldTogether {S = S} file [] IsTrue
+as_merged archive others file m IsTrue =
+    let one = merge_given archive others m.join m.given file m.made m.told m.makes m.file_is in (
+      λ held. holds_join file [] m.join one IsTrue (told_of_join archive others m.join m.given IsTrue held),
+      λ held. holds_join archive others m.join m.given IsTrue (told_of_join file [] m.join one IsTrue held),
     )
 
 -- ---- one archive

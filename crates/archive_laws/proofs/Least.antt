@@ -4,8 +4,7 @@ use Rattle.std.specs.Prelude.{◌↔◌, Contains}
 use Rattle.std.specs.List.{AllByRecursion, list_any}
 use Rattle.std.specs.FinSet as set
 use Rattle.std.specs.FinSet.{contains-union, contains-empty, same_set}
-use Rattle.std.specs.Cmp.Lexicographic.{nat_list_cmp_total}
-use Rattle.std.specs.Cmp.Lexicographic.{slice_cmp}
+use Rattle.std.specs.Cmp.Lexicographic.{nat_list_cmp_total, slice_cmp}
 use Rattle.std.specs.Ordering.{nat_cmp}
 use Rattle.std.proofs.Math.Bool.{or-false, or_assoc}
 use Rattle.std.proofs.lemmas.List.Elements.{Contains-append_right}
@@ -14,8 +13,9 @@ use Rattle.join_core.specs.Bound.{IsLeastAbove}
 use Rattle.archive_core.specs.Content.{Operations, IsBelow, IsMade, IsContent, content_of, joined}
 use Rattle.archive_core.proofs.Made.{bytes_same, joined_made_right}
 use Rattle.exchange_model.proofs.Content.{joined_made}
-use Rattle.command_ends.specs.Archives.{merged}
-use Rattle.archive_updates.specs.Merge.{operations_of}
+use Rattle.command_core.specs.Archives.{merged}
+use Rattle.archive_writing.specs.Merge.{operations_of}
+use Rattle.archive_laws.proofs.Joins.{merged_is}
 
 module _
     (least : (o p : Operations) → IsContent o → IsContent p → IsLeastAbove IsContent IsBelow o p (joined o p))
@@ -41,15 +41,11 @@ module _
     same_content : (o p : Operations) → IsContent o → IsContent p → IsBelow o p → IsBelow p o → o ≡ p
     same_content o p a b h k = sym (adds_nothing p o b a k) ∙ commutative p o b a ∙ adds_nothing o p a b h
 
-    pub merged_content : (o : Operations) (contents : List Operations) → IsContent o → AllByRecursion IsContent contents → IsContent (merged o contents)
-    merged_content o [] a all = a
-    merged_content o (p ∷ contents) a all = merged_content (joined o p) contents (least o p a all.0).content all.1
-
     pub above_input : (o : Operations) (contents : List Operations) → IsContent o → AllByRecursion IsContent contents → IsBelow o (merged o contents)
     above_input o [] a all = below_itself o a
     above_input o (p ∷ contents) a all =
         let both = least o p a all.0 in
-        below_through o (joined o p) (merged (joined o p) contents) a both.content (merged_content (joined o p) contents both.content all.1)
+        below_through o (joined o p) (merged (joined o p) contents) a both.content (merged_is (joined o p) contents both.content all.1)
         both.left (above_input (joined o p) contents both.content all.1)
 
     pub above_each : (o : Operations) (contents : List Operations) (q : Operations) → IsContent o → AllByRecursion IsContent contents → Contains contents q → IsBelow q (merged o contents)
@@ -57,7 +53,7 @@ module _
     above_each o (p ∷ contents) q a all (zero, lt, is) =
         let both = least o p a all.0 in
         subst (λ (r : Operations). IsBelow r (merged (joined o p) contents)) is
-        (below_through p (joined o p) (merged (joined o p) contents) all.0 both.content (merged_content (joined o p) contents both.content all.1)
+        (below_through p (joined o p) (merged (joined o p) contents) all.0 both.content (merged_is (joined o p) contents both.content all.1)
         both.right (above_input (joined o p) contents both.content all.1))
     above_each o (p ∷ contents) q a all (suc k, lt, is) =
         above_each (joined o p) contents q (least o p a all.0).content all.1 (k, omega (arith, lt), is)
@@ -74,13 +70,13 @@ module _
     below_others : (o : Operations) (contents others : List Operations) → IsContent o → AllByRecursion IsContent contents → AllByRecursion IsContent others
         → ((p : Operations) → Contains contents p → Contains others p) → IsBelow (merged o contents) (merged o others)
     below_others o contents others a all all_others within =
-        least_merged o contents (merged o others) a all (merged_content o others a all_others) (above_input o others a all_others)
+        least_merged o contents (merged o others) a all (merged_is o others a all_others) (above_input o others a all_others)
         (λ p at. above_each o others p a all_others (within p at))
 
     pub merged_alike : (o : Operations) (contents others : List Operations) → IsContent o → AllByRecursion IsContent contents → AllByRecursion IsContent others
         → ((p : Operations) → Contains contents p ↔ Contains others p) → merged o contents ≡ merged o others
     merged_alike o contents others a all all_others same =
-        same_content (merged o contents) (merged o others) (merged_content o contents a all) (merged_content o others a all_others)
+        same_content (merged o contents) (merged o others) (merged_is o contents a all) (merged_is o others a all_others)
         (below_others o contents others a all all_others (λ p. (same p).0))
         (below_others o others contents a all_others all (λ p. (same p).1))
 
@@ -99,7 +95,7 @@ module _
         → merged o (contents ++ merged p others ∷ []) ≡ merged o (contents ++ p ∷ others)
     merged_before o p contents others a b all all_others =
         fold-append joined o contents (merged p others ∷ [])
-        ∙ joined_merged (merged o contents) p others (merged_content o contents a all) b all_others
+        ∙ joined_merged (merged o contents) p others (merged_is o contents a all) b all_others
         ∙ sym (fold-append joined o contents (p ∷ others))
 
 -- a record is in the union of contents where it is in one of them

@@ -2,9 +2,9 @@
 use Rattle.std.proofs.Common.{◌≡◌, ℕ, List, [], ◌∷◌, refl, ◌∙◌, inl, inr}
 use Rattle.archive_core.specs.Content.{Operations, IsContent, content_of, joined}
 use Rattle.archive_records.specs.Text.{AreOperations, written, old_written}
-use Rattle.command_ends.specs.Inputs.{Reader, IsGiven, IsGivenArchive}
-use Rattle.command_ends.specs.Archives.{merged}
-use Rattle.archive_updates.specs.Merge.{MakesMerged}
+use Rattle.command_core.specs.Inputs.{Reader, IsGiven, IsGivenArchive}
+use Rattle.command_core.specs.Archives.{merged}
+use Rattle.archive_writing.specs.Merge.{MakesMerged}
 use Rattle.archive_laws.proofs.Given.{one_given, contents_given}
 
 -- an input with what version 1 wrote of operations gives the content that they make

@@ -1,5 +1,6 @@
 -- The content that has nothing.
-use Rattle.std.proofs.Common.{◌≡◌, ◌∙◌, ℕ, List, Bool, true, false, ◌||◌, refl, ap}
+use Rattle.std.proofs.Common.{◌≡◌, ◌∙◌, ℕ, List, false, ◌||◌, ap}
+use Rattle.std.proofs.Math.Bool.{or-false}
 use Rattle.std.specs.Ordering.{nat_cmp}
 use Rattle.std.specs.Cmp.Lexicographic.{slice_cmp, nat_list_cmp_total}
 use Rattle.std.specs.FinSet as set
@@ -20,13 +21,9 @@ before_union : (o : Operations) → union set.empty o ≡ o
 before_union o = same_set nat_list_cmp_total bytes_same (union set.empty o) o
     (λ r. contains-union nat_list_cmp_total set.empty o r ∙ ap (λ b. b || contains o r) (nothing r))
 
-or_false : (b : Bool) → (b || false) ≡ b
-or_false true = refl
-or_false false = refl
-
 after_union : (o : Operations) → union o set.empty ≡ o
 after_union o = same_set nat_list_cmp_total bytes_same (union o set.empty) o
-    (λ r. contains-union nat_list_cmp_total o set.empty r ∙ ap (λ b. contains o r || b) (nothing r) ∙ or_false (contains o r))
+    (λ r. contains-union nat_list_cmp_total o set.empty r ∙ ap (λ b. contains o r || b) (nothing r) ∙ or-false (contains o r))
 
 pub joined_before : (o : Operations) → IsContent o → content_of (union set.empty o) ≡ o
 joined_before o is = ap content_of (before_union o) ∙ is.itself

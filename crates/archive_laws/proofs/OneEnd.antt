@@ -12,24 +12,23 @@ use Rattle.report_text.specs.Finds.{find_lines, list_lines}
 use Rattle.report_text.specs.Names.{name_lines}
 use Rattle.crash_frames.specs.Frames.{frames_of}
 use Rattle.crash_frames.specs.declared.frame.Frame.{Frame}
-use Rattle.command_ends.specs.declared.faults.CommandFault.TheVariants.{Input, Output, Report, OutOfMemory}
-use Rattle.command_ends.specs.declared.faults.InputName.{InputName}
-use Rattle.command_ends.specs.declared.faults.Status.{Status}
-use Rattle.command_ends.specs.declared.faults.Why.{Why}
-use Rattle.command_ends.specs.Archives.{AreRefused, AreUnfailed, HoldTogether, further_name, merged}
-use Rattle.command_ends.specs.Ends.{Query}
-use Rattle.command_ends.specs.Found.{TellsFound, found_status}
-use Rattle.command_ends.specs.Inputs.{Reader, EachUntouched, HoldsArchive, IsArchive, IsArchiveRefused, IsDeviceFault, IsFirstRefused, IsFrames, IsFramesRefused}
-use Rattle.command_ends.specs.Inputs.{IsGivenArchive, IsRefusedArchive, IsRefusedInOrder, IsRefusedInTurn}
-use Rattle.command_ends.specs.Outputs.{Takes}
+use Rattle.command_core.specs.declared.faults.CommandFault.TheVariants.{Input, Output, Report, OutOfMemory}
+use Rattle.command_core.specs.declared.faults.InputName.{InputName}
+use Rattle.command_core.specs.declared.faults.Status.{Status}
+use Rattle.command_core.specs.declared.faults.Why.{Why}
+use Rattle.command_core.specs.Archives.{AreRefused, AreUnfailed, HoldTogether, further_name, merged}
+use Rattle.command_core.specs.Ends.{Query}
+use Rattle.command_core.specs.Found.{TellsFound, found_status}
+use Rattle.command_core.specs.Inputs.{Reader, EachUntouched, HoldsArchive, IsArchive, IsArchiveRefused, IsDeviceFault, IsFirstRefused, IsFrames, IsFramesRefused, IsGivenArchive, IsRefusedArchive, IsRefusedInOrder, IsRefusedInTurn}
+use Rattle.command_core.specs.Outputs.{Takes}
 use Rattle.archive_exchange.specs.ModelEvent.{ModelEvent, AreSeen}
-use Rattle.rehearsal.specs.Script.{acts, script_of}
-use Rattle.rehearsal.specs.declared.event.Event.{Event}
+use Rattle.exchange_script.specs.Script.{acts, script_of}
+use Rattle.exchange_script.specs.declared.event.Event.{Event}
 use Rattle.rehearse.specs.Rehearse.{rehearse}
 use Rattle.archive_queries.specs.Find.{find}
 use Rattle.archive_queries.specs.Name.{TellsNamed, name}
-use Rattle.archive_queries.specs.Symbolicate.{TellsAddresses, symbolicate}
-use Rattle.archive_queries.specs.Frames.{MakesFramed, RefusesFrames, TellsFrames, frames}
+use Rattle.address_queries.specs.Symbolicate.{TellsAddresses, symbolicate}
+use Rattle.address_queries.specs.Frames.{MakesFramed, RefusesFrames, TellsFrames, frames}
 use Rattle.archive_queries.specs.List.{list}
 use Rattle.archive_laws.specs.Joins.{IsGivenJoin}
 use Rattle.archive_laws.specs.Refusals.{ArchivesHoldAlike, EachHoldAlike, EndAlike, HoldAlike, RefuseOne}
@@ -60,12 +59,10 @@ ends_alike query other made one left right report another (Err (Input at why)) (
     absurd (going (right b.1.status b.1.text at why b.1.makes a.0))
 ends_alike query other made one left right report another (Err (Input at why)) (Err (Input name reason)) a b going going_too =
     let same = one at name why reason a.0 b.0 going going_too in (λ i. Err (Input (same.0 i) (same.1 i)), ([], a.1, b.1))
-ends_alike query other made one left right report another (Err (Output _)) ended a b going going_too = absurd (going tt)
-ends_alike query other made one left right report another (Err (Report _)) ended a b going going_too = absurd (going tt)
-ends_alike query other made one left right report another (Err OutOfMemory) ended a b going going_too = absurd (going tt)
 ends_alike query other made one left right report another result (Err (Output _)) a b going going_too = absurd (going_too tt)
 ends_alike query other made one left right report another result (Err (Report _)) a b going going_too = absurd (going_too tt)
 ends_alike query other made one left right report another result (Err OutOfMemory) a b going going_too = absurd (going_too tt)
+ends_alike query other made one left right report another d ended a b going going_too = absurd (going tt)
 
 -- ---- archives
 
@@ -124,17 +121,17 @@ pub alike_too : {Q R S T : Type 0} (archive : Reader Q) (others : List (Reader R
 alike_too archive others also more alike = (swapped archive also alike.0, each_swapped others more alike.1)
 
 -- what their join tells
-abbrev pub asking : {R S : Type 0} → Reader R → List (Reader S) → (Operations → Status → List ℕ → Type 0) → Query
-asking archive others Tells = record {
+abbrev pub put_together : {R S : Type 0} → Reader R → List (Reader S) → (Operations → Status → List ℕ → Type 0) → Query
+put_together archive others Tells = record {
   Makes = λ status text. HoldTogether archive others (λ o. Tells o status text);
   Refuses = AreRefused archive others;
   Unfailed = AreUnfailed archive others;
 }
 
 pub asked_alike : {Q R S T : Type 0} (archive : Reader Q) (others : List (Reader R)) (also : Reader S) (more : List (Reader T)) (Tells : Operations → Status → List ℕ → Type 0)
-    → ((o : Operations) → TellOne (Tells o) (Tells o)) → ArchivesHoldAlike archive others also more → EndAlike (asking archive others Tells) (asking also more Tells)
+    → ((o : Operations) → TellOne (Tells o) (Tells o)) → ArchivesHoldAlike archive others also more → EndAlike (put_together archive others Tells) (put_together also more Tells)
 asked_alike archive others also more Tells one alike =
-    ends_alike (asking archive others Tells) (asking also more Tells)
+    ends_alike (put_together archive others Tells) (put_together also more Tells)
     (λ status other_status text other_text a b.
     let both = both_tell archive others also more alike (λ o. Tells o status text) (λ o. Tells o other_status other_text) a b in
     one both.0 status other_status text other_text both.1 both.2)
@@ -157,8 +154,8 @@ module _ {O P Q R S T : Type 0} (input : Reader O) (archive : Reader Q) (others 
   one_of_frames at name why another (inr a) (inr b) alone alone_too = one_of_archives archive others other more archives at name why another a.2 b.2 alone alone_too
 
   pub framed_fails : (lines : Bool) (status : Status) (text : List ℕ) (at : InputName) (why : Why) → MakesFramed lines input archive others status text → RefusesFrames also other more at why → IsDeviceFault why
-  framed_fails lines status text at why makes (inl b) = frames_accepted input also why alike (makes.said, makes.frames_are) b.0.1
-  framed_fails lines status text at why makes (inr b) = held_fails archive others other more archives (λ o. TellsFrames lines o makes.said status text) at why makes.tells b.2
+  framed_fails lines status text at why makes (inl b) = frames_accepted input also why alike (makes.listed, makes.frames_are) b.0.1
+  framed_fails lines status text at why makes (inr b) = held_fails archive others other more archives (λ o. TellsFrames lines o makes.listed status text) at why makes.tells b.2
 
 -- ---- one archive alone
 
@@ -180,16 +177,16 @@ listed_alike x y one alike =
 -- ---- what each query tells
 
 pub framed_alike : {O P Q R S T : Type 0} (lines : Bool) (input : Reader O) (archive : Reader Q) (others : List (Reader R)) (also : Reader P) (other : Reader S) (more : List (Reader T))
-    → ((o : Operations) (said : List Frame) → TellOne (TellsFrames lines o said) (TellsFrames lines o said))
+    → ((o : Operations) (listed : List Frame) → TellOne (TellsFrames lines o listed) (TellsFrames lines o listed))
     → HoldAlike input also → ArchivesHoldAlike archive others other more → EndAlike (frames lines input archive others) (frames lines also other more)
 framed_alike lines input archive others also other more one alike archives =
     ends_alike (frames lines input archive others) (frames lines also other more)
     (λ status other_status text other_text a b.
-    let c = carried input also (λ bytes. frames_of bytes ≡ Ok a.said) alike a.frames_are in
-    let said = is_given also c.0 (λ bytes. frames_of bytes ≡ Ok b.said) c.2 b.frames_are in
-    let same : b.said ≡ a.said = (let both = sym said ∙ c.3 in cc) in
-    let both = both_tell archive others other more archives (λ o. TellsFrames lines o a.said status text) (λ o. TellsFrames lines o b.said other_status other_text) a.tells b.tells in
-    one both.0 a.said status other_status text other_text both.1 (subst (λ (s : List Frame). TellsFrames lines both.0 s other_status other_text) same both.2))
+    let c = carried input also (λ bytes. frames_of bytes ≡ Ok a.listed) alike a.frames_are in
+    let listed = is_given also c.0 (λ bytes. frames_of bytes ≡ Ok b.listed) c.2 b.frames_are in
+    let same : b.listed ≡ a.listed = (let both = sym listed ∙ c.3 in cc) in
+    let both = both_tell archive others other more archives (λ o. TellsFrames lines o a.listed status text) (λ o. TellsFrames lines o b.listed other_status other_text) a.tells b.tells in
+    one both.0 a.listed status other_status text other_text both.1 (subst (λ (s : List Frame). TellsFrames lines both.0 s other_status other_text) same both.2))
     (one_of_frames input archive others also other more alike archives)
     (λ status text at why a b. framed_fails input archive others also other more alike archives lines status text at why a b)
     (λ status text at why a b.

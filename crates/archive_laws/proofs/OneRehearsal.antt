@@ -1,6 +1,5 @@
 -- A script has one report, and is refused for its device alone.
-use Rattle.std.proofs.Common.{◌≡◌, ℕ, ◌+◌, List, [], ◌∷◌, ◌++◌, length, map, codes, refl, sym, ap, ap₂, ◌∙◌, subst}
-use Rattle.std.proofs.Common.{Option, Result, Ok, Err, true, if◌then◌else◌}
+use Rattle.std.proofs.Common.{◌≡◌, ℕ, ◌+◌, List, [], ◌∷◌, ◌++◌, length, map, codes, refl, sym, ap, ap₂, ◌∙◌, subst, Option, Result, Ok, Err, true, if◌then◌else◌}
 use Rattle.std.specs.Prelude.{slice_index_or}
 use Rattle.std.specs.Fmt.{decimal}
 use Rattle.std.specs.List.{AllZip}
@@ -11,34 +10,34 @@ use Rattle.archive_exchange.specs.InnerEvents.{SeenFile}
 use Rattle.archive_exchange.specs.ModelEvent.{ModelEvent, IsFile, IsSeen, AreSeen, OutcomeIs, row_told, fault_told}
 use Rattle.admission.specs.declared.fault.TakeFault.{TakeFault}
 use Rattle.archive_words.specs.Lines.{line_at}
-use Rattle.rehearsal.specs.Flaws.{script_flaw}
-use Rattle.rehearsal.specs.declared.event.Event.{Event}
-use Rattle.rehearsal.specs.declared.event.Event.TheVariants as event
+use Rattle.exchange_script.specs.Flaws.{script_flaw}
+use Rattle.exchange_script.specs.declared.event.Event.{Event}
+use Rattle.exchange_script.specs.declared.event.Event.TheVariants as event
 use Rattle.archive_exchange.specs.declared.outcome.Outcome.{Outcome}
 use Rattle.archive_exchange.specs.declared.outcome.Outcome.TheVariants.{Took, Retired, Refused}
-use Rattle.rehearsal.specs.Events.{Act, Take, Retire, Full, Ask, Reply, Deliver, Save, Stop, act_of}
-use Rattle.rehearsal.specs.Script.{Wrong, acts, script_of}
-use Rattle.rehearse.specs.Rehearsal.{event_fault_text, event_lines, outcome_text, sent_text, took_text}
+use Rattle.exchange_script.specs.Events.{Act, Take, Retire, Full, Ask, Reply, Deliver, Save, Stop, act_of}
+use Rattle.exchange_script.specs.Script.{Wrong, acts, script_of}
+use Rattle.rehearse.specs.EventLines.{event_fault_text, event_lines, outcome_text, sent_text, took_text}
 use Rattle.report_text.specs.Report.{line}
 use Rattle.byte_device.specs.declared.disks.CannotOpen.{CannotOpen}
-use Rattle.command_ends.specs.declared.faults.InputName.{InputName}
-use Rattle.command_ends.specs.declared.faults.Status.{Status}
-use Rattle.command_ends.specs.declared.faults.Why.{Why}
-use Rattle.command_ends.specs.declared.faults.Why.TheVariants.{Device as CannotRead, Script as Faulty, CannotOpen as NotOpened}
-use Rattle.command_ends.specs.Inputs.{Reader, reader, IsDeviceFault, IsGiven, IsRefusedScript, IsScriptRefused}
+use Rattle.command_core.specs.declared.faults.InputName.{InputName}
+use Rattle.command_core.specs.declared.faults.Status.{Status}
+use Rattle.command_core.specs.declared.faults.Why.{Why}
+use Rattle.command_core.specs.declared.faults.Why.TheVariants.{Device as CannotRead, Script as Faulty, CannotOpen as NotOpened}
+use Rattle.command_core.specs.Inputs.{Reader, reader, IsDeviceFault, IsGiven, IsRefusedScript, IsScriptRefused}
 use Rattle.rehearse.specs.Rehearse.{MakesRehearsed, TellsEvents, rehearsal_lines, site_lines}
 use Rattle.archive_laws.proofs.Given.{is_given}
 
 -- ---- a script that is refused
 
-refused_so : {S : Type 0} (left : S → Option (List ℕ)) (failures : S → ℕ) (old new : Result S CannotOpen) (bytes : List ℕ) (said : ℕ × List Act) (why : Why)
-    → IsGiven (reader left failures old new) bytes → script_of bytes ≡ Ok said → IsScriptRefused (reader left failures old new) why → IsDeviceFault why
-refused_so left failures (Ok source) new bytes said NotOpened is says refused = refused
-refused_so left failures (Err _) new bytes said NotOpened is says refused = absurd is
-refused_so left failures old new bytes said CannotRead is says refused = tt
-refused_so left failures old new bytes said (Faulty fault line flaw) is says refused =
+refused_so : {S : Type 0} (left : S → Option (List ℕ)) (failures : S → ℕ) (old new : Result S CannotOpen) (bytes : List ℕ) (listed : ℕ × List Act) (why : Why)
+    → IsGiven (reader left failures old new) bytes → script_of bytes ≡ Ok listed → IsScriptRefused (reader left failures old new) why → IsDeviceFault why
+refused_so left failures (Ok source) new bytes listed NotOpened is says refused = refused
+refused_so left failures (Err _) new bytes listed NotOpened is says refused = absurd is
+refused_so left failures old new bytes listed CannotRead is says refused = tt
+refused_so left failures old new bytes listed (Faulty fault line flaw) is says refused =
     let bad = is_given (reader left failures old new) bytes (λ b. (script_of b ≡ Err (fault, line)) × (flaw ≡ script_flaw fault (line_at b line))) is refused.1 in cc (sym bad.0 ∙ says)
-refused_so left failures old new bytes said _ is says refused = absurd refused
+refused_so left failures old new bytes listed _ is says refused = absurd refused
 
 pub script_not_refused : {S : Type 0} (script : Reader S) (bytes : List ℕ) (sites : ℕ) (events : List Act) (place : InputName) (why : Why)
     → IsGiven script bytes → script_of bytes ≡ Ok (sites, events) → IsRefusedScript script place why → IsDeviceFault why
@@ -68,13 +67,12 @@ by_seen e s is = is
 
 same_seen : (es fs : List Event) (ss : List ModelEvent) → acts es ≡ acts fs → AreSeen es ss → AreSeen fs ss
 same_seen [] [] ss same are = are
-same_seen [] (f ∷ fs) ss same are = cc
-same_seen (e ∷ es) [] ss same are = cc
 same_seen (e ∷ es) (f ∷ fs) [] same are = absurd are
 same_seen (e ∷ es) (f ∷ fs) (s ∷ ss) same are =
     let first : act_of e ≡ act_of f = cc in
     let rest : acts es ≡ acts fs = cc in
     (by_seen f s (subst (λ a. IsSeenAct a s) first (seen_by e s are.0)), same_seen es fs ss rest are.1)
+same_seen es fs ss same are = cc
 
 -- the text of what is answered
 abbrev answer_text : List (List ℕ) → model.Outcome TakeFault → List ℕ
@@ -116,10 +114,10 @@ told_alike one sites es fs text other same p q =
     ∙ ap (λ lines. lines ++ site_lines w.held sites) (same_lines _ 0 p.told q.told (outcomes sites q.seen (length q.seen)) tells q.outcomes_are)
     ∙ sym q.text_is
 
-abbrev said : ℕ → List Act → Result (ℕ × List Act) Wrong
-said sites events = Ok (sites, events)
+abbrev listed : ℕ → List Act → Result (ℕ × List Act) Wrong
+listed sites events = Ok (sites, events)
 
-same_said : (s t : ℕ) (xs ys : List Act) → said s xs ≡ said t ys → (s ≡ t) × (xs ≡ ys)
+same_said : (s t : ℕ) (xs ys : List Act) → listed s xs ≡ listed t ys → (s ≡ t) × (xs ≡ ys)
 same_said s t xs ys e =
     let one : ℕ × List Act = (s, xs) in let other : ℕ × List Act = (t, ys) in
     let both : one ≡ other = cc in (ap (λ p. p.0) both, ap (λ p. p.1) both)

@@ -2,7 +2,6 @@
 use Rattle.std.proofs.Common.{◌≡◌, ℕ, ◌+◌, List, [], ◌∷◌, ◌++◌, length, length-take, map, take, take-append-drop, drop, drop-cons, Some, refl, sym, ap, ◌∙◌, add-one, arith}
 use Rattle.std.specs.Prelude.{◌↔◌, Contains, slice_get}
 use Rattle.std.specs.FinSet as set
-use Rattle.std.proofs.Math.Seq.{take-suc}
 use Rattle.std.proofs.lemmas.List.{append-nil}
 use Rattle.std.proofs.lemmas.Option.{get_or_from_slice_get, slice_get_within}
 use Rattle.std.proofs.lemmas.Grind.{flat_map-append}
@@ -15,8 +14,9 @@ use Rattle.admission.proofs.Rows.{admitted-append}
 use Rattle.admission.specs.File.{parts, admissible}
 use Rattle.admission.specs.Take.{admitted, taken_rows}
 use Rattle.report_text.specs.declared.rows.AdmitRow.{AdmitRow}
-use Rattle.archive_updates.specs.Admit.{images_of, file_rows, admit_rows}
-use Rattle.archive_updates.proofs.Files.{admit_rows-append}
+use Rattle.archive_writing.specs.Admit.{images_of, file_rows, admit_rows}
+use Rattle.archive_writing.proofs.Files.{admit_rows-append}
+use Rattle.admission.proofs.Fronts.{front_more as front_with}
 
 pub admitted_joined : (o : Operations) (images : List (List ℕ)) → IsMade o → admitted o images ≡ joined o (content_of (set.from_list (map admission_record images)))
 admitted_joined o images is = taken_are_joined o (map admission_record images) is
@@ -26,10 +26,6 @@ cut_at : (files : List (List ℕ)) (place : ℕ) (file : List ℕ) → slice_get
 cut_at files place file is =
     let lt = slice_get_within files place file is in
     sym (take-append-drop place files) ∙ ap (λ (fs : List (List ℕ)). take place files ++ fs) (rw (add-one, drop-cons files place [] lt, get_or_from_slice_get files place file [] is) refl)
-
--- what stands before a place, with the element at it
-front_with : (files : List (List ℕ)) (place : ℕ) (file : List ℕ) → slice_get files place ≡ Some file → take (place + 1) files ≡ take place files ++ file ∷ []
-front_with files place file is = rw (add-one, take-suc files place [] (slice_get_within files place file is), get_or_from_slice_get files place file [] is) refl
 
 from_start : (files : List (List ℕ)) (place : ℕ) (file : List ℕ) → slice_get files place ≡ Some file → 0 + length (take place files) ≡ place
 from_start files place file is = omega (arith, length-take place files, slice_get_within files place file is)

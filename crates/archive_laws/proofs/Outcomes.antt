@@ -12,17 +12,17 @@ use Rattle.admission.specs.Take.{admitted}
 use Rattle.archive_records.specs.Entry.{AreEntries}
 use Rattle.archive_records.specs.Text.{IsOperationsText, summary_text, written}
 use Rattle.report_text.specs.Report.{admit_lines, apply_line, retire_line}
-use Rattle.archive_updates.specs.Admit.{admit, admit_rows, images_of}
-use Rattle.archive_updates.specs.Apply.{apply}
-use Rattle.archive_updates.specs.Delta.{delta}
-use Rattle.command_ends.specs.Ends.{MakeOne, MakesArchive}
-use Rattle.command_ends.specs.Inputs.{Reader, HoldsArchive, IsGiven, IsGivenArchive}
-use Rattle.command_ends.specs.Archives.{merged}
-use Rattle.archive_updates.specs.Merge.{merge}
-use Rattle.archive_updates.specs.Migrate.{migrate}
-use Rattle.command_ends.specs.Outputs.{report_of, summary_report_of}
-use Rattle.archive_updates.specs.Retire.{retire}
-use Rattle.archive_updates.specs.Summary.{summary}
+use Rattle.archive_writing.specs.Admit.{admit, admit_rows, images_of}
+use Rattle.archive_writing.specs.Apply.{apply}
+use Rattle.archive_writing.specs.Delta.{delta}
+use Rattle.command_core.specs.Ends.{MakeOne, MakesArchive}
+use Rattle.command_core.specs.Inputs.{Reader, HoldsArchive, IsGiven, IsGivenArchive}
+use Rattle.command_core.specs.Archives.{merged}
+use Rattle.archive_writing.specs.Merge.{merge}
+use Rattle.archive_writing.specs.Migrate.{migrate}
+use Rattle.command_core.specs.Outputs.{report_of, summary_report_of}
+use Rattle.archive_writing.specs.Retire.{retire}
+use Rattle.archive_writing.specs.Summary.{summary}
 use Rattle.archive_laws.proofs.Given.{contents_given, is_given, one_given, texts_given}
 
 -- one content and the same lines are one text and one report

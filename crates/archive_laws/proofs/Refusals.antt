@@ -17,20 +17,19 @@ use Rattle.crash_frames.specs.Flaws.{frame_flaw}
 use Rattle.crash_frames.specs.Frames.{frames_of}
 use Rattle.crash_frames.specs.declared.frame.Frame.{Frame}
 use Rattle.crash_frames.specs.declared.flaws.FrameFlaw.{FrameFlaw}
-use Rattle.rehearsal.specs.Flaws.{script_flaw}
-use Rattle.rehearsal.specs.Events.{Act}
-use Rattle.rehearsal.specs.Script.{Wrong, script_of}
-use Rattle.rehearsal.specs.declared.flaws.ScriptFlaw.{ScriptFlaw}
-use Rattle.rehearsal.specs.declared.script.ScriptFault.{ScriptFault}
+use Rattle.exchange_script.specs.Flaws.{script_flaw}
+use Rattle.exchange_script.specs.Events.{Act}
+use Rattle.exchange_script.specs.Script.{Wrong, script_of}
+use Rattle.exchange_script.specs.declared.flaws.ScriptFlaw.{ScriptFlaw}
+use Rattle.exchange_script.specs.declared.script.ScriptFault.{ScriptFault}
 use Rattle.byte_device.specs.declared.disks.CannotOpen.{CannotOpen}
-use Rattle.command_ends.specs.declared.faults.InputName.{InputName}
-use Rattle.command_ends.specs.declared.faults.InputName.TheVariants.{Archive}
-use Rattle.command_ends.specs.declared.faults.Why.{Why}
-use Rattle.command_ends.specs.declared.faults.Why.TheVariants.{Device as CannotRead, Record, Take, Script as Faulty, CannotOpen as NotOpened, BadFrame}
-use Rattle.command_ends.specs.Inputs.{Reader, reader, Gives, IsDeviceFault, IsGiven, IsArchive, IsAccepted, IsArchiveRefused, IsFileRefused, IsFirstRefused}
-use Rattle.command_ends.specs.Inputs.{IsFramesRefused, IsRefusedArchive, IsRefusedInTurn, IsScriptRefused, IsTextRefused}
+use Rattle.command_core.specs.declared.faults.InputName.{InputName}
+use Rattle.command_core.specs.declared.faults.InputName.TheVariants.{Archive}
+use Rattle.command_core.specs.declared.faults.Why.{Why}
+use Rattle.command_core.specs.declared.faults.Why.TheVariants.{Device as CannotRead, Record, Take, Script as Faulty, CannotOpen as NotOpened, BadFrame}
+use Rattle.command_core.specs.Inputs.{Reader, reader, Gives, IsDeviceFault, IsGiven, IsArchive, IsAccepted, IsArchiveRefused, IsFileRefused, IsFirstRefused, IsFramesRefused, IsRefusedArchive, IsRefusedInTurn, IsScriptRefused, IsTextRefused}
 use Rattle.archive_laws.specs.Refusals.{EachHoldAlike, HoldAlike, IsUnopened, RefuseOne}
-use Rattle.archive_laws.proofs.Accepted.{archive, file, text}
+use Rattle.archive_laws.proofs.Accepted.{file, text}
 use Rattle.archive_laws.proofs.Given.{is_given, known}
 
 abbrev pub NoDevice : Why → Type 0

@@ -19,13 +19,13 @@ use Rattle.report_text.specs.Answers.{found_text, own_text, own_line, owns_lines
 use Rattle.report_text.specs.Escapes.{escaped}
 use Rattle.report_text.specs.Frames.{frame_lines}
 use Rattle.report_text.specs.Report.{line}
-use Rattle.command_ends.specs.declared.faults.Status.{Status}
-use Rattle.command_ends.specs.declared.faults.Status.TheVariants.{Done, Partial}
+use Rattle.command_core.specs.declared.faults.Status.{Status}
+use Rattle.command_core.specs.declared.faults.Status.TheVariants.{Done, Partial}
 use Rattle.source_frames.specs.AddressFrames.{AreFramesOf}
 use Rattle.source_frames.specs.Frames.{FrameRecord}
-use Rattle.archive_queries.proofs.Sourced.{answer_of, one_answering}
-use Rattle.archive_queries.specs.Sources.{AreFramesAt, AreShown, IsSourced}
-use Rattle.archive_queries.specs.Symbolicate.{asked_of, is_symbol, Answered, IsAnswered, answers_status, answers_text, TellsAddresses}
+use Rattle.address_queries.proofs.Sourced.{answer_of, one_answering}
+use Rattle.address_queries.specs.Sources.{AreFramesAt, AreShown, IsSourced}
+use Rattle.address_queries.specs.Symbolicate.{asked_of, is_symbol, Answered, IsAnswered, answers_status, answers_text, TellsAddresses}
 
 abbrev seen_found : FoundRecord → List ℕ
 seen_found found =
@@ -169,14 +169,13 @@ module _ (one : (o : Operations) (key : SliceKey) (place : Where) (answer other 
       → map (λ row. row.address) rows ≡ map (λ row. row.address) others
       → AllByRecursion (IsAnswered content key load lines) rows → AllByRecursion (IsAnswered content key load lines) others → map seen rows ≡ map seen others
   all_seen content key load lines [] [] e a b = refl
-  all_seen content key load lines [] (y ∷ ys) e a b = cc
-  all_seen content key load lines (x ∷ xs) [] e a b = cc
   all_seen content key load lines (x ∷ xs) (y ∷ ys) e a b =
       let address : x.address ≡ y.address = cc in
       let rest : map (λ (row : Answered). row.address) xs ≡ map (λ (row : Answered). row.address) ys = cc in
       let head = one_seen content key load lines x y address a.0 b.0 in
       let tail = all_seen content key load lines xs ys rest a.1 b.1 in
       λ i. head i ∷ tail i
+  all_seen content key load lines rows others e a b = cc
 
   pub one_told : (content : Operations) (key : SliceKey) (load : Option ℕ) (lines : Bool) (addresses : List ℕ) (status other_status : Status) (text other_text : List ℕ)
       → TellsAddresses content key load lines addresses status text → TellsAddresses content key load lines addresses other_status other_text → (status ≡ other_status) × (text ≡ other_text)

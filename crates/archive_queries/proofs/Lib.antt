@@ -1,6 +1,2 @@
 mod Found
-pub mod Parts
 pub mod NamesTogether
-pub mod Sourced
-pub mod Answered
-pub mod Framed

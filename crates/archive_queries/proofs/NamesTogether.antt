@@ -5,7 +5,7 @@ use Rattle.std.specs.List.{AllByRecursion, AllZip}
 use Rattle.std.specs.List.Sorted.{IsStrictlySortedBy}
 use Rattle.std.specs.Cmp.Lexicographic.{nat_list_cmp_total}
 use Rattle.std.specs.FinSet.{contains, union, contains-union}
-use Rattle.std.proofs.lemmas.Bool.{eqb-true, false_from_ne_true, or_cases, or_left, or_right}
+use Rattle.std.proofs.lemmas.Bool.{eqb-true, false_from_ne_true, or_cases, or_left, or_right, and_from}
 use Rattle.std.proofs.lemmas.List.Elements.{All-contains, All-from_recursion, Contains-append_left, Contains-get_or, Contains-push, Contains-push_cases, recursion_from_All}
 use Rattle.archive_core.specs.Content.{Operations, IsContent, content_of, is_admission, is_covered, joined}
 use Rattle.archive_core.specs.Names.{IsNameRow, IsNames, NameRecord, name_cmp, owned_name_view}
@@ -17,13 +17,13 @@ use Rattle.archive_core.proofs.Records.{length-retirement_record}
 use Rattle.archive_core.proofs.Words.{covered_slice, live_in_content}
 use Rattle.archive_records.specs.Entry.{IsEntry, entry_bytes}
 use Rattle.archive_records.specs.Reader.{set_of}
-use Rattle.archive_records.proofs.Apart.{both_true, from_set, in_set, is_false}
+use Rattle.archive_records.proofs.Apart.{from_set, in_set, is_false}
 use Rattle.archive_reading.specs.Names.{AddsNames}
 use Rattle.archive_reading.specs.declared.names.NamesFound.{NamesFound}
-use Rattle.command_ends.specs.Archives.{HoldTogether, merged}
-use Rattle.command_ends.specs.Inputs.{HoldsArchive, HoldsContent, IsArchive, Reader}
-use Rattle.command_ends.proofs.Archives.{each_archive, hold_more}
-use Rattle.command_ends.proofs.Readers.{all_more}
+use Rattle.command_core.specs.Archives.{HoldTogether, merged}
+use Rattle.command_core.specs.Inputs.{HoldsArchive, HoldsContent, IsArchive, Reader}
+use Rattle.command_core.proofs.Archives.{each_archive, hold_more}
+use Rattle.command_core.proofs.Readers.{all_more}
 use Rattle.archive_queries.specs.InnerNames.{HasNameRow, HasRetirement, HaveAdded}
 use Rattle.archive_queries.specs.Name.{SaysUnderscored, underscored}
 
@@ -219,7 +219,7 @@ module _ (o : Operations) (contents : List Operations) (content : IsContent o) (
           slice = told.slice;
           valid = told.valid;
           live = record {
-            admitted = contains_made whole (admission_record told.slice) ∙ both_true (contains whole (admission_record told.slice)) (not (is_covered whole (admission_record told.slice)))
+            admitted = contains_made whole (admission_record told.slice) ∙ and_from (contains whole (admission_record told.slice)) (not (is_covered whole (admission_record told.slice)))
                 (within one.0 (admission_record told.slice) one.1 told.live.admitted) (ap not uncovered);
             under = refl;
             kept = retired_stays _ refl ∙ sym (ap (contains whole) same) ∙ free;

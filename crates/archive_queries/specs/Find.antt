@@ -1,10 +1,10 @@
 -- What `find` tells of archives.
 use Rattle.std.specs.Prelude.{ℕ, List}
-use Rattle.command_ends.specs.declared.faults.Status.{Status}
-use Rattle.command_ends.specs.Archives.{AreRefused, AreUnfailed, HoldTogether}
-use Rattle.command_ends.specs.Ends.{Query}
-use Rattle.command_ends.specs.Found.{TellsFound}
-use Rattle.command_ends.specs.Inputs.{Reader}
+use Rattle.command_core.specs.declared.faults.Status.{Status}
+use Rattle.command_core.specs.Archives.{AreRefused, AreUnfailed, HoldTogether}
+use Rattle.command_core.specs.Ends.{Query}
+use Rattle.command_core.specs.Found.{TellsFound}
+use Rattle.command_core.specs.Inputs.{Reader}
 
 -- ARCHIVE and the others are the texts of contents, and the join of these tells this of the UUID.
 abbrev pub MakesFound : {R S : Type 0} → Reader R → List (Reader S) → List ℕ → Status → List ℕ → Type 0

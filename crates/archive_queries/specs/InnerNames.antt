@@ -6,7 +6,7 @@ use Rattle.archive_core.specs.Content.{Operations, IsContent, is_admission}
 use Rattle.archive_core.specs.Names.{IsNameRow, NameRecord, owned_name_view}
 use Rattle.archive_records.specs.Entry.{entry_bytes}
 use Rattle.archive_reading.specs.declared.names.NamesFound.{NamesFound}
-use Rattle.command_ends.specs.Inputs.{Reader, HoldsArchive}
+use Rattle.command_core.specs.Inputs.{Reader, HoldsArchive}
 
 -- one of these contents has a row of the name
 abbrev pub HasNameRow : List Operations → List ℕ → NameRecord → Type 0

@@ -1,11 +1,4 @@
 pub mod Find
 pub mod List
 pub mod Name
-pub mod Sources
-pub mod Symbolicate
-pub mod Frames
-pub mod Together
-pub mod InnerTogether
-pub mod InnerSources
-pub mod InnerFrames
 pub mod InnerNames

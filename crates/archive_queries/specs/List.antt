@@ -4,10 +4,10 @@ use Rattle.archive_core.specs.Content.{Operations, IsContent}
 use Rattle.archive_core.specs.Lists.{IsList}
 use Rattle.archive_core.specs.declared.find.FindRow.{FindRow}
 use Rattle.report_text.specs.Finds.{list_lines}
-use Rattle.command_ends.specs.declared.faults.Status.{Status}
-use Rattle.command_ends.specs.Ends.{Query}
-use Rattle.command_ends.specs.Found.{found_status}
-use Rattle.command_ends.specs.Inputs.{Reader, Unfailed, IsRefusedArchive, HoldsArchive}
+use Rattle.command_core.specs.declared.faults.Status.{Status}
+use Rattle.command_core.specs.Ends.{Query}
+use Rattle.command_core.specs.Found.{found_status}
+use Rattle.command_core.specs.Inputs.{Reader, Unfailed, IsRefusedArchive, HoldsArchive}
 
 -- ARCHIVE is the text of a content; this is the status of all its rows, and these are their lines.
 pub record MakesListed {R : Type 0} (archive : Reader R) (status : Status) (text : List ℕ) : Type 0 where

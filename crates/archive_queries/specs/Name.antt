@@ -3,11 +3,11 @@ use Rattle.std.specs.Prelude.{◌≡◌, ℕ, Bool, true, false, List, ◌++◌,
 use Rattle.archive_core.specs.Content.{Operations}
 use Rattle.archive_core.specs.Names.{IsNameRow, IsNames, NameRecord}
 use Rattle.report_text.specs.Names.{name_lines}
-use Rattle.command_ends.specs.declared.faults.Status.{Status}
-use Rattle.command_ends.specs.Archives.{AreRefused, AreUnfailed, HoldTogether}
-use Rattle.command_ends.specs.Ends.{Query}
-use Rattle.command_ends.specs.Inputs.{Reader}
-use Rattle.command_ends.specs.Found.{found_status}
+use Rattle.command_core.specs.declared.faults.Status.{Status}
+use Rattle.command_core.specs.Archives.{AreRefused, AreUnfailed, HoldTogether}
+use Rattle.command_core.specs.Ends.{Query}
+use Rattle.command_core.specs.Inputs.{Reader}
+use Rattle.command_core.specs.Found.{found_status}
 
 -- what a content tells of a name: the status of its rows, and their lines
 pub record TellsNamed (content : Operations) (name : List ℕ) (status : Status) (text : List ℕ) : Type 0 where

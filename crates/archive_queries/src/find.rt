@@ -1,20 +1,19 @@
 //! `find ARCHIVE UUID`, over one archive or several.
 ghost use Rattle.std.specs.Prelude.{◌≡◌, length};
-ghost use Rattle.command_ends.specs.Ends.{EndsReport};
+ghost use Rattle.command_core.specs.Ends.{EndsReport};
 ghost use Rattle.archive_queries.specs.Find.{find};
-ghost use Rattle.command_ends.specs.Inputs.{reader, readers};
-ghost use Rattle.command_ends.specs.Outputs.{writer};
+ghost use Rattle.command_core.specs.Inputs.{reader, readers};
+ghost use Rattle.command_core.specs.Outputs.{writer};
 
-use crate::together::read_parts;
 use archive_core::Archive;
 use archive_reading::Under;
 use byte_device::{CannotOpen, Sink, Source};
-use command_ends::{CommandFault, Status, found_status, publish_report};
+use command_core::{CommandFault, Status, found_status, publish_report};
+use command_inputs::read_parts;
 use memory::Heap;
 use report_text::find_lines;
 use uuid::Uuid;
 
-/// The bytes of a UUID.
 fn bytes_of(uuid: Uuid) -> [u8; 16]
     ensures bytes { result ≡ uuid }
     ensures long { length uuid ≡ 16 }
@@ -41,8 +40,8 @@ pub fn run_find<A: Archive + Drop, R: Source, P: Sink>(
         (readers R.left R.failures others.old others.new) uuid.now)
         (writer P.held P.failures report.old report.new) result }
 {
-    let front = bytes_of(*uuid);
-    let kept: A = read_parts(heap.clone()?, &Under(&front), archive, others)?;
+    let prefix = bytes_of(*uuid);
+    let kept: A = read_parts(heap.clone()?, &Under(&prefix), archive, others)?;
     let rows = kept.find(uuid)?;
     let text = find_lines(heap, &rows)?;
     publish_report(found_status(&rows), &text, report)

@@ -1,11 +1,12 @@
 //! `list ARCHIVE`.
-ghost use Rattle.command_ends.specs.Ends.{EndsReport};
-ghost use Rattle.command_ends.specs.Inputs.{reader};
+ghost use Rattle.command_core.specs.Ends.{EndsReport};
+ghost use Rattle.command_core.specs.Inputs.{reader};
 ghost use Rattle.archive_queries.specs.List.{list};
-ghost use Rattle.command_ends.specs.Outputs.{writer};
+ghost use Rattle.command_core.specs.Outputs.{writer};
 
 use byte_device::{CannotOpen, Sink, Source};
-use command_ends::{CommandFault, Status, found_status, publish_report, read_rows};
+use command_core::{CommandFault, Status, found_status, publish_report};
+use command_inputs::read_rows;
 use memory::Heap;
 use report_text::list_lines;
 

@@ -3,18 +3,18 @@ ghost use Rattle.std.specs.Prelude.{◌≡◌, ◌&&◌, [], IfOk, length, map, 
 ghost use Rattle.archive_core.specs.Names.{IsNames};
 ghost use Rattle.archive_core.specs.Names.{owned_name_view};
 ghost use Rattle.archive_reading.specs.Names.{AddsNames};
-ghost use Rattle.command_ends.specs.Archives.{ReadsOthers, ReadsTogether};
-ghost use Rattle.command_ends.specs.Inputs.{HoldsContent, IsRefusedArchive, Reads, reader, readers};
+ghost use Rattle.command_core.specs.Archives.{ReadsOthers, ReadsTogether};
+ghost use Rattle.command_core.specs.Inputs.{HoldsContent, IsRefusedArchive, ReadsInput, reader, readers};
 ghost use Rattle.archive_queries.specs.InnerNames.{HaveAdded};
 ghost use Rattle.archive_queries.specs.Name.{Answers, underscored};
 
 use archive_reading::{NamesFound, NamesTold, SoughtNames, gather_names, live_names, read_names};
 use byte_device::{CannotOpen, Source};
-use command_ends::{CommandFault, InputName, Status, found_status, opened, refusal};
+use command_core::{CommandFault, InputName, Status, found_status};
+use command_inputs::{opened, refusal};
 use memory::{Heap, NoMemory};
 use report_text::name_lines;
 
-/// The rows of no archive.
 fn no_rows(heap: &Heap) -> Result<NamesTold, NoMemory>
     ensures { IfOk result (λ told. (told.rows.items ≡ []) × (told.others.items ≡ [])) }
 {
@@ -30,7 +30,7 @@ fn read_name_rows<R: Source>(
     sought: SoughtNames<'_>,
     input: &mut Result<R, CannotOpen>,
 ) -> Result<NamesTold, CommandFault>
-    ensures { Reads (reader R.left R.failures input.old input.new) result
+    ensures { ReadsInput (reader R.left R.failures input.old input.new) result
         (λ input told. HoldsContent input
         (λ o. IsNames o sought.entry.name.now (map owned_name_view told.rows.items)
         × IsNames o sought.entry.other.now (map owned_name_view told.others.items)))
@@ -53,7 +53,7 @@ fn gather_input<R: Source>(
     sought: SoughtNames<'_>,
     input: &mut Result<R, CannotOpen>,
 ) -> Result<NamesFound, CommandFault>
-    ensures { Reads (reader R.left R.failures input.old input.new) result
+    ensures { ReadsInput (reader R.left R.failures input.old input.new) result
         (λ input now. HoldsContent input (λ o. AddsNames o sought.entry.name.now sought.entry.other.now found now))
         (IsRefusedArchive number) }
 {
@@ -124,7 +124,6 @@ fn read_rows<R: Source>(
     }
 }
 
-/// Whether there is no row of the name, and one of the other.
 fn is_underscored(told: &NamesTold) -> bool
     ensures { result ≡ (nat_eq (length told.now.rows.items) 0 && not (nat_eq (length told.now.others.items) 0)) }
 {

@@ -8,10 +8,10 @@ use Rattle.archive_core.specs.Content.{Operations, with_record}
 use Rattle.archive_core.specs.Part.{part}
 use Rattle.archive_core.proofs.Picked.{contains_part}
 use Rattle.archive_core.proofs.Taken.{tied_is}
+use Rattle.archive_core.proofs.Made.{and_left, bytes_same}
 use Rattle.archive_records.specs.declared.kind.TextKind.TheVariants.{Archive as Archive_text}
 use Rattle.archive_records.specs.Reader.{MakeThemselves}
-use Rattle.archive_records.proofs.Puts.{bytes_same}
-use Rattle.archive_records.proofs.Apart.{and_first, contains-push, part-push}
+use Rattle.archive_records.proofs.Apart.{contains-push, part-push}
 
 -- ---- one record more
 
@@ -29,7 +29,7 @@ module _ (picks : List ℕ → Bool) (records : List (List ℕ)) (x : List ℕ) 
   new q = contains_part (set.from_list (records ++ x ∷ [])) picks q ∙ ap (λ b. b && picks q) (contains-push records x q)
 
   pub picked_more : picks x ≡ true → MakeThemselves Archive_text (records ++ x ∷ []) → (p : Operations) → p ≡ with_record o x → p ≡ part (set.from_list (records ++ x ∷ [])) picks
-  picked_more passes apart p e = e ∙ part-push records x o (λ r h. and_first _ _ (sym (old r) ∙ h)) apart.0 ∙ same_set nat_list_cmp_total bytes_same (set.insert o x) (part (set.from_list (records ++ x ∷ [])) picks) (λ q.
+  picked_more passes apart p e = e ∙ part-push records x o (λ r h. and_left _ _ (sym (old r) ∙ h)) apart.0 ∙ same_set nat_list_cmp_total bytes_same (set.insert o x) (part (set.from_list (records ++ x ∷ [])) picks) (λ q.
       rw (contains-insert nat_list_cmp_total o x q, old q, new q) (taken_in (eq_by_cmp (slice_cmp nat_cmp) q x) _ (picks q) (λ h. ap picks (tied_is q x h) ∙ passes)))
 
   pub unpicked_more : picks x ≡ false → o ≡ part (set.from_list (records ++ x ∷ [])) picks

@@ -11,7 +11,7 @@ use Rattle.std.specs.Cmp.{tied_itself}
 use Rattle.std.specs.Cmp.Lexicographic.{nat_list_cmp_total}
 use Rattle.std.specs.FinSet as set
 use Rattle.std.specs.FinSet.{contains, contains-empty, same_set}
-use Rattle.std.proofs.lemmas.Bool.{false≢true, eqb-true}
+use Rattle.std.proofs.lemmas.Bool.{false≢true, eqb-true, and_from}
 use Rattle.std.proofs.lemmas.List.{append-nil, take_at, drop_at, drop-drop}
 use Rattle.std.proofs.lemmas.List.Elements.{Contains-append_cases, Contains-append_left, Contains-push_cases}
 use Rattle.std.proofs.lemmas.List.Sorted.{ranks_by}
@@ -25,19 +25,19 @@ use Rattle.archive_core.specs.Part.{part}
 use Rattle.archive_core.specs.declared.keys.SliceKey.{SliceKey}
 use Rattle.archive_core.specs.declared.keys.Digest.{Digest}
 use Rattle.archive_core.specs.declared.operations.Operation.TheVariants.{Retire}
-use Rattle.archive_core.proofs.Made.{and_false, uncovered_of_made}
+use Rattle.archive_core.proofs.Made.{and_false, uncovered_of_made, and_left, and_right, bytes_same}
 use Rattle.archive_core.proofs.Picked.{contains_part}
 use Rattle.archive_records.specs.declared.format.Format.TheVariants.{Archive}
 use Rattle.archive_records.specs.declared.kind.TextKind.TheVariants.{Archive as Archive_text}
 use Rattle.archive_records.specs.Text.{InOrder}
-use Rattle.archive_reading.specs.InnerKeys.{AreAsked, Begins, IsHeldUnder, admits_under, front_of, is_first, is_passed}
+use Rattle.archive_reading.specs.InnerKeys.{AreAsked, Begins, IsHeldUnder, admits_under, prefix_of, is_first, is_passed}
 use Rattle.archive_reading.specs.Keys.{AnswersAs, AreInOrder, first_key}
 use Rattle.archive_records.specs.Reader.{MakeThemselves, set_of}
-use Rattle.archive_records.proofs.Puts.{bytes_same}
-use Rattle.archive_records.proofs.Apart.{and_first, and_second, both_true, from_set, in_set, is_false}
-use Rattle.archive_records.proofs.Ascending.{InOrder-behind, all_above, cons_cases, less_of}
+use Rattle.archive_records.proofs.Apart.{from_set, in_set, is_false}
+use Rattle.archive_records.proofs.Ascending.{InOrder-behind, all_above, less_of}
 use Rattle.archive_records.proofs.Contents.{order}
 use Rattle.archive_core.proofs.Retired.{begins_below}
+use Rattle.archive_core.proofs.Members.{in_cons}
 use Rattle.archive_reading.proofs.Kept.{part_start, picked_more, unpicked_more}
 
 -- ---- the order of bytes
@@ -73,32 +73,32 @@ tagged [] a = cc
 tagged (t ∷ bytes) a = ap (λ (n : ℕ). n ∷ bytes) (eqb-true t 2 a)
 
 -- an admission above another is under no smaller key
-not_under_less : (x r : List ℕ) → is_admission x ≡ true → is_admission r ≡ true → order x r ≡ Less → lt (front_of r) (front_of x) ≡ false
+not_under_less : (x r : List ℕ) → is_admission x ≡ true → is_admission r ≡ true → order x r ≡ Less → lt (prefix_of r) (prefix_of x) ≡ false
 not_under_less x r a b less =
     begins_below 25 (2 ∷ drop 1 x) (2 ∷ drop 1 r) (ap (λ (t : List ℕ). order t (2 ∷ drop 1 r)) (sym (tagged x a)) ∙ ap (order x) (sym (tagged r b)) ∙ less)
 
 -- no record behind an admission under a greater key is one under this key
-none_behind : (records : List (List ℕ)) (front : List ℕ) (x : List ℕ) (more : List (List ℕ)) → InOrder Archive [] (records ++ x ∷ more) → is_admission x ≡ true → lt front (front_of x) ≡ true
-    → (r : List ℕ) → Contains (x ∷ more) r → is_admission r ≡ true → front ≡ front_of r → ⊥
-none_behind records front x more ordered a above r there b under =
+none_behind : (records : List (List ℕ)) (prefix : List ℕ) (x : List ℕ) (more : List (List ℕ)) → InOrder Archive [] (records ++ x ∷ more) → is_admission x ≡ true → lt prefix (prefix_of x) ≡ true
+    → (r : List ℕ) → Contains (x ∷ more) r → is_admission r ≡ true → prefix ≡ prefix_of r → ⊥
+none_behind records prefix x more ordered a above r there b under =
     let behind = InOrder-behind [] records (x ∷ more) ordered in
-    elim (cons_cases x r more there) [
-      | inl e ↦ cc (not_itself front)
+    elim (in_cons x more r there) [
+      | inl e ↦ cc (not_itself prefix)
       | inr later ↦ cc (not_under_less x r a b (less_of x r (all_above x r more behind.2 later)))
     ]
 
 -- so where a key is passed, none of the records that may come is under it
-none_to_come : (records behind : List (List ℕ)) (key : SliceKey) (front : Option (List ℕ)) → InOrder Archive [] (records ++ behind) → is_passed key front ≡ true → Begins front behind
-    → (r : List ℕ) → Contains behind r → is_admission r ≡ true → key_bytes key ≡ front_of r → ⊥
+none_to_come : (records behind : List (List ℕ)) (key : SliceKey) (prefix : Option (List ℕ)) → InOrder Archive [] (records ++ behind) → is_passed key prefix ≡ true → Begins prefix behind
+    → (r : List ℕ) → Contains behind r → is_admission r ≡ true → key_bytes key ≡ prefix_of r → ⊥
 none_to_come records behind key None ordered passed begins r there b under =
     let c = rw begins at there in absurd (omega (arith, c.1))
-none_to_come records behind key (Some front) ordered passed begins r there b under =
+none_to_come records behind key (Some prefix) ordered passed begins r there b under =
     none_behind records (key_bytes key) begins.0 begins.1 (rw begins.2 at ordered) begins.3 (ap (lt (key_bytes key)) begins.4 ∙ passed) r (rw begins.2 at there) b under
 
 -- ---- what is held answers as the whole
 
 -- what stands where in the record of a slice under a key of 24 bytes
-parts : (slice : List ℕ) (key : SliceKey) → length (key_bytes key) ≡ 24 → key_of slice ≡ key → (front_of (admission_record slice) ≡ key_bytes key) × (drop 33 (admission_record slice) ≡ slice)
+parts : (slice : List ℕ) (key : SliceKey) → length (key_bytes key) ≡ 24 → key_of slice ≡ key → (prefix_of (admission_record slice) ≡ key_bytes key) × (drop 33 (admission_record slice) ≡ slice)
 unfolding admission
 parts slice key long is =
     let first : List ℕ = key_bytes (key_of slice) in
@@ -110,7 +110,7 @@ parts slice key long is =
     )
 
 module _ (records behind : List (List ℕ)) (key : SliceKey) (held : Operations) (long : length (key_bytes key) ≡ 24) (is : IsHeldUnder (key_bytes key) records held) (made : IsMade (set_of (records ++ behind)))
-    (none : (r : List ℕ) → Contains behind r → is_admission r ≡ true → key_bytes key ≡ front_of r → ⊥) where
+    (none : (r : List ℕ) → Contains behind r → is_admission r ≡ true → key_bytes key ≡ prefix_of r → ⊥) where
   abbrev whole : Operations
   whole = set_of (records ++ behind)
 
@@ -118,17 +118,17 @@ module _ (records behind : List (List ℕ)) (key : SliceKey) (held : Operations)
   held_has r = ap (λ (o : Operations). contains o r) is.held_is ∙ contains_part (set_of records) (admits_under (key_bytes key)) r
 
   under : (slice : List ℕ) → key_of slice ≡ key → admits_under (key_bytes key) (admission_record slice) ≡ true
-  under slice of = (bytes_eq-Decides (key_bytes key) (front_of (admission_record slice))).1 (sym (parts slice key long of).0)
+  under slice of = (bytes_eq-Decides (key_bytes key) (prefix_of (admission_record slice))).1 (sym (parts slice key long of).0)
 
   in_whole : (slice : List ℕ) → contains held (admission_record slice) ≡ true → contains whole (admission_record slice) ≡ true
   in_whole slice h =
       let r = admission_record slice in
-      in_set (records ++ behind) r (Contains-append_left records behind r (from_set records r (and_first _ _ (sym (held_has r) ∙ h))))
+      in_set (records ++ behind) r (Contains-append_left records behind r (from_set records r (and_left _ _ (sym (held_has r) ∙ h))))
 
   in_held : (slice : List ℕ) → key_of slice ≡ key → contains whole (admission_record slice) ≡ true → contains held (admission_record slice) ≡ true
   in_held slice of h =
       let r = admission_record slice in
-      held_has r ∙ both_true _ _ (elim (Contains-append_cases records behind r (from_set (records ++ behind) r h)) [
+      held_has r ∙ and_from _ _ (elim (Contains-append_cases records behind r (from_set (records ++ behind) r h)) [
         | inl c ↦ in_set records r c
         | inr c ↦ absurd (none r c refl (sym (parts slice key long of).0))
       ]) (under slice of)
@@ -184,17 +184,17 @@ held_behind : (records : List (List ℕ)) (key next : SliceKey) (held : Operatio
     → IsHeldUnder (key_bytes next) records (if bytes_eq (key_bytes next) (key_bytes key) then held else set.empty)
 held_behind records key next held not_below is = by (bytes_eq (key_bytes next) (key_bytes key)) refl
   where
-    none : (r : List ℕ) → Contains records r → is_admission r ≡ true → lt (key_bytes next) (front_of r) ≡ false
-    none r there a = not_less_chain (key_bytes next) (key_bytes key) (front_of r) not_below (is.none_above r there a)
+    none : (r : List ℕ) → Contains records r → is_admission r ≡ true → lt (key_bytes next) (prefix_of r) ≡ false
+    none r there a = not_less_chain (key_bytes next) (key_bytes key) (prefix_of r) not_below (is.none_above r there a)
 
     nothing : bytes_eq (key_bytes next) (key_bytes key) ≡ false → set.empty ≡ part (set_of records) (admits_under (key_bytes next))
     nothing other = same_set nat_list_cmp_total bytes_same set.empty (part (set_of records) (admits_under (key_bytes next))) (λ r.
         contains-empty order r ∙ sym (contains_part (set_of records) (admits_under (key_bytes next)) r ∙ is_false _ (λ h.
-        let there = from_set records r (and_first _ _ h) in
-        let admits = and_second _ _ h in
-        let a = and_first _ _ admits in
-        let front : key_bytes next ≡ front_of r = same _ _ (and_second _ _ admits) in
-        let above : lt (key_bytes key) (key_bytes next) ≡ false = ap (lt (key_bytes key)) front ∙ is.none_above r there a in
+        let there = from_set records r (and_left _ _ h) in
+        let admits = and_right _ _ h in
+        let a = and_left _ _ admits in
+        let prefix : key_bytes next ≡ prefix_of r = same _ _ (and_right _ _ admits) in
+        let above : lt (key_bytes key) (key_bytes next) ≡ false = ap (lt (key_bytes key)) prefix ∙ is.none_above r there a in
         false≢true (sym other ∙ (bytes_eq-Decides (key_bytes next) (key_bytes key)).1 (neither (key_bytes next) (key_bytes key) not_below above)))))
 
     by : (b : Bool) → bytes_eq (key_bytes next) (key_bytes key) ≡ b → IsHeldUnder (key_bytes next) records (if b then held else set.empty)
@@ -202,18 +202,18 @@ held_behind records key next held not_below is = by (bytes_eq (key_bytes next) (
     by false e = record { held_is = nothing e; none_above = none }
 
 -- the next question was answered
-pub answered_next : (front : Option (List ℕ)) (left new : List SliceKey) (Answered Next : Operations → Type 0) (held now : Operations) (records : List (List ℕ)) (key : SliceKey)
-    → first_key left ≡ Some key → new ≡ drop 1 left → length (key_bytes key) ≡ 24 → is_passed key front ≡ true
+pub answered_next : (prefix : Option (List ℕ)) (left new : List SliceKey) (Answered Next : Operations → Type 0) (held now : Operations) (records : List (List ℕ)) (key : SliceKey)
+    → first_key left ≡ Some key → new ≡ drop 1 left → length (key_bytes key) ≡ 24 → is_passed key prefix ≡ true
     → now ≡ (if is_first (key_bytes key) new then held else set.empty)
     → ((o : Operations) → AnswersAs key held o → Answered o → Next o)
-    → AreAsked (Begins front) left Answered held records → AreAsked (Begins front) new Next now records
-answered_next front [] new Answered Next held now records key first behind long passed now_is answers asked = cc
-answered_next front (k ∷ keys) new Answered Next held now records key first behind long passed now_is answers asked =
+    → AreAsked (Begins prefix) left Answered held records → AreAsked (Begins prefix) new Next now records
+answered_next prefix [] new Answered Next held now records key first behind long passed now_is answers asked = cc
+answered_next prefix (k ∷ keys) new Answered Next held now records key first behind long passed now_is answers asked =
     let is = asked.holds key first in
     record {
       in_order = rw behind (order_behind k keys asked.in_order);
       holds = λ next next_is. further keys next now (rw behind at next_is) (rw behind at now_is) is asked.in_order;
-      answered = λ rest begins taken. answers (set_of (records ++ rest)) (answers_as records rest key held long is taken.0 (none_to_come records rest key front taken.1 passed begins)) (asked.answered rest begins taken);
+      answered = λ rest begins taken. answers (set_of (records ++ rest)) (answers_as records rest key held long is taken.0 (none_to_come records rest key prefix taken.1 passed begins)) (asked.answered rest begins taken);
     }
   where
     first_is : k ≡ key
@@ -229,12 +229,12 @@ answered_next front (k ∷ keys) new Answered Next held now records key first be
 
 -- ---- one record more
 
--- a record that is lent tells which it is
-pub lent_retires : (x : List ℕ) (key : SliceKey) (digest : Digest) → IsOperation (Retire key digest) → retirement_record key digest.0 ≡ x → Retires x
-lent_retires x key digest is bytes = record { key = key; digest = digest.0; is_key = is.0; long = is.1; is = sym bytes }
+-- a record that is borrowed tells which it is
+pub borrowed_retires : (x : List ℕ) (key : SliceKey) (digest : Digest) → IsOperation (Retire key digest) → retirement_record key digest.0 ≡ x → Retires x
+borrowed_retires x key digest is bytes = record { key = key; digest = digest.0; is_key = is.0; long = is.1; is = sym bytes }
 
-pub lent_admits : (x slice : List ℕ) → IsValid slice → admission_record slice ≡ x → Admits x
-lent_admits x slice valid bytes = record { slice = slice; valid = valid; is = sym bytes }
+pub borrowed_admits : (x slice : List ℕ) → IsValid slice → admission_record slice ≡ x → Admits x
+borrowed_admits x slice valid bytes = record { slice = slice; valid = valid; is = sym bytes }
 
 -- what may come behind the record
 behind_one : (MayCome : List (List ℕ) → Type 0) (Answered : Operations → Type 0) (records : List (List ℕ)) (x : List ℕ)
@@ -245,9 +245,9 @@ behind_one MayCome Answered records x answered may behind _ taken =
     rw (append_assoc records (x ∷ []) behind) (answered (x ∷ behind) (may behind) (rw (append_assoc records (x ∷ []) behind) at taken))
 
 -- with one record more, under no greater key
-held_more : (front : List ℕ) (records : List (List ℕ)) (x : List ℕ) (held now : Operations) → IsHeldUnder front records held → now ≡ part (set_of (records ++ x ∷ [])) (admits_under front) → (is_admission x ≡ true → lt front (front_of x) ≡ false)
-    → IsHeldUnder front (records ++ x ∷ []) now
-held_more front records x held now is now_is not_above = record {
+held_more : (prefix : List ℕ) (records : List (List ℕ)) (x : List ℕ) (held now : Operations) → IsHeldUnder prefix records held → now ≡ part (set_of (records ++ x ∷ [])) (admits_under prefix) → (is_admission x ≡ true → lt prefix (prefix_of x) ≡ false)
+    → IsHeldUnder prefix (records ++ x ∷ []) now
+held_more prefix records x held now is now_is not_above = record {
   held_is = now_is;
   none_above = λ r there a. elim (Contains-push_cases records x r there) [
     | inl c ↦ is.none_above r c a
@@ -256,9 +256,9 @@ held_more front records x held now is now_is not_above = record {
 }
 
 -- a record that is not held
-held_still : (front : List ℕ) (records : List (List ℕ)) (x : List ℕ) (held : Operations) → IsHeldUnder front records held → admits_under front x ≡ false → (is_admission x ≡ true → lt front (front_of x) ≡ false)
-    → IsHeldUnder front (records ++ x ∷ []) held
-held_still front records x held is other not_above = held_more front records x held held is (unpicked_more (admits_under front) records x held is.held_is other) not_above
+held_still : (prefix : List ℕ) (records : List (List ℕ)) (x : List ℕ) (held : Operations) → IsHeldUnder prefix records held → admits_under prefix x ≡ false → (is_admission x ≡ true → lt prefix (prefix_of x) ≡ false)
+    → IsHeldUnder prefix (records ++ x ∷ []) held
+held_still prefix records x held is other not_above = held_more prefix records x held held is (unpicked_more (admits_under prefix) records x held is.held_is other) not_above
 
 -- a retirement
 pub retirement_more : (left : List SliceKey) (Answered : Operations → Type 0) (held : Operations) (records : List (List ℕ)) (x : List ℕ) → Retires x
@@ -267,41 +267,41 @@ retirement_more left Answered held records x retires asked =
     let no_admission : is_admission x ≡ false = ap is_admission retires.is in
     record {
       in_order = asked.in_order;
-      holds = λ key first. held_still (key_bytes key) records x held (asked.holds key first) (ap (λ b. b && bytes_eq (key_bytes key) (front_of x)) no_admission) (λ a. cc);
+      holds = λ key first. held_still (key_bytes key) records x held (asked.holds key first) (ap (λ b. b && bytes_eq (key_bytes key) (prefix_of x)) no_admission) (λ a. cc);
       answered = behind_one (λ _. ⊤) Answered records x asked.answered (λ _. tt);
     }
 
 -- what was known before an admission, with what may come narrowed to what begins with it
-pub asked_before : (left : List SliceKey) (Answered : Operations → Type 0) (held : Operations) (records : List (List ℕ)) (front : Option (List ℕ)) → AreAsked (λ _. ⊤) left Answered held records → AreAsked (Begins front) left Answered held records
-asked_before left Answered held records front asked = record { in_order = asked.in_order; holds = asked.holds; answered = λ rest _ taken. asked.answered rest tt taken }
+pub asked_before : (left : List SliceKey) (Answered : Operations → Type 0) (held : Operations) (records : List (List ℕ)) (prefix : Option (List ℕ)) → AreAsked (λ _. ⊤) left Answered held records → AreAsked (Begins prefix) left Answered held records
+asked_before left Answered held records prefix asked = record { in_order = asked.in_order; holds = asked.holds; answered = λ rest _ taken. asked.answered rest tt taken }
 
-is_first_of : (front : List ℕ) (ks : List SliceKey) (key : SliceKey) → first_key ks ≡ Some key → is_first front ks ≡ bytes_eq (key_bytes key) front
-is_first_of front [] key e = cc
-is_first_of front (k ∷ ks) key e = cc
+is_first_of : (prefix : List ℕ) (ks : List SliceKey) (key : SliceKey) → first_key ks ≡ Some key → is_first prefix ks ≡ bytes_eq (key_bytes key) prefix
+is_first_of prefix [] key e = cc
+is_first_of prefix (k ∷ ks) key e = cc
 
 pub admission_is : (x : List ℕ) → Admits x → is_admission x ≡ true
 admission_is x a = ap is_admission a.is
 
-module _ (left : List SliceKey) (Answered : Operations → Type 0) (held : Operations) (records : List (List ℕ)) (x : List ℕ) (is : Admits x) (asked : AreAsked (Begins (Some (front_of x))) left Answered held records)
-    (passed : ForSome (first_key left) (λ key. is_passed key (Some (front_of x)) ≡ false)) where
+module _ (left : List SliceKey) (Answered : Operations → Type 0) (held : Operations) (records : List (List ℕ)) (x : List ℕ) (is : Admits x) (asked : AreAsked (Begins (Some (prefix_of x))) left Answered held records)
+    (passed : ForSome (first_key left) (λ key. is_passed key (Some (prefix_of x)) ≡ false)) where
   behind : (rest : List (List ℕ)) → ⊤ → MakeThemselves Archive_text ((records ++ x ∷ []) ++ rest) → Answered (set_of ((records ++ x ∷ []) ++ rest))
-  behind = behind_one (Begins (Some (front_of x))) Answered records x asked.answered (λ rest. (x, rest, refl, admission_is x is, refl))
+  behind = behind_one (Begins (Some (prefix_of x))) Answered records x asked.answered (λ rest. (x, rest, refl, admission_is x is, refl))
 
   -- an admission that is not under the next key
-  pub admission_other : is_first (front_of x) left ≡ false → AreAsked (λ _. ⊤) left Answered held (records ++ x ∷ [])
+  pub admission_other : is_first (prefix_of x) left ≡ false → AreAsked (λ _. ⊤) left Answered held (records ++ x ∷ [])
   admission_other other = record {
     in_order = asked.in_order;
-    holds = λ key first. held_still (key_bytes key) records x held (asked.holds key first) (rw (admission_is x is) (sym (is_first_of (front_of x) left key first) ∙ other)) (λ _. passed key first);
+    holds = λ key first. held_still (key_bytes key) records x held (asked.holds key first) (rw (admission_is x is) (sym (is_first_of (prefix_of x) left key first) ∙ other)) (λ _. passed key first);
     answered = behind;
   }
 
   -- an admission under it
-  pub admission_held : is_first (front_of x) left ≡ true → MakeThemselves Archive_text (records ++ x ∷ []) → (now : Operations) → now ≡ with_record held x → AreAsked (λ _. ⊤) left Answered now (records ++ x ∷ [])
+  pub admission_held : is_first (prefix_of x) left ≡ true → MakeThemselves Archive_text (records ++ x ∷ []) → (now : Operations) → now ≡ with_record held x → AreAsked (λ _. ⊤) left Answered now (records ++ x ∷ [])
   admission_held next apart now more = record {
     in_order = asked.in_order;
     holds = λ key first.
         let h = asked.holds key first in
-        let under = both_true _ _ (admission_is x is) (sym (is_first_of (front_of x) left key first) ∙ next) in
+        let under = and_from _ _ (admission_is x is) (sym (is_first_of (prefix_of x) left key first) ∙ next) in
         held_more (key_bytes key) records x held now h (picked_more (admits_under (key_bytes key)) records x held h.held_is under apart now more) (λ _. passed key first);
     answered = behind;
   }

@@ -15,7 +15,7 @@ use Rattle.std.proofs.lemmas.List.Sorted.{All-permutation, ties_stay_sorted, ran
 use Rattle.join_core.specs.Listing.{listing}
 use Rattle.join_core.proofs.Listing.{listed}
 use Rattle.archive_core.specs.Key.{IsKey, key_bytes}
-use Rattle.archive_core.specs.Record.{record_bytes, IsOperation, lent_bytes, operation_lent}
+use Rattle.archive_core.specs.Record.{record_bytes, IsOperation, borrowed_bytes, operation_borrowed}
 use Rattle.archive_core.specs.Content.{Operations, IsContent, IsMade}
 use Rattle.archive_core.specs.Find.{key_in, arch_cmp, row_of}
 use Rattle.archive_core.specs.Lists.{list_cmp, IsList}
@@ -27,9 +27,9 @@ use Rattle.archive_core.specs.declared.operations.Record.{Record}
 use Rattle.archive_core.proofs.Compare.{then_assoc, three_parts}
 use Rattle.archive_core.proofs.Digits.{cmp_four}
 use Rattle.archive_core.proofs.Told.{list_sorted}
+use Rattle.archive_core.proofs.Made.{bytes_same}
 use Rattle.archive_reading.specs.InnerRows.{IsRowOf, AreRowsOf}
 use Rattle.archive_records.specs.Reader.{set_of}
-use Rattle.archive_records.proofs.Puts.{bytes_same}
 use Rattle.archive_records.proofs.Contents.{order, content_is}
 use Rattle.archive_reading.proofs.Stable.{lifted}
 
@@ -47,10 +47,10 @@ rows_more records bytes rows grown row more one all = record {
   rows_are = more ∙ (λ i. all.rows_are i ++ one.row_is i ∷ []) ∙ sym (map-append row_of all.operations (one.operation ∷ []));
 }
 
--- the row of a record that is lent
-pub row_of_lent : (lent : Record) (row : FindRow) → row ≡ row_of (operation_lent lent) → IsOperation (operation_lent lent) → IsKey row.key → IsRowOf (lent_bytes lent) row
-row_of_lent lent row is valid key = record {
-  operation = operation_lent lent;
+-- the row of a record that is borrowed
+pub row_of_borrowed : (borrowed : Record) (row : FindRow) → row ≡ row_of (operation_borrowed borrowed) → IsOperation (operation_borrowed borrowed) → IsKey row.key → IsRowOf (borrowed_bytes borrowed) row
+row_of_borrowed borrowed row is valid key = record {
+  operation = operation_borrowed borrowed;
   is_operation = valid;
   is_key = subst IsKey (ap (λ (r : FindRow). r.key) is) key;
   bytes_are = refl;

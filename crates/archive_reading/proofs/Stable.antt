@@ -4,6 +4,7 @@ use Rattle.std.specs.Cmp.{IsStrictWeakOrder}
 use Rattle.std.specs.List.Sorted.{IsPermutation, IsStableBy, ties}
 use Rattle.std.proofs.lemmas.List.Elements.{filter-append}
 use Rattle.std.proofs.lemmas.List.Sorted.{IsPermutation-refl, IsPermutation-cons, IsPermutation-trans, IsPermutation-middle}
+use Rattle.archive_core.proofs.Members.{filter_map_swap}
 
 -- elements in the order of what is made of them, those that pass a test as they stood
 pub record Lifted {P X : Type 0} (f : P → X) (at : X → P → Bool) (ps : List P) (ys : List X) : Type 0 where
@@ -90,10 +91,6 @@ module _ {P X : Type 0} (f : P → X) (same : X → X → Bool) (itself : (x : X
       let s = split y ps (filter (same y) ys) (rw (itself y) at (h y)) in
       grown y ys ps h s (lift ys (s.before ++ s.after) (without y ys ps h s))
 
-map_filter : {P X : Type 0} (f : P → X) (p : X → Bool) (xs : List P) → filter p (map f xs) ≡ map f (filter (λ x. p (f x)) xs)
-map_filter f p [] = refl
-map_filter f p (x ∷ xs) = grind (arith, map_filter f p xs)
-
 module _ {X : Type 0} (lt : X → X → Bool) (o : IsStrictWeakOrder lt) where
   not_both : (b : Bool) → (b ≡ true → b ≡ false) → (not b && not b) ≡ true
   not_both b h = grind arith
@@ -116,4 +113,4 @@ module _ {X : Type 0} (lt : X → X → Bool) (o : IsStrictWeakOrder lt) where
 
   -- what is made of elements was put in a stable order, and so the elements can be
   pub lifted : {P : Type 0} (f : P → X) (ps : List P) (ys : List X) → IsStableBy lt (map f ps) ys → Lifted f (λ x p. ties lt x (f p)) ps ys
-  lifted f ps ys stable = lift f (ties lt) tied tied_alike ys ps (λ x. stable x ∙ map_filter f (ties lt x) ps)
+  lifted f ps ys stable = lift f (ties lt) tied tied_alike ys ps (λ x. stable x ∙ filter_map_swap (ties lt x) f ps)

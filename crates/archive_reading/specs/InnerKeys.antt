@@ -15,34 +15,34 @@ use Rattle.archive_reading.specs.Keys.{AreInOrder, first_key}
 use Rattle.archive_records.specs.Reader.{MakeThemselves, set_of}
 
 -- the bytes of the key that a record is under
-abbrev pub front_of : List ℕ → List ℕ
-front_of r = take 24 (drop 1 r)
+abbrev pub prefix_of : List ℕ → List ℕ
+prefix_of r = take 24 (drop 1 r)
 
 -- an admission under the key of these bytes
 abbrev pub admits_under : List ℕ → List ℕ → Bool
-admits_under front r = is_admission r && bytes_eq front (front_of r)
+admits_under prefix r = is_admission r && bytes_eq prefix (prefix_of r)
 
 -- the first of the keys has these bytes
 abbrev pub is_first : List ℕ → List SliceKey → Bool
-is_first front [] = false
-is_first front (key ∷ keys) = bytes_eq (key_bytes key) front
+is_first prefix [] = false
+is_first prefix (key ∷ keys) = bytes_eq (key_bytes key) prefix
 
 -- the key is below that of these bytes; where there are none, each is
 abbrev pub is_passed : SliceKey → Option (List ℕ) → Bool
 is_passed key None = true
-is_passed key (Some front) = is_lt (slice_cmp nat_cmp (key_bytes key) front)
+is_passed key (Some prefix) = is_lt (slice_cmp nat_cmp (key_bytes key) prefix)
 
 -- records that begin with an admission under the key of these bytes; where there are none, no records
 abbrev pub Begins : Option (List ℕ) → List (List ℕ) → Type 0
 Begins None records = records ≡ []
-Begins (Some front) records =
-    (x : List ℕ) × (more : List (List ℕ)) × (records ≡ x ∷ more) × (is_admission x ≡ true) × (front_of x ≡ front)
+Begins (Some prefix) records =
+    (x : List ℕ) × (more : List (List ℕ)) × (records ≡ x ∷ more) × (is_admission x ≡ true) × (prefix_of x ≡ prefix)
 
 -- Of these records the admissions under the key of these bytes are held, and no admission is under a greater key.
-pub record IsHeldUnder (front : List ℕ) (records : List (List ℕ)) (held : Operations) : Type 0 where
-  pub held_is : held ≡ part (set_of records) (admits_under front)
+pub record IsHeldUnder (prefix : List ℕ) (records : List (List ℕ)) (held : Operations) : Type 0 where
+  pub held_is : held ≡ part (set_of records) (admits_under prefix)
   pub none_above : (r : List ℕ) → Contains records r → is_admission r ≡ true
-      → is_lt (slice_cmp nat_cmp front (front_of r)) ≡ false
+      → is_lt (slice_cmp nat_cmp prefix (prefix_of r)) ≡ false
 
 -- Questions are left under these keys, what is held is under the first of them, and what was answered is what the
 -- records answer with those that may come behind them.

@@ -39,10 +39,6 @@ impl FromRecords for Nothing {
 
 /// Reads an archive to its end, and keeps nothing of it. The whole input is read and tested as by
 /// [`crate::read_archive`], in the memory of one record and of 57 bytes for each retirement.
-///
-/// # Errors
-///
-/// Those of [`crate::read_archive`], in the same order and with the same offsets.
 pub fn test_archive<R: Source>(heap: Heap, r: &mut R) -> Result<(), RecordFault>
     ensures { ReadsInPart Archive (λ _ _. Unit {0}) R.left R.failures r.old r.new result }
 {

@@ -1,7 +1,6 @@
 //! Questions under keys, answered in one pass over an archive.
 
-ghost use Rattle.std.specs.Prelude.{◌≡◌, [], ℕ, List, Option, Some, OnOk, drop, false, length};
-ghost use Rattle.std.specs.Prelude.{if◌then◌else◌, option_map};
+ghost use Rattle.std.specs.Prelude.{◌≡◌, [], ℕ, List, Some, OnOk, drop, false, length, if◌then◌else◌, option_map};
 ghost use Rattle.std.specs.FinSet as set;
 ghost use Rattle.std.specs.Option.{ForSome};
 ghost use Rattle.archive_core.specs.Content.{Operations};
@@ -14,7 +13,7 @@ ghost use Rattle.archive_records.specs.Reading.{ReadsInPart};
 
 use crate::reading::take_record;
 use archive_core::{Archive, Record, SliceKey};
-use archive_records::{FromRecords, RecordFault, RecordReader, TextKind, key_front, tell_text};
+use archive_records::{FromRecords, RecordFault, RecordReader, TextKind, key_prefix, tell_text};
 use byte_device::Source;
 use memory::{Heap, NoMemory};
 
@@ -47,23 +46,23 @@ struct Asked<A, Q> {
 }
 
 /// Whether the next question is under the key of these bytes.
-fn is_next<Q: Questions>(questions: &Q, front: &[u8]) -> bool
-    ensures { result ≡ is_first front.now (Q.left questions.now) }
+fn is_next<Q: Questions>(questions: &Q, prefix: &[u8]) -> bool
+    ensures { result ≡ is_first prefix.now (Q.left questions.now) }
 {
     match questions.next_key() {
-        Some(key) => &key_front(&key)[..] == front,
+        Some(key) => &key_prefix(&key)[..] == prefix,
         None => false,
     }
 }
 
 /// Whether the key is below that of these bytes; where there are none, each is.
-fn is_passed(key: &SliceKey, front: Option<&[u8]>) -> bool
-    ensures passed { result ≡ is_passed key.now (option_map (λ bytes. bytes.now) front.entry) }
+fn is_passed(key: &SliceKey, prefix: Option<&[u8]>) -> bool
+    ensures passed { result ≡ is_passed key.now (option_map (λ bytes. bytes.now) prefix.entry) }
     ensures long { length (key_bytes key.now) ≡ 24 }
 {
-    let key = key_front(key);
-    match front {
-        Some(front) => key[..].cmp(front).is_lt(),
+    let key = key_prefix(key);
+    match prefix {
+        Some(prefix) => key[..].cmp(prefix).is_lt(),
         None => true,
     }
 }
@@ -82,7 +81,7 @@ fn answer_next<A: Archive + Drop, Q: Questions>(
         → Q.answered start o asked.old.questions → Q.answered start o asked.new.questions) }
 {
     asked.questions.answer(&asked.held)?;
-    if !is_next(&asked.questions, &key_front(key)) {
+    if !is_next(&asked.questions, &key_prefix(key)) {
         asked.held = A::empty(heap.clone()?);
     }
     Ok(())
@@ -93,18 +92,18 @@ fn answer_next<A: Archive + Drop, Q: Questions>(
 fn answer_passed<A: Archive + Drop, Q: Questions>(
     asked: &mut Asked<A, Q>,
     heap: &Heap,
-    front: Option<&[u8]>,
+    prefix: Option<&[u8]>,
 ) -> Result<(), NoMemory>
     ensures asked { OnOk result ((start : Q) (records : List (List ℕ))
-        → AreAsked (Begins (option_map (λ bytes. bytes.now) front.entry)) (Q.left asked.old.questions)
+        → AreAsked (Begins (option_map (λ bytes. bytes.now) prefix.entry)) (Q.left asked.old.questions)
         (λ o. Q.answered start o asked.old.questions) (A.content asked.old.held) records
-        → AreAsked (Begins (option_map (λ bytes. bytes.now) front.entry)) (Q.left asked.new.questions)
+        → AreAsked (Begins (option_map (λ bytes. bytes.now) prefix.entry)) (Q.left asked.new.questions)
         (λ o. Q.answered start o asked.new.questions) (A.content asked.new.held) records) }
     ensures passed { OnOk result (ForSome (first_key (Q.left asked.new.questions))
-        (λ key. is_passed key (option_map (λ bytes. bytes.now) front.entry) ≡ false)) }
+        (λ key. is_passed key (option_map (λ bytes. bytes.now) prefix.entry) ≡ false)) }
 {
     'questions: while let Some(key) = asked.questions.next_key() {
-        if !is_passed(&key, front) {
+        if !is_passed(&key, prefix) {
             return Ok(());
         }
         answer_next(asked, heap, &key)?;
@@ -143,9 +142,9 @@ impl<A: Archive + Drop, Q: Questions + Drop> FromRecords for Asked<A, Q> {
         let Record::Admit(_) = &record else {
             return Ok(());
         };
-        let front = &reader.last()[1..25];
-        answer_passed(self, heap, Some(front))?;
-        if !is_next(&self.questions, front) {
+        let prefix = &reader.last()[1..25];
+        answer_passed(self, heap, Some(prefix))?;
+        if !is_next(&self.questions, prefix) {
             return Ok(());
         }
         take_record(&mut self.held, heap, &record)
@@ -163,10 +162,6 @@ impl<A: Archive + Drop, Q: Questions + Drop> FromRecords for Asked<A, Q> {
 /// retirement.
 ///
 /// The questions come in the order of their keys, as the slices do.
-///
-/// # Errors
-///
-/// Those of [`crate::read_archive`], in the same order and with the same offsets.
 pub fn answer_by_key<A: Archive + Drop, Q: Questions + Drop, R: Source>(
     heap: Heap,
     questions: Q,

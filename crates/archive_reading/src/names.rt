@@ -3,14 +3,13 @@
 ghost use Rattle.std.specs.Prelude.{◌≡◌, ◌↔◌, ◌++◌, [], map, Contains, OnOk, false};
 ghost use Rattle.std.specs.FinSet as set;
 ghost use Rattle.std.specs.List.{AllByRecursion};
-ghost use Rattle.archive_core.specs.Record.{IsOperation, lent_bytes, operation_lent, retirement_record};
+ghost use Rattle.archive_core.specs.Record.{IsOperation, borrowed_bytes, operation_borrowed, retirement_record};
 ghost use Rattle.archive_records.specs.Entry.{IsEntry, entry_bytes};
 ghost use Rattle.archive_reading.specs.Names.{AddsNames};
 ghost use Rattle.std.specs.List.Sorted.{IsStrictlySortedBy};
-ghost use Rattle.archive_core.specs.Names.{IsNames, NameRecord, name_cmp, names_in};
+ghost use Rattle.archive_core.specs.Names.{IsNames, NameRecord, name_cmp, names_in, owned_name_view};
 ghost use Rattle.archive_records.specs.declared.kind.TextKind.TheVariants.{Archive};
 ghost use Rattle.archive_reading.specs.InnerNames.{names_of};
-ghost use Rattle.archive_core.specs.Names.{owned_name_view};
 ghost use Rattle.archive_records.specs.Reader.{set_of};
 ghost use Rattle.archive_records.specs.Reading.{ReadsInPart};
 
@@ -48,9 +47,9 @@ fn push_names(
     record: &Record<'_>,
     name: &[u8],
 ) -> Result<(), NoMemory>
-    requires { IsOperation (operation_lent record.now) }
+    requires { IsOperation (operation_borrowed record.now) }
     ensures { OnOk result (map owned_name_view rows.new.items
-        ≡ map owned_name_view rows.old.items ++ names_of name.now (lent_bytes record.now)) }
+        ≡ map owned_name_view rows.old.items ++ names_of name.now (borrowed_bytes record.now)) }
 {
     let Record::Admit(slice) = record else {
         return Ok(());
@@ -136,10 +135,6 @@ impl<'n> FromRecords for NameRows<'n> {
 /// [`archive_core::Archive::find_name`] gives them of one that is held, in the same order. The whole input is read and
 /// tested as by [`crate::read_archive`], in the memory of the rows, of one record and of 57 bytes for each retirement.
 /// A slice is hashed only where it has a name. No name has a NUL at its end.
-///
-/// # Errors
-///
-/// Those of [`crate::read_archive`], in the same order and with the same offsets.
 pub fn read_names<R: Source>(
     heap: Heap,
     none: NamesTold,
@@ -221,10 +216,6 @@ impl<'n> FromRecords for Gathering<'n> {
 /// Reads an archive, and adds what its join with others needs of it to tell the names: its rows of them, and what it
 /// retires. The whole input is read and tested as by [`crate::read_archive`], in the memory of the rows, of one record
 /// and twice of 57 bytes for each retirement. A slice is hashed only where it has a name. No name has a NUL at its end.
-///
-/// # Errors
-///
-/// Those of [`crate::read_archive`], in the same order and with the same offsets.
 pub fn gather_names<R: Source>(
     heap: Heap,
     found: NamesFound,

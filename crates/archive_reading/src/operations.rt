@@ -43,14 +43,12 @@ impl FromRecords for Listed {
 }
 
 /// Reads an operations file: the magic `MSYMOPS1`, and retirements and admissions in any order and with repeats up to
-/// the end of the input. The list has them in that order. The pieces in which the reader gives its bytes do not
-/// matter. A fault leaves no list, and how much of a faulty input was read is not promised.
+/// the end of the input. The list has them in that order.
 ///
 /// # Errors
 ///
-/// Those of [`crate::read_archive`], in the same order and with the same offsets, but for NotAscending, BadCount,
-/// Trailing and Covered: such a file has no order and no end record, the tag 3 is BadTag, and an admission may stand
-/// beside the retirement of its slice.
+/// None is NotAscending, BadCount, Trailing or Covered: such a file has no order and no end record, the tag 3 is
+/// BadTag, and an admission may stand beside the retirement of its slice.
 pub fn read_ops<R: Source>(heap: Heap, r: &mut R) -> Result<Vec<Operation, Heap>, RecordFault>
     ensures { ReadsWhole Operations (λ operations. operations.items) R.left R.failures r.old r.new result }
 {

@@ -81,10 +81,6 @@ impl<'a, A: Archive + Drop, S: Selects> FromRecords for Part<'a, A, S> {
 /// Reads an archive, and keeps the records that are picked: the whole input is read and tested as by
 /// [`crate::read_archive`], and what is kept is a part of the content that this gives, in the memory of that part, of
 /// one record and of 57 bytes for each retirement.
-///
-/// # Errors
-///
-/// Those of [`crate::read_archive`], in the same order and with the same offsets.
 pub fn read_part<A: Archive + Drop, S: Selects, R: Source>(
     heap: Heap,
     select: &S,

@@ -1,7 +1,7 @@
 //! Archives that are read from a source.
 
 ghost use Rattle.std.specs.Prelude.{◌≡◌, OnOk};
-ghost use Rattle.archive_core.specs.Record.{lent_bytes};
+ghost use Rattle.archive_core.specs.Record.{borrowed_bytes};
 ghost use Rattle.archive_core.specs.Content.{with_record};
 ghost use Rattle.archive_records.specs.declared.kind.TextKind.TheVariants.{Archive};
 ghost use Rattle.archive_records.specs.Reading.{ReadsWhole, ReadsFront};
@@ -17,7 +17,7 @@ pub(crate) fn take_record<A: Archive>(
     heap: &Heap,
     record: &Record<'_>,
 ) -> Result<(), NoMemory>
-    ensures { OnOk result (A.content archive.new ≡ with_record (A.content archive.old) (lent_bytes record.now)) }
+    ensures { OnOk result (A.content archive.new ≡ with_record (A.content archive.old) (borrowed_bytes record.now)) }
 {
     let operation = record.copy(heap.clone()?)?;
     archive.take(operation)?;
@@ -57,8 +57,7 @@ impl<A: Archive> FromRecords for Whole<A> {
 }
 
 /// Reads an archive: the whole input is the one text of its content, or one of version 1 whose operations make this
-/// content, and of which the covered slices are dropped. The pieces in which the reader gives its bytes do not matter.
-/// A fault leaves no archive, and how much of a faulty input was read is not promised.
+/// content, and of which the covered slices are dropped.
 ///
 /// # Errors
 ///
@@ -76,12 +75,7 @@ pub fn read_archive<A: Archive + Drop, R: Source>(heap: Heap, r: &mut R) -> Resu
 }
 
 /// Reads an archive from the front of the input: exactly the bytes of a text that gives it, of either version, and
-/// what stands behind them is left for who reads on. The pieces in which the reader gives its bytes do not matter. A
-/// fault leaves no archive, and how much of a faulty input was read is not promised.
-///
-/// # Errors
-///
-/// Those of [`read_archive`] but for Trailing, in the same order and with the same offsets.
+/// what stands behind them is left for who reads on: no fault is Trailing.
 pub fn read_front<A: Archive + Drop, R: Source>(heap: Heap, r: &mut R) -> Result<A, RecordFault>
     ensures { ReadsFront Archive A.content R.left R.failures r.old r.new result }
 {

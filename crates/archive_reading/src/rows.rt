@@ -60,10 +60,6 @@ impl FromRecords for Rows {
 /// Reads an archive, and gives a row for each of its retirements and its live slices: by UUID, then by `cputype` and
 /// `cpusubtype`, then in the order of their records. The whole input is read and tested as by [`crate::read_archive`],
 /// in the memory of the rows, of one record and of 57 bytes for each retirement. Each slice is hashed where it is read.
-///
-/// # Errors
-///
-/// Those of [`crate::read_archive`], in the same order and with the same offsets.
 pub fn list_rows<R: Source>(heap: Heap, r: &mut R) -> Result<Vec<FindRow, Heap>, RecordFault>
     ensures { ReadsInPart Archive (λ rows o. IsList o rows.items) R.left R.failures r.old r.new result }
 {

@@ -8,14 +8,13 @@ use Rattle.std.specs.Cmp.Lexicographic.{nat_list_cmp_total}
 use Rattle.std.specs.FinSet as set
 use Rattle.std.specs.FinSet.{contains, contains-from_list, contains-empty, from_list_push, contains-insert}
 use Rattle.archive_core.specs.Content.{Operations, IsContent, IsMade, is_admission, key_and_digest, covering, is_covered, content_of, with_record}
-use Rattle.archive_core.proofs.Made.{made_of_uncovered, uncovered_of_made, made_part}
+use Rattle.archive_core.proofs.Made.{made_of_uncovered, uncovered_of_made, made_part, bytes_same}
 use Rattle.join_core.specs.Listing.{listing}
 use Rattle.archive_records.specs.declared.format.Format.{Format}
 use Rattle.archive_records.specs.declared.format.Format.TheVariants.{Archive, OldArchive}
 use Rattle.archive_records.specs.Kind.{may_follow}
 use Rattle.archive_records.specs.Text.{InOrder, AreApart, last_of}
 use Rattle.archive_records.specs.Reader.{set_of, RetireAlike, Keeps, KeepsIn, AreRetired, DropsLast}
-use Rattle.archive_records.proofs.Puts.{bytes_same}
 use Rattle.archive_records.proofs.Ascending.{below-less, below-trans, up_to_last}
 use Rattle.archive_records.proofs.Contents.{order, contained, containing, content_is, same_bytes}
 
@@ -24,15 +23,6 @@ in_set xs r c = contains-from_list nat_list_cmp_total xs r ∙ contained xs r c
 
 pub from_set : (xs : List (List ℕ)) (r : List ℕ) → contains (set_of xs) r ≡ true → Contains xs r
 from_set xs r h = containing xs r (sym (contains-from_list nat_list_cmp_total xs r) ∙ h)
-
-pub and_first : (a b : Bool) → (a && b) ≡ true → a ≡ true
-and_first a b h = grind arith
-
-pub and_second : (a b : Bool) → (a && b) ≡ true → b ≡ true
-and_second a b h = grind arith
-
-pub both_true : (a b : Bool) → a ≡ true → b ≡ true → (a && b) ≡ true
-both_true a b p q = grind arith
 
 pub is_false : (a : Bool) → (a ≡ true → ⊥) → a ≡ false
 is_false a h = grind arith

@@ -2,7 +2,6 @@
 use Rattle.std.proofs.Common.{◌≡◌, ℕ, true, false, List, [], ◌∷◌, ◌++◌, refl, sym, ap, ◌∙◌, subst, arith, inl, inr, ◌⊎◌}
 use Rattle.std.proofs.lemmas.Bool.{false≢true, cases_Bool}
 use Rattle.std.proofs.lemmas.Cmp.{nat_list_cmp_total}
-use Rattle.std.proofs.lemmas.List.Elements.{Contains-append_cases, Contains-append_right, Contains-push_cases}
 use Rattle.std.specs.declared.cmp.Ordering.TheVariants.{Less, Greater}
 use Rattle.std.specs.Ordering.{nat_cmp, is_lt, ordering_reverse}
 use Rattle.std.specs.Cmp.Lexicographic.{slice_cmp}
@@ -10,6 +9,7 @@ use Rattle.std.specs.List.{Contains}
 use Rattle.archive_records.specs.declared.format.Format.TheVariants.{Archive}
 use Rattle.archive_records.specs.Kind.{allows, may_follow, IsItem}
 use Rattle.archive_records.specs.Text.{InOrder, last_of}
+use Rattle.archive_core.proofs.Members.{in_rest, in_cons, in_front}
 
 -- ---- the order
 
@@ -37,22 +37,9 @@ below-self x = let e = nat_list_cmp_total.antisymm x x in grind arith
 
 -- ---- lists
 
-pub here : (x : List ℕ) (xs : List (List ℕ)) → Contains (x ∷ xs) x
-here x xs = (0, omega arith, refl)
-
-pub later : (x z : List ℕ) (xs : List (List ℕ)) → Contains xs z → Contains (x ∷ xs) z
-later x z xs c = Contains-append_right (x ∷ []) xs z c
-
-pub cons_cases : (x z : List ℕ) (xs : List (List ℕ)) → Contains (x ∷ xs) z → (x ≡ z) ⊎ Contains xs z
-cons_cases x z xs c =
-    elim (Contains-append_cases (x ∷ []) xs z c) [
-      | inl a ↦ elim (Contains-push_cases [] x z a) [ inl n ↦ absurd (omega (arith, n.1)) | inr e ↦ inl e ]
-      | inr b ↦ inr b
-    ]
-
 pub all_above : (low z : List ℕ) (xs : List (List ℕ)) → InOrder Archive low xs → Contains xs z → may_follow Archive low z ≡ true
 all_above low z [] a c = absurd (omega (arith, c.1))
-all_above low z (x ∷ xs) a c = elim (cons_cases x z xs c) [
+all_above low z (x ∷ xs) a c = elim (in_cons x xs z c) [
   | inl e ↦ subst (λ (t : List ℕ). may_follow Archive low t ≡ true) e a.1
   | inr d ↦ below-trans low x z a.1 (all_above x z xs a.2 d)
 ]
@@ -66,7 +53,7 @@ last_above low (x ∷ xs) a = elim (last_above x xs a.2) [
 
 pub up_to_last : (low z : List ℕ) (xs : List (List ℕ)) → InOrder Archive low xs → Contains xs z → may_follow Archive (last_of low xs) z ≡ false
 up_to_last low z [] a c = absurd (omega (arith, c.1))
-up_to_last low z (x ∷ xs) a c = elim (cons_cases x z xs c) [
+up_to_last low z (x ∷ xs) a c = elim (in_cons x xs z c) [
   | inl e ↦ elim (last_above x xs a.2) [
     | inl s ↦ subst (λ (t : List ℕ). may_follow Archive t z ≡ false) s (subst (λ (t : List ℕ). may_follow Archive x t ≡ false) e (below-self x))
     | inr b ↦ subst (λ (t : List ℕ). may_follow Archive (last_of x xs) t ≡ false) e (below-back x (last_of x xs) b)
@@ -77,7 +64,7 @@ up_to_last low z (x ∷ xs) a c = elim (cons_cases x z xs c) [
 -- each is the last one, or below it
 under_last : (low z : List ℕ) (xs : List (List ℕ)) → InOrder Archive low xs → Contains xs z → (z ≡ last_of low xs) ⊎ (may_follow Archive z (last_of low xs) ≡ true)
 under_last low z [] a c = absurd (omega (arith, c.1))
-under_last low z (x ∷ xs) a c = elim (cons_cases x z xs c) [
+under_last low z (x ∷ xs) a c = elim (in_cons x xs z c) [
   | inl e ↦ subst (λ (t : List ℕ). (t ≡ last_of x xs) ⊎ (may_follow Archive t (last_of x xs) ≡ true)) e (last_above x xs a.2)
   | inr d ↦ under_last x z xs a.2 d
 ]
@@ -85,8 +72,8 @@ under_last low z (x ∷ xs) a c = elim (cons_cases x z xs c) [
 last_or_none : (low : List ℕ) (xs : List (List ℕ)) → (low ≡ last_of low xs) ⊎ Contains xs (last_of low xs)
 last_or_none low [] = inl refl
 last_or_none low (x ∷ xs) = elim (last_or_none x xs) [
-  | inl e ↦ inr (subst (Contains (x ∷ xs)) e (here x xs))
-  | inr c ↦ inr (later x (last_of x xs) xs c)
+  | inl e ↦ inr (subst (Contains (x ∷ xs)) e (in_front x xs))
+  | inr c ↦ inr (in_rest x xs (last_of x xs) c)
 ]
 
 up_then : (a low x : List ℕ) → (a ≡ low) ⊎ (may_follow Archive a low ≡ true) → may_follow Archive low x ≡ true → may_follow Archive a x ≡ true
@@ -133,25 +120,25 @@ not_self x z xs a c e = false≢true (sym (below-self x) ∙ subst (λ (t : List
 pub prefix : (lo low : List ℕ) (us os : List (List ℕ)) → InOrder Archive lo us → InOrder Archive lo os → ((z : List ℕ) → Contains os z → Contains us z) → ((z : List ℕ) → Contains os z → may_follow Archive low z ≡ false)
     → ((z : List ℕ) → Contains us z → may_follow Archive low z ≡ false → Contains os z) → (more : List (List ℕ)) × (us ≡ os ++ more)
 prefix lo low us [] a b sub within back = (us, refl)
-prefix lo low [] (o ∷ os) a b sub within back = absurd (omega (arith, (sub o (here o os)).1))
+prefix lo low [] (o ∷ os) a b sub within back = absurd (omega (arith, (sub o (in_front o os)).1))
 prefix lo low (u ∷ us) (o ∷ os) a b sub within back =
-    let under : may_follow Archive low u ≡ false = elim (cons_cases u o us (sub o (here o os))) [
-      | inl e ↦ subst (λ (t : List ℕ). may_follow Archive low t ≡ false) (sym e) (within o (here o os))
+    let under : may_follow Archive low u ≡ false = elim (in_cons u us o (sub o (in_front o os))) [
+      | inl e ↦ subst (λ (t : List ℕ). may_follow Archive low t ≡ false) (sym e) (within o (in_front o os))
       | inr c ↦ elim (cases_Bool (may_follow Archive low u)) [
-        | inl t ↦ absurd (false≢true (sym (within o (here o os)) ∙ below-trans low u o t (all_above u o us a.2 c)))
+        | inl t ↦ absurd (false≢true (sym (within o (in_front o os)) ∙ below-trans low u o t (all_above u o us a.2 c)))
         | inr f ↦ f
       ]
     ] in
-    let same : u ≡ o = elim (cons_cases o u os (back u (here u us) under)) [
+    let same : u ≡ o = elim (in_cons o os u (back u (in_front u us) under)) [
       | inl e ↦ sym e
-      | inr c ↦ elim (cons_cases u o us (sub o (here o os))) [
+      | inr c ↦ elim (in_cons u us o (sub o (in_front o os))) [
         | inl e ↦ e
         | inr d ↦ absurd (false≢true (sym (below-back u o (all_above u o us a.2 d)) ∙ all_above o u os b.2 c))
       ]
     ] in
     let b' : InOrder Archive u os = subst (λ (t : List ℕ). InOrder Archive t os) (sym same) b.2 in
     let n = prefix u low us os a.2 b'
-    (λ z c. elim (cons_cases u z us (sub z (later o z os c))) [ inl e ↦ absurd (not_self u z os b' c e) | inr d ↦ d ])
-    (λ z c. within z (later o z os c))
-    (λ z c f. elim (cons_cases o z os (back z (later u z us c) f)) [ inl e ↦ absurd (not_self u z us a.2 c (same ∙ e)) | inr d ↦ d ]) in
+    (λ z c. elim (in_cons u us z (sub z (in_rest o os z c))) [ inl e ↦ absurd (not_self u z os b' c e) | inr d ↦ d ])
+    (λ z c. within z (in_rest o os z c))
+    (λ z c f. elim (in_cons o os z (back z (in_rest u us z c) f)) [ inl e ↦ absurd (not_self u z us a.2 c (same ∙ e)) | inr d ↦ d ]) in
     (n.0, cc (same, n.1))

@@ -1,9 +1,9 @@
 -- Ascending records and the set of them.
-use Rattle.std.proofs.Common.{◌≡◌, ◌↔◌, ℕ, Bool, true, false, ◌||◌, List, [], ◌∷◌, ◌++◌, Some, refl, sym, ap, ◌∙◌, subst, arith}
+use Rattle.std.proofs.Common.{◌≡◌, ◌↔◌, ℕ, true, false, ◌||◌, List, [], ◌∷◌, ◌++◌, Some, refl, sym, ap, ◌∙◌, subst, arith}
 use Rattle.std.specs.declared.cmp.Ordering.{Ordering}
 use Rattle.std.specs.declared.cmp.Ordering.TheVariants.{Less}
 use Rattle.std.specs.Ordering.{nat_cmp, is_eq, eq_by_cmp}
-use Rattle.std.specs.Cmp.{tied_itself, Equal-is}
+use Rattle.std.specs.Cmp.{tied_itself, Equal-is, both_ways}
 use Rattle.std.specs.Cmp.Lexicographic.{slice_cmp, nat_list_cmp_total}
 use Rattle.std.specs.List.{concat, list_any, AllByRecursion, Contains}
 use Rattle.std.specs.List.Sorted.{IsStrictlySortedBy}
@@ -11,17 +11,20 @@ use Rattle.std.specs.FinSet as set
 use Rattle.std.specs.FinSet.{contains-from_list, same_set}
 use Rattle.std.proofs.lemmas.Cmp.{eq_by_cmp_equiv}
 use Rattle.std.proofs.lemmas.Map.Views.{list_any-from_Contains, Contains-from_any}
+use Rattle.std.proofs.lemmas.Bool.{or_right}
 use Rattle.join_core.specs.Listing.{listing}
 use Rattle.join_core.proofs.Listing.{listed, listing_ascending, one_listing, any_listing}
+use Rattle.join_core.proofs.Members.{one_key}
 use Rattle.archive_core.specs.Record.{IsRecord}
 use Rattle.archive_core.specs.Summary.{Entries}
 use Rattle.archive_records.specs.Entry.{AreEntries}
 use Rattle.archive_core.specs.Content.{Operations, IsContent}
+use Rattle.archive_core.proofs.Made.{bytes_same}
 use Rattle.archive_records.specs.Kind.{magic, summary_magic, IsItem, end_length, allows, may_follow}
 use Rattle.archive_records.specs.Text.{end_record, text_of, IsWritten, written, IsSummaryText, summary_text, InOrder, AreApart}
 use Rattle.archive_records.proofs.Holds.{holds}
 use Rattle.archive_records.proofs.Forms.{item-framed}
-use Rattle.archive_records.proofs.Puts.{bytes_same, length_written}
+use Rattle.archive_records.proofs.Puts.{length_written}
 use Rattle.archive_records.specs.declared.format.Format.{Format}
 use Rattle.archive_records.specs.declared.format.Format.TheVariants.{Archive, Summary}
 
@@ -31,9 +34,6 @@ order = slice_cmp nat_cmp
 all_below : (low x : List ℕ) (xs : List (List ℕ)) → order low x ≡ Less → AllByRecursion (λ y. order x y ≡ Less) xs → AllByRecursion (λ y. order low y ≡ Less) xs
 all_below low x [] e h = tt
 all_below low x (y ∷ ys) e h = (nat_list_cmp_total.trans low x y e h.0, all_below low x ys e h.1)
-
-pub or_right : (a b : Bool) → b ≡ true → (a || b) ≡ true
-or_right a b e = grind arith
 
 -- what holds of each member holds along the list
 pub along : (P : List ℕ → Type 0) (xs : List (List ℕ)) → ((q : List ℕ) → list_any (eq_by_cmp order q) xs ≡ true → P q) → AllByRecursion P xs
@@ -146,7 +146,7 @@ content_is o = (listed nat_list_cmp_total bytes_same o).same
 -- ---- the one text
 
 pub same_bytes : (x y : List ℕ) → eq_by_cmp order x y ≡ true → x ≡ y
-same_bytes x y e = bytes_same x y ((Equal-is (order x y)).0 e)
+same_bytes = one_key nat_list_cmp_total bytes_same
 
 pub contained : (xs : List (List ℕ)) (q : List ℕ) → Contains xs q → list_any (eq_by_cmp order q) xs ≡ true
 contained xs q h = list_any-from_Contains (eq_by_cmp_equiv nat_list_cmp_total) q xs h
@@ -154,15 +154,11 @@ contained xs q h = list_any-from_Contains (eq_by_cmp_equiv nat_list_cmp_total) q
 pub containing : (xs : List (List ℕ)) (q : List ℕ) → list_any (eq_by_cmp order q) xs ≡ true → Contains xs q
 containing xs q h = Contains-from_any same_bytes q xs h
 
--- two tests that follow from each other are one
-pub one_test : (a b : Bool) → (a ≡ true → b ≡ true) → (b ≡ true → a ≡ true) → a ≡ b
-one_test a b f g = grind arith
-
 -- an ascending list with the members of a set is its listing
 pub listing_is : (o : Operations) (records : List (List ℕ)) → IsStrictlySortedBy order records → ((r : List ℕ) → Contains records r ↔ (set.contains o r ≡ true)) → listing o ≡ records
 listing_is o records ascending members =
     let same : o ≡ set.from_list records = same_set nat_list_cmp_total bytes_same o (set.from_list records) (λ q.
-    one_test (set.contains o q) (list_any (eq_by_cmp order q) records) (λ h. contained records q ((members q).1 h)) (λ h. (members q).0 (containing records q h)) ∙ sym (contains-from_list nat_list_cmp_total records q)) in
+    both_ways (set.contains o q) (list_any (eq_by_cmp order q) records) (λ h. contained records q ((members q).1 h)) (λ h. (members q).0 (containing records q h)) ∙ sym (contains-from_list nat_list_cmp_total records q)) in
     one_listing nat_list_cmp_total bytes_same o records (record { ascending = ascending; same = same })
 
 pub members_listed : (o : Operations) (q : List ℕ) → Contains (listing o) q ↔ (set.contains o q ≡ true)

@@ -10,14 +10,9 @@ use Rattle.archive_records.specs.declared.format.Format.TheVariants.{Archive, Ol
 use Rattle.archive_records.specs.declared.kind.TextKind.{TextKind}
 use Rattle.archive_records.specs.declared.kind.TextKind.TheVariants.{Archive as Archive_text, Operations as Operations_text, Summary as Summary_text}
 use Rattle.archive_records.specs.Kind.{magic, old_magic, magic_of, kind_of, archive_format, format_for, allows, may_follow}
-use Rattle.archive_records.specs.Layout.{head_length, body_length, framed_behind, framed}
 use Rattle.archive_records.specs.Text.{end_record, ending, InOrder}
 
 -- ---- records
-
-pub framed_old : (bytes : List ℕ) → framed OldArchive bytes ≡ framed Archive bytes
-unfolding framed framed_behind head_length body_length
-framed_old bytes = refl
 
 pub follows_old : (a b : List ℕ) → may_follow OldArchive a b ≡ may_follow Archive a b
 unfolding may_follow allows

@@ -13,6 +13,7 @@ use Rattle.archive_core.specs.declared.operations.Operation.{Operation}
 use Rattle.archive_core.specs.Record.{IsOperation, record_bytes}
 use Rattle.archive_core.specs.Content.{Operations, IsContent, content_of}
 use Rattle.archive_core.specs.Summary.{Entries}
+use Rattle.archive_core.proofs.Made.{bytes_same}
 use Rattle.archive_records.specs.Entry.{AreEntries}
 use Rattle.archive_records.specs.declared.fault.RecordFaultKind.{RecordFaultKind}
 use Rattle.archive_records.specs.declared.fault.RecordFaultKind.TheVariants.{BadMagic, Truncated, Trailing, Device, OutOfMemory}
@@ -25,7 +26,7 @@ use Rattle.archive_records.specs.Reading.{Blames, DecidesNoFault, HoldsOfTaken, 
 use Rattle.archive_records.specs.Reader.{seen_as, StopsInMagic, Stops, Stopped, HasStopped, IsGathered}
 use Rattle.archive_records.proofs.Grown.{Fails-grows, IsTrailing-grows}
 use Rattle.archive_records.proofs.Longest.{Goes, end-stops, is_longest}
-use Rattle.archive_records.proofs.Puts.{bytes_same, length_written}
+use Rattle.archive_records.proofs.Puts.{length_written}
 use Rattle.archive_records.proofs.Ends.{end-is_end}
 use Rattle.archive_records.proofs.Contents.{sorted-InOrder, sorted-entries, InOrder-entries, AreEntries-entries, summary_text_is, summary_text-entries, content_is as set_is}
 use Rattle.archive_records.proofs.FaultKinds.{as_itself}
@@ -91,7 +92,7 @@ IsReadTo-few a b o r =
     let long : set.len o ≤ length r.records = subst (λ (c : Operations). set.len c ≤ length r.records) (sym r.makes) (few_in r.format r.kind_is r.records r.ordered) in
     omega arith
 
-all_taken : (a b : Option (List ℕ)) (text : List ℕ) → Consumes a b text → IsAtEnd b → IfSome a (λ t. t ≡ text)
+pub all_taken : (a b : Option (List ℕ)) (text : List ℕ) → Consumes a b text → IsAtEnd b → IfSome a (λ t. t ≡ text)
 all_taken None b text k end = tt
 all_taken (Some t) None text k end = absurd k
 all_taken (Some t) (Some ys) text k end = k ∙ ap (λ (y : List ℕ). text ++ y) end ∙ append-nil text

@@ -5,23 +5,23 @@ use Rattle.std.proofs.lemmas.List.{append-nil}
 use Rattle.std.proofs.lemmas.List.Elements.{Contains-append_left, Contains-append_cases, filter-append}
 use Rattle.std.specs.List.{Contains, filter}
 use Rattle.std.specs.FinSet.{contains}
+use Rattle.std.specs.Cmp.{both_ways}
 use Rattle.archive_core.specs.Content.{is_admission, covering, is_covered}
 use Rattle.archive_core.specs.Record.{IsRecord}
-use Rattle.archive_core.proofs.Members.{in_filter}
+use Rattle.archive_core.proofs.Members.{in_filter, in_rest, in_front}
 use Rattle.archive_records.specs.declared.format.Format.TheVariants.{Archive}
 use Rattle.archive_records.specs.Kind.{may_follow}
 use Rattle.archive_records.specs.Text.{InOrder, last_of, kept}
 use Rattle.archive_records.specs.Reader.{set_of}
 use Rattle.archive_records.proofs.Forms.{long-retirement, long-admission}
-use Rattle.archive_records.proofs.Contents.{one_test}
 use Rattle.archive_records.proofs.Apart.{in_set, from_set, and_same, covering_below}
-use Rattle.archive_records.proofs.Ascending.{below-trans, all_above, up_to_last, InOrder-behind, InOrder-front, here, later}
+use Rattle.archive_records.proofs.Ascending.{below-trans, all_above, up_to_last, InOrder-behind, InOrder-front}
 
 -- ---- filters
 
 filter_same : (p q : List ℕ → Bool) (xs : List (List ℕ)) → ((r : List ℕ) → Contains xs r → p r ≡ q r) → filter p xs ≡ filter q xs
 filter_same p q [] h = refl
-filter_same p q (x ∷ xs) h = ap (λ b. cond b (x ∷ filter p xs) (filter p xs)) (h x (here x xs)) ∙ ap (λ (t : List (List ℕ)). cond (q x) (x ∷ t) t) (filter_same p q xs (λ r c. h r (later x r xs c)))
+filter_same p q (x ∷ xs) h = ap (λ b. cond b (x ∷ filter p xs) (filter p xs)) (h x (in_front x xs)) ∙ ap (λ (t : List (List ℕ)). cond (q x) (x ∷ t) t) (filter_same p q xs (λ r c. h r (in_rest x xs r c)))
 
 filter_one : (p : List ℕ → Bool) (x : List ℕ) (b : Bool) → p x ≡ b → filter p (x ∷ []) ≡ cond b (x ∷ []) []
 filter_one p x b e = ap (λ c. cond c (x ∷ []) []) e
@@ -42,7 +42,7 @@ from_kept out z c = (in_filter (free_in out) out z c).0
 -- what stands behind covers none of them
 module _ (out more : List (List ℕ)) (a : InOrder Archive [] (out ++ more)) (o : InOrder Archive [] out) where
   covers_alike : (r : List ℕ) → Contains out r → is_covered (set_of (out ++ more)) r ≡ is_covered (set_of out) r
-  covers_alike r c = and_same (is_admission r) (contains (set_of (out ++ more)) (covering r)) (contains (set_of out) (covering r)) (λ a'. one_test (contains (set_of (out ++ more)) (covering r)) (contains (set_of out) (covering r))
+  covers_alike r c = and_same (is_admission r) (contains (set_of (out ++ more)) (covering r)) (contains (set_of out) (covering r)) (λ a'. both_ways (contains (set_of (out ++ more)) (covering r)) (contains (set_of out) (covering r))
       (λ h. elim (Contains-append_cases out more (covering r) (from_set (out ++ more) (covering r) h)) [
         | inl d ↦ in_set out (covering r) d
         | inr d ↦ absurd (false≢true (sym (up_to_last [] r out o c) ∙ below-trans (last_of [] out) (covering r) r (all_above (last_of [] out) (covering r) more (InOrder-behind [] out more a) d) (covering_below r a')))

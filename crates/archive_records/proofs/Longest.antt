@@ -1,6 +1,6 @@
 -- The longest good front.
-use Rattle.std.proofs.Common.{◌≡◌, ℕ, ◌≤◌, true, false, eqb, List, [], ◌∷◌, ◌++◌, length, take, drop, Ok, refl, sym, ap, ◌∙◌, subst, arith, inl, inr, append_assoc, length-append}
-use Rattle.std.proofs.lemmas.List.{append-nil, take_at, drop_at, append_cancel_left}
+use Rattle.std.proofs.Common.{◌≡◌, ℕ, ◌≤◌, true, false, eqb, List, [], ◌∷◌, ◌++◌, length, take, Ok, refl, sym, ap, ◌∙◌, subst, arith, inl, inr, append_assoc, length-append}
+use Rattle.std.proofs.lemmas.List.{append-nil, take_at, append_cancel_left}
 use Rattle.std.proofs.lemmas.List.Folds.{concat-append}
 use Rattle.std.proofs.lemmas.Bool.{false≢true}
 use Rattle.std.specs.List.{concat}
@@ -15,6 +15,7 @@ use Rattle.archive_records.proofs.Framed.{same_tag, same_body, framed-whole}
 use Rattle.archive_records.proofs.Holds.{holds, done, next-is}
 use Rattle.archive_records.proofs.Forms.{item-framed, item-no_end, item-refused}
 use Rattle.archive_records.specs.declared.format.Format.{Format}
+use Rattle.archive_core.proofs.Records.{same_parts}
 
 -- what a front that stops has before another
 pub record Before (xs ys : List (List ℕ)) (r s : List ℕ) : Type 0 where
@@ -25,12 +26,6 @@ pub record Before (xs ys : List (List ℕ)) (r s : List ℕ) : Type 0 where
 pub is_end-grows : (bytes more : List ℕ) → 1 ≤ length bytes → is_end (bytes ++ more) ≡ is_end bytes
 unfolding is_end
 is_end-grows bytes more le = ap (λ (t : ℕ). eqb t 3) (same_tag bytes more le)
-
-same_item : (x y : List ℕ) (a b : List ℕ) → length x ≡ length y → x ++ a ≡ y ++ b → (x ≡ y) × (a ≡ b)
-same_item x y a b len e = (
-  sym (take_at x a (length x) refl) ∙ ap (take (length x)) e ∙ take_at y b (length x) (sym len),
-  sym (drop_at x a (length x) refl) ∙ ap (drop (length x)) e ∙ drop_at y b (length x) (sym len),
-)
 
 no_more : (xs ys more less : List (List ℕ)) → xs ≡ ys ++ more → ys ≡ xs ++ less → more ≡ []
 no_more xs ys [] less p q = refl
@@ -96,7 +91,7 @@ module _ (file : Format) where
       absurd (stop (record { item = y; more = concat ys ++ s; whole = e ∙ append_assoc y (concat ys) s; is = b.0; above = b.1 }) ys refl)
   longest_by (x ∷ xs) (y ∷ ys) low r s a b e stop =
       let e' : x ++ (concat xs ++ r) ≡ y ++ (concat ys ++ s) = sym (append_assoc x (concat xs) r) ∙ e ∙ append_assoc y (concat ys) s in
-      let both = same_item x y (concat xs ++ r) (concat ys ++ s) (same_length x y (concat xs ++ r) (concat ys ++ s) a.0 b.0 e') e' in
+      let both = same_parts x y (concat xs ++ r) (concat ys ++ s) (same_length x y (concat xs ++ r) (concat ys ++ s) a.0 b.0 e') e' in
       let rest : InOrder file x ys = subst (λ (t : List ℕ). InOrder file t ys) (sym both.0) b.2 in
       let n = longest_by xs ys x r s a.2 rest both.1 (λ k more is. stop k more (cc (both.0, is))) in
       record { more = n.more; records = cc (both.0, n.records); rest = n.rest }
@@ -122,7 +117,7 @@ module _ (file : Format) where
   pub one_taken : (low bytes : List ℕ) (k t : Takes low bytes) → k.item ≡ t.item
   one_taken low bytes k t =
       let e : k.item ++ k.more ≡ t.item ++ t.more = sym k.whole ∙ t.whole in
-      (same_item k.item t.item k.more t.more (same_length k.item t.item k.more t.more k.is t.is e) e).0
+      (same_parts k.item t.item k.more t.more (same_length k.item t.item k.more t.more k.is t.is e) e).0
 
   pub behind_magic : (t : List ℕ) (a b : List ℕ) → t ≡ magic_of file ++ a → t ≡ magic_of file ++ b → a ≡ b
   behind_magic t a b p q = append_cancel_left (magic_of file) a b (sym p ∙ q)

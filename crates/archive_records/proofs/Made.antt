@@ -7,6 +7,7 @@ use Rattle.std.specs.Cmp.Lexicographic.{nat_list_cmp_total}
 use Rattle.join_core.specs.Listing.{listing}
 use Rattle.join_core.proofs.Listing.{listing_ascending}
 use Rattle.archive_core.specs.Record.{record_bytes}
+use Rattle.archive_core.proofs.Made.{bytes_same}
 use Rattle.archive_records.specs.declared.fault.RecordFault.{RecordFault}
 use Rattle.archive_records.specs.declared.fault.RecordFaultKind.TheVariants.{OutOfMemory}
 use Rattle.archive_records.specs.declared.format.Format.{Format}
@@ -17,7 +18,6 @@ use Rattle.archive_records.specs.Kind.{kind_of}
 use Rattle.archive_records.specs.Text.{ending, text_of, InOrder, taken_of}
 use Rattle.archive_records.specs.Reading.{IsMeaning, IsReadInPart, IsReadWhole, Meaning, ReadsInPart, ReadsWhole, records_in}
 use Rattle.archive_records.specs.Reader.{set_of, IsGathered}
-use Rattle.archive_records.proofs.Puts.{bytes_same}
 use Rattle.archive_records.proofs.Apart.{apart_none}
 use Rattle.archive_records.proofs.FaultKinds.{memory_blames}
 use Rattle.archive_records.proofs.Undecided.{cut_text}

@@ -4,10 +4,8 @@ use Rattle.std.specs.Prelude.{IfOk, Ok, Err, true, false, cond, not}
 use Rattle.std.proofs.lemmas.List.Elements.{filter-append}
 use Rattle.std.specs.Int.{w64, to_be_bytes}
 use Rattle.std.specs.List.{concat}
-use Rattle.std.specs.Ordering.{nat_cmp}
-use Rattle.std.specs.Cmp.Lexicographic.{slice_cmp, nat_list_cmp_total}
+use Rattle.std.specs.Cmp.Lexicographic.{nat_list_cmp_total}
 use Rattle.std.specs.FinSet as set
-use Rattle.std.specs.FinSet.{nat_cmp-IsAntisymmetric, slice_cmp-IsAntisymmetric, IsAntisymmetric}
 use Rattle.std.proofs.lemmas.List.{append-nil, take-append-drop, take_more}
 use Rattle.std.proofs.lemmas.List.Folds.{concat-append}
 use Rattle.join_core.specs.Listing.{listing}
@@ -21,14 +19,11 @@ use Rattle.archive_core.specs.Record.{admission, admission_record}
 use Rattle.archive_core.specs.Content.{Operations}
 use Rattle.archive_core.specs.Summary.{Entries, entry, delta}
 use Rattle.archive_core.proofs.Summaries.{listing_delta}
+use Rattle.archive_core.proofs.Made.{bytes_same}
 use Rattle.archive_records.specs.declared.writing.Sizes.{Sizes}
 use Rattle.archive_records.specs.Kind.{magic, summary_magic}
 use Rattle.archive_records.specs.Text.{end_record, missing, written, summary_text}
 use Rattle.archive_records.specs.Writing.{Writes}
-
--- byte strings that the order ties are the same
-pub bytes_same : IsAntisymmetric (slice_cmp nat_cmp)
-bytes_same = slice_cmp-IsAntisymmetric nat_cmp-IsAntisymmetric
 
 -- a head and its slice are the record
 pub head_and_slice : (head bytes slice : List ℕ) → head ≡ 2 ∷ (key_bytes (key_of slice) ++ to_be_bytes w64 (length slice)) → bytes ≡ slice → head ++ bytes ≡ admission_record slice

@@ -1,11 +1,11 @@
 -- Retirements that readers share: they count as each one's own.
 use Rattle.std.proofs.Common.{◌≡◌, ℕ, true, false, ◌||◌, List, ◌∷◌, ◌++◌, get_or, Option, None, Some, ap, ◌∙◌, arith}
 use Rattle.std.specs.FinSet as set
+use Rattle.std.proofs.lemmas.Bool.{or_right}
 use Rattle.archive_core.specs.Content.{covering, is_covered}
 use Rattle.archive_core.proofs.Retired.{in_both, second_more}
 use Rattle.archive_records.specs.Reader.{set_of, Keeps, with_shared}
 use Rattle.archive_records.proofs.FoundOut.{uncovered_retirement}
-use Rattle.archive_records.proofs.Contents.{or_right}
 
 -- those of two lists cover what those of either do
 covered_both : (shared own : List (List ℕ)) (x : List ℕ) → is_covered (set_of (shared ++ own)) x ≡ (is_covered (set_of shared) x || is_covered (set_of own) x)

@@ -19,12 +19,12 @@ use Rattle.archive_core.specs.Content.{Operations, IsContent}
 use Rattle.archive_core.specs.Summary.{entry, summary}
 use Rattle.archive_core.proofs.Entries.{admission_entry, retirement_entry, length-entry}
 use Rattle.archive_core.proofs.Summaries.{member_of_entry}
+use Rattle.archive_core.proofs.Made.{bytes_same}
 use Rattle.archive_records.specs.declared.entry.Entry.{Entry}
 use Rattle.archive_records.specs.Entry.{entry_bytes, IsEntry, AreEntries}
 use Rattle.archive_records.specs.declared.format.Format.TheVariants.{Archive, Summary}
 use Rattle.archive_records.specs.Text.{InOrder}
 use Rattle.archive_records.specs.Reader.{AreListed}
-use Rattle.archive_records.proofs.Puts.{bytes_same}
 use Rattle.archive_records.proofs.Contents.{order, along, each, items_of, same_bytes, sorted-entries, InOrder-listing}
 
 -- the entry of a record

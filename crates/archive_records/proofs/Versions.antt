@@ -8,7 +8,7 @@ use Rattle.join_core.specs.Listing.{listing}
 use Rattle.join_core.proofs.Listing.{listing_ascending}
 use Rattle.join_core.proofs.Retain.{listing_retain}
 use Rattle.archive_core.specs.Content.{Operations, IsContent, is_covered, content_of}
-use Rattle.archive_core.proofs.Made.{made_again, from_made}
+use Rattle.archive_core.proofs.Made.{made_again, from_made, bytes_same}
 use Rattle.archive_records.specs.declared.fault.RecordFault.{RecordFault}
 use Rattle.archive_records.specs.declared.format.Format.{Format}
 use Rattle.archive_records.specs.declared.format.Format.TheVariants.{Archive, OldArchive, Operations as Operations_file}
@@ -18,7 +18,7 @@ use Rattle.archive_records.specs.Text.{end_record, ending, text_of, written, old
 use Rattle.archive_records.specs.Fault.{IsFault, IsFaultOf}
 use Rattle.archive_records.specs.Reader.{set_of}
 use Rattle.archive_records.proofs.Formats.{in_order_old, old_in_order, format_magic}
-use Rattle.archive_records.proofs.Puts.{bytes_same, length_written}
+use Rattle.archive_records.proofs.Puts.{length_written}
 use Rattle.archive_records.proofs.Contents.{sorted-InOrder, InOrder-listing, InOrder-set, IsContent-records, are_records, written_text, written-records, content_is}
 use Rattle.archive_records.proofs.Apart.{apart_listing}
 use Rattle.archive_records.proofs.Exact.{same_records, no_fault}

@@ -1,6 +1,5 @@
 -- The texts of files: those of a content, of version 2 and of version 1, that of operations, and that of a summary.
-use Rattle.std.specs.Prelude.{◌≡◌, ℕ, true, List, [], ◌∷◌, ◌++◌, ◌↔◌, length, map, filter, not, All, Contains}
-use Rattle.std.specs.Prelude.{◌⊎◌}
+use Rattle.std.specs.Prelude.{◌≡◌, ℕ, true, List, [], ◌∷◌, ◌++◌, ◌↔◌, length, map, filter, not, All, Contains, ◌⊎◌}
 use Rattle.std.specs.Int.{w64, to_be_bytes}
 use Rattle.std.specs.List.{concat}
 use Rattle.std.specs.List.Sorted.{IsStrictlySortedBy}
@@ -15,8 +14,7 @@ use Rattle.archive_core.specs.Summary.{Entries, entry}
 use Rattle.archive_records.specs.declared.format.Format.{Format}
 use Rattle.archive_records.specs.declared.format.Format.TheVariants.{Archive, OldArchive, Operations as Operations_file}
 use Rattle.archive_records.specs.declared.format.Format.TheVariants.{Summary as Summary_file}
-use Rattle.archive_records.specs.Kind.{magic, old_magic, operations_magic, summary_magic, magic_of}
-use Rattle.archive_records.specs.Kind.{IsItem, may_follow}
+use Rattle.archive_records.specs.Kind.{magic, old_magic, operations_magic, summary_magic, magic_of, IsItem, may_follow}
 
 -- the end record of so many records
 unfoldable pub end_record : ℕ → List ℕ

@@ -3,7 +3,7 @@
 ghost use Rattle.std.specs.Prelude.{◌≡◌};
 ghost use Rattle.std.specs.Ordering.{nat_cmp};
 ghost use Rattle.std.specs.Cmp.Lexicographic.{slice_cmp};
-ghost use Rattle.archive_core.specs.Record.{lent_bytes};
+ghost use Rattle.archive_core.specs.Record.{borrowed_bytes};
 ghost use Rattle.archive_core.specs.Summary.{entry};
 ghost use Rattle.archive_records.specs.Entry.{entry_bytes, IsEntry};
 
@@ -23,7 +23,7 @@ pub enum Entry {
 impl Entry {
     /// The entry of an operation. The slice of an admission is hashed.
     pub fn of(item: &Record<'_>) -> Entry
-        ensures { entry_bytes result ≡ entry (lent_bytes item.now) }
+        ensures { entry_bytes result ≡ entry (borrowed_bytes item.now) }
     {
         match item {
             Record::Admit(slice) => Entry::Admission(slice.key(), slice.digest()),

@@ -5,7 +5,7 @@ ghost use Rattle.std.specs.Prelude.{IfSome, length, slice_index, take, drop};
 ghost use Rattle.std.specs.Int.{w32, w64, from_be_bytes, to_be_bytes};
 ghost use Rattle.archive_core.specs.Key.{IsKey, key_bytes};
 ghost use Rattle.archive_core.specs.Valid.{key_of};
-ghost use Rattle.archive_core.specs.Record.{IsOperation, lent_bytes, operation_lent};
+ghost use Rattle.archive_core.specs.Record.{IsOperation, borrowed_bytes, operation_borrowed};
 ghost use Rattle.archive_records.specs.Kind.{admission_length, end_length};
 ghost use Rattle.archive_records.specs.Layout.{head_length, admission_body, body_length, record_count};
 ghost use Rattle.archive_records.specs.Reader.{IsFound};
@@ -13,7 +13,7 @@ ghost use Rattle.archive_records.specs.Text.{end_record};
 
 use crate::format::Format;
 use archive_core::{
-    ArchKey, CheckedSlice, Digest, RETIREMENT, Record, SliceFacts, SliceKey, key_front,
+    ArchKey, CheckedSlice, Digest, RETIREMENT, Record, SliceFacts, SliceKey, key_prefix,
 };
 use byteorder::{BigEndian, ByteOrder};
 use uuid::Uuid;
@@ -70,10 +70,11 @@ pub fn head_length_of(file: Format, bytes: &[u8]) -> Option<usize>
     }
 }
 
-// The number of eight bytes at a place.
-fn length_at(bytes: &[u8], at: usize) -> u64
+/// The number in eight bytes at an offset.
+pub fn number_at(bytes: &[u8], at: usize) -> u64
     requires { at + 8 ≤ length bytes.now }
-    ensures { result ≡ from_be_bytes w64 (take 8 (drop at bytes.now)) }
+    ensures number { result ≡ from_be_bytes w64 (take 8 (drop at bytes.now)) }
+    ensures bytes { to_be_bytes w64 result ≡ take 8 (drop at bytes.now) }
 {
     BigEndian::read_u64(&bytes[at..])
 }
@@ -85,7 +86,7 @@ fn admission_body_of(file: Format, head: &[u8]) -> u64
 {
     match file {
         Format::Summary => 0,
-        Format::Archive | Format::OldArchive | Format::Operations => length_at(head, 25),
+        Format::Archive | Format::OldArchive | Format::Operations => number_at(head, 25),
     }
 }
 
@@ -109,7 +110,7 @@ pub fn record_count_of(end: &[u8]) -> u64
     requires { 9 ≤ length end.now }
     ensures { result ≡ record_count end.now }
 {
-    length_at(end, 1)
+    number_at(end, 1)
 }
 
 /// Whether a whole record has the key.
@@ -117,7 +118,7 @@ pub fn has_key(bytes: &[u8], key: &SliceKey) -> bool
     requires { 25 ≤ length bytes.now }
     ensures { IsTrue result ↔ (take 24 (drop 1 bytes.now) ≡ key_bytes key.now) }
 {
-    let whole = key_front(key);
+    let whole = key_prefix(key);
     &bytes[1..25] == &whole[..]
 }
 
@@ -128,7 +129,7 @@ pub fn admission_head(slice: &CheckedSlice<'_>) -> [u8; 33]
 {
     let mut head = [0; ADMISSION_HEAD_LEN];
     head[0] = ADMISSION;
-    head[1..25].copy_from_slice(&key_front(&slice.key()));
+    head[1..25].copy_from_slice(&key_prefix(&slice.key()));
     let length = slice.bytes().len() as u64;
     head[25..].copy_from_slice(&length.to_be_bytes());
     head
@@ -145,8 +146,8 @@ pub fn end_bytes(count: u64) -> [u8; 9]
     record
 }
 
-// The number at a place.
-fn number_at(bytes: &[u8], at: usize) -> u32
+// The number in four bytes at an offset.
+fn arch_number_at(bytes: &[u8], at: usize) -> u32
     requires { at + 4 ≤ length bytes.now }
     ensures { to_be_bytes w32 result ≡ take 4 (drop at bytes.now) }
 {
@@ -164,8 +165,8 @@ pub fn key_in(bytes: &[u8]) -> SliceKey
     SliceKey {
         uuid: Uuid::from_bytes(uuid),
         arch: ArchKey {
-            cputype: number_at(bytes, 17),
-            cpusubtype: number_at(bytes, 21),
+            cputype: arch_number_at(bytes, 17),
+            cpusubtype: arch_number_at(bytes, 21),
         },
     }
 }
@@ -183,8 +184,8 @@ pub fn digest_in(bytes: &[u8]) -> Digest
 /// The record that these bytes are, by what was found out of its slice.
 pub fn record_in(bytes: &[u8], found: Option<SliceFacts>) -> Record<'_>
     requires { IsFound bytes.now found }
-    ensures bytes { lent_bytes result ≡ bytes.now }
-    ensures operation { IsOperation (operation_lent result) }
+    ensures bytes { borrowed_bytes result ≡ bytes.now }
+    ensures operation { IsOperation (operation_borrowed result) }
 {
     match found {
         None => Record::Retire(key_in(bytes), digest_in(bytes)),

@@ -46,11 +46,14 @@ mod retired;
 mod summary;
 mod writing;
 
-pub use archive_core::{key_front, retirement_bytes};
+pub use archive_core::{RETIREMENT, key_prefix, retirement_bytes};
 pub use entry::Entry;
 pub use fault::{MergeCause, MergeFault, RecordFault, RecordFaultKind};
 pub use format::Format;
-pub use head::{ADMISSION_HEAD_LEN, MAGIC_LEN, admission_head, digest_in, end_bytes, key_in};
+pub use head::{
+    ADMISSION, ADMISSION_HEAD_LEN, MAGIC_LEN, admission_head, digest_in, end_bytes, has_key,
+    key_in, number_at,
+};
 pub use kind::TextKind;
 pub use next::NextRecord;
 pub use reader::{MOST, RecordReader};

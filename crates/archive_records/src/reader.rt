@@ -1,11 +1,10 @@
 //! A source that is read record by record.
 
-ghost use Rattle.std.specs.Prelude.{◌≡◌, ◌≢◌, ◌-◌, ◌<◌, ℕ, List, Option, Some, [], length, ◌⊎◌, true};
-ghost use Rattle.std.specs.Prelude.{false};
+ghost use Rattle.std.specs.Prelude.{◌≡◌, ◌≢◌, ◌-◌, ◌<◌, ℕ, List, Option, Some, [], length, ◌⊎◌, true, false};
 ghost use Rattle.std.specs.Prelude.{OnOk, IfOk, IfErr, ◌++◌, option_map};
 ghost use Rattle.std.specs.FinSet as set;
 ghost use Rattle.archive_core.specs.Content.{is_covered};
-ghost use Rattle.archive_core.specs.Record.{IsOperation, IsRecord, lent_bytes, operation_lent};
+ghost use Rattle.archive_core.specs.Record.{IsOperation, IsRecord, borrowed_bytes, operation_borrowed};
 ghost use Rattle.std.specs.Io.KnownBytes.{Consumes, IsAtEnd};
 ghost use Rattle.archive_records.specs.declared.format.Format.{Format};
 ghost use Rattle.archive_records.specs.declared.format.Format.TheVariants.{Archive};
@@ -184,11 +183,11 @@ impl RecordReader {
         &self.buffer.bytes
     }
 
-    /// The last record, lent. Its slice is not tested again.
+    /// The last record, borrowed. Its slice is not tested again.
     pub fn record(&self) -> Record<'_>
         requires { IsRecord self.now.last }
-        ensures bytes { lent_bytes result ≡ self.now.last }
-        ensures operation { IsOperation (operation_lent result) }
+        ensures bytes { borrowed_bytes result ≡ self.now.last }
+        ensures operation { IsOperation (operation_borrowed result) }
     {
         record_in(&self.buffer.bytes, self.found)
     }

@@ -1,4 +1,5 @@
-//! Archives, summaries and deltas that are written to a sink.
+//! Archives, summaries and deltas that are written to a sink. Where it failed, it has gained the first `written` bytes
+//! of the text, which are fewer than all.
 
 ghost use Rattle.std.specs.Prelude.{◌≡◌, ◌+◌, ◌<◌, ◌≤◌, ◌^◌, ◌++◌, ◌∷◌, [], length, take, map, OnOk, IfOk};
 ghost use Rattle.std.specs.FinSet as set;
@@ -6,7 +7,7 @@ ghost use Rattle.std.specs.List.{concat};
 ghost use Rattle.join_core.specs.Listing.{listing};
 ghost use Rattle.byte_device.specs.Writes.{Puts};
 ghost use Rattle.archive_core.specs.Content.{IsContent};
-ghost use Rattle.archive_core.specs.Record.{lent_bytes};
+ghost use Rattle.archive_core.specs.Record.{borrowed_bytes};
 ghost use Rattle.archive_core.specs.Summary.{delta};
 ghost use Rattle.archive_records.specs.Entry.{entry_bytes};
 ghost use Rattle.archive_records.specs.Kind.{magic, summary_magic};
@@ -70,13 +71,9 @@ fn put_both<W: Sink>(w: &mut W, done: u128, head: &[u8], body: &[u8]) -> Result<
 }
 
 /// Writes the record behind the first `done` bytes of a text, and says how many there are then. No slice is copied.
-///
-/// # Errors
-///
-/// The writer failed; it has gained the first bytes of the record, and `written` counts the `done` bytes before it too.
 pub fn put_record<W: Sink>(w: &mut W, done: u128, item: &Record<'_>) -> Result<u128, WriteFault>
     requires { done + 2 ^ 33 < 2 ^ 128 }
-    ensures puts { Puts W.held W.failures (λ n. n) w.old w.new done (lent_bytes item.now) result }
+    ensures puts { Puts W.held W.failures (λ n. n) w.old w.new done (borrowed_bytes item.now) result }
     ensures short { IfOk result (λ n. n ≤ done + 2 ^ 33) }
 {
     match item {
@@ -108,10 +105,6 @@ fn put_front<A: Archive, W: Sink>(archive: &A, w: &mut W) -> Result<u128, WriteF
 }
 
 /// Writes the end record behind the first `done` bytes of a text.
-///
-/// # Errors
-///
-/// The writer failed; it has gained the first bytes of the record, and `written` counts the `done` bytes before it too.
 pub fn put_end<W: Sink>(w: &mut W, done: u128, records: u64) -> Result<Sizes, WriteFault>
     requires { done + 9 < 2 ^ 128 }
     ensures puts { Puts W.held W.failures (λ sizes. sizes.bytes) w.old w.new done (end_record records) result }
@@ -122,10 +115,6 @@ pub fn put_end<W: Sink>(w: &mut W, done: u128, records: u64) -> Result<Sizes, Wr
 }
 
 /// Writes the archive's text, and says how large it is. It takes no memory of its own.
-///
-/// # Errors
-///
-/// The writer failed; it has gained the first `written` bytes of the text, which are fewer than all.
 pub fn write_archive<A: Archive, W: Sink>(archive: &A, w: &mut W) -> Result<Sizes, WriteFault>
     ensures writes { Writes W.held W.failures w.old w.new
         (set.len (A.content archive.now)) (written (A.content archive.now)) result }
@@ -158,10 +147,6 @@ fn put_summary_front<W: Sink>(summary: &Summary, w: &mut W) -> Result<u128, Writ
 }
 
 /// Writes the summary's text, and says how large it is. It takes no memory of its own.
-///
-/// # Errors
-///
-/// The writer failed; it has gained the first `written` bytes of the text, which are fewer than all.
 pub fn write_summary<W: Sink>(summary: &Summary, w: &mut W) -> Result<Sizes, WriteFault>
     ensures { Writes W.held W.failures w.old w.new (set.len summary.now) (summary_text summary.now) result }
 {
@@ -171,11 +156,6 @@ pub fn write_summary<W: Sink>(summary: &Summary, w: &mut W) -> Result<Sizes, Wri
 
 /// Writes the record after the first `done.bytes` bytes of a text, unless the summary names it, and says how many
 /// records and bytes there are then.
-///
-/// # Errors
-///
-/// The writer failed; it has gained the first bytes of the record, and `written` counts the `done.bytes` bytes before it
-/// too.
 pub fn put_missing_record<W: Sink>(
     w: &mut W,
     done: Sizes,
@@ -185,9 +165,9 @@ pub fn put_missing_record<W: Sink>(
     requires room { done.bytes + 2 ^ 33 < 2 ^ 128 }
     requires few { done.records + 1 < 2 ^ 64 }
     ensures puts { Puts W.held W.failures (λ sizes. sizes.bytes) w.old w.new done.bytes
-        (concat (missing summary.now (lent_bytes item.now ∷ []))) result }
+        (concat (missing summary.now (borrowed_bytes item.now ∷ []))) result }
     ensures records { IfOk result (λ n. n.records
-        ≡ done.records + length (missing summary.now (lent_bytes item.now ∷ []))) }
+        ≡ done.records + length (missing summary.now (borrowed_bytes item.now ∷ []))) }
     ensures short { IfOk result (λ n. n.bytes ≤ done.bytes + 2 ^ 33) }
 {
     if summary.has(&Entry::of(item)) {
@@ -241,10 +221,6 @@ fn put_delta_front<A: Archive, W: Sink>(
 
 /// Writes the text of the archive of those operations whose entries the summary does not have, and says how large it
 /// is. Each slice is hashed once, none is copied, and it takes no memory of its own.
-///
-/// # Errors
-///
-/// The writer failed; it has gained the first `written` bytes of the text, which are fewer than all.
 pub fn write_delta<A: Archive, W: Sink>(
     archive: &A,
     summary: &Summary,

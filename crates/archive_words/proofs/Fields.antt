@@ -1,6 +1,5 @@
 -- Where a field ends.
-use Rattle.std.proofs.Common.{◌≡◌, ◌∙◌, sym, ap, ap₂, subst, arith, lit<, ℕ, ◌<◌, List, [], ◌∷◌, length, ◌==◌}
-use Rattle.std.proofs.Common.{Option, Some, None, option_map, Bor}
+use Rattle.std.proofs.Common.{◌≡◌, ◌∙◌, sym, ap, ap₂, subst, arith, lit<, ℕ, ◌<◌, List, [], ◌∷◌, length, ◌==◌, Option, Some, None, option_map, Bor}
 use Rattle.std.specs.List.{position_or_len}
 use Rattle.std.proofs.lemmas.List.Splits.{length-slice_split, slice_split_first, slice_split_none}
 use Rattle.std.proofs.lemmas.List.Sums.{fails_before_first}

@@ -1,7 +1,6 @@
 -- The lines of a file that the program is given, and their fields.
 use Rattle.std.specs.Prelude.{ℕ, Bool, false, not, ◌+◌, ◌-◌, ◌==◌, ◌&&◌, nat_lt, if◌then◌else◌}
-use Rattle.std.specs.Prelude.{List, [], ◌∷◌, filter, length, map, slice_get, slice_index}
-use Rattle.std.specs.Prelude.{Option, Some, None, unwrap_or}
+use Rattle.std.specs.Prelude.{List, [], ◌∷◌, filter, length, map, slice_get, slice_index, Option, Some, None, unwrap_or}
 use Rattle.std.specs.List.{count_by, enumerate_from, slice_split}
 use Rattle.std.specs.Str.{is_utf8}
 use Rattle.std.specs.Borrow.{Bor}

@@ -1,8 +1,7 @@
 //! The lines of a file that count, and their fields.
 
 ghost use Rattle.std.specs.Prelude.{◌≡◌, ◌<◌, ◌^◌, ◌∷◌, All, IfOk, length, option_map, slice_get};
-ghost use Rattle.archive_words.specs.Lines.{counting, counts, fields_behind, line_at, line_count, lines};
-ghost use Rattle.archive_words.specs.Lines.{parts, seen};
+ghost use Rattle.archive_words.specs.Lines.{counting, counts, fields_behind, line_at, line_count, lines, parts, seen};
 
 use memory::{Heap, NoMemory};
 

@@ -37,9 +37,9 @@ impl<'a> Source for Bytes<'a> {
         ensures all { IfOk result (λ n. n ≡ min (length self.old.rest.now) (length buf.new)) }
     {
         let n = self.rest.len().min(buf.len());
-        let (front, back) = self.rest.split_at(n);
-        buf[..n].copy_from_slice(front);
-        self.rest = back;
+        let (taken, left) = self.rest.split_at(n);
+        buf[..n].copy_from_slice(taken);
+        self.rest = left;
         Ok(n)
     }
 }

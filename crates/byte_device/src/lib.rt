@@ -48,7 +48,7 @@ pub trait Source {
     // How often a call failed.
     ghost failures: { Self → ℕ };
 
-    /// Takes the next bytes into the front of `buf` and says how many: at least one where `buf` is
+    /// Takes the next bytes into the first bytes of `buf` and says how many: at least one where `buf` is
     /// not empty, and 0 only at the end.
     fn pull(&mut self, buf: &mut [u8]) -> Result<usize, Failed>
         ensures bound { IfOk result (λ n. n ≤ length buf.new) }
@@ -80,7 +80,7 @@ pub trait Placed {
     // How often a call failed.
     ghost failures: { Self → ℕ };
 
-    /// Takes bytes from the place on into the front of `buf` and says how many: at least one where `buf` is not empty,
+    /// Takes bytes from the place on into the first bytes of `buf` and says how many: at least one where `buf` is not empty,
     /// and 0 only at or past the end.
     fn take_at(&mut self, at: u64, buf: &mut [u8]) -> Result<usize, Failed>
         ensures bound { IfOk result (λ n. n ≤ length buf.new) }

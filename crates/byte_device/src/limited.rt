@@ -71,9 +71,9 @@ impl<'a> Source for Pieces<'a> {
         }
         let most = self.size.min(self.limit);
         let n = self.rest.len().min(buf.len()).min(most);
-        let (front, back) = self.rest.split_at(n);
-        buf[..n].copy_from_slice(front);
-        self.rest = back;
+        let (taken, left) = self.rest.split_at(n);
+        buf[..n].copy_from_slice(taken);
+        self.rest = left;
         self.limit -= n;
         Ok(n)
     }

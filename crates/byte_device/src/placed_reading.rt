@@ -49,7 +49,7 @@ fn make_room(bytes: &mut Vec<u8, Heap>, filled: usize, most: usize) -> Result<()
     requires less { filled < most }
     ensures room { OnOk result (filled < length bytes.new.items) }
     ensures most { OnOk result (length bytes.new.items ≤ most) }
-    ensures front { OnOk result (take filled bytes.new.items ≡ take filled bytes.old.items) }
+    ensures kept { OnOk result (take filled bytes.new.items ≡ take filled bytes.old.items) }
 {
     if filled == bytes.len() {
         bytes.resize(filled + PIECE.min(most - filled), 0)?;

@@ -73,7 +73,7 @@ pub fn read_to_end<R: Source>(heap: Heap, r: &mut R) -> Result<Vec<u8, Heap>, Re
 fn make_room(bytes: &mut Vec<u8, Heap>, filled: usize) -> Result<(), NoMemory>
     requires { filled ≤ length bytes.old.items }
     ensures room { OnOk result (filled < length bytes.new.items) }
-    ensures front { OnOk result (take filled bytes.new.items ≡ take filled bytes.old.items) }
+    ensures kept { OnOk result (take filled bytes.new.items ≡ take filled bytes.old.items) }
 {
     if filled == bytes.len() {
         bytes.resize(filled + PIECE, 0)?;

@@ -17,38 +17,32 @@ pub fn counted(counter: &str, times: u64) -> Result<u64, CaseFault> {
 
 /// The bytes of a number in the form `beN`, `leN` or `decN`.
 pub fn spelled(alloc: Global, count: u64, form: &str) -> Result<Vec<u8>, CaseFault> {
-    if let Some(len) = form.strip_prefix("be") {
-        let mut bytes = lowest_first(alloc, count, number(len)?)?;
-        bytes.reverse();
-        Ok(bytes)
-    } else if let Some(len) = form.strip_prefix("le") {
-        lowest_first(alloc, count, number(len)?)
-    } else if let Some(len) = form.strip_prefix("dec") {
-        decimal(alloc, count, number(len)?)
+    if let Some(len) = form.strip_prefix("le") {
+        return lowest_first(alloc, count, number(len)?, 256, 0);
+    }
+    let mut bytes = if let Some(len) = form.strip_prefix("be") {
+        lowest_first(alloc, count, number(len)?, 256, 0)?
     } else {
-        Err(CaseFault::BadLine)
-    }
-}
-
-// The lowest bytes of a number, the lowest first.
-fn lowest_first(alloc: Global, count: u64, len: u64) -> Result<Vec<u8>, CaseFault> {
-    let mut bytes = Vec::new(alloc);
-    let mut rest = count;
-    for _ in 0..len {
-        bytes.push((rest & 0xff) as u8)?;
-        rest >>= 8;
-    }
+        let len = form.strip_prefix("dec").ok_or(CaseFault::BadLine)?;
+        lowest_first(alloc, count, number(len)?, 10, b'0')?
+    };
+    bytes.reverse();
     Ok(bytes)
 }
 
-// The last decimal digits of a number.
-fn decimal(alloc: Global, count: u64, len: u64) -> Result<Vec<u8>, CaseFault> {
+// The last digits of a number to a base, the lowest first, each as the byte that is so far behind that of 0.
+fn lowest_first(
+    alloc: Global,
+    count: u64,
+    len: u64,
+    base: u64,
+    zero: u8,
+) -> Result<Vec<u8>, CaseFault> {
     let mut digits = Vec::new(alloc);
     let mut rest = count;
     for _ in 0..len {
-        digits.push(b'0' + (rest % 10) as u8)?;
-        rest /= 10;
+        digits.push(zero.wrapping_add((rest % base.max(1) & 0xff) as u8))?;
+        rest /= base.max(1);
     }
-    digits.reverse();
     Ok(digits)
 }

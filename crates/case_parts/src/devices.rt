@@ -4,7 +4,7 @@
 ghost use Rattle.std.specs.Prelude.{◌≡◌, ◌<◌, None, Some, [], false, if◌then◌else◌};
 
 use byte_device::{Failed, Pieces, Short, Sink, Source};
-use command_ends::Target;
+use command_core::Target;
 use memory::Heap;
 use std::mem;
 

@@ -1,7 +1,7 @@
 //! How a case ends, and what it leaves.
 
 use crate::faults::{CallFault, Ended};
-use command_ends::{CommandFault, Failure, Status, status_of};
+use command_core::{CommandFault, Failure, Status, status_of};
 use memory::NoMemory;
 use std::fmt;
 
@@ -59,28 +59,20 @@ impl fmt::Display for End {
 }
 
 /// What a case leaves, and how it ends.
-#[derive(Drop)]
+#[derive(Drop, PartialEq, Eq)]
 pub struct Left {
     pub end: End,
     /// What was put in OUT's place, or else what its draft has.
     pub out: Vec<u8>,
-    /// Whether it is a draft that was not put in place.
+    /// Whether it is a draft that was not published.
     pub is_draft: bool,
     /// The report of a command, or the lines that a call gives.
     pub report: Vec<u8>,
 }
 
 impl Left {
-    /// Whether another case left the same.
-    pub fn is_as(&self, other: &Left) -> bool {
-        self.end == other.end
-            && self.out == other.out
-            && self.is_draft == other.is_draft
-            && self.report == other.report
-    }
-
     /// Whether this may be left where memory is wanting, beside what is left where it is not: of a command no report
-    /// and nothing in place, and in OUT's draft nothing or the whole text, or any beginning where it writes as it
+    /// and nothing published, and in OUT's draft nothing or the whole text, or any beginning where it writes as it
     /// reads; of a call the first of its lines.
     pub fn may_want_memory(&self, whole: &Left, writes_as_it_reads: bool) -> bool {
         match self.end {

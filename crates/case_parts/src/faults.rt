@@ -54,6 +54,9 @@ pub enum CallFault {
     /// The bytes are no file of which a site takes the slices.
     #[error("{0:?}")]
     Take(TakeFault),
+    /// No call has its verb.
+    #[error("BadLine")]
+    NoSuchCall,
     /// A growth was refused.
     #[error("OutOfMemory")]
     OutOfMemory(#[from] NoMemory),

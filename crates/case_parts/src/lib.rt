@@ -54,5 +54,5 @@ pub use questions::{answers_of, tell_answers};
 pub use selections::{Picked, tell_part};
 pub use store::Store;
 pub use streams::{Failing, tell_asked, tell_reading, tell_writing};
-pub use tellings::{tell_ended, tell_left, tell_line_fault, tell_report, tell_same, tell_text};
+pub use tellings::{tell_left, tell_line_fault, tell_report, tell_same, tell_text};
 pub use words::{first_word, words_of};

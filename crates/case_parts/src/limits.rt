@@ -34,7 +34,7 @@ pub struct Limits<'t> {
     pub opened: u64,
     /// How many bytes OUT takes before it fails.
     pub out: usize,
-    /// Whether OUT can be put in place.
+    /// Whether OUT can be published.
     pub places: bool,
     /// How many bytes the report takes before it fails.
     pub report: usize,

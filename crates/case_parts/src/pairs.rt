@@ -25,45 +25,23 @@ impl Dice {
     }
 }
 
-// Which operations of a pair come to which archive.
-#[derive(Clone, Copy)]
-enum Shape {
-    // A third of them to both.
-    Mixed,
-    LeftAlone,
-    RightAlone,
-    Equal,
-    // The retirements to the left one, which so ends where the right one begins.
-    Apart,
-}
-
-impl Shape {
-    fn of_pair(number: u64) -> Shape {
-        match number % 5 {
-            0 => Shape::Mixed,
-            1 => Shape::LeftAlone,
-            2 => Shape::Equal,
-            3 => Shape::Apart,
-            _ => Shape::RightAlone,
+// Whether an operation of the pair of this number comes to the left archive, and to the right one.
+fn sides(number: u64, operation: &Operation, dice: &mut Dice) -> (bool, bool) {
+    match number % 5 {
+        // A third of them comes to both.
+        0 => match dice.below(3) {
+            0 => (true, false),
+            1 => (false, true),
+            _ => (true, true),
+        },
+        1 => (true, false),
+        2 => (true, true),
+        // The retirements come to the left one, which so ends where the right one begins.
+        3 => {
+            let is_retirement = matches!(operation, Operation::Retire(_, _));
+            (is_retirement, !is_retirement)
         }
-    }
-
-    // Whether an operation comes to the left archive, and to the right one.
-    fn sides(self, operation: &Operation, dice: &mut Dice) -> (bool, bool) {
-        match self {
-            Shape::Mixed => match dice.below(3) {
-                0 => (true, false),
-                1 => (false, true),
-                _ => (true, true),
-            },
-            Shape::LeftAlone => (true, false),
-            Shape::RightAlone => (false, true),
-            Shape::Equal => (true, true),
-            Shape::Apart => match operation {
-                Operation::Retire(_, _) => (true, false),
-                Operation::Admit(_) => (false, true),
-            },
-        }
+        _ => (false, true),
     }
 }
 
@@ -80,8 +58,7 @@ pub fn tell_pairs<A: Archive + Drop>(
     let mut dice = Dice(seed);
     let mut all = Vec::new(alloc);
     for number in 0..pairs {
-        let shape = Shape::of_pair(number);
-        let (left, right) = random_pair::<A>(alloc, &heap, shape, image, &mut dice)?;
+        let (left, right) = random_pair::<A>(alloc, &heap, number, image, &mut dice)?;
         let mut merged = Grown::new(heap.clone()?);
         let (mut one, mut other) = (Bytes::new(&left), Bytes::new(&right));
         let sizes = merge_streams(&heap, &mut one, &mut other, &mut merged);
@@ -96,11 +73,11 @@ pub fn tell_pairs<A: Archive + Drop>(
     Ok(tell_text(&all, told)?)
 }
 
-// The texts of a pair.
+// The texts of the pair of this number.
 fn random_pair<A: Archive + Drop>(
     alloc: Global,
     heap: &Heap,
-    shape: Shape,
+    number: u64,
     image: &[u8],
     dice: &mut Dice,
 ) -> Result<(Vec<u8>, Vec<u8>), CallFault> {
@@ -108,7 +85,7 @@ fn random_pair<A: Archive + Drop>(
     let mut right = A::empty(heap.clone()?);
     for _ in 0..dice.below(12) {
         let operation = random_operation(alloc, heap, image, dice)?;
-        let (to_left, to_right) = shape.sides(&operation, dice);
+        let (to_left, to_right) = sides(number, &operation, dice);
         if to_left {
             left.take(operation.copy(heap.clone()?)?)?;
         }

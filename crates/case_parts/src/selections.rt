@@ -8,7 +8,7 @@ use crate::tellings::tell_text;
 use crate::words::first_word;
 use archive_core::{ArchKey, Archive, SliceKey};
 use archive_reading::{Under, read_part};
-use archive_records::{RecordFault, key_front};
+use archive_records::{RecordFault, key_prefix};
 use archive_words::Word;
 use memory::{Heap, NoMemory};
 use uuid::Uuid;
@@ -61,7 +61,7 @@ fn read_picked<A: Archive + Drop>(
 ) -> Result<A, RecordFault> {
     match picked {
         Picked::OfUuid(uuid) => read_part(heap, &Under(uuid.as_bytes()), source),
-        Picked::OfKey(key) => read_part(heap, &Under(&key_front(&key)), source),
+        Picked::OfKey(key) => read_part(heap, &Under(&key_prefix(&key)), source),
     }
 }
 

@@ -3,7 +3,7 @@
 use crate::ends::{End, Left};
 use archive_core::Digest;
 use archive_words::Spelled;
-use command_ends::{Failure, Status, status_of};
+use command_core::status_of;
 use command_line::LineFault;
 use memory::NoMemory;
 use sha2::{Digest as _, Sha256};
@@ -34,17 +34,14 @@ pub fn tell_text(bytes: &[u8], told: &mut String) -> Result<(), NoMemory> {
 fn tell_end(end: End, told: &mut String) -> Result<(), NoMemory> {
     match end {
         End::Given => Ok(()),
-        End::Fault(_) => writeln!(told, "  {end}"),
-        End::Command(ended) => tell_ended(ended, told),
+        End::Fault(fault) => writeln!(told, "  {fault}"),
+        End::Command(ended) => {
+            if let Err(failure) = ended {
+                writeln!(told, "  {failure}")?;
+            }
+            writeln!(told, "  status {}", status_of(&ended))
+        }
     }
-}
-
-/// Tells how a command ended.
-pub fn tell_ended(ended: Result<Status, Failure>, told: &mut String) -> Result<(), NoMemory> {
-    if let Err(failure) = ended {
-        writeln!(told, "  {failure}")?;
-    }
-    writeln!(told, "  status {}", status_of(&ended))
 }
 
 /// Tells a report, which is a text of ASCII, wherever it is cut.

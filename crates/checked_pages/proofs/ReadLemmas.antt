@@ -1,5 +1,6 @@
 -- What a call says that reads stored bytes, said otherwise.
-use Rattle.std.proofs.Common.{◌∙◌, ◌≡◌, ℕ, List, sym, subst}
+use Rattle.std.proofs.Common.{◌∙◌, ◌≡◌, ℕ, List, IsErrAnd, ap, sym, subst}
+use Rattle.std.proofs.lemmas.Result.{err_from_is_err_and}
 use Rattle.std.specs.Prelude.{Option, Some, Result, Ok, Err, MatchResult}
 use Rattle.checked_pages.specs.Reading.{Blames, IsRefused, ReadsStored}
 use Rattle.checked_pages.specs.declared.fault.CheckFault.{CheckFault}
@@ -25,12 +26,13 @@ err_as : {D T U : Type 0} (whole : D → Option (List ℕ)) (failures : D → �
     → ((text : List ℕ) → whole old ≡ Some text → B text → B' text) → ReadsStored whole failures old new (Err f) A B → ReadsStored whole failures old new (Err f) A' B'
 err_as whole failures old new f A B A' B' to h = record { says = λ text is. refused_as (B text) (B' text) f (to text is) (h.says text is); keeps = h.keeps; counts = h.counts }
 
--- a refusal is passed on
+-- a refusal is passed on by `?`
 pub passed_on : {D T U : Type 0} (whole : D → Option (List ℕ)) (failures : D → ℕ) (old new : D) (f : CheckFault) (r : Result T CheckFault) (s : Result U CheckFault)
     (A : List ℕ → T → Type 0) (B : List ℕ → Type 0) (A' : List ℕ → U → Type 0) (B' : List ℕ → Type 0)
-    → r ≡ Err f → s ≡ Err f → ((text : List ℕ) → whole old ≡ Some text → B text → B' text) → ReadsStored whole failures old new r A B → ReadsStored whole failures old new s A' B'
+    → r ≡ Err f → IsErrAnd s (λ g. g ≡ f) → ((text : List ℕ) → whole old ≡ Some text → B text → B' text) → ReadsStored whole failures old new r A B → ReadsStored whole failures old new s A' B'
 passed_on whole failures old new f r s A B A' B' was is to h =
-    subst (λ t. ReadsStored whole failures old new t A' B') (sym is) (err_as whole failures old new f A B A' B' to (subst (λ t. ReadsStored whole failures old new t A B) was h))
+    let p = err_from_is_err_and s is in
+    subst (λ t. ReadsStored whole failures old new t A' B') (sym (p.1 ∙ ap Err p.2)) (err_as whole failures old new f A B A' B' to (subst (λ t. ReadsStored whole failures old new t A B) was h))
 
 -- what is read after a call that did not fail
 pub after_ok : {D T : Type 0} (whole : D → Option (List ℕ)) (failures : D → ℕ) (old mid new : D) (r : Result T CheckFault) (A : List ℕ → T → Type 0) (B : List ℕ → Type 0)

@@ -1,3 +1,4 @@
 pub mod Pages
+pub mod Standing
 pub mod Views
 pub mod Reading

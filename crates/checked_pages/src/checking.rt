@@ -10,10 +10,6 @@ use memory::Heap;
 use sha2::{Digest, Sha256};
 
 /// Reads so many bytes from an offset on, and compares their SHA-256 with a digest.
-///
-/// # Errors
-///
-/// `Changed` where fewer bytes stand there, or others.
 pub fn read_checked<P: Placed>(
     heap: Heap,
     device: &mut P,

@@ -9,7 +9,7 @@
 //! - `checking`: so many bytes, compared with their digest;
 //! - `pages`: [`Pages`], stored bytes, and those of their pages that are known;
 //! - `opening`: [`Pages::open`], the bytes that a claim names; `reading`: [`Pages::read`], some of them;
-//! - `storing`: [`page_digests`], what stands before bytes where they are stored;
+//! - `storing`: [`page_digests`], what stands before bytes where they are stored; `numbers`: the numbers among them;
 //! - `laws`: what is supposed of SHA-256, and when nothing is.
 #![tactic(auto)]
 
@@ -17,6 +17,7 @@ mod checking;
 mod claim;
 mod fault;
 pub mod laws;
+mod numbers;
 mod opening;
 mod pages;
 mod reading;
@@ -24,6 +25,7 @@ mod storing;
 
 pub use claim::Claim;
 pub use fault::CheckFault;
+pub use numbers::{u32_be_at, u64_be_at};
 pub use opening::{PAGE_LEN, pages_in};
 pub use pages::Pages;
 pub use storing::page_digests;

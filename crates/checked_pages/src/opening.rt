@@ -31,16 +31,12 @@ fn digests_len(claim: &Claim) -> Option<u64>
 {
     let len = DIGEST_LEN * pages_in(claim.size);
     let first = claim.offset.checked_add(len)?;
-    let _end = first.checked_add(claim.size)?;
+    first.checked_add(claim.size)?;
     Some(len)
 }
 
 impl Pages {
     /// The bytes that a claim names. Their page digests are read and compared with the SHA-256 that the claim has of them.
-    ///
-    /// # Errors
-    ///
-    /// `Changed` where other page digests stand there, or fewer bytes.
     pub fn open<P: Placed>(heap: Heap, device: &mut P, claim: Claim) -> Result<Pages, CheckFault>
         ensures claim { IfOk result (λ pages. pages.claim ≡ claim) }
         ensures read { ReadsStored P.whole P.failures device.old device.new result

@@ -2,7 +2,7 @@
 
 ghost use Rattle.std.specs.Prelude.{◌≡◌, ◌+◌, ◌-◌, ◌*◌, ◌<◌, ◌≤◌, ℕ, List, [], OnOk, IfOk, Some, length, take, drop, map, min, slice_index_or};
 ghost use Rattle.checked_pages.specs.Pages.{AreKept, AreStored, page_of};
-ghost use Rattle.checked_pages.specs.Views.{ArePagesOf, claim_view};
+ghost use Rattle.checked_pages.specs.Views.{ArePagesOf, KeepsPages, claim_view};
 ghost use Rattle.checked_pages.specs.Reading.{ReadsStored};
 
 use crate::checking::read_checked;
@@ -88,8 +88,7 @@ impl Pages {
         ensures long { OnOk result (length (slice_index_or (map (λ page. page.items) self.new.kept.items) index [])
             ≡ min 16384 (self.old.claim.size - 16384 * index)) }
         ensures claim { self.new.claim ≡ self.old.claim }
-        ensures keeps { (text all : List ℕ) → P.whole device.old ≡ Some text → ArePagesOf self.old text all
-            → ArePagesOf self.new text all }
+        ensures keeps { KeepsPages P.whole device.old self.old self.new }
         ensures read { ReadsStored P.whole P.failures device.old device.new result
             (λ _ _. Unit {0})
             (λ text. (all : List ℕ) → AreStored text (claim_view self.old.claim) all → ArePagesOf self.old text all → ⊥) }
@@ -120,8 +119,7 @@ impl Pages {
         requires page { 16384 * index < self.old.claim.size }
         requires inside { skip + length buf.old ≤ min 16384 (self.old.claim.size - 16384 * index) }
         ensures claim { self.new.claim ≡ self.old.claim }
-        ensures keeps { (text all : List ℕ) → P.whole device.old ≡ Some text → ArePagesOf self.old text all
-            → ArePagesOf self.new text all }
+        ensures keeps { KeepsPages P.whole device.old self.old self.new }
         ensures read { ReadsStored P.whole P.failures device.old device.new result
             (λ text _. (all : List ℕ) → ArePagesOf self.old text all
             → buf.new ≡ take (length buf.new) (drop (16384 * index + skip) all))
@@ -134,10 +132,6 @@ impl Pages {
     }
 
     /// Fills a buffer with the bytes from an offset on.
-    ///
-    /// # Errors
-    ///
-    /// `Changed` also where the bytes end before the buffer does.
     pub fn read<P: Placed>(
         &mut self,
         device: &mut P,
@@ -145,8 +139,7 @@ impl Pages {
         buf: &mut [u8],
     ) -> Result<(), CheckFault>
         ensures claim { self.new.claim ≡ self.old.claim }
-        ensures keeps { (text all : List ℕ) → P.whole device.old ≡ Some text → ArePagesOf self.old text all
-            → ArePagesOf self.new text all }
+        ensures keeps { KeepsPages P.whole device.old self.old self.new }
         ensures read { ReadsStored P.whole P.failures device.old device.new result
             (λ text _. (all : List ℕ) → ArePagesOf self.old text all
             → buf.new ≡ take (length buf.new) (drop offset all))

@@ -1,6 +1,5 @@
 -- The first tuple that has an address.
 use Rattle.std.proofs.Common.{◌≡◌, ℕ, zero, suc, ◌+◌, ◌<◌, Bool, true, false, List, [], ◌∷◌, slice_get, Option, Some, None, refl, sym, ap, ◌∙◌, inl, inr, arith, nat_lt, nat_le, ◌&&◌, subst}
-use Rattle.std.specs.Prelude.{IfOk, Result, Ok, Err}
 use Rattle.std.proofs.lemmas.Bool.{cases_Bool}
 use Rattle.std.proofs.lemmas.Bool.Decides.{nat_tests}
 use Rattle.std.proofs.lemmas.Option.{none-some}
@@ -58,11 +57,6 @@ first_tuple-is a (t ∷ ts) = elim (cases_Bool (has a t)) [
   | inl e ↦ subst (IsFirstTuple (t ∷ ts) a) (sym (step_hit a t ts (has_it a t e))) (0, refl, has_it a t e, λ j u l. absurd (omega arith))
   | inr e ↦ subst (IsFirstTuple (t ∷ ts) a) (sym (step_miss a t ts (has_not a t e))) (one_more a t ts (first_tuple a ts) (has_not a t e) (first_tuple-is a ts))
 ]
-
--- what is said of what a call gives, by what else is said of it
-pub of_each : {T E : Type 0} (r : Result T E) (P Q : T → Type 0) → ((x : T) → P x → Q x) → IfOk r P → IfOk r Q
-of_each (Ok x) P Q f p = f x p
-of_each (Err e) P Q f p = tt
 
 -- no other tuple is the first
 pub first_tuple-only : (a : ℕ) (ts : List Arange) (found : Option Arange) → IsFirstTuple ts a found → found ≡ first_tuple a ts

@@ -1,7 +1,6 @@
 -- Which unit an address is of, by __debug_aranges (DWARF 5, section 6.1.2).
 use Rattle.std.specs.Prelude.{ℕ, List, [], length, drop, map, slice_index, ◌==◌, ◌&&◌, ◌+◌, ◌≡◌, ◌<◌, ◌≤◌, nat_lt}
-use Rattle.std.specs.Prelude.{nat_le, if◌then◌else◌}
-use Rattle.std.specs.Prelude.{Bool, false, Option, Some, None, MatchOption, slice_get}
+use Rattle.std.specs.Prelude.{nat_le, if◌then◌else◌, Bool, false, Option, Some, None, MatchOption, slice_get}
 use Rattle.std.specs.BTreeMap as tree_map
 use Rattle.std.specs.List.{flat_map, list_any}
 use Rattle.std.specs.Option.{option_map_or}

@@ -1,7 +1,6 @@
 //! The ranges of an entry.
 
 ghost use Rattle.std.specs.Prelude.{◌≡◌, drop, Some};
-ghost use Rattle.std.specs.Option.{option_and_then, option_map};
 ghost use Rattle.dwarf_numbers.specs.Views.{value_view};
 ghost use Rattle.code_ranges.specs.EntryRanges.{address_of, end_of, entry_ranges, left_after_entry, left_after_list};
 ghost use Rattle.code_ranges.specs.EntryRanges.{list_at, list_offset, listed_offset, listed_ranges, low_to_high};

@@ -102,13 +102,7 @@ impl<'a> Ranges<'a> {
     pub fn none() -> Ranges<'a>
         ensures { result ≡ [] }
     {
-        Ranges {
-            first: None,
-            format: ListFormat::DebugRanges,
-            base: 0,
-            rest: &[],
-            left: 0,
-        }
+        Ranges::of(ListFormat::DebugRanges, 0, &[], 0)
     }
 
     /// One range.

@@ -1,6 +1,5 @@
 -- A line that `clap` accepts names a command, with a value at each name that has to have one.
-use Rattle.std.proofs.Common.{arith, ◌≡◌, ◌∙◌, ◌&&◌, ◌||◌, Bool, true, false, not, refl, sym, ap}
-use Rattle.std.proofs.Common.{List, [], ◌∷◌, Option, Some, None, IsSome, is_some, option_map, codes}
+use Rattle.std.proofs.Common.{arith, ◌≡◌, ◌∙◌, ◌&&◌, ◌||◌, Bool, true, false, not, refl, sym, ap, List, [], ◌∷◌, Option, Some, None, IsSome, is_some, option_map, codes}
 use Rattle.std.specs.Prelude.{find, option_and_then, slice_get, unwrap_or}
 use Rattle.std.specs.List.{list_all, list_any}
 use Rattle.std.specs.Option.{option_map_or}
@@ -13,11 +12,9 @@ use Rattle.clap.specs.Simple.{argument_words, entered, is_simple, label_of, name
 use Rattle.clap.specs.Takes.{built_takes, entered_passes, is_given, is_valid, level_passes}
 use Rattle.clap.proofs.SimpleLemmas.{is_nil}
 use Rattle.clap.proofs.WalkLemmas.{both}
-use Rattle.command_line.specs.Arguments.{Argument, Count, Flag, Often, Once, Perhaps, Several, flag, form_of}
-use Rattle.command_line.specs.Arguments.{perhaps, several}
+use Rattle.command_line.specs.Arguments.{Argument, Count, Flag, Often, Perhaps, flag, form_of, perhaps, several}
 use Rattle.command_line.specs.Commands.{symarch_command}
-use Rattle.command_line.specs.Lines.{all_values, are_accepted, asked_of, has_form, have_forms, is_set, line_at, line_in}
-use Rattle.command_line.specs.Lines.{named_command, values_at, values_spelled, words_by}
+use Rattle.command_line.specs.Lines.{all_values, are_accepted, asked_of, has_form, have_forms, is_set, line_at, line_in, named_command, values_at, values_spelled, words_by}
 use Rattle.command_line.specs.Table.{Signature, signature_named}
 use Rattle.command_line.specs.declared.commands.Form.{Form}
 use Rattle.command_line.proofs.Filled.{are_filled, found_passes, is_filled, lets_name, lets_stop, level, want_values}
@@ -117,11 +114,10 @@ values_some a rules rows stood asks has = go a.count asks has
         → (is_some (option_and_then (values_spelled (form_of a.role)) (words_by count a.name rows))
         || not (is_some (first_of a.name rows))) ≡ true
         → is_some (option_and_then (values_spelled (form_of a.role)) (words_by count a.name rows)) ≡ true
-    go Once asks has = left_of _ _ has (stands asks)
-    go Several asks has = left_of _ _ has (stands asks)
     go (Perhaps option) asks has = if_there (form_of a.role) (first_of a.name rows) has
     go (Often option) asks has = each_there (form_of a.role) (find (λ x. bytes_eq x.id a.name) rows) has
     go (Flag option) asks has = flag_spelled (form_of a.role) (is_set a.name rows)
+    go count asks has = left_of _ _ has (stands asks)
 
 -- two values are there exactly where what is made of both is
 both_some : {X Y Z : Type 0} (f : X → Y → Z) (o : Option X) (p : Option Y) → (is_some o && is_some p)

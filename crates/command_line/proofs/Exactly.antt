@@ -1,35 +1,19 @@
 -- Words are accepted exactly where they have no kind of error, at any command whose defaults pass. Both definitions go
 -- step by step, and each step gives no kind exactly where it passes.
-use Rattle.std.proofs.Common.{◌≡◌, ◌∙◌, ◌&&◌, ◌||◌, ℕ, zero, suc, Bool, true, false, not, cond}
-use Rattle.std.proofs.Common.{refl, sym, ap, arith, nat_le}
-use Rattle.std.proofs.Common.{List, [], ◌∷◌, length, drop, Option, Some, None, is_some, chars, encode_utf8, find}
+use Rattle.std.proofs.Common.{◌≡◌, ◌∙◌, ◌&&◌, ◌||◌, ℕ, zero, suc, Bool, true, false, not, cond, refl, sym, ap, arith, nat_le, List, [], ◌∷◌, length, drop, Option, Some, None, is_some, chars, encode_utf8, find}
 use Rattle.std.specs.Prelude.{slice_get}
 use Rattle.std.specs.List.{list_all, list_any}
 use Rattle.std.specs.Option.{option_map_or}
 use Rattle.std.proofs.lemmas.Bool.Decides.{nat_tests}
 use Rattle.clap.specs.Facts.{unwrap_or_range}
-use Rattle.clap.specs.Faults.{action_fault, bundle_step_fault, check_fault}
-use Rattle.clap.specs.Faults.{default_fault, defaults_fault, entered_fault, fault_of, flag_word_fault, flags_fault}
-use Rattle.clap.specs.Faults.{has_free_rules, is_simple_and_free, level_fault, long_fault}
-use Rattle.clap.specs.Faults.{option_fault, other_fault, react_fault}
-use Rattle.clap.specs.Faults.{settle_fault, short_fault, step_fault, stray_fault, turn_fault, use_fault, values_fault}
-use Rattle.clap.specs.Faults.{walk_fault}
+use Rattle.clap.specs.Faults.{action_fault, bundle_step_fault, check_fault, default_fault, defaults_fault, entered_fault, fault_of, flag_word_fault, flags_fault, has_free_rules, is_simple_and_free, level_fault, long_fault, option_fault, other_fault, react_fault, settle_fault, short_fault, step_fault, stray_fault, turn_fault, use_fault, values_fault, walk_fault}
 use Rattle.clap.specs.Kinds.{Kinds, or_else, range_kinds, request_kinds, value_kinds}
 use Rattle.clap.specs.Lexer.{long_of, short_of}
 use Rattle.clap.specs.Simple.{App, Shape, argument_words, built, entered, is_simple, label_of, names_of}
-use Rattle.clap.specs.Takes.{action_passes, built_takes, bundle_step_passes}
-use Rattle.clap.specs.Takes.{default_passes, entered_passes, flag_word_passes, flags_pass, is_given, is_valid}
-use Rattle.clap.specs.Takes.{level_passes, long_passes, option_passes, other_passes, react_passes}
-use Rattle.clap.specs.Takes.{settle_passes}
-use Rattle.clap.specs.Takes.{short_passes, step_passes, takes, turn_passes, use_passes, values_pass, walk_passes}
+use Rattle.clap.specs.Takes.{action_passes, built_takes, bundle_step_passes, default_passes, entered_passes, flag_word_passes, flags_pass, is_given, is_valid, level_passes, long_passes, option_passes, other_passes, react_passes, settle_passes, short_passes, step_passes, takes, turn_passes, use_passes, values_pass, walk_passes}
 use Rattle.clap.specs.ValueTests.{accepts}
 use Rattle.clap.specs.Values.{is_request}
-use Rattle.clap.specs.Walk.{Held, Names, Row, Rule, Step, Text, Walk, action_of, answers_to, arg_by_id}
-use Rattle.clap.specs.Walk.{arg_by_index, arg_by_long, arg_by_short, attached_value, finished}
-use Rattle.clap.specs.Walk.{is_pending, most_values, next, nothing_held, reacted, settled, subcommand}
-use Rattle.clap.specs.Walk.{subcommand_met}
-use Rattle.clap.specs.Walk.{takes_several, takes_values, trailing, value, values_or_missing, walk, walk_from, walked}
-use Rattle.clap.specs.Walk.{with_default, word_met}
+use Rattle.clap.specs.Walk.{Held, Names, Row, Rule, Step, Text, Walk, action_of, answers_to, arg_by_id, arg_by_index, arg_by_long, arg_by_short, attached_value, finished, is_pending, most_values, next, nothing_held, reacted, settled, subcommand, subcommand_met, takes_several, takes_values, trailing, value, values_or_missing, walk, walk_from, walked, with_default, word_met}
 use Rattle.clap.specs.declared.builder.action.ArgAction.{ArgAction}
 use Rattle.clap.specs.declared.builder.value_parser.ValueParser.{ValueParser}
 use Rattle.clap.proofs.WalkLemmas.{both}

@@ -1,15 +1,12 @@
 -- What a line that `clap` refuses has for an answer, by the kinds of error that its own definition names.
-use Rattle.std.proofs.Common.{arith, ◌≡◌, ◌⊎◌, ℕ, inl, inr, true, List, [], ◌∷◌, Option, Some, None, Result, Ok, Err, IfOk}
-use Rattle.std.proofs.Common.{Global, IfErr, IsErrAnd, MatchResult, String, ap, is_some, option_map, refl, string_bytes}
-use Rattle.std.proofs.Common.{subst, sym}
+use Rattle.std.proofs.Common.{arith, ◌≡◌, ℕ, inl, inr, true, List, [], ◌∷◌, Option, Some, None, Result, Ok, Err, IfOk, Global, IfErr, IsErrAnd, MatchResult, String, ap, is_some, option_map, refl, string_bytes, subst, sym}
 use Rattle.std.specs.Prelude.{option_and_then}
 use Rattle.std.specs.Option.{option_map_or, option_or}
 use Rattle.uuid.specs.Text.{parsed}
 use Rattle.archive_words.specs.Words.{address_of, arch_of, digest_of}
-use Rattle.command_line.specs.Arguments.{Amount, Argument, Values, flag, form_of, one, perhaps, several}
-use Rattle.command_line.specs.LineFaults.{out_is_input, unknown_command, without_value}
-use Rattle.command_line.specs.Lines.{Line, all_spelled, all_values, amount_spelled, line_at, line_in, values_at}
-use Rattle.command_line.specs.Lines.{inputs_of, is_path_among, out_of, values_spelled, words_by}
+use Rattle.command_line.specs.Arguments.{Amount, Argument, Values, form_of, one, perhaps, several}
+use Rattle.command_line.specs.LineFaults.{out_is_input, unknown_command, without_value, IsHelpUnlessMemory, IsRefusalUnlessMemory, IsRefusedBy, first_other, form_refusal, other_form, other_in, other_word, out_refusal, refusal_among, refusal_at, refusal_in, refusal_of}
+use Rattle.command_line.specs.Lines.{Line, all_spelled, all_values, amount_spelled, line_at, line_in, values_at, inputs_of, is_path_among, out_of, values_spelled, words_by}
 use Rattle.command_line.specs.Table.{Signature, signature_named}
 use Rattle.command_line.specs.declared.commands.Form.{Form}
 use Rattle.command_line.specs.declared.commands.Form.TheVariants as forms
@@ -17,11 +14,8 @@ use Rattle.clap.specs.Words.{HasKind, IsAmong, Kinds, Row, Text, kind_of}
 use Rattle.clap.specs.declared.error.Error.{Error}
 use Rattle.clap.specs.declared.error.kind.ErrorKind.{ErrorKind}
 use Rattle.clap.specs.declared.error.kind.ErrorKind.TheVariants as kind
-use Rattle.command_line.specs.LineFaults.{IsHelpUnlessMemory, IsRefusalUnlessMemory, IsRefusedAs, IsRefusedBy, first_other}
-use Rattle.command_line.specs.LineFaults.{form_refusal, other_form, other_in, other_word, out_refusal, refusal_among}
-use Rattle.command_line.specs.LineFaults.{refusal_at, refusal_in, refusal_of}
 use Rattle.command_line.specs.declared.line_faults.LineFault.{LineFault}
-use Rattle.command_line.specs.declared.line_faults.LineFault.TheVariants.{Help, OutOfMemory, Refused}
+use Rattle.command_line.specs.declared.line_faults.LineFault.TheVariants.{OutOfMemory, Refused}
 
 -- where help, or the version, is the only kind, the error is its text or a want of memory
 pub asked_is_help : (e : Error) (fault : LineFault) (kinds : Kinds) (asked : ErrorKind) → HasKind kinds e
@@ -47,13 +41,6 @@ other_is_refusal e fault kinds same has is no_help no_version memory refusal =
           (λ is_version. no_version (subst (λ k. IsAmong k same) is_version among))
     ]
 
--- a refusal with a text that was made
-pub refused_as : {E : Type 0} (made : Result (String Global) E) (fault : LineFault) (text : List ℕ)
-    → IfOk made (λ t. string_bytes t ≡ text)
-    → MatchResult made (λ t. fault ≡ Refused t) (λ _. fault ≡ OutOfMemory) → IsRefusedAs text fault
-refused_as (Ok t) fault text is told = subst (IsRefusedAs text) (sym told) is
-refused_as (Err e) fault text is told = subst (IsRefusedAs text) (sym told) tt
-
 pub refused_by : {E : Type 0} (made : Result (String Global) E) (fault : LineFault) (text : List ℕ)
     → IfOk made (λ t. string_bytes t ≡ text)
     → MatchResult made (λ t. fault ≡ Refused t) (λ _. fault ≡ OutOfMemory) → IsRefusedBy (Some text) fault
@@ -64,21 +51,11 @@ refused_by (Err e) fault text is told = subst (IsRefusedBy (Some text)) (sym tol
 pub memory_told : (told : Option Text) (fault : LineFault) → fault ≡ OutOfMemory → IsRefusedBy told fault
 memory_told told fault is = subst (IsRefusedBy told) (sym is) tt
 
--- the first word that is refused
-pub first_told : {X : Type 0} (form : Text → Option X) (a : Argument) (word : Text) (rest : List Text)
-    (fault : LineFault) → (fault ≡ OutOfMemory) ⊎ (form word ≡ None) → IsRefusedAs (other_form a word) fault
-    → IsRefusedBy (option_map (other_form a) (first_other form (word ∷ rest))) fault
-first_told form a word rest fault (inl wants) told = memory_told _ fault wants
-first_told form a word rest (Refused text) (inr other) told = rw other told
-first_told form a word rest OutOfMemory (inr other) told = tt
-first_told form a word rest (Help text) (inr other) told = absurd told
-
 -- what is told first
 either : (o p : Option Text) (fault : LineFault) → IsRefusedBy o fault → IsRefusedBy (option_or o p) fault
 either None p OutOfMemory told = tt
-either None p (Refused text) told = absurd told
-either None p (Help text) told = absurd told
 either (Some text) p fault told = told
+either o p fault told = absurd told
 
 -- ---- where the values are there nothing is told
 
@@ -91,9 +68,8 @@ other_none : {X : Type 0} (form : Text → Option X) (words : Amount Text) → i
     → other_in form words ≡ None
 other_none form (one word) some = grind (arith, first_none form (word ∷ []))
 other_none form (several words) some = grind (arith, first_none form words)
-other_none form (perhaps None) some = refl
 other_none form (perhaps (Some word)) some = grind (arith, first_none form (word ∷ []))
-other_none form (flag is_set) some = refl
+other_none form words some = refl
 
 mapped : {X Y : Type 0} (f : X → Y) (o : Option X) → is_some (option_map f o) ≡ true → is_some o ≡ true
 mapped f o some = grind arith

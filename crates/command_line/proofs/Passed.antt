@@ -6,7 +6,6 @@ use Rattle.command_line.specs.declared.commands.Role.{Role}
 
 pub none_left : {A B : Type 0} (wants : Role → Bool) (f : A → Argument) (g : B → Values) (xs : List A) (ys : List B)
     → (length xs ≡ 0) ⊎ (length ys ≡ 0) → texts_by wants (map f xs) (map g ys) ≡ []
-none_left wants f g [] ys passed = refl
-none_left wants f g (x ∷ xs) [] passed = refl
 none_left wants f g (x ∷ xs) (y ∷ ys) (inl none) = absurd (omega arith)
 none_left wants f g (x ∷ xs) (y ∷ ys) (inr none) = absurd (omega arith)
+none_left wants f g xs ys passed = refl

@@ -111,7 +111,7 @@ IsRefusedBy None (Refused _) = ⊥
 IsRefusedBy (Some text) (Refused told) = string_bytes told ≡ text
 
 -- This line, if there is one, and else a refusal. Memory may be wanting in either case.
-pub record Reads (line : Option Line) (result : Result LineOfProgram LineFault) : Type 0 where
+pub record ReadsLine (line : Option Line) (result : Result LineOfProgram LineFault) : Type 0 where
   pub ok : IfOk result (λ read. Some (line_view read) ≡ line)
   pub err : IsSome line → IfErr result (λ e. e ≡ OutOfMemory)
   pub refusal : IfErr result IsRefusalUnlessMemory

@@ -8,7 +8,7 @@ ghost use Rattle.command_line.specs.LineFaults.{form_words};
 ghost use Rattle.command_line.specs.Table.{commands, signature_named};
 
 /// The number of the program, of which the first part is the version of the archives that it writes.
-pub const VERSION: &str = "2.3.0";
+pub const VERSION: &str = "2.3.1";
 
 /// What a word spells.
 #[derive(Clone, Copy)]

@@ -7,7 +7,7 @@ ghost use Rattle.command_line.specs.Lines.{KeepsInputs, are_accepted, error_kind
 ghost use Rattle.command_line.specs.Lines.{line_of};
 ghost use Rattle.command_line.specs.Lines.{named_command, overwrites_input};
 ghost use Rattle.command_line.specs.LineView.{line_view};
-ghost use Rattle.command_line.specs.LineFaults.{IsHelpUnlessMemory, IsRefusalUnlessMemory, IsRefusedBy, Reads};
+ghost use Rattle.command_line.specs.LineFaults.{IsHelpUnlessMemory, IsRefusalUnlessMemory, IsRefusedBy, ReadsLine};
 ghost use Rattle.command_line.specs.LineFaults.{out_is_input, out_refusal, refusal_in, refusal_of};
 
 use crate::clap_commands::symarch_command;
@@ -23,7 +23,7 @@ use std::convert::AsStr;
 
 /// The line of the command of this name.
 fn line_in(alloc: Global, name: &str, matches: &ArgMatches) -> Result<Line, LineFault>
-    ensures reads { Reads (line_in (name.now, rows_of (found_of matches.now))) result }
+    ensures reads { ReadsLine (line_in (name.now, rows_of (found_of matches.now))) result }
     ensures told { IfErr result (IsRefusedBy (refusal_in (name.now, rows_of (found_of matches.now)))) }
 {
     let Some(row) = signature_named(name) else {

@@ -1,6 +1,5 @@
 -- The fields of a line, cut one behind another.
-use Rattle.std.proofs.Common.{◌≡◌, ◌≢◌, ap, arith, ℕ, true, List, [], ◌∷◌, length}
-use Rattle.std.proofs.Common.{Option, Some, None, is_some, option_map, Bor}
+use Rattle.std.proofs.Common.{◌≡◌, ◌≢◌, ap, arith, ℕ, true, List, ◌∷◌, length, Option, Some, None, is_some, option_map, Bor}
 use Rattle.archive_words.specs.Lines.{Field, fields_behind, parts}
 use Rattle.archive_words.proofs.Fields.{cut_again, some_part}
 

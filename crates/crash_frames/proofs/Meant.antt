@@ -1,6 +1,5 @@
 -- Frames by their lines, and the first line that is none.
-use Rattle.std.proofs.Common.{◌≡◌, ◌∙◌, sym, ap, ap₂, refl, ℕ, ◌+◌, List, [], ◌∷◌, ◌++◌, map, arith}
-use Rattle.std.proofs.Common.{Option, Some, None, Result, Ok, Err}
+use Rattle.std.proofs.Common.{◌≡◌, ◌∙◌, sym, ap, ap₂, refl, ℕ, ◌+◌, List, [], ◌∷◌, ◌++◌, map, arith, Option, Some, None, Result, Ok, Err}
 use Rattle.std.proofs.lemmas.List.{append-nil}
 use Rattle.archive_words.specs.Lines.{Line, counting}
 use Rattle.crash_frames.specs.Frames.{AreFrames, IsFirstFault, IsFrames, frame_then, frames_in, frames_of, line_frame, onto}
@@ -37,14 +36,14 @@ front_said (line ∷ front) further (frame ∷ frames) h =
     let others : map (λ l. line_frame l.1) front ≡ map Some frames = cc in
     ap₂ (λ o r. frame_then line.0 o r) first (front_said front further frames others) ∙ behind-cons frame frames (frames_in further)
 
-said : (lines : List (ℕ × Line)) (frames : List Frame) → AreFrames lines frames → frames_in lines ≡ Ok frames
-said lines frames h = ap frames_in (sym (append-nil lines)) ∙ front_said lines [] frames h ∙ ap Ok (append-nil frames)
+listed : (lines : List (ℕ × Line)) (frames : List Frame) → AreFrames lines frames → frames_in lines ≡ Ok frames
+listed lines frames h = ap frames_in (sym (append-nil lines)) ∙ front_said lines [] frames h ∙ ap Ok (append-nil frames)
 
 pub frames_lines : (bytes : List ℕ) (frames : List Frame) → frames_of bytes ≡ Ok frames → IsFrames bytes frames
 frames_lines bytes frames h = meant (counting bytes) frames h
 
 pub frames_said : (bytes : List ℕ) (frames : List Frame) → IsFrames bytes frames → frames_of bytes ≡ Ok frames
-frames_said bytes frames is = said (counting bytes) frames is
+frames_said bytes frames is = listed (counting bytes) frames is
 
 -- ---- the first line that is none
 

@@ -1,6 +1,5 @@
 -- What the lines tell behind those that were read.
-use Rattle.std.proofs.Common.{◌≡◌, ◌∙◌, sym, ap, refl, arith, ℕ, ◌+◌, ◌<◌, List, [], ◌∷◌, ◌++◌, append_assoc, length, get_or, drop}
-use Rattle.std.proofs.Common.{Some, None, Result, Ok, Err, Bor}
+use Rattle.std.proofs.Common.{◌≡◌, ◌∙◌, sym, ap, refl, arith, ℕ, ◌+◌, ◌<◌, List, [], ◌∷◌, ◌++◌, append_assoc, length, get_or, drop, Some, None, Result, Ok, Err, Bor}
 use Rattle.std.proofs.lemmas.List.{at_drop_more, get_or-map, length-map}
 use Rattle.archive_words.specs.Lines.{Line, seen}
 use Rattle.crash_frames.specs.Frames.{frame_then, frames_in, line_frame, onto}

@@ -12,7 +12,6 @@ use archive_words::{Word, cut_field};
 use std::str;
 use uuid::Uuid;
 
-/// The frame that a line tells, if it tells one.
 pub fn read_frame(line: &[u8]) -> Option<Frame>
     ensures { result ≡ line_frame line.now }
 {
@@ -39,7 +38,6 @@ pub struct FourFields<'t> {
     pub address: &'t str,
 }
 
-/// The fields of a text that has four.
 pub fn four_fields(text: &str) -> Option<FourFields<'_>>
     ensures { MatchOption result (length (parts text.now) ≢ 4)
         (λ f. parts text.now ≡ f.uuid.now ∷ f.arch.now ∷ f.load.now ∷ f.address.now ∷ []) }

@@ -27,7 +27,6 @@ pub enum FrameFlaw {
     Address,
 }
 
-/// What is wrong with a line that tells no frame.
 pub fn frame_flaw(line: &[u8]) -> FrameFlaw
     ensures { result ≡ frame_flaw line.now }
 {

@@ -8,11 +8,11 @@ ghost use Rattle.crash_frames.specs.declared.frame.Frame.{Frame};
 /// Bytes say frames exactly where each line that counts is one frame, in this order.
 pub fn frames_of_lines()
     ensures lines { (bytes : List ℕ) (frames : List Frame) → frames_of bytes ≡ Ok frames → IsFrames bytes frames }
-    ensures said { (bytes : List ℕ) (frames : List Frame) → IsFrames bytes frames → frames_of bytes ≡ Ok frames }
+    ensures listed { (bytes : List ℕ) (frames : List Frame) → IsFrames bytes frames → frames_of bytes ≡ Ok frames }
 {}
 
 /// Else the first line that counts and is no frame is told, by its number, counted from 1.
 pub fn fault_of_lines()
     ensures lines { (bytes : List ℕ) (line : ℕ) → frames_of bytes ≡ Err line → IsFirstFault bytes line }
-    ensures said { (bytes : List ℕ) (line : ℕ) → IsFirstFault bytes line → frames_of bytes ≡ Err line }
+    ensures listed { (bytes : List ℕ) (line : ℕ) → IsFirstFault bytes line → frames_of bytes ≡ Err line }
 {}

@@ -5,8 +5,8 @@ use Rattle.std.proofs.lemmas.Bool.{cases_Bool}
 use Rattle.std.proofs.lemmas.Option.{option_and_then_some}
 use Rattle.dwarf_numbers.specs.Leb128.{last_unsigned, unsigned_leb128_at}
 use Rattle.dwarf_numbers.specs.Sequences.{Shortens, ended}
-use Rattle.dwarf_numbers.proofs.SequenceLemmas.{none_or_some, ended_shorter, nothing}
-use Rattle.dwarf_numbers.proofs.ShorterLemmas.{mapped_some, leb128_shorter}
+use Rattle.dwarf_numbers.proofs.SequenceLemmas.{none_or_some, ended_shorter, nothing, mapped as mapped_some}
+use Rattle.dwarf_numbers.proofs.ShorterLemmas.{leb128_shorter}
 use Rattle.debug_entries.specs.Specifications.{ShapeRecord, specification_at, empty_shape, shape_from, shaped, shape_at}
 use Rattle.debug_entries.specs.Abbreviations.{DeclarationRecord, byte_at, declaration_body_at, declaration_at, declarations_within, declarations_from, declared}
 use Rattle.debug_entries.proofs.SpecificationLemmas.{specification_shortens}

@@ -8,8 +8,8 @@ use Rattle.dwarf_numbers.specs.Leb128.{last_unsigned, unsigned_leb128_at}
 use Rattle.dwarf_numbers.specs.Forms.{value_at}
 use Rattle.dwarf_numbers.specs.Values.{ValueRecord}
 use Rattle.dwarf_numbers.specs.Sequences.{Shortens}
-use Rattle.dwarf_numbers.proofs.SequenceLemmas.{none_or_some, nothing}
-use Rattle.dwarf_numbers.proofs.ShorterLemmas.{mapped_some, leb128_shorter, value_shorter}
+use Rattle.dwarf_numbers.proofs.SequenceLemmas.{none_or_some, nothing, mapped as mapped_some}
+use Rattle.dwarf_numbers.proofs.ShorterLemmas.{leb128_shorter, value_shorter}
 use Rattle.debug_entries.specs.Attributes.{AttributesRecord, with_attribute}
 use Rattle.debug_entries.specs.Abbreviations.{DeclarationRecord, declaration_of}
 use Rattle.debug_entries.specs.Entries.{EntryRecord, PlacedRecord, attributes_from, entry_at, depth_after, entries_within, entries_from, entry_of}

@@ -5,16 +5,15 @@ use Rattle.std.proofs.lemmas.Bool.{cases_Bool, eqb-true, lt-ltb, le-ltb, ltb-tru
 use Rattle.std.proofs.lemmas.List.{drop_more, drop_all, drop-drop}
 use Rattle.std.proofs.lemmas.Option.{none-some, option_and_then_some}
 use Rattle.dwarf_numbers.specs.FormNumbers.{DW_FORM_implicit_const}
-use Rattle.dwarf_numbers.specs.Forms.{fixed_size, sized_value_at, value_at}
+use Rattle.dwarf_numbers.specs.Forms.{fixed_size, value_at}
 use Rattle.dwarf_numbers.specs.Leb128.{unsigned_leb128_at}
 use Rattle.dwarf_numbers.specs.Values.{ValueRecord}
-use Rattle.dwarf_numbers.proofs.SequenceLemmas.{none_or_some}
-use Rattle.dwarf_numbers.proofs.ShorterLemmas.{mapped_some}
 use Rattle.debug_entries.specs.Attributes.{AttributesRecord, with_attribute}
 use Rattle.debug_entries.specs.Abbreviations.{DeclarationRecord, declaration_of}
 use Rattle.debug_entries.specs.Entries.{EntryRecord, attributes_from, attributes_of, entry_at}
 use Rattle.debug_entries.specs.Specifications.{ShapeRecord, total_size, values_after}
 use Rattle.debug_entries.specs.declared.unit_header.UnitHeader.{UnitHeader}
+use Rattle.dwarf_numbers.proofs.SequenceLemmas.{mapped as mapped_some}
 
 -- a size more
 pub size_step : (pairs : List (ℕ × ℕ)) (index size next one : ℕ) (whole : Option ℕ) → index < length pairs → fixed_size 3 (get_or pairs index (0, 0)).1 ≡ Some one → next ≡ size + one

@@ -6,8 +6,8 @@ use Rattle.std.proofs.lemmas.Option.{option_and_then_some}
 use Rattle.dwarf_numbers.specs.FormNumbers.{DW_FORM_implicit_const}
 use Rattle.dwarf_numbers.specs.Leb128.{last_unsigned, last_signed, unsigned_leb128_at, signed_leb128_at}
 use Rattle.dwarf_numbers.specs.Sequences.{Shortens, ended}
-use Rattle.dwarf_numbers.proofs.SequenceLemmas.{ended_some, ended_end, ended_missing}
-use Rattle.dwarf_numbers.proofs.ShorterLemmas.{mapped_some, leb128_shorter}
+use Rattle.dwarf_numbers.proofs.SequenceLemmas.{ended_some, ended_end, ended_missing, mapped as mapped_some}
+use Rattle.dwarf_numbers.proofs.ShorterLemmas.{leb128_shorter}
 use Rattle.debug_entries.specs.Specifications.{ShapeRecord, specification_at, with_specification, shape_from, shaped}
 use Rattle.debug_entries.specs.declared.specification.Specification.{Specification}
 

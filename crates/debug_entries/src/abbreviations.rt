@@ -4,8 +4,7 @@ ghost use Rattle.std.specs.Prelude.{◌≡◌, ℕ, IfOk};
 ghost use Rattle.std.specs.Option.{option_map, option_or};
 ghost use Rattle.std.specs.BTreeMap as tree_map;
 ghost use Rattle.debug_entries.specs.Abbreviations.{declaration_of};
-ghost use Rattle.debug_entries.specs.DeclarationViews.{declaration_in, declaration_view, key_cmp, row_in};
-ghost use Rattle.debug_entries.specs.DeclarationViews.{rows_or_none};
+ghost use Rattle.debug_entries.specs.DeclarationViews.{declaration_in, declaration_view, key_cmp, row_in, rows_or_none};
 
 use crate::declaration::Declaration;
 use crate::declarations::{Declarations, DeclarationsByCode, Rows, row_in};

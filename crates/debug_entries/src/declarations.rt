@@ -5,8 +5,7 @@ ghost use Rattle.std.specs.Prelude.{[], ◌≡◌, ◌≢◌, ◌==◌, ◌&&◌
 ghost use Rattle.std.specs.Option.{is_some, option_map, option_or};
 ghost use Rattle.std.specs.Ordering.{nat_cmp};
 ghost use Rattle.std.specs.BTreeMap as tree_map;
-ghost use Rattle.debug_entries.specs.DeclarationViews.{declaration_in, declaration_view, key_cmp, row_in};
-ghost use Rattle.debug_entries.specs.DeclarationViews.{rows_or_none};
+ghost use Rattle.debug_entries.specs.DeclarationViews.{declaration_in, declaration_view, row_in, rows_or_none};
 
 use crate::declaration::Declaration;
 use memory::{Heap, NoMemory};

@@ -1,6 +1,6 @@
 //! The entries of a unit, one after another (DWARF 5, section 2.3).
 
-ghost use Rattle.std.specs.Prelude.{◌≡◌, ◌≤◌, ◌<◌, ◌+◌, ◌^◌, length, drop, IfSome};
+ghost use Rattle.std.specs.Prelude.{◌≡◌, ◌≤◌, ◌<◌, ◌+◌, ◌^◌, length, IfSome};
 ghost use Rattle.std.specs.Option.{option_map, option_map_or};
 ghost use Rattle.debug_entries.specs.Entries.{depth_after, entries_of};
 ghost use Rattle.debug_entries.specs.EntryViews.{placed_view, unread_view};

@@ -1,6 +1,6 @@
 -- Steps over items that stand one after another.
 use Rattle.std.proofs.Common.{◌≡◌, append_assoc, ℕ, zero, suc, ◌-◌, ◌<◌, ◌≤◌, ◌⊎◌, List, [], ◌∷◌, ◌++◌, length, Option, Some, None, refl, ap, sym, ◌∙◌, inl, inr, cond, ◌==◌, arith}
-use Rattle.std.specs.Option.{option_map, option_map_or, option_and_then, option_or}
+use Rattle.std.specs.Option.{option_map, option_or}
 use Rattle.std.proofs.lemmas.Bool.{cases_Bool}
 use Rattle.std.proofs.lemmas.List.{append-nil}
 use Rattle.dwarf_numbers.specs.Sequences.{counted, ended_within, ended, sequence_within, sequence, placed_within, placed_from, item_at, Shortens}
@@ -31,7 +31,7 @@ counted_missing item zero bytes some e = absurd (omega arith)
 counted_missing item (suc count) bytes some e = rw e refl
 
 -- what is made of an option is made of what it has
-mapped : {A B : Type 0} (f : A → B) (o : Option A) (y : B) → option_map f o ≡ Some y → (x : A) × (o ≡ Some x) × (f x ≡ y)
+pub mapped : {A B : Type 0} (f : A → B) (o : Option A) (y : B) → option_map f o ≡ Some y → (x : A) × (o ≡ Some x) × (f x ≡ y)
 mapped f None y e = cc e
 mapped f (Some x) y e = (x, refl, cc e)
 

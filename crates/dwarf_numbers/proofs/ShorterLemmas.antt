@@ -1,5 +1,5 @@
 -- Fewer bytes are left after a value.
-use Rattle.std.proofs.Common.{◌≡◌, ℕ, ◌+◌, ◌<◌, ◌≤◌, Bool, true, false, List, [], ◌∷◌, length, take, drop, cond, Option, Some, None, refl, ap, inl, inr, arith, length-drop, nat_lt}
+use Rattle.std.proofs.Common.{◌≡◌, ℕ, ◌+◌, ◌<◌, ◌≤◌, Bool, true, false, List, [], ◌∷◌, length, take, drop, cond, Option, Some, None, ap, inl, inr, arith, length-drop, nat_lt}
 use Rattle.std.specs.List.{position_or_len, before_first, after_first}
 use Rattle.std.specs.Option.{option_map, option_and_then}
 use Rattle.std.proofs.lemmas.Bool.{cases_Bool, ltb-true}
@@ -8,11 +8,7 @@ use Rattle.dwarf_numbers.specs.Leb128.{onto, leb128_at, last_unsigned, last_sign
 use Rattle.dwarf_numbers.specs.Text.{is_nul, text_at}
 use Rattle.dwarf_numbers.specs.Values.{ValueRecord, Constant as Constant_, InlineString as InlineString_, Other as Other_}
 use Rattle.dwarf_numbers.specs.Forms.{class_value, class_of, split_at, number_of_size, after_block, variable_value_at, fixed_size, sized_value_at, value_at}
-
--- what is made of an option is made of what it has
-pub mapped_some : {A B : Type 0} (f : A → B) (o : Option A) (y : B) → option_map f o ≡ Some y → (x : A) × (o ≡ Some x) × (f x ≡ y)
-mapped_some f None y e = cc e
-mapped_some f (Some x) y e = (x, refl, cc e)
+use Rattle.dwarf_numbers.proofs.SequenceLemmas.{mapped as mapped_some}
 
 -- a number has a byte
 pub leb128_shorter : (last : ℕ → ℕ) (bytes : List ℕ) (x : ℕ × List ℕ) → leb128_at last bytes ≡ Some x → length x.1 < length bytes
@@ -40,29 +36,29 @@ text_shorter bytes x e = elim (cases_Bool (nat_lt (position_or_len is_nul bytes)
 ]
 
 -- what is read leaves at most so many bytes
-pub record Leaves (count : ℕ) (read : Option (ValueRecord × List ℕ)) : Type 0 where
-  pub most : (x : ValueRecord × List ℕ) → read ≡ Some x → length x.1 ≤ count
+pub record Leaves {A : Type 0} (count : ℕ) (read : Option (A × List ℕ)) : Type 0 where
+  pub most : (x : A × List ℕ) → read ≡ Some x → length x.1 ≤ count
 
-leaves_nothing : (count : ℕ) → Leaves count None
+pub leaves_nothing : {A : Type 0} (count : ℕ) → Leaves {A = A} count None
 leaves_nothing count = record { most = λ x e. absurd (none-some x e) }
 
-leaves_some : (v : ValueRecord) (count : ℕ) (rest : List ℕ) → length rest ≤ count → Leaves count (Some (v, rest))
+pub leaves_some : {A : Type 0} (v : A) (count : ℕ) (rest : List ℕ) → length rest ≤ count → Leaves count (Some (v, rest))
 leaves_some v count rest h = record {
   most = λ x e.
       let same : (v, rest) ≡ x = cc e in
-      omega (arith, ap (λ (z : ValueRecord × List ℕ). length z.1) same);
+      omega (arith, ap (λ z. length z.1) same);
 }
 
-leaves_either : (b : Bool) (count : ℕ) (read other : Option (ValueRecord × List ℕ)) → Leaves count read → Leaves count other → Leaves count (cond b read other)
+pub leaves_either : {A : Type 0} (b : Bool) (count : ℕ) (read other : Option (A × List ℕ)) → Leaves count read → Leaves count other → Leaves count (cond b read other)
 leaves_either true count read other h k = h
 leaves_either false count read other h k = k
 
 -- a value that is made of a number
-leaves_number : (last : ℕ → ℕ) (f : ℕ → ValueRecord) (bytes : List ℕ) → Leaves (length bytes) (option_map (λ x. (f x.0, x.1)) (leb128_at last bytes))
+pub leaves_number : {A : Type 0} (last : ℕ → ℕ) (f : ℕ → A) (bytes : List ℕ) → Leaves (length bytes) (option_map (λ x. (f x.0, x.1)) (leb128_at last bytes))
 leaves_number last f bytes = record {
   most = λ x e.
       let y = mapped_some (λ (z : ℕ × List ℕ). (f z.0, z.1)) (leb128_at last bytes) x e in
-      omega (arith, leb128_shorter last bytes y.0 y.1, ap (λ (z : ValueRecord × List ℕ). length z.1) y.2);
+      omega (arith, leb128_shorter last bytes y.0 y.1, ap (λ z. length z.1) y.2);
 }
 
 leaves_text : (bytes : List ℕ) → Leaves (length bytes) (option_map (λ x. (InlineString_ x.0, x.1)) (text_at bytes))

@@ -1,8 +1,7 @@
 -- The values of attributes by their forms (DWARF 5, sections 7.5.5 and 7.5.6), in the 32-bit format, with addresses of
 -- eight bytes.
 use Rattle.std.specs.Prelude.{ℕ, List, [], ◌∷◌, ◌+◌, ◌*◌, ◌==◌, ◌||◌, nat_lt, length, take, drop, slice_index, Bool}
-use Rattle.std.specs.Prelude.{false}
-use Rattle.std.specs.Prelude.{Option, Some, None, if◌then◌else◌}
+use Rattle.std.specs.Prelude.{false, Option, Some, None, if◌then◌else◌}
 use Rattle.std.specs.Option.{option_map, option_and_then}
 use Rattle.dwarf_numbers.specs.Leb128.{unsigned_leb128_at, signed_leb128_at}
 use Rattle.dwarf_numbers.specs.LittleEndian.{u16_le_at, u32_le_at, u64_le_at}

@@ -12,30 +12,19 @@ use crate::little_endian::{u16_le_at, u32_le_at, u64_le_at};
 use crate::text::read_text;
 use crate::value::Value;
 
-/// What a value that is written as a number stands for.
+/// What a value that is written as a number stands for, as the [`Value`] of the same name.
 #[derive(Clone, Copy)]
 pub enum Class {
-    /// See [`Value::Address`].
     Address,
-    /// See [`Value::AddressIndex`].
     AddressIndex,
-    /// See [`Value::Constant`].
     Constant,
-    /// See [`Value::StringOffset`].
     StringOffset,
-    /// See [`Value::LineStringOffset`].
     LineStringOffset,
-    /// See [`Value::StringIndex`].
     StringIndex,
-    /// See [`Value::UnitReference`].
     UnitReference,
-    /// See [`Value::SectionReference`].
     SectionReference,
-    /// See [`Value::SectionOffset`].
     SectionOffset,
-    /// See [`Value::RangeListIndex`].
     RangeListIndex,
-    /// See [`Value::Other`].
     Other,
 }
 

@@ -1,12 +1,13 @@
 -- The line that helps a person.
-use Rattle.std.proofs.Common.{◌≡◌, ℕ, true, false, List, [], ◌∷◌, ◌==◌, Option, Some, None, append-nil, refl, sym, inl, arith}
+use Rattle.std.proofs.Common.{◌≡◌, ℕ, true, false, List, [], ◌∷◌, ◌==◌, refl, inl, arith}
 use Rattle.std.proofs.lemmas.Bool.{or_from, or_parts}
-use Rattle.std.specs.Io.KnownBytes.{Appends}
 use Rattle.std.specs.List.{list_any}
-use Rattle.command_ends.specs.declared.failures.Failure.{Failure}
-use Rattle.command_ends.specs.Outputs.{Writer}
+use Rattle.command_core.specs.declared.failures.Failure.{Failure}
+use Rattle.command_core.specs.Outputs.{Writer}
 use Rattle.command_line.specs.Lines.{Line}
-use Rattle.error_lines.specs.StandardError.{IsSaid, SaysFailure, failure_text, has_line_feed, is_control}
+use Rattle.error_lines.specs.StandardError.{IsSaid, SaysFailure, has_line_feed, is_control}
+use Rattle.command_core.specs.FaultTexts.{failure_text}
+use Rattle.byte_device.proofs.Known.{Appends-none as nothing_more}
 
 -- what has no control character has no line feed
 feed : (byte : ℕ) → is_control byte ≡ false → (byte == 10) ≡ false
@@ -18,13 +19,8 @@ feedless (byte ∷ text) is =
     let parts = or_parts (is_control byte) (list_any is_control text) is in
     or_from (byte == 10) (has_line_feed text) (feed byte parts.0) (feedless text parts.1)
 
--- nothing follows
-nothing_more : (held : Option (List ℕ)) → Appends held held []
-nothing_more None = tt
-nothing_more (Some xs) = sym (append-nil xs)
-
 -- no help is said of a failure whose line was
-pub without_help : (said : Writer) (asked : Line) (failure : Failure) → IsSaid said (failure_text failure) true
-    → SaysFailure said asked failure
-without_help said asked failure is =
-    inl (said.new, said.failures_new, is, inl (nothing_more said.new, refl))
+pub without_help : (standard_error : Writer) (asked : Line) (failure : Failure) → IsSaid standard_error (failure_text failure) true
+    → SaysFailure standard_error asked failure
+without_help standard_error asked failure is =
+    inl (standard_error.new, standard_error.failures_new, is, inl (nothing_more standard_error.new, refl))

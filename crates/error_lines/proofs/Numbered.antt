@@ -1,11 +1,10 @@
 -- The number of an input among all leads to its path.
-use Rattle.std.proofs.Common.{◌≡◌, ◌∙◌, ◌⊎◌, inl, inr, ℕ, zero, suc, Bool, true, false, ◌+◌, ◌-◌, ◌<◌, ◌≤◌}
-use Rattle.std.proofs.Common.{if◌then◌else◌, List, [], ◌∷◌, ◌++◌, get_or, length, refl, ap, sym, arith, Some, None}
+use Rattle.std.proofs.Common.{◌≡◌, ◌∙◌, ◌⊎◌, inl, inr, ℕ, zero, suc, Bool, true, false, ◌+◌, ◌-◌, ◌<◌, ◌≤◌, if◌then◌else◌, List, [], ◌∷◌, ◌++◌, get_or, length, refl, ap, sym, arith, Some, None}
 use Rattle.std.specs.Prelude.{slice_get}
 use Rattle.std.proofs.lemmas.Option.{slice_get_cases}
 use Rattle.clap.specs.Words.{Text}
-use Rattle.command_ends.specs.declared.faults.InputName.{InputName}
-use Rattle.command_ends.specs.declared.faults.InputName.TheVariants.{Archive, File, Ops, Summary, Script, Frames, Index}
+use Rattle.command_core.specs.declared.faults.InputName.{InputName}
+use Rattle.command_core.specs.declared.faults.InputName.TheVariants.{Archive, File, Ops, Summary, Script, Frames, Index}
 use Rattle.command_line.specs.Arguments.{Argument, Values, reads, reads_kind}
 use Rattle.command_line.specs.Lines.{Line, inputs_of, inputs_of_kind, texts_by, texts_of}
 use Rattle.command_line.specs.Table.{arguments_named}
@@ -65,17 +64,15 @@ of_role : (kind : Kind) (role : Role) (all ts more mine : List Text) (numbers : 
 of_role kind (roles.Reads other) all ts more mine numbers p n stands leads =
     of_kind (reads_kind kind (roles.Reads other)) all ts more mine (numbers (p + length ts)) p n stands
     (leads (p + length ts) (stands_next all ts more p stands))
-of_role kind roles.Writes all ts more mine numbers p n stands leads = leads p stands
-of_role kind (roles.Says form) all ts more mine numbers p n stands leads = leads p stands
+of_role kind role all ts more mine numbers p n stands leads = leads p stands
 
 by_kind : (kind : Kind) (all : List Text) (n : ℕ) (rest : List Argument) (vs : List Values) (p : ℕ)
     → Stands all p (texts_by reads rest vs)
     → Leads all n (numbers_by kind p rest vs) (texts_by (reads_kind kind) rest vs)
-by_kind kind all n [] vs p stands = λ k is. cc
-by_kind kind all n (a ∷ rest) [] p stands = λ k is. cc
 by_kind kind all n (a ∷ rest) (v ∷ vs) p stands =
     of_role kind a.role all (texts_of v) (texts_by reads rest vs) (texts_by (reads_kind kind) rest vs)
     (λ q. numbers_by kind q rest vs) p n stands (λ q there. by_kind kind all n rest vs q there)
+by_kind kind all n rest vs p stands = λ k is. cc
 
 in_line : (kind : Kind) (line : Line) (n : ℕ)
     → Leads (inputs_of line) n (numbers_of_kind kind line) (inputs_of_kind kind line)

@@ -1,7 +1,5 @@
 -- Which of all inputs one is, by those before it.
-use Rattle.std.proofs.Common.{◌≡◌, ◌∙◌, ◌⊎◌, inl, inr, ℕ, zero, suc, true, false, ◌+◌, ◌-◌, ◌<◌, ◌≤◌, ◌^◌, min, map}
-use Rattle.std.proofs.Common.{if◌then◌else◌, List, [], ◌∷◌, ◌++◌, length, length-append, refl, ap, sym, arith}
-use Rattle.std.proofs.Common.{Option, Some}
+use Rattle.std.proofs.Common.{◌≡◌, ◌∙◌, ◌⊎◌, inl, inr, ℕ, zero, suc, true, false, ◌+◌, ◌-◌, ◌<◌, ◌≤◌, ◌^◌, min, map, if◌then◌else◌, List, [], ◌∷◌, ◌++◌, length, length-append, refl, ap, sym, arith, Option, Some}
 use Rattle.std.specs.Prelude.{slice_get}
 use Rattle.clap.specs.Words.{Text}
 use Rattle.command_line.specs.Arguments.{Argument, Values, reads, reads_kind}
@@ -102,7 +100,6 @@ module _ (kind : Kind) (rest : List Argument) (vs : List Values) where
 -- behind the last argument none is left
 pub no_number : {A B : Type 0} (kind : Kind) (f : A → Argument) (g : B → Values) (p : ℕ) (xs : List A) (ys : List B)
     → (length xs ≡ 0) ⊎ (length ys ≡ 0) → numbers_by kind p (map f xs) (map g ys) ≡ []
-no_number kind f g p [] ys none = refl
-no_number kind f g p (x ∷ xs) [] none = refl
 no_number kind f g p (x ∷ xs) (y ∷ ys) (inl none) = absurd (omega arith)
 no_number kind f g p (x ∷ xs) (y ∷ ys) (inr none) = absurd (omega arith)
+no_number kind f g p xs ys none = refl

@@ -1,7 +1,7 @@
 -- What is said, from what its parts did.
-use Rattle.std.proofs.Common.{◌≡◌, ◌∙◌, ◌⊎◌, ℕ, Bool, true, false, List, Option, Some, None, IfSome, subst, inl, inr}
+use Rattle.std.proofs.Common.{◌≡◌, ◌∙◌, ℕ, Bool, true, false, List, Option, Some, None, IfSome, subst, inl, inr}
 use Rattle.report_text.specs.Report.{line}
-use Rattle.command_ends.specs.Outputs.{FailsBehind, Takes, Writer}
+use Rattle.command_core.specs.Outputs.{FailsBehind, Takes, Writer}
 use Rattle.error_lines.specs.StandardError.{IsPushed, IsSaid, wanting_text}
 
 -- a line whose text is known was said

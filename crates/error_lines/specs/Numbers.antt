@@ -1,8 +1,8 @@
 -- Which of all inputs of a line one is.
 use Rattle.std.specs.Prelude.{◌+◌, ℕ, suc, List, [], ◌∷◌, ◌++◌, length, Option, slice_get, if◌then◌else◌}
 use Rattle.clap.specs.Words.{Text}
-use Rattle.command_ends.specs.declared.faults.InputName.{InputName}
-use Rattle.command_ends.specs.declared.faults.InputName.TheVariants.{Archive, File, Ops, Summary, Script, Frames, Index}
+use Rattle.command_core.specs.declared.faults.InputName.{InputName}
+use Rattle.command_core.specs.declared.faults.InputName.TheVariants.{Archive, File, Ops, Summary, Script, Frames, Index}
 use Rattle.command_line.specs.Arguments.{Argument, Values, reads, reads_kind}
 use Rattle.command_line.specs.Lines.{Line, texts_of}
 use Rattle.command_line.specs.Table.{arguments_named}

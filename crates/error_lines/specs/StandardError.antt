@@ -3,23 +3,15 @@ use Rattle.std.specs.Prelude.{◌≡◌, ◌⊎◌, ℕ, Bool, true, false, ◌|
 use Rattle.std.specs.Prelude.{if◌then◌else◌, length, nat_eq, nat_lt, take, Option, Some, Result, Ok, Err}
 use Rattle.std.specs.List.{ends_with, flat_map, list_any, starts_with}
 use Rattle.clap.specs.Words.{Text}
-use Rattle.byte_device.specs.Disks.{cannot_create_text}
 use Rattle.command_line.specs.Lines.{Line}
 use Rattle.report_text.specs.Report.{line}
-use Rattle.command_ends.specs.declared.failures.Failure.{Failure}
-use Rattle.command_ends.specs.declared.failures.Failure.TheVariants.{Command, CannotCreate, CannotReplace}
-use Rattle.command_ends.specs.declared.faults.Status.{Status}
-use Rattle.command_ends.specs.FaultTexts.{command_fault_text}
-use Rattle.command_ends.specs.Outputs.{FailsBehind, Takes, Writer}
-use Rattle.archive_updates.specs.Notes.{note_text}
-use Rattle.archive_updates.specs.declared.notes.Note.{Note}
+use Rattle.command_core.specs.declared.failures.Failure.{Failure}
+use Rattle.command_core.specs.declared.faults.Status.{Status}
+use Rattle.command_core.specs.FaultTexts.{failure_text}
+use Rattle.command_core.specs.Outputs.{FailsBehind, Takes, Writer}
+use Rattle.archive_writing.specs.Notes.{note_text}
+use Rattle.archive_writing.specs.declared.notes.Note.{Note}
 use Rattle.error_lines.specs.Hints.{file_of, subject_of}
-
--- the line of a failure
-unfoldable pub failure_text : Failure → List ℕ
-failure_text (Command fault) = codes "symarch: " ++ command_fault_text fault
-failure_text (CannotCreate _) = codes "symarch: " ++ cannot_create_text
-failure_text CannotReplace = codes "symarch: output: cannot replace"
 
 -- the line of want of memory
 abbrev pub wanting_text : List ℕ
@@ -27,18 +19,20 @@ wanting_text = codes "symarch: out of memory"
 
 -- The writer took these bytes; or it failed inside them.
 abbrev pub IsPushed : Writer → List ℕ → Bool → Type 0
-IsPushed said bytes true = Takes said bytes
-IsPushed said bytes false = (n : ℕ) × FailsBehind said bytes n
+IsPushed standard_error bytes true = Takes standard_error bytes
+IsPushed standard_error bytes false = (n : ℕ) × FailsBehind standard_error bytes n
 
 -- the line of want of memory was said
 abbrev pub SaysWanting : Writer → Bool → Type 0
-SaysWanting said whole = IsPushed said (line wanting_text) whole
+SaysWanting standard_error whole = IsPushed standard_error (line wanting_text) whole
 
 -- The line was said to its end; or the writer failed inside it, or there was no memory for it, and want of memory was
 -- said in its place.
 abbrev pub IsSaid : Writer → List ℕ → Bool → Type 0
-IsSaid said text true = Takes said (line text)
-IsSaid said text false = ((n : ℕ) × FailsBehind said (line text) n) ⊎ ((whole : Bool) × SaysWanting said whole)
+IsSaid standard_error text true = Takes standard_error (line text)
+IsSaid standard_error text false =
+    ((n : ℕ) × FailsBehind standard_error (line text) n)
+    ⊎ ((whole : Bool) × SaysWanting standard_error whole)
 
 -- ---- what helps a person
 
@@ -65,23 +59,24 @@ pub record IsHelp (asked : Line) (failure : Failure) (help : List ℕ) : Type 0 
 -- What is said behind the line of a failure: nothing, or the line that helps with it, or its beginning where the writer
 -- failed.
 abbrev pub SaysHelp : Writer → Line → Failure → Type 0
-SaysHelp said asked failure =
-    Takes said [] ⊎ ((help : List ℕ) × IsHelp asked failure help × (whole : Bool) × IsPushed said help whole)
+SaysHelp standard_error asked failure =
+    Takes standard_error []
+    ⊎ ((help : List ℕ) × IsHelp asked failure help × (whole : Bool) × IsPushed standard_error help whole)
 
 -- The writer took the line of a failure, and what helps a person after it; or it failed inside the line; or there was
 -- no memory for it, and want of memory was said in its place, and no more.
 abbrev pub SaysFailure : Writer → Line → Failure → Type 0
-SaysFailure said asked failure =
+SaysFailure standard_error asked failure =
     ((between : Option (List ℕ)) × (failures : ℕ)
-    × Takes (record said { new = between; failures_new = failures }) (line (failure_text failure))
-    × SaysHelp (record said { old = between; failures_old = failures }) asked failure)
-    ⊎ IsSaid said (failure_text failure) false
+    × Takes (record standard_error { new = between; failures_new = failures }) (line (failure_text failure))
+    × SaysHelp (record standard_error { old = between; failures_old = failures }) asked failure)
+    ⊎ IsSaid standard_error (failure_text failure) false
 
 -- Why the report failed is said in one line.
 abbrev pub SaysReport : Writer → Type 0
-SaysReport said =
+SaysReport standard_error =
     (free : List ℕ) × (has_line_feed free ≡ false)
-    × (whole : Bool) × IsPushed said (line (codes "  report is standard output" ++ free)) whole
+    × (whole : Bool) × IsPushed standard_error (line (codes "  report is standard output" ++ free)) whole
 
 -- ---- notes
 
@@ -96,15 +91,15 @@ unnoted_text = codes "note: out of memory"
 -- The writer took the lines of the notes, all of them, or failed inside them; or there was no memory for these, and
 -- that was said in their place. Without a note it took nothing.
 abbrev pub SaysNotes : Writer → List Note → Type 0
-SaysNotes said [] = Takes said []
-SaysNotes said (note ∷ notes) =
-    ((whole : Bool) × IsPushed said (note_lines (note ∷ notes)) whole)
-    ⊎ ((whole : Bool) × IsPushed said (line unnoted_text) whole)
+SaysNotes standard_error [] = Takes standard_error []
+SaysNotes standard_error (note ∷ notes) =
+    ((whole : Bool) × IsPushed standard_error (note_lines (note ∷ notes)) whole)
+    ⊎ ((whole : Bool) × IsPushed standard_error (line unnoted_text) whole)
 
 -- what a command of this line that ended so says: its notes, or why it failed
 abbrev pub SaysEnd : Writer → Line → Result Status Failure → List Note → Type 0
-SaysEnd said asked (Ok _) notes = SaysNotes said notes
-SaysEnd said asked (Err failure) notes = SaysFailure said asked failure
+SaysEnd standard_error asked (Ok _) notes = SaysNotes standard_error notes
+SaysEnd standard_error asked (Err failure) notes = SaysFailure standard_error asked failure
 
 -- a text without the line feed at its end, and without the word at its front
 abbrev pub without_line_feed : Text → Text
@@ -119,4 +114,4 @@ reason_in text = behind_error (without_line_feed text)
 
 -- This reason is said for which words are refused.
 abbrev pub SaysRefused : Writer → Text → Type 0
-SaysRefused said reason = (whole : Bool) × IsSaid said (codes "symarch: " ++ reason) whole
+SaysRefused standard_error reason = (whole : Bool) × IsSaid standard_error (codes "symarch: " ++ reason) whole

@@ -4,10 +4,10 @@ ghost use Rattle.std.specs.Prelude.{◌≡◌};
 ghost use Rattle.error_lines.specs.Hints.{faulty_line};
 
 use archive_words::LineFlaw;
-use command_ends::Why;
+use command_core::Why;
 use command_line::{Form, form_text};
 use crash_frames::FrameFlaw;
-use rehearsal::{NumberFlaw, ScriptFlaw};
+use exchange_script::{NumberFlaw, ScriptFlaw};
 use std::fmt;
 
 /// What is wrong with a line.

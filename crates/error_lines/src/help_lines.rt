@@ -77,8 +77,8 @@ pub fn help_line(alloc: Global, help: &Help<'_>) -> Result<String, NoMemory>
         × (has_line_feed shown ≡ false) × (has_line_feed free ≡ false)
         × (string_bytes text ≡ line (codes "  " ++ subject_text help.now.subject ++ codes " is " ++ shown ++ free))) }
 {
-    let subject = help.subject();
-    let path = shown(alloc, help.path())?;
+    let subject = help.subject;
+    let path = shown(alloc, help.path)?;
     let known = free(alloc, help)?;
     let mut text = String::new(alloc);
     writeln!(text, "  {subject} is {path}{known}")?;

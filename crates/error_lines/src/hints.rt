@@ -1,11 +1,11 @@
 //! What helps a person with a failure: which file it was, what the system said, and what a refused file looks like. Of
-//! it contracts say what it is of, the path, the faulty line, and what is noted of a stale index.
+//! it contracts say what it is of, the path, the faulty line, and the hint for a stale index.
 
 ghost use Rattle.std.specs.Prelude.{◌≡◌, ℕ, codes, IfSome, None, Option, Some};
-ghost use Rattle.command_ends.specs.declared.failures.Failure.TheVariants.{Command};
-ghost use Rattle.command_ends.specs.declared.faults.CommandFault.TheVariants.{Input};
-ghost use Rattle.command_ends.specs.declared.faults.InputName.{InputName};
-ghost use Rattle.command_ends.specs.declared.faults.Why.TheVariants.{Damaged, NoLines, Stale};
+ghost use Rattle.command_core.specs.declared.failures.Failure.TheVariants.{Command};
+ghost use Rattle.command_core.specs.declared.faults.CommandFault.TheVariants.{Input};
+ghost use Rattle.command_core.specs.declared.faults.InputName.{InputName};
+ghost use Rattle.command_core.specs.declared.faults.Why.TheVariants.{Damaged, NoLines, Stale};
 ghost use Rattle.command_line.specs.LineView.{line_view};
 ghost use Rattle.command_line.specs.Lines.{out_of};
 ghost use Rattle.error_lines.specs.declared.hints.Hint.TheVariants.{Lineless, Torn};
@@ -16,7 +16,7 @@ use crate::file_kinds::FileKind;
 use crate::flaws::FaultyLine;
 use crate::line_inputs::input_at;
 use archive_files::{Obstacle, OutFile, SystemInput, Unopened};
-use command_ends::{CommandFault, Failure, InputName, Status, Why};
+use command_core::{CommandFault, Failure, InputName, Status, Why};
 use command_line::Line;
 use std::fmt::{self, Display, Write};
 use std::io::{self, ErrorKind};
@@ -183,8 +183,8 @@ impl Display for Hint {
 /// A line that helps a person with a failure.
 #[derive(Clone, Copy)]
 pub struct Help<'p> {
-    subject: Subject,
-    path: &'p str,
+    pub(crate) subject: Subject,
+    pub(crate) path: &'p str,
     hint: Option<Hint>,
     faulty: Option<FaultyLine>,
     seen: Seen,
@@ -201,7 +201,7 @@ fn kind_of(why: Why, kind: Option<FileKind>) -> Option<FileKind> {
     }
 }
 
-/// What is noted of an input that is refused for this.
+/// The hint for an input that is refused for this.
 fn hint_of(why: Why) -> Option<Hint>
     ensures stale { (entry : Option ℕ) → why ≡ Stale entry → result ≡ Some (stale_hint entry) }
     ensures torn { (entry : ℕ) → why ≡ Damaged entry → result ≡ Some Torn }
@@ -250,7 +250,7 @@ pub fn help_with<'p>(line: &'p Line, failure: &Failure, seen: Seen) -> Option<He
     }
 }
 
-/// A line of OUT. What is noted of it is said where the system said nothing.
+/// A line of OUT. The hint is given where the system said nothing.
 fn out_help<'p>(line: &'p Line, hint: Option<Hint>, seen: Seen) -> Option<Help<'p>>
     ensures path { IfSome result (λ help. Some help.path.now ≡ out_of (line_view line.now)) }
     ensures subject { IfSome result (λ help. subject_text help.subject ≡ codes "output") }
@@ -263,22 +263,6 @@ fn out_help<'p>(line: &'p Line, hint: Option<Hint>, seen: Seen) -> Option<Help<'
         faulty: None,
         seen,
     })
-}
-
-impl Help<'_> {
-    /// What the failure is of.
-    pub(crate) fn subject(&self) -> Subject
-        ensures { result ≡ self.now.subject }
-    {
-        self.subject
-    }
-
-    /// The path of that file.
-    pub(crate) fn path(&self) -> &str
-        ensures { result.now ≡ self.now.path.now }
-    {
-        self.path
-    }
 }
 
 /// What is known of the file.

@@ -1,7 +1,7 @@
 //! What the definitions say of the number of an input.
 
 ghost use Rattle.std.specs.Prelude.{◌≡◌, ℕ, Some, slice_get};
-ghost use Rattle.command_ends.specs.declared.faults.InputName.{InputName};
+ghost use Rattle.command_core.specs.declared.faults.InputName.{InputName};
 ghost use Rattle.command_line.specs.Lines.{Line, inputs_of};
 ghost use Rattle.error_lines.specs.Hints.{path_at};
 ghost use Rattle.error_lines.specs.Numbers.{number_at};

@@ -20,6 +20,4 @@ mod standard_error;
 
 pub use hints::{Help, Seen, help_with};
 pub use line_inputs::input_at;
-pub use standard_error::{
-    FailureLine, RefusedLine, say, say_help, say_notes, say_report, say_wanting,
-};
+pub use standard_error::{RefusedLine, say, say_help, say_notes, say_report, say_wanting};

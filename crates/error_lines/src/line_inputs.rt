@@ -6,7 +6,7 @@ ghost use Rattle.command_line.specs.Lines.{inputs_of, inputs_of_kind};
 ghost use Rattle.error_lines.specs.Hints.{path_at};
 ghost use Rattle.error_lines.specs.Numbers.{number_at, numbers_of_kind};
 
-use command_ends::InputName;
+use command_core::InputName;
 use command_line::{Kind, Line, is_input, is_input_of};
 
 /// The input of this number among those of a kind: its number among all, and its path.

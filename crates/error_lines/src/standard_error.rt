@@ -1,7 +1,8 @@
 //! What is said on standard error.
 
 ghost use Rattle.std.specs.Prelude.{◌≡◌, [], IfOk, IfSome, None, Some, string_bytes};
-ghost use Rattle.command_ends.specs.Outputs.{Takes, writer};
+ghost use Rattle.command_core.specs.Outputs.{Takes, writer};
+ghost use Rattle.command_core.specs.declared.failures.Failure.{Failure};
 ghost use Rattle.command_line.specs.Lines.{Line};
 ghost use Rattle.report_text.specs.Report.{line};
 ghost use Rattle.error_lines.specs.Hints.{file_of, subject_of, subject_text};
@@ -10,33 +11,12 @@ ghost use Rattle.error_lines.specs.StandardError.{SaysWanting, note_lines};
 
 use crate::help_lines::{help_line, report_line};
 use crate::hints::Help;
-use archive_updates::Note;
+use archive_writing::Note;
 use byte_device::{Sink, push_all};
-use command_ends::Failure;
 use memory::NoMemory;
 use std::alloc::Global;
 use std::fmt::{self, Display, Write};
 use std::io;
-
-/// The line of a failure.
-#[derive(Clone, Copy)]
-pub struct FailureLine(pub Failure);
-
-#[tactic(auto, unfolding(crate::specs::StandardError::failure_text))]
-impl Display for FailureLine {
-    ghost use Rattle.std.specs.Prelude.{Some};
-    ghost use Rattle.error_lines.specs.StandardError.{failure_text};
-
-    ghost output = { λ line. Some (failure_text line.0) };
-
-    fn fmt<W: fmt::Write>(&self, f: &mut fmt::Formatter<W>) -> fmt::Result {
-        match self.0 {
-            Failure::Command(fault) => write!(f, "symarch: {fault}"),
-            Failure::CannotCreate(refused) => write!(f, "symarch: {refused}"),
-            Failure::CannotReplace => f.write_str("symarch: output: cannot replace"),
-        }
-    }
-}
 
 /// The line of words that are refused for this reason.
 #[derive(Clone, Copy)]

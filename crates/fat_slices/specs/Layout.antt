@@ -6,11 +6,11 @@ use Rattle.fat_slices.specs.declared.fat_arch.FatArch.{FatArch}
 use Rattle.fat_slices.specs.declared.file_kind.FileKind.{FileKind}
 use Rattle.fat_slices.specs.declared.file_kind.FileKind.TheVariants.{Thin, Universal, Universal64, Other}
 
--- uint32_t: the number in the four bytes from a place
+-- uint32_t: the number in the four bytes from an offset
 unfoldable pub u32_be_at : List ℕ → ℕ → ℕ
 u32_be_at bytes offset = big_number 4 (drop offset bytes)
 
--- uint64_t: the number in the eight bytes from a place
+-- uint64_t: the number in the eight bytes from an offset
 unfoldable pub u64_be_at : List ℕ → ℕ → ℕ
 u64_be_at bytes offset = big_number 8 (drop offset bytes)
 
@@ -41,13 +41,13 @@ arch_size Universal64 = 32
 arch_size Other = 20
 
 -- where entry i of the table stands: the table directly follows its fat_header
-abbrev pub arch_place : List ℕ → ℕ → ℕ
-arch_place file i = 8 + arch_size (kind_of file) * i
+abbrev pub arch_offset : List ℕ → ℕ → ℕ
+arch_offset file i = 8 + arch_size (kind_of file) * i
 
 -- where the table ends
 abbrev pub table_end : List ℕ → ℕ
-table_end file = arch_place file (nfat_arch file)
+table_end file = arch_offset file (nfat_arch file)
 
 -- entry i of the table
 unfoldable pub arch_at : List ℕ → ℕ → FatArch
-arch_at file i = arch_of (kind_of file) (drop (arch_place file i) file)
+arch_at file i = arch_of (kind_of file) (drop (arch_offset file i) file)

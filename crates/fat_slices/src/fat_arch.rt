@@ -22,8 +22,8 @@ pub(crate) struct FatArch {
     pub(crate) size: u64,
 }
 
-/// Where the entry at a place of a table stands in a file of a kind, in bytes from the start.
-pub(crate) fn arch_place(kind: FileKind, index: u32) -> usize
+/// The offset of the entry of an index in a file of a kind.
+pub(crate) fn arch_offset(kind: FileKind, index: u32) -> usize
     ensures { result ≡ 8 + arch_size kind * index }
 {
     let size = match kind {
@@ -55,7 +55,7 @@ fn fat_arch_64(entry: &[u8]) -> FatArch
     }
 }
 
-/// The entry at a place.
+/// The entry of an index.
 #[tactic(auto, unfolding(crate::specs::Layout::arch_at))]
 pub(crate) fn arch_at(file: &[u8], index: u32) -> FatArch
     requires table { HasTable file.now }
@@ -63,7 +63,7 @@ pub(crate) fn arch_at(file: &[u8], index: u32) -> FatArch
     ensures { result ≡ arch_at file.now index }
 {
     let kind = kind(file);
-    let entry = file.split_at(arch_place(kind, index)).1;
+    let entry = file.split_at(arch_offset(kind, index)).1;
     match kind {
         FileKind::Universal64 => fat_arch_64(entry),
         FileKind::Thin | FileKind::Universal | FileKind::Other => fat_arch(entry),

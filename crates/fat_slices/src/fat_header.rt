@@ -5,7 +5,7 @@ ghost use Rattle.fat_slices.specs.Layout.{nfat_arch};
 ghost use Rattle.fat_slices.specs.Inner.{HasTable};
 ghost use Rattle.fat_slices.specs.Fault.{IsFatFault};
 
-use crate::fat_arch::arch_place;
+use crate::fat_arch::arch_offset;
 use crate::fault::FatFault;
 use crate::file_kind::{is_fat, kind};
 use crate::number::number32;
@@ -39,7 +39,7 @@ pub(crate) fn check_table(file: &[u8]) -> Result<(), FatFault>
     if count > MOST_ARCHES {
         return Err(FatFault::TooManyArches(count));
     }
-    if file.len() < arch_place(kind, count) {
+    if file.len() < arch_offset(kind, count) {
         return Err(FatFault::TableTruncated);
     }
     Ok(())

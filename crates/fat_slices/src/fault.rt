@@ -1,7 +1,7 @@
 /// Why bytes are no universal file.
 ///
 /// The faults are tested in this order, each of the last two over all entries of the table, so where several
-/// apply it is the first of them here. A place is that of an entry, counted from 0, and it is the first that
+/// apply it is the first of them here. An index is that of an entry, counted from 0, and it is the first that
 /// has the fault.
 #[derive(Clone, Copy, Debug, PartialEq, Eq)]
 pub enum FatFault {
@@ -14,8 +14,8 @@ pub enum FatFault {
     TooManyArches(u32),
     /// The `nfat_arch` entries behind the header pass the end. An entry has 20 bytes, and 32 under FAT_MAGIC_64.
     TableTruncated,
-    /// `offset + size` of the entry at this place passes the end.
+    /// `offset + size` of the entry of this index passes the end.
     SliceOutside(u32),
-    /// `size` of the entry at this place is above 4,294,967,295.
+    /// `size` of the entry of this index is above 4,294,967,295.
     TooLarge(u32),
 }

@@ -14,7 +14,7 @@ pub fn one_fault()
     ensures none { (file : List ℕ) (f : FatFault) → IsUniversal file → IsFatFault file f → ⊥ }
 {}
 
-/// There are as many slices as the header says, each is the part that the entry at its place names, and in a
+/// There are as many slices as the header says, each is the part that the entry of its index names, and in a
 /// universal file it is whole.
 pub fn slice_places()
     ensures number { (file : List ℕ) → length (slices file) ≡ nfat_arch file }

@@ -5,7 +5,7 @@ ghost use Rattle.fat_slices.specs.Layout.{u32_be_at, u64_be_at};
 
 use byteorder::{BigEndian, ByteOrder};
 
-/// The number in the four bytes from a place.
+/// The number in the four bytes from an offset.
 #[tactic(auto, unfolding(crate::specs::Layout::u32_be_at))]
 pub(crate) fn number32(bytes: &[u8], offset: usize) -> u32
     requires { offset + 4 ≤ length bytes.now }
@@ -14,7 +14,7 @@ pub(crate) fn number32(bytes: &[u8], offset: usize) -> u32
     BigEndian::read_u32(&bytes[offset..])
 }
 
-/// The number in the eight bytes from a place.
+/// The number in the eight bytes from an offset.
 #[tactic(auto, unfolding(crate::specs::Layout::u64_be_at))]
 pub(crate) fn number64(bytes: &[u8], offset: usize) -> u64
     requires { offset + 8 ≤ length bytes.now }

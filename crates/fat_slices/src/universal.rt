@@ -63,7 +63,7 @@ impl<'a> Universal<'a> {
         self.len() == 0
     }
 
-    /// The slice that the entry at a place of the table names, counted from 0. It is any bytes, none among them.
+    /// The slice that the entry of an index names, counted from 0. It is any bytes, none among them.
     #[tactic(auto, using(crate::proofs::Parts::of_slices))]
     pub fn slice(&self, index: u32) -> &'a [u8]
         requires { index < length (slices self.now) }

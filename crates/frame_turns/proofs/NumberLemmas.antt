@@ -8,13 +8,14 @@ use Rattle.std.proofs.lemmas.Option.{IfSome_then, get_or_from_slice_get, same_So
 use Rattle.std.proofs.lemmas.List.{get_or_append_left, get_or-append_right, length-map, length_push}
 use Rattle.function_links.specs.Links.{AreFramesOfLink, AreFramesOfRowAndLink, LinkRecord, frame_at_place}
 use Rattle.function_links.specs.LinkViews.{link_view, links_view}
+use Rattle.function_links.specs.NameNumbers.{AreNamesNumbered}
 use Rattle.function_links.specs.declared.links.Link.{Link}
 use Rattle.function_links.specs.declared.links.Links.{Links}
 use Rattle.line_programs.specs.Paths.{PathRecord}
 use Rattle.line_programs.specs.declared.registers.Row.{Row}
-use Rattle.source_frames.specs.Frames.{FrameRecord, path_in, place_of_row}
+use Rattle.source_frames.specs.Frames.{FrameRecord, path_in, location_of_row}
 use Rattle.source_frames.specs.UnitLines.{LinesRecord}
-use Rattle.source_frames.specs.declared.frame.Place.{Place}
+use Rattle.source_frames.specs.declared.frame.SourceLocation.{SourceLocation}
 use Rattle.frame_turns.specs.Given.{Takes, TurnRecord}
 use Rattle.frame_turns.specs.Taking.{StillTells}
 use Rattle.frame_turns.specs.UnitNumbers.{AreLinked, AreNameNumbers, ArePartsTold, ArePathNumbers, IsLinked, IsLinkedAt, row_frames}
@@ -86,17 +87,17 @@ parts_still P P' Q Q' F F' lines parts names paths frames told =
     }
 
 -- the frames of a link with those of the links that it stands in
-pub frames_of_link : (lines : LinesRecord) (links : List LinkRecord) (place : Place) (number n : ℕ) (link : LinkRecord) (outer : List FrameRecord) → number ≡ suc n → slice_get links n ≡ Some link → link.caller ≤ n
+pub frames_of_link : (lines : LinesRecord) (links : List LinkRecord) (place : SourceLocation) (number n : ℕ) (link : LinkRecord) (outer : List FrameRecord) → number ≡ suc n → slice_get links n ≡ Some link → link.caller ≤ n
     → AreFramesOfLink lines links link.call link.caller outer → AreFramesOfLink lines links place number (frame_at_place lines link.name place ∷ outer)
 frames_of_link lines links place number n link outer is at before are =
     subst (λ (m : ℕ). AreFramesOfLink lines links place m (frame_at_place lines link.name place ∷ outer)) (sym is) (link, at, omega (arith, before), refl, are)
 
-pub frames_with_link : (lines : LinesRecord) (links : List LinkRecord) (row : Option Row) (number n : ℕ) (frames : List FrameRecord) → number ≡ suc n → AreFramesOfLink lines links (place_of_row row) number frames
+pub frames_with_link : (lines : LinesRecord) (links : List LinkRecord) (row : Option Row) (number n : ℕ) (frames : List FrameRecord) → number ≡ suc n → AreFramesOfLink lines links (location_of_row row) number frames
     → AreFramesOfRowAndLink lines links row number frames
 frames_with_link lines links None number n frames is are =
-    subst (λ (m : ℕ). AreFramesOfRowAndLink lines links None m frames) (sym is) (subst (λ (m : ℕ). AreFramesOfLink lines links (place_of_row None) m frames) is are)
+    subst (λ (m : ℕ). AreFramesOfRowAndLink lines links None m frames) (sym is) (subst (λ (m : ℕ). AreFramesOfLink lines links (location_of_row None) m frames) is are)
 frames_with_link lines links (Some row) number n frames is are =
-    subst (λ (m : ℕ). AreFramesOfRowAndLink lines links (Some row) m frames) (sym is) (subst (λ (m : ℕ). AreFramesOfLink lines links (place_of_row (Some row)) m frames) is are)
+    subst (λ (m : ℕ). AreFramesOfRowAndLink lines links (Some row) m frames) (sym is) (subst (λ (m : ℕ). AreFramesOfLink lines links (location_of_row (Some row)) m frames) is are)
 
 pub frames_of_row_alone : (lines : LinesRecord) (links : List LinkRecord) (row : Option Row) (number : ℕ) → number ≡ 0 → AreFramesOfRowAndLink lines links row number (row_frames lines row)
 frames_of_row_alone lines links None number none = subst (λ (m : ℕ). AreFramesOfRowAndLink lines links None m []) (sym none) refl

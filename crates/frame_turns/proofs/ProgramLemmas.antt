@@ -7,7 +7,7 @@ use Rattle.std.specs.Ordering.{nat_cmp}
 use Rattle.std.specs.BTreeMap as tree_map
 use Rattle.std.proofs.lemmas.Bool.{cases_Bool, eqb-true, eq-eqb}
 use Rattle.std.proofs.lemmas.List.{get_or-map, map-append}
-use Rattle.std.proofs.lemmas.List.Elements.{All-get_or, All-nil, All-push, Contains-append_cases, Contains-append_left, Contains-append_right}
+use Rattle.std.proofs.lemmas.List.Elements.{All-get_or, All-push, Contains-append_cases, Contains-append_left, Contains-append_right}
 use Rattle.std.proofs.lemmas.List.Sorted.{All-permutation, Contains-permutation, IsPermutation-map}
 use Rattle.std.proofs.lemmas.Map.Keys.{IsDistinct-IsPermutation, IsDistinct-from_apart, apart_from_distinct}
 use Rattle.std.proofs.lemmas.Option.{none-some}
@@ -38,15 +38,6 @@ pub record AreListed (before now : tree_map.BTreeMap ℕ AddressList) (all : Lis
   pub left : (place : ℕ) → (at now place ≡ None) ⊎ (at now place ≡ at before place)
   pub gone : (place : ℕ) → Contains (places all) place → at now place ≡ None
   pub once : AreDistinct (places all)
-
-pub none_listed : (before : tree_map.BTreeMap ℕ AddressList) (all : List UnitBoundaries) → all ≡ [] → AreListed before before all
-none_listed before all none = subst (λ (xs : List UnitBoundaries). AreListed before before xs) (sym none) (record {
-  each = All-nil (IsListed before);
-  every = λ place a h. inr refl;
-  left = λ place. inr refl;
-  gone = λ place h. absurd (not_in_none place h);
-  once = λ i j d less within. absurd (omega (arith, within));
-})
 
 module _ (before now next : tree_map.BTreeMap ℕ AddressList) (all : List UnitBoundaries) (unit : UnitBoundaries) (list : AddressList) (far : AreListed before now all)
     (here : at now unit.place ≡ Some list) (gone : at next unit.place ≡ None) (others : (other : ℕ) → other ≢ unit.place → at next other ≡ at now other)

@@ -16,7 +16,7 @@ use Rattle.row_steps.specs.RowSteps.{AreRowSteps}
 use Rattle.source_frames.specs.AddressFrames.{AreFramesBy, AreFramesIn, AreFramesInUnit, rows_of}
 use Rattle.source_frames.specs.DebugSections.{DebugSectionsRecord}
 use Rattle.source_frames.specs.DebugUnits.{UnitRecord}
-use Rattle.source_frames.specs.Frames.{AreFramesOfChain, FrameRecord, place_of_row}
+use Rattle.source_frames.specs.Frames.{AreFramesOfChain, FrameRecord, location_of_row}
 use Rattle.source_frames.specs.Scopes.{scopes_of}
 use Rattle.source_frames.specs.UnitAddresses.{IsUnitOf, read_unit}
 use Rattle.source_frames.specs.UnitLines.{LinesRecord, lines_of}
@@ -39,8 +39,8 @@ frames_of_chain s lines unit links None zero (e ∷ es) frames are told = absurd
 frames_of_chain s lines unit links (Some row) zero (e ∷ es) frames are told = absurd (none-some are.0 are.1)
 frames_of_chain s lines unit links None (suc n) [] frames are told = absurd (omega (arith, are))
 frames_of_chain s lines unit links (Some row) (suc n) [] frames are told = absurd (omega (arith, are))
-frames_of_chain s lines unit links None (suc n) (e ∷ es) frames are told = frames_from s lines unit links (suc n) (place_of_row None) (e ∷ es) frames are told
-frames_of_chain s lines unit links (Some row) (suc n) (e ∷ es) frames are told = frames_from s lines unit links (suc n) (place_of_row (Some row)) (e ∷ es) frames are told
+frames_of_chain s lines unit links None (suc n) (e ∷ es) frames are told = frames_from s lines unit links (suc n) (location_of_row None) (e ∷ es) frames are told
+frames_of_chain s lines unit links (Some row) (suc n) (e ∷ es) frames are told = frames_from s lines unit links (suc n) (location_of_row (Some row)) (e ∷ es) frames are told
 
 module _ (s : DebugSectionsRecord) (unit : UnitRecord) (parts : PartsRecord) (lines_are : parts.lines ≡ lines_of s unit) (row_steps : AreRowSteps (rows_of parts.lines) parts.row_starts parts.rows)
     (link_steps : AreLinkSteps s unit parts.links parts.link_starts parts.numbers) where

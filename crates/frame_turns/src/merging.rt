@@ -21,7 +21,7 @@ use function_links::Links;
 use line_programs::Row;
 use memory::{Heap, NoMemory};
 use row_steps::RowSteps;
-use source_frames::{DebugInfo, DebugUnit, Place, UnitLines};
+use source_frames::{DebugInfo, DebugUnit, SourceLocation, UnitLines};
 use waiting_indexes::count_below;
 
 /// What the frames of a unit are made of.
@@ -81,7 +81,7 @@ impl<'a> UnitParts<'a> {
             let alone = frames_of_row(lines, &mut self.paths, row, taker)?;
             return Ok(alone);
         }
-        let place = Place::of_row(row);
+        let place = SourceLocation::of_row(row);
         let path = self.paths.number(lines, taker, place.file)?;
         let of = self.linked[number - 1];
         let found = taker.frames(of.name, path, place.line, place.column, of.callers)?;

@@ -1,6 +1,6 @@
 //! What takes turns with their frames.
 
-ghost use Rattle.std.specs.Prelude.{◌∷◌, [], ℕ, IfOk, List, None, OnOk, Option, Some};
+ghost use Rattle.std.specs.Prelude.{◌∷◌, [], ℕ, IfOk, List, OnOk, Option};
 ghost use Rattle.std.specs.Option.{option_map};
 ghost use Rattle.frame_turns.specs.Given.{Takes, TurnRecord};
 ghost use Rattle.frame_turns.specs.Taking.{StillTells};

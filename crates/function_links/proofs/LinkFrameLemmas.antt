@@ -4,16 +4,16 @@ use Rattle.std.proofs.lemmas.Option.{none-some, same_Some}
 use Rattle.debug_entries.specs.Entries.{EntryRecord}
 use Rattle.source_frames.specs.DebugSections.{DebugSectionsRecord}
 use Rattle.source_frames.specs.DebugUnits.{UnitRecord}
-use Rattle.source_frames.specs.Frames.{AreFramesFrom, FrameRecord, place_of_call}
+use Rattle.source_frames.specs.Frames.{AreFramesFrom, FrameRecord, location_of_call}
 use Rattle.function_links.specs.Links.{AreEntriesOfLink, AreFramesOfLink, LinkRecord, frame_at_place, link_at}
 use Rattle.source_frames.specs.Names.{IsName}
 use Rattle.source_frames.specs.UnitLines.{LinesRecord}
-use Rattle.source_frames.specs.declared.frame.Place.{Place}
+use Rattle.source_frames.specs.declared.frame.SourceLocation.{SourceLocation}
 
 no_link : (links : List LinkRecord) (number : ℕ) (link : LinkRecord) → number ≡ 0 → link_at links number ≡ Some link → ⊥
 no_link links number link none is = none-some link (subst (λ n. link_at links n ≡ Some link) none is)
 
-pub frames_from : (s : DebugSectionsRecord) (lines : LinesRecord) (unit : UnitRecord) (links : List LinkRecord) (number : ℕ) (place : Place) (entries : List EntryRecord) (frames : List FrameRecord)
+pub frames_from : (s : DebugSectionsRecord) (lines : LinesRecord) (unit : UnitRecord) (links : List LinkRecord) (number : ℕ) (place : SourceLocation) (entries : List EntryRecord) (frames : List FrameRecord)
     → AreEntriesOfLink s unit links number entries → AreFramesOfLink lines links place number frames → AreFramesFrom s lines unit place entries frames
 frames_from s lines unit links number place [] [] are told = refl
 frames_from s lines unit links number place [] (f ∷ fs) are told = absurd (no_link links number told.0 are told.1)
@@ -28,5 +28,5 @@ frames_from s lines unit links number place (e ∷ es) (f ∷ fs) are told =
         line = ap (λ (r : FrameRecord). r.line) is;
         column = ap (λ (r : FrameRecord). r.column) is;
       },
-      frames_from s lines unit links are.0.caller (place_of_call e) es fs are.5 (subst (λ (p : Place). AreFramesOfLink lines links p are.0.caller fs) are.4 more),
+      frames_from s lines unit links are.0.caller (location_of_call e) es fs are.5 (subst (λ (p : SourceLocation). AreFramesOfLink lines links p are.0.caller fs) are.4 more),
     )

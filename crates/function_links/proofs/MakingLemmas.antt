@@ -7,6 +7,7 @@ use Rattle.std.proofs.lemmas.Option.{none-some, same_Some, slice_get-get_or, sli
 use Rattle.function_links.specs.Making.{AreKept, AreMade, IsChild, IsLinkIn, IsMade, child_at, count_at, made_at}
 use Rattle.function_links.specs.declared.links.Link.{Link}
 use Rattle.unit_functions.specs.declared.functions.Function.{Function}
+use Rattle.unit_functions.proofs.OpenLemmas.{at_push as get_last}
 
 -- ---- elements of lists
 
@@ -14,10 +15,6 @@ get_left : {A : Type 0} (xs ys : List A) (i : ℕ) (x : A) → slice_get xs i �
 get_left [] ys i x e = absurd (none-some x e)
 get_left (y ∷ xs) ys zero x e = e
 get_left (y ∷ xs) ys (suc i) x e = get_left xs ys i x e
-
-get_last : {A : Type 0} (xs : List A) (x : A) → slice_get (xs ++ x ∷ []) (length xs) ≡ Some x
-get_last [] x = refl
-get_last (y ∷ xs) x = get_last xs x
 
 from_pushed : {A : Type 0} (xs : List A) (x : A) (i : ℕ) (y : A) → slice_get (xs ++ x ∷ []) i ≡ Some y → (slice_get xs i ≡ Some y) ⊎ ((i ≡ length xs) × (y ≡ x))
 from_pushed [] x zero y e = inr (refl, same_Some y x (sym e))
@@ -83,10 +80,6 @@ within_made links (suc i) link is = let w = slice_get_within links i link is in 
 pub made_kept : (old new : List Link) (number : ℕ) (link : Link) → AreKept old new → made_at old number ≡ Some link → (child : ℕ) × (made_at new number ≡ Some (record link { child = child }))
 made_kept old new zero link kept is = absurd (none-some link is)
 made_kept old new (suc i) link kept is = kept.each i link is
-
-pub made_there : (links : List Link) (number : ℕ) → 0 < number → number ≤ length links → (link : Link) × (made_at links number ≡ Some link)
-made_there links zero some within = absurd (omega (arith, some))
-made_there links (suc i) some within = get_there links i (omega (arith, within))
 
 pub count_of_made : (links : List Link) (number : ℕ) (link : Link) → made_at links number ≡ Some link → count_at links number ≡ link.count
 count_of_made links number link is = ap (λ (l : Option Link). option_map_or (λ l. l.count) l 0) is

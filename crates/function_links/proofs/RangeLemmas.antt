@@ -24,9 +24,6 @@ same_count old new same = λ j. length ((same.starts j).items)
 pub same_trans : (a b c : Taking) → HasSame a b → HasSame b c → HasSame a c
 same_trans a b c first second = record { starts = second.starts ∙ first.starts; all = second.all ∙ first.all }
 
-pub takes_none : (of : List FunctionRecord) (index : ℕ) (here : ℕ → Type 0) (t : Taking) → ((i : ℕ) → i < length t.starts.items → here i → ⊥) → Takes of index here t t
-takes_none of index here t none = record { either = λ i h e. e; still = λ i h e. e; taken = λ i h p e. absurd (none i h p) }
-
 pub takes_weaker : (of : List FunctionRecord) (index : ℕ) (here there : ℕ → Type 0) (old new : Taking) → ((i : ℕ) → i < length old.starts.items → there i → here i) → Takes of index here old new → Takes of index there old new
 takes_weaker of index here there old new from is = record { either = is.either; still = is.still; taken = λ i h p e. is.taken i h (from i h p) e }
 
@@ -151,9 +148,6 @@ are_same of old new same are =
     let functions : new.making.all.now.functions.items ≡ old.making.all.now.functions.items = λ j. (same.all j).now.functions.items in
     let ranges : new.making.all.now.ranges.items ≡ old.making.all.now.ranges.items = λ j. (same.all j).now.ranges.items in
     subst (λ (fs : List Function). AreOf of fs new.making.all.now.ranges.items) (sym functions) (subst (λ (rs : List CodeRange). AreOf of old.making.all.now.functions.items rs) (sym ranges) are)
-
-pub functions_count : (old new : Taking) → HasSame old new → length new.making.all.now.functions.items ≡ length old.making.all.now.functions.items
-functions_count old new same = λ j. length ((same.all j).now.functions.items)
 
 pub taking_waits : (t : Taking) (next : Waiting) → IsTaking t → WaitTheSame t.waiting.next.items next.next.items → IsTaking (record t { waiting = next })
 taking_waits t next is same = record {

@@ -32,6 +32,8 @@ use Rattle.function_links.proofs.ChainLemmas.{entries_of, is_chain}
 use Rattle.function_links.proofs.MakingLemmas.{get_there}
 use Rattle.function_links.proofs.PartLemmas.{all_ranges}
 use Rattle.function_links.proofs.TakingLemmas.{after_not}
+use Rattle.waiting_indexes.proofs.RisingLists.{rising_rest}
+use Rattle.row_steps.proofs.RowStepLemmas.{above_first}
 
 -- ---- where ranges begin and end
 
@@ -104,13 +106,6 @@ none_after a (f ∷ fs) above = λ room end index.
     ∙ none_after a fs (λ x h. above x (subst (λ (xs : List ℕ). Contains xs x) (sym (ends-append f.ranges (all_ranges fs))) (Contains-append_right (ends_of_ranges f.ranges) (ends_of_ranges (all_ranges fs)) x h))) room end (index + 1)
 
 -- ---- the step of an address
-
-rising_rest : (start : ℕ) (starts : List ℕ) → AreRising (start ∷ starts) → AreRising starts
-rising_rest start starts rising = λ i j d less within. rising (suc i) (suc j) d (omega (arith, less)) (omega (arith, within))
-
-above_first : (a start : ℕ) (starts : List ℕ) → AreRising (start ∷ starts) → a < start → (i : ℕ) → i < length (start ∷ starts) → a < get_or (start ∷ starts) i 0
-above_first a start starts rising less zero h = less
-above_first a start starts rising less (suc i) h = let r : start < get_or starts i 0 = rising 0 (suc i) 0 (omega arith) h in omega (arith, r, less)
 
 -- the last start that is not above an address
 record IsLastStart (starts : List ℕ) (a i : ℕ) : Type 0 where

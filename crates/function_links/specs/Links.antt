@@ -7,19 +7,19 @@ use Rattle.debug_entries.specs.Entries.{EntryRecord}
 use Rattle.row_steps.specs.AddressSteps.{at_step}
 use Rattle.source_frames.specs.DebugSections.{DebugSectionsRecord}
 use Rattle.source_frames.specs.DebugUnits.{UnitRecord}
-use Rattle.source_frames.specs.Frames.{FrameRecord, path_in, place_of_call, place_of_row}
+use Rattle.source_frames.specs.Frames.{FrameRecord, path_in, location_of_call, location_of_row}
 use Rattle.source_frames.specs.Names.{IsName}
 use Rattle.waiting_indexes.specs.Rising.{AreRising}
 use Rattle.source_frames.specs.Scopes.{IsChain, scopes_of}
 use Rattle.source_frames.specs.UnitLines.{LinesRecord}
-use Rattle.source_frames.specs.declared.frame.Place.{Place}
+use Rattle.source_frames.specs.declared.frame.SourceLocation.{SourceLocation}
 use Rattle.line_programs.specs.declared.registers.Row.{Row}
 
 -- a link: the name of a function, the place of the call that it is, and the number of the link that it stands in, from
 -- 1 on, or 0
 pub record LinkRecord : Type 0 where
   pub name : Option (List ℕ)
-  pub call : Place
+  pub call : SourceLocation
   pub caller : ℕ
 
 -- the link of a number, from 1 on
@@ -33,7 +33,7 @@ abbrev pub AreEntriesOfLink :
 AreEntriesOfLink sections unit links number [] = number ≡ 0
 AreEntriesOfLink sections unit links number (e ∷ es) =
     (link : LinkRecord) × (link_at links number ≡ Some link) × (link.caller < number)
-    × IsName sections (record { unit = unit; entry = e }) link.name × (link.call ≡ place_of_call e)
+    × IsName sections (record { unit = unit; entry = e }) link.name × (link.call ≡ location_of_call e)
     × AreEntriesOfLink sections unit links link.caller es
 
 -- the link of a number has the chain of an address
@@ -63,13 +63,13 @@ pub record AreLinkSteps (sections : DebugSectionsRecord) (unit : UnitRecord) (li
   pub callers : AreCallersBefore links
 
 -- the frame of a name at a place
-abbrev pub frame_at_place : LinesRecord → Option (List ℕ) → Place → FrameRecord
+abbrev pub frame_at_place : LinesRecord → Option (List ℕ) → SourceLocation → FrameRecord
 frame_at_place lines name place =
     record { name = name; path = path_in lines place.file; line = place.line; column = place.column }
 
 -- the frames of the link of a number, the innermost first, which is at a place; each further one is at the call that
 -- the one before it is
-abbrev pub AreFramesOfLink : LinesRecord → List LinkRecord → Place → ℕ → List FrameRecord → Type 0
+abbrev pub AreFramesOfLink : LinesRecord → List LinkRecord → SourceLocation → ℕ → List FrameRecord → Type 0
 AreFramesOfLink lines links place number [] = number ≡ 0
 AreFramesOfLink lines links place number (f ∷ fs) =
     (link : LinkRecord) × (link_at links number ≡ Some link) × (link.caller < number)
@@ -80,6 +80,6 @@ AreFramesOfLink lines links place number (f ∷ fs) =
 abbrev pub AreFramesOfRowAndLink : LinesRecord → List LinkRecord → Option Row → ℕ → List FrameRecord → Type 0
 AreFramesOfRowAndLink lines links None zero frames = frames ≡ []
 AreFramesOfRowAndLink lines links (Some row) zero frames =
-    frames ≡ frame_at_place lines None (place_of_row (Some row)) ∷ []
+    frames ≡ frame_at_place lines None (location_of_row (Some row)) ∷ []
 AreFramesOfRowAndLink lines links row (suc index) frames =
-    AreFramesOfLink lines links (place_of_row row) (suc index) frames
+    AreFramesOfLink lines links (location_of_row row) (suc index) frames

@@ -1,6 +1,6 @@
 //! The functions that contain each address of a unit, as links that addresses share.
 
-ghost use Rattle.std.specs.Prelude.{◌≡◌, ◌≤◌, ◌<◌, ◌+◌, ◌^◌, ◌↔◌, ℕ, IfOk, OnOk, length};
+ghost use Rattle.std.specs.Prelude.{◌≤◌, ◌<◌, ◌↔◌, ℕ, IfOk, length};
 ghost use Rattle.std.specs.List.{Contains};
 ghost use Rattle.function_links.specs.Links.{AreLinkSteps, ends_of_ranges};
 ghost use Rattle.function_links.specs.LinkViews.{links_view};
@@ -18,7 +18,7 @@ use crate::making::Making;
 use crate::taking::Taking;
 use code_ranges::CodeRange;
 use memory::{Heap, NoMemory};
-use source_frames::{DebugInfo, DebugUnit, Place};
+use source_frames::{DebugInfo, DebugUnit, SourceLocation};
 use unit_functions::Functions;
 use waiting_indexes::{Waiting, sorted_once};
 
@@ -30,7 +30,7 @@ pub struct Link<'a> {
     /// The number of its name: links of one number have one name.
     pub name_number: usize,
     /// The place of the call that it is.
-    pub call: Place,
+    pub call: SourceLocation,
     /// The number of the link that it stands in, from 1 on, or 0.
     pub caller: usize,
     /// The index of the function.

@@ -1,6 +1,6 @@
 //! Starts that get the links of the functions that contain them, one function after another.
 
-ghost use Rattle.std.specs.Prelude.{◌≡◌, ◌≤◌, ◌<◌, ◌∷◌, [], ℕ, List, OnOk, Some, length, slice_get, slice_index, true};
+ghost use Rattle.std.specs.Prelude.{◌≡◌, ◌<◌, ◌∷◌, [], ℕ, List, OnOk, Some, length, slice_get, slice_index, true};
 ghost use Rattle.code_ranges.specs.Lists.{in_ranges};
 ghost use Rattle.function_links.specs.Taking.{AreOf, AreParts, Extends, HasBefore, HasSame, IsTaking, Takes};
 ghost use Rattle.unit_functions.specs.UnitFunctions.{FunctionRecord};

@@ -20,7 +20,7 @@ use Rattle.archive_core.proofs.Answering.{live_is_valid}
 use Rattle.archive_core.proofs.Compare.{length_key_bytes}
 use Rattle.archive_core.proofs.Entries.{retirement_entry}
 use Rattle.archive_core.proofs.Members.{in_flat_map, to_flat_map}
-use Rattle.archive_core.proofs.Records.{length-key_of}
+use Rattle.archive_core.proofs.Records.{length-key_of, one_key as same_key}
 use Rattle.archive_records.proofs.Contents.{members_listed}
 use Rattle.table_index.specs.Text.{IsIndexText}
 use Rattle.indexed_answers.specs.Among.{EntryAt, IsAmong, all_of, answers_among, covers, has_live_companion, lives_under}
@@ -28,7 +28,7 @@ use Rattle.indexed_answers.specs.Told.{admits_under, is_companion}
 use Rattle.index_laws.specs.Indexes.{AreIndexes, IsIndexFile, all_joined}
 use Rattle.index_laws.proofs.Joined.{all_content, any_of, free_if_live, has_any, live_in_all, there_if_live, to_any}
 use Rattle.index_laws.proofs.OfContent.{AreEntriesOf, IsAt, of_index, there as there_at}
-use Rattle.index_laws.proofs.Records.{IsEntryOf, IsEntryOfSlice, admits_by_tag, front_of_retirement, key_in, of_slice, rest_of, retires_by_tag, same_key, tag_of}
+use Rattle.index_laws.proofs.Records.{IsEntryOf, IsEntryOfSlice, admits_by_tag, front_of_retirement, key_in, of_slice, rest_of, retires_by_tag, tag_of}
 
 -- ---- an entry and its key
 
@@ -36,7 +36,7 @@ module _ (text slice e : List ℕ) (is : IsEntryOfSlice text slice e) (key : Sli
   key_there : take (length (key_bytes key)) (drop 1 e) ≡ key_bytes (key_of slice)
   key_there =
       ap (λ (n : ℕ). take n (drop 1 e)) (length_key_bytes key is_key.uuid)
-      ∙ key_in e (key_bytes (key_of slice)) (sha256 slice) (length-key_of slice is.valid) is.front
+      ∙ key_in e (key_bytes (key_of slice)) (sha256 slice) (length-key_of slice is.valid) is.prefix
 
   pub under_key : is_under (key_bytes key) e ≡ true → key_of slice ≡ key
   unfolding is_under
@@ -232,12 +232,12 @@ module _ (os : List Operations) (texts : List (List ℕ)) (indexes : List (List 
         let parts = and_parts (eqb (get_or f 0 0) 1) (bytes_eq (take 56 (drop 1 f)) (take 56 (drop 1 e))) h in
         let y = from_all f c in
         let s = find y.0 y.1 in
-        let front : IsEntryOf s.1.text s.0 f = subst (λ (g : List ℕ). IsEntryOf s.1.text s.0 g) y.2 (entry_of y.0 s.0 s.1) in
-        let b : Retires s.0 = retires_by_tag s.1.text s.0 f front (is_record y.0 s.0 s.1) parts.0 in
+        let prefix : IsEntryOf s.1.text s.0 f = subst (λ (g : List ℕ). IsEntryOf s.1.text s.0 g) y.2 (entry_of y.0 s.0 s.1) in
+        let b : Retires s.0 = retires_by_tag s.1.text s.0 f prefix (is_record y.0 s.0 s.1) parts.0 in
         let same : take 56 (drop 1 f) ≡ take 56 (drop 1 e) = (bytes_eq-Decides (take 56 (drop 1 f)) (take 56 (drop 1 e))).0 parts.1 in
         let pair : List ℕ = key_bytes (key_of slice) ++ sha256 slice in
-        let here : take 56 (drop 1 f) ≡ drop 1 s.0 = rest_of f s.0 (front_of_retirement s.1.text s.0 f front b) in
-        let there : take 56 (drop 1 e) ≡ pair = rest_of e (2 ∷ pair) is.front in
+        let here : take 56 (drop 1 f) ≡ drop 1 s.0 = rest_of f s.0 (front_of_retirement s.1.text s.0 f prefix b) in
+        let there : take 56 (drop 1 e) ≡ pair = rest_of e (2 ∷ pair) is.prefix in
         let rest : drop 1 s.0 ≡ pair = cc (here, there, same) in
         let whole : s.0 ≡ 1 ∷ pair = retirement_again s.0 pair b rest in
         ap (has_any os) (sym whole) ∙ has_held y.0 s.0 s.1
@@ -247,42 +247,42 @@ module _ (os : List Operations) (texts : List (List ℕ)) (indexes : List (List 
         let r : List ℕ = retirement_record (key_of slice) (sha256 slice) in
         let y = entry_for r h in
         let f : List ℕ = y.0.entry in
-        let front : take 57 f ≡ r = (entry_of y.0 r y.2).front ∙ retirement_entry (key_of slice) (sha256 slice) in
-        let same : take 56 (drop 1 f) ≡ take 56 (drop 1 e) = rest_of f r front ∙ sym (rest_of e (2 ∷ (key_bytes (key_of slice) ++ sha256 slice)) is.front) in
+        let prefix : take 57 f ≡ r = (entry_of y.0 r y.2).prefix ∙ retirement_entry (key_of slice) (sha256 slice) in
+        let same : take 56 (drop 1 f) ≡ take 56 (drop 1 e) = rest_of f r prefix ∙ sym (rest_of e (2 ∷ (key_bytes (key_of slice) ++ sha256 slice)) is.prefix) in
         to_any (covers e) (all_of indexes) f (to_all y.0 y.1) (and_from (eqb (get_or f 0 0) 1) (bytes_eq (take 56 (drop 1 f)) (take 56 (drop 1 e)))
-        (ap (λ (n : ℕ). eqb n 1) (tag_of f r front)) ((bytes_eq-Decides (take 56 (drop 1 f)) (take 56 (drop 1 e))).1 same))
+        (ap (λ (n : ℕ). eqb n 1) (tag_of f r prefix)) ((bytes_eq-Decides (take 56 (drop 1 f)) (take 56 (drop 1 e))).1 same))
 
     module _ (key : SliceKey) (is_key : IsKey key) where
-      abbrev front : List ℕ
-      front = key_bytes key
+      abbrev prefix : List ℕ
+      prefix = key_bytes key
 
       abbrev every : List (List ℕ)
       every = all_of indexes
 
       -- ---- what is live
 
-      pub lives_if : (x : EntryAt) (slice : List ℕ) → IsOfSlice os texts indexes x slice → lives_under front every x.entry ≡ true → IsLive (all_joined os) key slice
+      pub lives_if : (x : EntryAt) (slice : List ℕ) → IsOfSlice os texts indexes x slice → lives_under prefix every x.entry ≡ true → IsLive (all_joined os) key slice
       lives_if x slice of h =
-          let parts = and_parts (admits_under front x.entry) (not (list_any (covers x.entry) every)) h in
-          let under : key_of slice ≡ key = under_key of.of.text slice x.entry of.is key is_key (and_parts (is_admission x.entry) (is_under front x.entry) parts.0).1 in
+          let parts = and_parts (admits_under prefix x.entry) (not (list_any (covers x.entry) every)) h in
+          let under : key_of slice ≡ key = under_key of.of.text slice x.entry of.is key is_key (and_parts (is_admission x.entry) (is_under prefix x.entry) parts.0).1 in
           let none : list_any (covers x.entry) every ≡ false = not-true (list_any (covers x.entry) every) parts.1 in
           let free : has_any os (retirement_record (key_of slice) (sha256 slice)) ≡ false = false_from_ne_true (has_any os (retirement_record (key_of slice) (sha256 slice))) (λ there.
           true≢false (sym (covered_by of.of.text slice x.entry of.is there) ∙ none)) in
           live_in_all os key slice of.is.valid under (has_held x (admission_record slice) of.of)
           (ap (λ k. has_any os (retirement_record k (sha256 slice))) (sym under) ∙ free)
 
-      pub lives_then : (x : EntryAt) (slice : List ℕ) → IsOfSlice os texts indexes x slice → IsLive (all_joined os) key slice → lives_under front every x.entry ≡ true
+      pub lives_then : (x : EntryAt) (slice : List ℕ) → IsOfSlice os texts indexes x slice → IsLive (all_joined os) key slice → lives_under prefix every x.entry ≡ true
       lives_then x slice of live =
-          let tag : is_admission x.entry ≡ true = ap (λ (n : ℕ). eqb n 2) (tag_of x.entry (2 ∷ (key_bytes (key_of slice) ++ sha256 slice)) of.is.front) in
-          let under : is_under front x.entry ≡ true = is_under_key of.of.text slice x.entry of.is key is_key live.under in
+          let tag : is_admission x.entry ≡ true = ap (λ (n : ℕ). eqb n 2) (tag_of x.entry (2 ∷ (key_bytes (key_of slice) ++ sha256 slice)) of.is.prefix) in
+          let under : is_under prefix x.entry ≡ true = is_under_key of.of.text slice x.entry of.is key is_key live.under in
           let free : has_any os (retirement_record (key_of slice) (sha256 slice)) ≡ false = ap (λ k. has_any os (retirement_record k (sha256 slice))) live.under ∙ free_if_live os key slice live in
           let none : list_any (covers x.entry) every ≡ false = false_from_ne_true (list_any (covers x.entry) every) (λ there.
           let f = any_of (covers x.entry) every there in
           true≢false (sym (retired_by of.of.text slice x.entry f.0 of.is f.1 f.2) ∙ free)) in
-          and_from (admits_under front x.entry) (not (list_any (covers x.entry) every)) (and_from (is_admission x.entry) (is_under front x.entry) tag under) (not_from_false (list_any (covers x.entry) every) none)
+          and_from (admits_under prefix x.entry) (not (list_any (covers x.entry) every)) (and_from (is_admission x.entry) (is_under prefix x.entry) tag under) (not_from_false (list_any (covers x.entry) every) none)
 
-      pub admission_if : (x : EntryAt) → lives_under front every x.entry ≡ true → is_admission x.entry ≡ true
-      admission_if x h = (and_parts (is_admission x.entry) (is_under front x.entry) (and_parts (admits_under front x.entry) (not (list_any (covers x.entry) every)) h).0).0
+      pub admission_if : (x : EntryAt) → lives_under prefix every x.entry ≡ true → is_admission x.entry ≡ true
+      admission_if x h = (and_parts (is_admission x.entry) (is_under prefix x.entry) (and_parts (admits_under prefix x.entry) (not (list_any (covers x.entry) every)) h).0).0
 
       -- a live slice has an entry
       pub entry_if_live : (slice : List ℕ) → IsLive (all_joined os) key slice → (x : EntryAt) × IsAmong indexes x × IsOfSlice os texts indexes x slice
@@ -292,40 +292,40 @@ module _ (os : List Operations) (texts : List (List ℕ)) (indexes : List (List 
 
       -- ---- companions
 
-      companion_if : has_live_companion front every ≡ true → (slice : List ℕ) × IsLive (all_joined os) key slice × (is_dsym_image slice ≡ true)
+      companion_if : has_live_companion prefix every ≡ true → (slice : List ℕ) × IsLive (all_joined os) key slice × (is_dsym_image slice ≡ true)
       companion_if h =
-          let f = any_of (λ (e : List ℕ). lives_under front every e && is_companion e) every h in
+          let f = any_of (λ (e : List ℕ). lives_under prefix every e && is_companion e) every h in
           let x = from_all f.0 f.1 in
-          let parts = and_parts (lives_under front every x.0.entry) (is_companion x.0.entry) (ap (λ (e : List ℕ). lives_under front every e && is_companion e) x.2 ∙ f.2) in
+          let parts = and_parts (lives_under prefix every x.0.entry) (is_companion x.0.entry) (ap (λ (e : List ℕ). lives_under prefix every e && is_companion e) x.2 ∙ f.2) in
           let r = find x.0 x.1 in
           let s = slice_of_entry x.0 r.0 r.1 (admission_if x.0 parts.0) in
           (s.0, lives_if x.0 s.0 s.1 parts.0, sym s.1.is.kind ∙ parts.1)
 
-      companion_then : (slice : List ℕ) → IsLive (all_joined os) key slice → is_dsym_image slice ≡ true → has_live_companion front every ≡ true
+      companion_then : (slice : List ℕ) → IsLive (all_joined os) key slice → is_dsym_image slice ≡ true → has_live_companion prefix every ≡ true
       companion_then slice live dsym =
           let x = entry_if_live slice live in
-          to_any (λ (e : List ℕ). lives_under front every e && is_companion e) every x.0.entry (to_all x.0 x.1)
-          (and_from (lives_under front every x.0.entry) (is_companion x.0.entry) (lives_then x.0 slice x.2 live) (x.2.is.kind ∙ dsym))
+          to_any (λ (e : List ℕ). lives_under prefix every e && is_companion e) every x.0.entry (to_all x.0 x.1)
+          (and_from (lives_under prefix every x.0.entry) (is_companion x.0.entry) (lives_then x.0 slice x.2 live) (x.2.is.kind ∙ dsym))
 
       -- ---- what answers
 
-      pub answers_if : (x : EntryAt) (slice : List ℕ) → IsOfSlice os texts indexes x slice → answers_among front every x.entry ≡ true → IsAnswering (all_joined os) key slice
+      pub answers_if : (x : EntryAt) (slice : List ℕ) → IsOfSlice os texts indexes x slice → answers_among prefix every x.entry ≡ true → IsAnswering (all_joined os) key slice
       answers_if x slice of h =
-          let parts = and_parts (lives_under front every x.entry) (not (has_live_companion front every) || is_companion x.entry) h in
+          let parts = and_parts (lives_under prefix every x.entry) (not (has_live_companion prefix every) || is_companion x.entry) h in
           record {
             live = lives_if x slice of parts.0;
-            companions_first = λ companion live dsym. elim (or_cases (not (has_live_companion front every)) (is_companion x.entry) parts.1) [
-              | inl none ↦ absurd (true≢false (sym (companion_then companion live dsym) ∙ not-true (has_live_companion front every) none))
+            companions_first = λ companion live dsym. elim (or_cases (not (has_live_companion prefix every)) (is_companion x.entry) parts.1) [
+              | inl none ↦ absurd (true≢false (sym (companion_then companion live dsym) ∙ not-true (has_live_companion prefix every) none))
               | inr is ↦ sym of.is.kind ∙ is
             ];
           }
 
-      pub answers_then : (x : EntryAt) (slice : List ℕ) → IsOfSlice os texts indexes x slice → IsAnswering (all_joined os) key slice → answers_among front every x.entry ≡ true
+      pub answers_then : (x : EntryAt) (slice : List ℕ) → IsOfSlice os texts indexes x slice → IsAnswering (all_joined os) key slice → answers_among prefix every x.entry ≡ true
       answers_then x slice of answers =
-          let first : (not (has_live_companion front every) || is_companion x.entry) ≡ true = elim (cases_Bool (has_live_companion front every)) [
+          let first : (not (has_live_companion prefix every) || is_companion x.entry) ≡ true = elim (cases_Bool (has_live_companion prefix every)) [
             | inl some ↦
                 let c = companion_if some in
-                or_right (not (has_live_companion front every)) (is_companion x.entry) (of.is.kind ∙ answers.companions_first c.0 c.1 c.2)
-            | inr none ↦ or_left (not (has_live_companion front every)) (is_companion x.entry) (not_from_false (has_live_companion front every) none)
+                or_right (not (has_live_companion prefix every)) (is_companion x.entry) (of.is.kind ∙ answers.companions_first c.0 c.1 c.2)
+            | inr none ↦ or_left (not (has_live_companion prefix every)) (is_companion x.entry) (not_from_false (has_live_companion prefix every) none)
           ] in
-          and_from (lives_under front every x.entry) (not (has_live_companion front every) || is_companion x.entry) (lives_then x slice of answers.live) first
+          and_from (lives_under prefix every x.entry) (not (has_live_companion prefix every) || is_companion x.entry) (lives_then x slice of answers.live) first

@@ -26,8 +26,8 @@ use Rattle.archive_core.specs.Valid.{key_of}
 use Rattle.archive_core.proofs.Entries.{admission_entry}
 use Rattle.archive_core.proofs.Members.{in_order}
 use Rattle.archive_core.proofs.Records.{length-key_of}
+use Rattle.archive_core.proofs.Made.{bytes_same}
 use Rattle.archive_records.proofs.Contents.{members_listed, order}
-use Rattle.archive_records.proofs.Puts.{bytes_same}
 use Rattle.archive_index.specs.Entry.{kind_byte, length_in, offset_in, placed_entry}
 use Rattle.archive_index.specs.Text.{index_magic}
 use Rattle.archive_index.proofs.Placed.{entry_long, kind_of, length_is}
@@ -202,7 +202,7 @@ module _ (o : Operations) (text : List ℕ) (file : IsIndexFile o text) where
 
     entry_here : IsEntryOf text r (table_entry before at r t)
     entry_here = record {
-      front = entry_begins before at r t is_record;
+      prefix = entry_begins before at r t is_record;
       kind = kind_there before at r t is_record;
       length_is = length_there before at r t is_record;
       slice = λ admitted. slice_stored (admits_record r is_record admitted) admitted;

@@ -1,13 +1,12 @@
 -- An entry, and the record that it is of.
 use Rattle.std.proofs.Common.{◌≡◌, ℕ, ◌+◌, ◌<◌, ◌^◌, true, false, Bool, cond, eqb, List, ◌∷◌, ◌++◌, length, take, drop, get_or, refl, sym, ap, ◌∙◌, subst, inl, inr, arith}
-use Rattle.std.specs.Int.{w32, w64, to_be_bytes, from_be_bytes}
+use Rattle.std.specs.Int.{w64, to_be_bytes}
 use Rattle.std.specs.Ordering.{nat_cmp, ordering_then}
 use Rattle.std.specs.declared.cmp.Ordering.TheVariants.{Less, Equal}
 use Rattle.std.specs.Cmp.{tied_itself, nat_cmp_is}
 use Rattle.std.specs.Cmp.Lexicographic.{nat_list_cmp_total, slice_cmp}
 use Rattle.std.proofs.lemmas.Bool.{true≢false}
 use Rattle.std.proofs.lemmas.List.{drop_at, drop-take, get_or-drop, get_or-take, take_at, take-take}
-use Rattle.std.proofs.lemmas.Nat.{from_be_bytes-to_be_bytes_4}
 use Rattle.sha2.specs.Sha256.{sha256}
 use Rattle.macho_image.specs.Contents.{is_dsym_image}
 use Rattle.macho_image.specs.Layout.{u32_le_at}
@@ -18,11 +17,10 @@ use Rattle.archive_core.specs.Key.{IsKey, key_bytes}
 use Rattle.archive_core.specs.Record.{Admits, IsRecord, Retires, admission, admission_record, retirement_record}
 use Rattle.archive_core.specs.Summary.{entry}
 use Rattle.archive_core.specs.Valid.{IsValid, key_of}
-use Rattle.archive_core.specs.declared.keys.SliceKey.{SliceKey}
 use Rattle.archive_core.proofs.Compare.{three_parts}
 use Rattle.archive_core.proofs.Digits.{cmp_eight}
 use Rattle.archive_core.proofs.Entries.{admission_entry, retirement_entry, slice_of}
-use Rattle.archive_core.proofs.Records.{length-admission_record, length-key_of, same_parts}
+use Rattle.archive_core.proofs.Records.{length-admission_record, length-key_of}
 use Rattle.archive_index.specs.Entry.{kind_byte, length_in}
 use Rattle.indexed_answers.specs.Contents.{IsSliceOf}
 use Rattle.indexed_answers.specs.Told.{is_companion}
@@ -42,16 +40,6 @@ is_key_of slice valid bytes = record {
   cputype = word slice 4 bytes;
   cpusubtype = omega arith;
 }
-
--- keys with the same bytes are the same
-pub same_key : (k l : SliceKey) → IsKey k → IsKey l → key_bytes k ≡ key_bytes l → k ≡ l
-unfolding key_bytes
-same_key k l is_k is_l e =
-    let uuid = same_parts k.uuid l.uuid _ _ (is_k.uuid ∙ sym is_l.uuid) e in
-    let arch = same_parts (to_be_bytes w32 k.arch.cputype) (to_be_bytes w32 l.arch.cputype) (to_be_bytes w32 k.arch.cpusubtype) (to_be_bytes w32 l.arch.cpusubtype) refl uuid.1 in
-    let cputype : k.arch.cputype ≡ l.arch.cputype = sym (from_be_bytes-to_be_bytes_4 k.arch.cputype is_k.cputype) ∙ ap (from_be_bytes w32) arch.0 ∙ from_be_bytes-to_be_bytes_4 l.arch.cputype is_l.cputype in
-    let cpusubtype : k.arch.cpusubtype ≡ l.arch.cpusubtype = sym (from_be_bytes-to_be_bytes_4 k.arch.cpusubtype is_k.cpusubtype) ∙ ap (from_be_bytes w32) arch.1 ∙ from_be_bytes-to_be_bytes_4 l.arch.cpusubtype is_l.cpusubtype in
-    λ i. record { uuid = uuid.0 i; arch = record { cputype = cputype i; cpusubtype = cpusubtype i } }
 
 -- ---- records in their order
 
@@ -73,7 +61,7 @@ shorter_first a b valid_a valid_b same shorter =
 -- an entry is that of a record: its first 57 bytes, its kind and its length; of an admission its table is stored where
 -- it says
 pub record IsEntryOf (text r e : List ℕ) : Type 0 where
-  pub front : take 57 e ≡ entry r
+  pub prefix : take 57 e ≡ entry r
   pub kind : get_or e 57 0 ≡ kind_byte r
   pub length_is : length_in e ≡ length r
   pub slice : is_admission r ≡ true → IsSliceOf text (drop 33 r) e
@@ -82,16 +70,16 @@ pub record IsEntryOf (text r e : List ℕ) : Type 0 where
 pub record IsEntryOfSlice (text slice e : List ℕ) : Type 0 where
   pub valid : IsValid slice
   pub is_key : IsKey (key_of slice)
-  pub front : take 57 e ≡ 2 ∷ (key_bytes (key_of slice) ++ sha256 slice)
+  pub prefix : take 57 e ≡ 2 ∷ (key_bytes (key_of slice) ++ sha256 slice)
   pub kind : is_companion e ≡ is_dsym_image slice
   pub length_is : length_in e ≡ 33 + length slice
   pub is : IsSliceOf text slice e
 
-pub tag_of : (e front : List ℕ) → take 57 e ≡ front → get_or e 0 0 ≡ get_or front 0 0
-tag_of e front same = sym (get_or-take 57 e 0 0 (omega arith)) ∙ ap (λ (l : List ℕ). get_or l 0 0) same
+pub tag_of : (e prefix : List ℕ) → take 57 e ≡ prefix → get_or e 0 0 ≡ get_or prefix 0 0
+tag_of e prefix same = sym (get_or-take 57 e 0 0 (omega arith)) ∙ ap (λ (l : List ℕ). get_or l 0 0) same
 
-pub rest_of : (e front : List ℕ) → take 57 e ≡ front → take 56 (drop 1 e) ≡ drop 1 front
-rest_of e front same = sym (drop-take 1 56 e) ∙ ap (drop 1) same
+pub rest_of : (e prefix : List ℕ) → take 57 e ≡ prefix → take 56 (drop 1 e) ≡ drop 1 prefix
+rest_of e prefix same = sym (drop-take 1 56 e) ∙ ap (drop 1) same
 
 -- the SHA-256 in an entry
 pub digest_of : (e key digest : List ℕ) → length key ≡ 24 → take 57 e ≡ 2 ∷ (key ++ digest) → take 32 (drop 25 e) ≡ digest
@@ -104,10 +92,10 @@ key_in e key digest long same =
 
 module _ (text r e : List ℕ) (of : IsEntryOf text r e) where
   front_retired : (b : Retires r) → take 57 e ≡ retirement_record b.key b.digest
-  front_retired b = of.front ∙ ap entry b.is ∙ retirement_entry b.key b.digest
+  front_retired b = of.prefix ∙ ap entry b.is ∙ retirement_entry b.key b.digest
 
   pub front_admitted : (a : Admits r) → take 57 e ≡ 2 ∷ (key_bytes (key_of a.slice) ++ sha256 a.slice)
-  front_admitted a = of.front ∙ ap entry a.is ∙ admission_entry a.slice a.valid
+  front_admitted a = of.prefix ∙ ap entry a.is ∙ admission_entry a.slice a.valid
 
   -- the tag of an entry tells what its record is
   pub admits_by_tag : IsRecord r → is_admission e ≡ true → Admits r
@@ -130,7 +118,7 @@ pub of_slice : (text slice e : List ℕ) → IsValid slice → AreBytes slice �
 of_slice text slice e valid bytes of = record {
   valid = valid;
   is_key = is_key_of slice valid bytes;
-  front = of.front ∙ admission_entry slice valid;
+  prefix = of.prefix ∙ admission_entry slice valid;
   kind = kind_admitted (is_dsym_image slice) (get_or e 57 0) (of.kind ∙ ap (λ (s : List ℕ). cond (is_dsym_image s) 1 0) (slice_of slice valid));
   length_is = of.length_is ∙ length-admission_record slice valid;
   is = subst (λ (s : List ℕ). IsSliceOf text s e) (slice_of slice valid) (of.slice refl);

@@ -31,7 +31,7 @@ use Rattle.archive_index.specs.Entry.{offset_in}
 use Rattle.table_index.specs.Entry.{claim_in}
 use Rattle.table_index.specs.Text.{IsIndexText}
 use Rattle.indexed_answers.specs.Among.{AreAnsweringAmong, AreTied, EntryAt, IsAmong, IsRepeatOf, StandsBefore, all_of, answers_among, lives_under}
-use Rattle.archive_queries.specs.Sources.{AreFramesAt, AreShown, IsSourced}
+use Rattle.address_queries.specs.Sources.{AreFramesAt, AreShown, IsSourced}
 use Rattle.indexed_answers.specs.AmongTold.{AreFramesToldAt, AreShownAmong, IsAnswerAmong, IsToldOfAmong, IsToldRowAt}
 use Rattle.indexed_answers.specs.AmongAsked.{HasNoTable, IsDamagedAt, IsLinelessAt}
 use Rattle.indexed_answers.specs.Contents.{IsSliceOf}
@@ -143,21 +143,19 @@ module _ (os : List Operations) (texts : List (List ℕ)) (indexes : List (List 
   all_before : (key : SliceKey) (x : EntryAt) (a : List ℕ) (xs : List EntryAt) (ss : List (List ℕ)) → IsAnsweringSlice key x a → AllZip (IsAnsweringSlice key) xs ss → ((k : ℕ) → k < length xs → StandsBefore x (get_or xs k x))
       → AllByRecursion (λ s. on admission_record (slice_cmp nat_cmp) a s ≡ Less) ss
   all_before key x a [] [] is all stands = tt
-  all_before key x a [] (s ∷ ss) is all stands = absurd all
-  all_before key x a (y ∷ xs) [] is all stands = absurd all
   all_before key x a (y ∷ xs) (s ∷ ss) is all stands =
       (before key x y a s is all.0 (stands 0 (omega arith)), all_before key x a xs ss is all.1 (λ k lt. stands (suc k) (omega (arith, lt))))
+  all_before key x a xs ss is all stands = absurd all
 
   ascending : (key : SliceKey) (xs : List EntryAt) (ss : List (List ℕ)) → AllZip (IsAnsweringSlice key) xs ss → ((i j : ℕ) (none : EntryAt) → i < j → j < length xs → StandsBefore (get_or xs i none) (get_or xs j none))
       → IsStrictlySortedBy (on admission_record (slice_cmp nat_cmp)) ss
   unfolding IsStrictlySortedBy
   ascending key [] [] all stands = tt
-  ascending key [] (s ∷ ss) all stands = absurd all
-  ascending key (x ∷ xs) [] all stands = absurd all
   ascending key (x ∷ xs) (s ∷ ss) all stands = (
     all_before key x s xs ss all.0 all.1 (λ k lt. stands 0 (suc k) x (omega arith) (omega (arith, lt))),
     ascending key xs ss all.1 (λ i j none lt within. stands (suc i) (suc j) none (omega (arith, lt)) (omega (arith, within))),
   )
+  ascending key xs ss all stands = absurd all
 
   -- ---- what is told of them
 
@@ -169,11 +167,10 @@ module _ (os : List Operations) (texts : List (List ℕ)) (indexes : List (List 
 
   rows_right : (key : SliceKey) (asked : Where) (xs : List EntryAt) (ss : List (List ℕ)) (rows : List OwnRow) → AllZip (IsAnsweringSlice key) xs ss → AllZip (IsToldRowAt texts asked) xs rows → AllZip (IsOwnRow asked) ss rows
   rows_right key asked [] [] [] all told = tt
-  rows_right key asked [] [] (row ∷ rows) all told = absurd told
   rows_right key asked [] (s ∷ ss) rows all told = absurd all
   rows_right key asked (x ∷ xs) [] rows all told = absurd all
-  rows_right key asked (x ∷ xs) (s ∷ ss) [] all told = absurd told
   rows_right key asked (x ∷ xs) (s ∷ ss) (row ∷ rows) all told = (row_right key asked x s row all.0 told.0, rows_right key asked xs ss rows all.1 told.1)
+  rows_right key asked xs ss rows all told = absurd told
 
   no_slice : (key : SliceKey) (ss : List (List ℕ)) → AllZip (IsAnsweringSlice key) [] ss → ss ≡ []
   no_slice key [] all = refl
@@ -201,11 +198,10 @@ module _ (os : List Operations) (texts : List (List ℕ)) (indexes : List (List 
 
   each_right : (key : SliceKey) (asked : Where) (xs : List EntryAt) (ss : List (List ℕ)) (lists : List (List FrameRecord)) → AllZip (IsAnsweringSlice key) xs ss → AllZip (AreFramesToldAt texts asked) xs lists → AllZip (AreFramesAt asked) ss lists
   each_right key asked [] [] [] all told = tt
-  each_right key asked [] [] (list ∷ lists) all told = absurd told
   each_right key asked [] (s ∷ ss) lists all told = absurd all
   each_right key asked (x ∷ xs) [] lists all told = absurd all
-  each_right key asked (x ∷ xs) (s ∷ ss) [] all told = absurd told
   each_right key asked (x ∷ xs) (s ∷ ss) (list ∷ lists) all told = (frames_right key asked x s list all.0 told.0, each_right key asked xs ss lists all.1 told.1)
+  each_right key asked xs ss lists all told = absurd told
 
   shown_right : (key : SliceKey) (lines : Bool) (asked : Where) (xs : List EntryAt) (ss : List (List ℕ)) (lists : List (List FrameRecord)) → AllZip (IsAnsweringSlice key) xs ss → AreShownAmong texts lines asked xs lists → AreShown lines asked ss lists
   shown_right key true asked xs ss lists all shown = each_right key asked xs ss lists all shown
@@ -214,33 +210,33 @@ module _ (os : List Operations) (texts : List (List ℕ)) (indexes : List (List 
   module _ (all : AreIndexes os texts indexes) where
     -- ---- nothing is damaged
 
-    tagged : (front : List ℕ) (x : EntryAt) → answers_among front (all_of indexes) x.entry ≡ true → is_admission x.entry ≡ true
-    tagged front x h =
-        let lives = (and_parts (lives_under front (all_of indexes) x.entry) _ h).0 in
+    tagged : (prefix : List ℕ) (x : EntryAt) → answers_among prefix (all_of indexes) x.entry ≡ true → is_admission x.entry ≡ true
+    tagged prefix x h =
+        let lives = (and_parts (lives_under prefix (all_of indexes) x.entry) _ h).0 in
         (and_parts (is_admission x.entry) _ (and_parts _ _ lives).0).0
 
-    pub undamaged : (front text : List ℕ) (x : EntryAt) → IsAmong indexes x → answers_among front (all_of indexes) x.entry ≡ true → slice_get texts x.input ≡ Some text → HasNoTable text x.entry → ⊥
-    undamaged front text x among h here none =
+    pub undamaged : (prefix text : List ℕ) (x : EntryAt) → IsAmong indexes x → answers_among prefix (all_of indexes) x.entry ≡ true → slice_get texts x.input ≡ Some text → HasNoTable text x.entry → ⊥
+    undamaged prefix text x among h here none =
         let r = find os texts indexes all x among in
-        let s = slice_of_entry os texts indexes x r.0 r.1 (tagged front x h) in
+        let s = slice_of_entry os texts indexes x r.0 r.1 (tagged prefix x h) in
         let same : s.1.of.text ≡ text = cc (s.1.of.file.text_at, here) in
         let is : IsSliceOf text s.0 x.entry = subst (λ (t : List ℕ). IsSliceOf t s.0 x.entry) same s.1.is.is in
         none (subst (λ (t : List ℕ). length t < 2 ^ 64) same s.1.of.file.are.short) s.0 is.table is.is_table is.stored
 
-    pub none_damaged : (front : List ℕ) (answering : List EntryAt) (input number : ℕ) → AreAnsweringAmong front indexes answering → IsDamagedAt texts answering input number → ⊥
-    none_damaged front answering input number are damaged =
+    pub none_damaged : (prefix : List ℕ) (answering : List EntryAt) (input number : ℕ) → AreAnsweringAmong prefix indexes answering → IsDamagedAt texts answering input number → ⊥
+    none_damaged prefix answering input number are damaged =
         let x : EntryAt = record { input = input; number = number; entry = damaged.entry } in
-        let answers : answers_among front (all_of indexes) x.entry ≡ true = All-contains (λ y. answers_among front (all_of indexes) y.entry ≡ true) answering x are.each damaged.answers in
-        undamaged front damaged.text x (All-contains (IsAmong indexes) answering x are.among damaged.answers) answers damaged.text_is damaged.absent
+        let answers : answers_among prefix (all_of indexes) x.entry ≡ true = All-contains (λ y. answers_among prefix (all_of indexes) y.entry ≡ true) answering x are.each damaged.answers in
+        undamaged prefix damaged.text x (All-contains (IsAmong indexes) answering x are.among damaged.answers) answers damaged.text_is damaged.absent
 
     -- ---- where there are no lines
 
-    pub lineless : (front : List ℕ) (answering : List EntryAt) (input number : ℕ) → AreAnsweringAmong front indexes answering → IsLinelessAt texts answering input number → (slice : List ℕ) × AnswersUnder os front slice × HasNoLines slice
-    lineless front answering input number are lacking =
+    pub lineless : (prefix : List ℕ) (answering : List EntryAt) (input number : ℕ) → AreAnsweringAmong prefix indexes answering → IsLinelessAt texts answering input number → (slice : List ℕ) × AnswersUnder os prefix slice × HasNoLines slice
+    lineless prefix answering input number are lacking =
         let x : EntryAt = record { input = input; number = number; entry = lacking.entry } in
-        let answers : answers_among front (all_of indexes) x.entry ≡ true = All-contains (λ y. answers_among front (all_of indexes) y.entry ≡ true) answering x are.each lacking.answers in
+        let answers : answers_among prefix (all_of indexes) x.entry ≡ true = All-contains (λ y. answers_among prefix (all_of indexes) y.entry ≡ true) answering x are.each lacking.answers in
         let r = find os texts indexes all x (All-contains (IsAmong indexes) answering x are.among lacking.answers) in
-        let s = slice_of_entry os texts indexes x r.0 r.1 (tagged front x answers) in
+        let s = slice_of_entry os texts indexes x r.0 r.1 (tagged prefix x answers) in
         let same : s.1.of.text ≡ lacking.text = cc (s.1.of.file.text_at, lacking.text_is) in
         let is : IsSliceOf lacking.text s.0 x.entry = subst (λ (t : List ℕ). IsSliceOf t s.0 x.entry) same s.1.is.is in
         let within : input < length os = slice_get_within os input s.1.of.o s.1.of.file.content_at in (
@@ -279,13 +275,13 @@ module _ (os : List Operations) (texts : List (List ℕ)) (indexes : List (List 
           record {
             one = a.0;
             other = b.0;
-            place = t.one.input;
-            other_place = t.other.input;
+            number = t.one.input;
+            other_number = t.other.input;
             one_is = record { o = a.1.of.of.o; there = a.1.of.of.file.content_at; has = held os texts indexes t.one (admission_record a.0) a.1.of.of; answers = a.1.answers };
             other_is = record { o = b.1.of.of.o; there = b.1.of.of.file.content_at; has = held os texts indexes t.other (admission_record b.0) b.1.of.of; answers = b.1.answers };
-            places = t.unordered.inputs;
+            numbers = t.unordered.inputs;
             lengths = omega (arith, a.1.of.is.length_is, b.1.of.is.length_is, t.unordered.same_length);
-            differ = λ same. t.unordered.slices (a.1.of.is.front ∙ ap (λ (s : List ℕ). 2 ∷ (key_bytes (key_of s) ++ sha256 s)) same ∙ sym b.1.of.is.front);
+            differ = λ same. t.unordered.slices (a.1.of.is.prefix ∙ ap (λ (s : List ℕ). 2 ∷ (key_bytes (key_of s) ++ sha256 s)) same ∙ sym b.1.of.is.prefix);
           }
 
       -- ---- the answer
@@ -293,7 +289,7 @@ module _ (os : List Operations) (texts : List (List ℕ)) (indexes : List (List 
       -- two entries of one slice of different indexes are of the same slice, as far as digests tell
       one_of_two : (x y : EntryAt) (a b : List ℕ) → DigestsTell os → IsOfSlice os texts indexes x a → IsOfSlice os texts indexes y b → IsRepeatOf y x → a ≡ b
       one_of_two x y a b tell of_x of_y repeat =
-          let fronts : key_bytes (key_of a) ++ sha256 a ≡ key_bytes (key_of b) ++ sha256 b = ap (drop 1) (sym of_x.is.front ∙ sym repeat.slices ∙ of_y.is.front) in
+          let fronts : key_bytes (key_of a) ++ sha256 a ≡ key_bytes (key_of b) ++ sha256 b = ap (drop 1) (sym of_x.is.prefix ∙ sym repeat.slices ∙ of_y.is.prefix) in
           let digests = (same_parts (key_bytes (key_of a)) (key_bytes (key_of b)) (sha256 a) (sha256 b) (length-key_of a of_x.is.valid ∙ sym (length-key_of b of_y.is.valid)) fronts).1 in
           let lt_x : x.input < length os = slice_get_within os x.input of_x.of.o of_x.of.file.content_at in
           let lt_y : y.input < length os = slice_get_within os y.input of_y.of.o of_y.of.file.content_at in

@@ -38,25 +38,25 @@ abbrev pub all_joined : List Operations → Operations
 all_joined os = fold joined set.empty os
 
 -- a content among others has the slice, which answers in the content that all make together
-pub record IsAnsweringOf (os : List Operations) (key : SliceKey) (place : ℕ) (slice : List ℕ) : Type 0 where
+pub record IsAnsweringOf (os : List Operations) (key : SliceKey) (number : ℕ) (slice : List ℕ) : Type 0 where
   pub o : Operations
-  pub there : slice_get os place ≡ Some o
+  pub there : slice_get os number ≡ Some o
   pub has : set.contains o (admission_record slice) ≡ true
   pub answers : IsAnswering (all_joined os) key slice
 
 -- one of these contents has the slice, and it answers under the key with these bytes in the content that all make
-pub record AnswersUnder (os : List Operations) (front slice : List ℕ) : Type 0 where
+pub record AnswersUnder (os : List Operations) (prefix slice : List ℕ) : Type 0 where
   pub is_held : IsHeld os slice
-  pub answers : (key : SliceKey) → IsKey key → key_bytes key ≡ front → IsAnswering (all_joined os) key slice
+  pub answers : (key : SliceKey) → IsKey key → key_bytes key ≡ prefix → IsAnswering (all_joined os) key slice
 
 -- two different slices of one length answer under a key, which two contents have
 pub record AreTiedSlices (os : List Operations) (key : SliceKey) : Type 0 where
   pub one : List ℕ
   pub other : List ℕ
-  pub place : ℕ
-  pub other_place : ℕ
-  pub one_is : IsAnsweringOf os key place one
-  pub other_is : IsAnsweringOf os key other_place other
-  pub places : place ≢ other_place
+  pub number : ℕ
+  pub other_number : ℕ
+  pub one_is : IsAnsweringOf os key number one
+  pub other_is : IsAnsweringOf os key other_number other
+  pub numbers : number ≢ other_number
   pub lengths : length one ≡ length other
   pub differ : one ≢ other

@@ -10,7 +10,7 @@ ghost use Rattle.archive_core.specs.declared.lookup.Where.{Where};
 ghost use Rattle.source_frames.specs.Frames.{FrameRecord};
 ghost use Rattle.slice_tables.specs.SliceTable.{HasNoLines};
 ghost use Rattle.table_index.specs.Text.{IsIndexText};
-ghost use Rattle.archive_queries.specs.Sources.{IsSourced};
+ghost use Rattle.address_queries.specs.Sources.{IsSourced};
 ghost use Rattle.indexed_answers.specs.Among.{AreAnsweringAmong, AreTied, EntryAt, IsAmong, all_of, answers_among};
 ghost use Rattle.indexed_answers.specs.AmongTold.{IsAnswerAmong};
 ghost use Rattle.indexed_answers.specs.AmongAsked.{HasNoTable, IsUntoldAmong};
@@ -38,16 +38,16 @@ pub fn right_among()
 /// that answers and has none. Nothing is supposed of SHA-256.
 pub fn undamaged_among()
     ensures entry { (os : List Operations) (texts : List (List ℕ)) (indexes : List (List (List ℕ)))
-        (front text : List ℕ) (x : EntryAt) → AreIndexes os texts indexes → IsAmong indexes x
-        → answers_among front (all_of indexes) x.entry ≡ true → slice_get texts x.input ≡ Some text
+        (prefix text : List ℕ) (x : EntryAt) → AreIndexes os texts indexes → IsAmong indexes x
+        → answers_among prefix (all_of indexes) x.entry ≡ true → slice_get texts x.input ≡ Some text
         → HasNoTable text x.entry → ⊥ }
-    ensures told { (os : List Operations) (texts : List (List ℕ)) (indexes : List (List (List ℕ))) (front : List ℕ)
+    ensures told { (os : List Operations) (texts : List (List ℕ)) (indexes : List (List (List ℕ))) (prefix : List ℕ)
         (answering : List EntryAt) (input number : ℕ) → AreIndexes os texts indexes
-        → AreAnsweringAmong front indexes answering → IsUntoldAmong texts answering (Damaged input number) → ⊥ }
+        → AreAnsweringAmong prefix indexes answering → IsUntoldAmong texts answering (Damaged input number) → ⊥ }
     ensures lineless { (os : List Operations) (texts : List (List ℕ)) (indexes : List (List (List ℕ)))
-        (front : List ℕ) (answering : List EntryAt) (input number : ℕ) → AreIndexes os texts indexes
-        → AreAnsweringAmong front indexes answering → IsUntoldAmong texts answering (NoLines input number)
-        → (slice : List ℕ) × AnswersUnder os front slice × HasNoLines slice }
+        (prefix : List ℕ) (answering : List EntryAt) (input number : ℕ) → AreIndexes os texts indexes
+        → AreAnsweringAmong prefix indexes answering → IsUntoldAmong texts answering (NoLines input number)
+        → (slice : List ℕ) × AnswersUnder os prefix slice × HasNoLines slice }
 {}
 
 /// Entries that are tied are those of two different slices of one length that answer under the key, of two contents.

@@ -6,12 +6,12 @@ use Rattle.byte_device.specs.declared.disks.CannotOpen.{CannotOpen}
 use Rattle.archive_records.specs.declared.writing.Sizes.{Sizes}
 use Rattle.indexed_tables.specs.declared.fault.MakingFault.{MakingFault}
 use Rattle.indexed_tables.specs.declared.fault.MakingFault.TheVariants.{Archive as Refused, Write as Wrote}
-use Rattle.command_ends.specs.Ends.{Carries, EndsStreamed, HasTaken, IsStopped}
-use Rattle.command_ends.specs.Inputs.{Reader, Unfailed, reader}
-use Rattle.command_ends.specs.Outputs.{Out, PlacesNothing, Publishes, Takes, Writer}
-use Rattle.command_ends.specs.declared.faults.CommandFault.{CommandFault}
-use Rattle.command_ends.specs.declared.faults.CommandFault.TheVariants.{Input, Output, Report, OutOfMemory}
-use Rattle.command_ends.specs.declared.faults.Status.{Status}
+use Rattle.command_core.specs.Ends.{Carries, EndsStreamed, HasTaken, IsStopped}
+use Rattle.command_core.specs.Inputs.{Reader, Unfailed, reader}
+use Rattle.command_core.specs.Outputs.{Out, PublishesNothing, Publishes, Takes, Writer}
+use Rattle.command_core.specs.declared.faults.CommandFault.{CommandFault}
+use Rattle.command_core.specs.declared.faults.CommandFault.TheVariants.{Input, Output, Report, OutOfMemory}
+use Rattle.command_core.specs.declared.faults.Status.{Status}
 use Rattle.index_writing.specs.Index.{MakesIndex, StopsIndex, TellsStop, index, index_line}
 use Rattle.index_writing.specs.InnerIndexing.{IsIndexed}
 
@@ -32,7 +32,7 @@ module _ {R D : Type 0} (left : R → Option (List ℕ)) (failures : R → ℕ) 
   EndsSo result = EndsStreamed (index archive draft) out report result
 
   -- it was stopped
-  pub ends_stopped : (fault : CommandFault) → HasTaken out.draft fault × StopsIndex archive draft fault → PlacesNothing out → Takes report [] → EndsSo (Err fault)
+  pub ends_stopped : (fault : CommandFault) → HasTaken out.draft fault × StopsIndex archive draft fault → PublishesNothing out → Takes report [] → EndsSo (Err fault)
   ends_stopped fault s nothing none = ends fault (record { stops = s.1; bytes = s.0.0; took = s.0.1; count = s.0.2; nothing_published = nothing; unreported = none })
     where
       ends : (f : CommandFault) → IsStopped (index archive draft) out report f → EndsSo (Err f)

@@ -1,5 +1,5 @@
 -- What is told where making the index of an archive was stopped, and what OUT's draft has then.
-use Rattle.std.proofs.Common.{◌≡◌, ℕ, List, [], length, Option, Result, Ok, Err, refl, ap, sym, ◌∙◌, inl, inr, arith}
+use Rattle.std.proofs.Common.{◌≡◌, ℕ, List, [], length, Option, Result, Ok, Err, refl, sym, ◌∙◌, inl, inr, arith}
 use Rattle.std.specs.Prelude.{MatchResult, None, Some}
 use Rattle.byte_device.specs.Devices.{stream}
 use Rattle.byte_device.proofs.Known.{Appends-none, Consumes-none}
@@ -17,22 +17,21 @@ use Rattle.indexed_tables.specs.declared.fault.MakingFault.{MakingFault}
 use Rattle.indexed_tables.specs.declared.fault.MakingFault.TheVariants.{Archive as Refused, Write as Wrote}
 use Rattle.indexed_tables.proofs.Contents.{HaveOneTable}
 use Rattle.indexed_tables.proofs.Made.{gained_bytes, stopped}
-use Rattle.command_ends.specs.Ends.{HasTaken}
-use Rattle.command_ends.specs.Inputs.{reader}
-use Rattle.command_ends.specs.Outputs.{writer}
-use Rattle.command_ends.specs.declared.faults.CommandFault.{CommandFault}
-use Rattle.command_ends.specs.declared.faults.CommandFault.TheVariants.{Input, Output, Report, OutOfMemory}
-use Rattle.command_ends.specs.declared.faults.InputName.TheVariants.{Archive}
-use Rattle.command_ends.specs.declared.faults.Why.TheVariants.{CannotOpen as NotOpened}
+use Rattle.command_core.specs.Ends.{HasTaken}
+use Rattle.command_core.specs.Inputs.{reader}
+use Rattle.command_core.specs.Outputs.{writer}
+use Rattle.command_core.specs.declared.faults.CommandFault.{CommandFault}
+use Rattle.command_core.specs.declared.faults.CommandFault.TheVariants.{Input, Output, Report, OutOfMemory}
+use Rattle.command_core.specs.declared.faults.InputName.TheVariants.{Archive}
+use Rattle.command_core.specs.declared.faults.Why.TheVariants.{CannotOpen as NotOpened}
 use Rattle.index_writing.specs.Index.{TellsRefusal, TellsStop}
 use Rattle.index_writing.specs.InnerIndexing.{IndexesAmidst}
 
 -- of a refusal no count of bytes is told
 uncounted : (fault : IndexingFault) (told : CommandFault) (n k : ℕ) → TellsRefusal fault told → told ≡ Output n → n ≡ k
-uncounted fault (Input at why) n k tells is = cc
 uncounted fault (Output m) n k tells is = absurd tells
 uncounted fault (Report m) n k tells is = absurd tells
-uncounted fault OutOfMemory n k tells is = cc
+uncounted fault told n k tells is = cc
 
 module _ {R D : Type 0} (left : R → Option (List ℕ)) (failures : R → ℕ) (source after : R) (held : D → Option (List ℕ)) (writes : D → ℕ) (start end : D) where
   -- what the draft took is counted where it failed
@@ -74,8 +73,3 @@ pub unopened : {R D : Type 0} (left : R → Option (List ℕ)) (failures : R →
     → MatchResult old (λ source. ⊥) (λ _. told ≡ Input (Archive 0) NotOpened) → IndexesAmidst (reader left failures old old) (stream held writes draft draft) (Err told)
 unopened left failures (Ok source) held writes draft told is = absurd is
 unopened left failures (Err e) held writes draft told is = (([], Appends-none (held draft), λ n same. cc), record { tells = is; untouched = refl; unwritten = (Appends-none (held draft), refl) })
-
--- what an input was whose source was lent
-pub lent_from : {S : Type 0} (old : Result S CannotOpen) (lent : S) → MatchResult old (λ source. lent ≡ source) (λ _. ⊥) → old ≡ Ok lent
-lent_from {S = S} (Ok source) lent is = ap (λ (s : S). Ok s) (sym is)
-lent_from (Err e) lent is = absurd is

@@ -14,14 +14,14 @@ use Rattle.indexed_tables.specs.Making.{Makes}
 use Rattle.indexed_tables.specs.declared.fault.MakingFault.{MakingFault}
 use Rattle.indexed_tables.specs.declared.fault.MakingFault.TheVariants.{Archive as Refused, Write as Wrote}
 use Rattle.report_text.specs.Report.{line}
-use Rattle.command_ends.specs.Ends.{Streamed}
-use Rattle.command_ends.specs.Inputs.{Reader, IsRefusal, IsUntouched, Unfailed, Holds}
-use Rattle.command_ends.specs.Outputs.{Takes, writer}
-use Rattle.command_ends.specs.declared.faults.CommandFault.{CommandFault}
-use Rattle.command_ends.specs.declared.faults.CommandFault.TheVariants.{Input, Output}
-use Rattle.command_ends.specs.declared.faults.InputName.TheVariants.{Archive}
-use Rattle.command_ends.specs.declared.faults.Why.{Why}
-use Rattle.command_ends.specs.declared.faults.Why.TheVariants as why_is
+use Rattle.command_core.specs.Ends.{Streamed}
+use Rattle.command_core.specs.Inputs.{Reader, IsRefusal, IsUntouched, Unfailed, Holds}
+use Rattle.command_core.specs.Outputs.{Takes, writer}
+use Rattle.command_core.specs.declared.faults.CommandFault.{CommandFault}
+use Rattle.command_core.specs.declared.faults.CommandFault.TheVariants.{Input, Output}
+use Rattle.command_core.specs.declared.faults.InputName.TheVariants.{Archive}
+use Rattle.command_core.specs.declared.faults.Why.{Why}
+use Rattle.command_core.specs.declared.faults.Why.TheVariants as why_is
 
 -- how many entries of an index were written, and how many bytes
 abbrev pub index_line : Sizes → List ℕ

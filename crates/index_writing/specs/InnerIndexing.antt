@@ -7,10 +7,10 @@ use Rattle.archive_records.specs.Text.{written}
 use Rattle.archive_records.specs.Writing.{IsWrittenWhole}
 use Rattle.archive_records.specs.declared.writing.Sizes.{Sizes}
 use Rattle.indexed_tables.specs.Content.{IsIndexOf}
-use Rattle.command_ends.specs.Ends.{HasTaken}
-use Rattle.command_ends.specs.Inputs.{Holds, Reader, Unfailed}
-use Rattle.command_ends.specs.Outputs.{writer}
-use Rattle.command_ends.specs.declared.faults.CommandFault.{CommandFault}
+use Rattle.command_core.specs.Ends.{HasTaken}
+use Rattle.command_core.specs.Inputs.{Holds, Reader, Unfailed}
+use Rattle.command_core.specs.Outputs.{writer}
+use Rattle.command_core.specs.declared.faults.CommandFault.{CommandFault}
 use Rattle.index_writing.specs.Index.{StopsIndex}
 
 -- The archive is the text of a content in version 2, and its index was written, with these sizes.

@@ -1,13 +1,13 @@
 //! `index ARCHIVE OUT`.
-ghost use Rattle.command_ends.specs.Ends.{EndsStreamed};
-ghost use Rattle.command_ends.specs.Inputs.{reader};
-ghost use Rattle.command_ends.specs.Outputs.{draft_of, out_of, outs, writer};
+ghost use Rattle.command_core.specs.Ends.{EndsStreamed};
+ghost use Rattle.command_core.specs.Inputs.{reader};
+ghost use Rattle.command_core.specs.Outputs.{draft_of, out_of, outs, writer};
 ghost use Rattle.index_writing.specs.Index.{index};
 
 use crate::indexing::index_input;
 use crate::publishing::publish_index;
 use byte_device::{CannotOpen, Sink, Source};
-use command_ends::{CommandFault, Output, Status, Target};
+use command_core::{CommandFault, Output, Status, Target};
 use memory::Heap;
 
 /// Writes the index of ARCHIVE, with the tables of its slices, to OUT as ARCHIVE comes, and to the report how many

@@ -1,13 +1,14 @@
 //! ARCHIVE's index, made in OUT's draft as ARCHIVE comes.
 ghost use Rattle.byte_device.specs.Devices.{stream};
-ghost use Rattle.command_ends.specs.Inputs.{reader};
+ghost use Rattle.command_core.specs.Inputs.{reader};
 ghost use Rattle.index_writing.specs.Index.{TellsRefusal, TellsStop};
 ghost use Rattle.index_writing.specs.InnerIndexing.{IndexesAmidst};
 
 use archive_index::IndexingFault;
 use archive_records::Sizes;
 use byte_device::{CannotOpen, Sink, Source};
-use command_ends::{CommandFault, InputName, Why, opened, refusal};
+use command_core::{CommandFault, InputName, Why};
+use command_inputs::{opened, refusal};
 use indexed_tables::{MakingFault, index_into};
 use memory::Heap;
 use slice_tables::laws::one_slice_table;

@@ -7,7 +7,7 @@
 //! # Why it is so
 //!
 //! - OUT is written as ARCHIVE comes, so no more of the index is held than its entries. An ARCHIVE that is refused
-//!   leaves the first bytes of an index in the draft, which is not put in place.
+//!   leaves the first bytes of an index in the draft, which is not published.
 #![tactic(auto)]
 
 mod index;

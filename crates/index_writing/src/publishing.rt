@@ -1,11 +1,11 @@
-//! The end of the command: OUT, which is put in place, and then the report.
+//! The end of the command: OUT, which is published, and then the report.
 ghost use Rattle.std.specs.Prelude.{◌≡◌, ℕ, List, IfOk, length, string_bytes};
-ghost use Rattle.command_ends.specs.Outputs.{Publishes, Takes, out_of, outs, writer};
+ghost use Rattle.command_core.specs.Outputs.{Publishes, Takes, out_of, outs, writer};
 ghost use Rattle.index_writing.specs.Index.{index_line};
 
 use archive_records::Sizes;
 use byte_device::Sink;
-use command_ends::{CommandFault, Output, Status, Target, publish_report, put_in_place};
+use command_core::{CommandFault, Output, Status, Target, publish_output, publish_report};
 use memory::{Heap, NoMemory};
 
 /// The line of `index`: how many entries were written, and how many bytes.
@@ -19,7 +19,7 @@ fn index_line(heap: Heap, sizes: Sizes) -> Result<String<Heap>, NoMemory>
     Ok(text)
 }
 
-/// Puts OUT in place, whose draft has taken a whole index with these sizes, and then writes them to the report, which
+/// Publishes OUT, whose draft has taken a whole index with these sizes, and then writes them to the report, which
 /// is made whole before that. What is said is of all that the draft took since it was `start`.
 pub fn publish_index<T: Target, P: Sink>(
     heap: Heap,
@@ -35,6 +35,6 @@ pub fn publish_index<T: Target, P: Sink>(
         (writer P.held P.failures report.old report.new) text (index_line sizes) result }
 {
     let text = index_line(heap, sizes)?;
-    put_in_place(out, sizes.bytes)?;
+    publish_output(out, sizes.bytes)?;
     publish_report(Status::Done, &text, report)
 }

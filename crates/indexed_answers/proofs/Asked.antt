@@ -106,8 +106,7 @@ module _ {D : Type 0} (whole : D → Option (List ℕ)) (failures : D → ℕ) (
     text_is = ap (slice_get texts) h.0 ∙ at;
     lacks = h.2;
   }
-  says_of (Err (Device input offset)) texts text at h = tt
-  says_of (Err OutOfMemory) texts text at h = tt
+  says_of r texts text at h = tt
 
   counts_of : (r : Result EntryAnswers AnswerFault) → MatchResult r (λ _. failures after ≡ failures before) (BlamesOne lines x (failures before) (failures after))
       → MatchResult r (λ _. each_known failures news ≡ each_known failures devices) (BlamesAmong lines answering (each_known failures devices) (each_known failures news))
@@ -149,9 +148,6 @@ module _ {D : Type 0} (whole : D → Option (List ℕ)) (failures : D → ℕ) (
   -- what the first of the entries tell
   abbrev pub HaveTold : ℕ → List (Result D CannotOpen) → List (Result D CannotOpen) → List EntryAnswers → Type 0
   HaveTold i old new columns = AsksAmong whole failures lines answering old new (Ok columns) (λ texts cs. AllZip (IsColumnAt texts lines asked) (take i answering) cs)
-
-  pub none_told : (devices : List (Result D CannotOpen)) → HaveTold 0 devices devices []
-  none_told devices = record { says = λ texts have. tt; keeps = refl; counts = refl }
 
   have_texts : (old mid : List (Result D CannotOpen)) (texts : List (List ℕ)) → each_known whole mid ≡ each_known whole old → HaveTexts whole old texts → HaveTexts whole mid texts
   have_texts old mid texts same have = subst (λ ks. AllZip HasText ks texts) (sym same) have

@@ -2,12 +2,7 @@
 use Rattle.std.proofs.Common.{◌≡◌, ℕ, zero, suc, refl, arith, ◌+◌, ◌<◌, List, [], ◌∷◌, ◌++◌, length, map, take, get_or, sym, subst, ap, ◌∙◌}
 use Rattle.std.specs.List.{AllZip}
 use Rattle.std.proofs.lemmas.List.{map-append, take_more}
-
-pairs_more : {X Y : Type 0} (R : X → Y → Type 0) (xs : List X) (ys : List Y) (x : X) (y : Y) → AllZip R xs ys → R x y → AllZip R (xs ++ x ∷ []) (ys ++ y ∷ [])
-pairs_more R [] [] x y all one = (one, tt)
-pairs_more R [] (_ ∷ _) x y all one = absurd all
-pairs_more R (_ ∷ _) [] x y all one = absurd all
-pairs_more R (a ∷ xs) (b ∷ ys) x y all one = (all.0, pairs_more R xs ys x y all.1 one)
+use Rattle.archive_core.proofs.Members.{pairs_more}
 
 -- one pair more
 pub zip_more : {X Y : Type 0} (R : X → Y → Type 0) (xs : List X) (i : ℕ) (x : X) (before after : List Y) (y : Y) → i < length xs → x ≡ get_or xs i x → after ≡ before ++ y ∷ []
@@ -32,9 +27,8 @@ rows_more f v xs i x before after y lt is grown same all =
 -- what is told otherwise of each pair
 pub zip_as : {X Y : Type 0} (R S : X → Y → Type 0) (xs : List X) (ys : List Y) → ((x : X) (y : Y) → R x y → S x y) → AllZip R xs ys → AllZip S xs ys
 zip_as R S [] [] to all = tt
-zip_as R S [] (_ ∷ _) to all = absurd all
-zip_as R S (_ ∷ _) [] to all = absurd all
 zip_as R S (x ∷ xs) (y ∷ ys) to all = (to x y all.0, zip_as R S xs ys to all.1)
+zip_as R S xs ys to all = absurd all
 
 -- an element, whatever stands for one past the end
 pub any_default : {X : Type 0} (xs : List X) (i : ℕ) (d e : X) → i < length xs → get_or xs i d ≡ get_or xs i e

@@ -8,7 +8,8 @@ use Rattle.std.proofs.lemmas.List.Kept.{AllPairs-cons}
 use Rattle.std.proofs.lemmas.Option.{none-some, same_Some}
 use Rattle.indexed_answers.specs.Among.{EntryAt, IsAmong, all_of}
 use Rattle.indexed_answers.specs.InnerAnswering.{all_at, entries_at}
-use Rattle.indexed_answers.proofs.Lists.{contains_head, contains_tail, filter_passed, filter_pushed, pairs_append}
+use Rattle.indexed_answers.proofs.Lists.{filter_passed, filter_pushed, pairs_append}
+use Rattle.archive_core.proofs.Members.{in_rest, in_front}
 
 -- ---- one index
 
@@ -35,10 +36,10 @@ has_entry : (input k : ℕ) (es : List (List ℕ)) (i : ℕ) (e : List ℕ) → 
 has_entry input k [] i e is = absurd (none-some e is)
 has_entry input k (x ∷ es) zero e is =
     let same : k ≡ k + 0 = omega arith in
-    subst (λ z. Contains (at input k x ∷ entries_at input (k + 1) es) z) (ap (λ n. at input n x) same ∙ ap (λ b. at input (k + 0) b) (same_Some x e is)) (contains_head (at input k x) (entries_at input (k + 1) es))
+    subst (λ z. Contains (at input k x ∷ entries_at input (k + 1) es) z) (ap (λ n. at input n x) same ∙ ap (λ b. at input (k + 0) b) (same_Some x e is)) (in_front (at input k x) (entries_at input (k + 1) es))
 has_entry input k (x ∷ es) (suc i) e is =
     let same : k + 1 + i ≡ k + suc i = omega arith in
-    subst (λ z. Contains (at input k x ∷ entries_at input (k + 1) es) z) (ap (λ n. at input n e) same) (contains_tail (at input k x) (entries_at input (k + 1) es) (at input (k + 1 + i) e) (has_entry input (k + 1) es i e is))
+    subst (λ z. Contains (at input k x ∷ entries_at input (k + 1) es) z) (ap (λ n. at input n e) same) (in_rest (at input k x) (entries_at input (k + 1) es) (at input (k + 1 + i) e) (has_entry input (k + 1) es i e is))
 
 -- where an entry stands in its index
 record StandsAt (input k : ℕ) (es : List (List ℕ)) (x : EntryAt) : Type 0 where

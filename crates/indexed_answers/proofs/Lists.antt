@@ -1,39 +1,18 @@
 -- Lists that are filtered, put into another order, and joined.
 use Rattle.std.proofs.Common.{◌≡◌, ◌≢◌, ℕ, zero, suc, ◌+◌, ◌<◌, Bool, true, false, cond, ◌&&◌, ◌||◌, List, [], ◌∷◌, ◌++◌, length, map, take, get_or, refl, sym, subst, ap, ◌∙◌, inl, inr, ◌⊎◌, arith}
-use Rattle.std.specs.Prelude.{All, Contains, filter}
+use Rattle.std.specs.Prelude.{All, filter}
 use Rattle.std.specs.List.{AllPairs, dedup, dedup_from, list_any, swap}
 use Rattle.std.specs.List.Sorted.{IsPermutation, IsSortedByKey}
 use Rattle.std.specs.Ordering.{nat_cmp, is_lt}
 use Rattle.std.specs.Cmp.Lexicographic.{slice_cmp}
 use Rattle.std.proofs.lemmas.Bool.{cases_Bool, cases_eq, cases_order}
 use Rattle.std.proofs.lemmas.List.Edits.{swapped_from_swap}
-use Rattle.std.proofs.lemmas.List.Elements.{All-append, Contains-append_right, filter_more}
+use Rattle.std.proofs.lemmas.List.Elements.{All-append, filter_more}
 use Rattle.std.proofs.lemmas.List.{append-nil, get_or-map, length-map}
 use Rattle.std.proofs.lemmas.List.Kept.{AllPairs-cons}
 use Rattle.std.proofs.lemmas.List.Sorted.{IsPermutation-keeps, IsPermutation-swap, length_permutation}
 
 -- ---- filtered
-
-pub contains_head : {X : Type 0} (x : X) (xs : List X) → Contains (x ∷ xs) x
-contains_head x xs = (0, omega arith, refl)
-
-pub contains_tail : {X : Type 0} (x : X) (xs : List X) (y : X) → Contains xs y → Contains (x ∷ xs) y
-contains_tail x xs y h = Contains-append_right (x ∷ []) xs y h
-
-contained : {X : Type 0} (p : X → Bool) (xs : List X) (x : X) (k : ℕ) → k < length xs → get_or xs k x ≡ x → p x ≡ true → Contains (filter p xs) x
-contained p [] x k lt at is = absurd (omega (arith, lt))
-contained {X} p (y ∷ ys) x zero lt at is =
-    subst (λ (zs : List X). Contains zs x) (sym (ap (λ b. cond b (y ∷ filter p ys) (filter p ys)) (ap p at ∙ is))) (subst (λ (z : X). Contains (z ∷ filter p ys) x) (sym at) (contains_head x (filter p ys)))
-contained {X} p (y ∷ ys) x (suc k) lt at is =
-    let rest = contained p ys x k (omega (arith, lt)) at is in
-    elim (cases_Bool (p y)) [
-      | inl t ↦ subst (λ (zs : List X). Contains zs x) (sym (ap (λ b. cond b (y ∷ filter p ys) (filter p ys)) t)) (contains_tail y (filter p ys) x rest)
-      | inr f ↦ subst (λ (zs : List X). Contains zs x) (sym (ap (λ b. cond b (y ∷ filter p ys) (filter p ys)) f)) rest
-    ]
-
--- what passes is kept
-pub contains_filter : {X : Type 0} (p : X → Bool) (xs : List X) (x : X) → Contains xs x → p x ≡ true → Contains (filter p xs) x
-contains_filter p xs x h is = contained p xs x h.0 h.1 h.2 is
 
 -- what passes both tests
 pub filter_twice : {X : Type 0} (p q : X → Bool) (xs : List X) → filter q (filter p xs) ≡ filter (λ x. p x && q x) xs
@@ -66,23 +45,6 @@ any_filter p q (x ∷ xs) = elim (cases_Bool (p x)) [
 pub any_map : {X Y : Type 0} (p : Y → Bool) (f : X → Y) (xs : List X) → list_any p (map f xs) ≡ list_any (λ x. p (f x)) xs
 any_map p f [] = refl
 any_map p f (x ∷ xs) = ap (λ b. p (f x) || b) (any_map p f xs)
-
-pub any_agree : {X : Type 0} (p q : X → Bool) → ((x : X) → p x ≡ q x) → (xs : List X) → list_any p xs ≡ list_any q xs
-any_agree p q same [] = refl
-any_agree p q same (x ∷ xs) = λ i. same x i || any_agree p q same xs i
-
-pub filter_map_swap : {X Y : Type 0} (p : Y → Bool) (f : X → Y) (xs : List X) → filter p (map f xs) ≡ map f (filter (λ x. p (f x)) xs)
-filter_map_swap p f [] = refl
-filter_map_swap {X} {Y} p f (x ∷ xs) = elim (cases_Bool (p (f x))) [
-  | inl t ↦
-      ap (λ b. cond b (f x ∷ filter p (map f xs)) (filter p (map f xs))) t
-      ∙ ap (λ (zs : List Y). f x ∷ zs) (filter_map_swap p f xs)
-      ∙ sym (ap (λ b. map f (cond b (x ∷ filter (λ x. p (f x)) xs) (filter (λ x. p (f x)) xs))) t)
-  | inr e ↦
-      ap (λ b. cond b (f x ∷ filter p (map f xs)) (filter p (map f xs))) e
-      ∙ filter_map_swap p f xs
-      ∙ sym (ap (λ b. map f (cond b (x ∷ filter (λ x. p (f x)) xs) (filter (λ x. p (f x)) xs))) e)
-]
 
 -- the tests of what is made of elements
 pub dedup_map : {X Y : Type 0} (same : Y → Y → Bool) (f : X → Y) (xs : List X) → map f (dedup (λ x y. same (f x) (f y)) xs) ≡ dedup same (map f xs)

@@ -8,7 +8,7 @@ use Rattle.indexed_answers.specs.InnerAnswering.{all_at}
 use Rattle.indexed_answers.specs.Named.{LivesAmong, Names, digest_at}
 use Rattle.indexed_answers.specs.declared.named.NamedSlice.{NamedSlice}
 use Rattle.indexed_answers.proofs.Entries.{are_among, has_among}
-use Rattle.indexed_answers.proofs.Lists.{contains_filter}
+use Rattle.archive_core.proofs.Members.{to_filter}
 
 -- one entry more has another digest
 pub others_more : (digest : List ℕ) (xs : List EntryAt) (i : ℕ) (x : EntryAt) → i < length xs → x ≡ get_or xs i x → ((y : EntryAt) → Contains (take i xs) y → digest_at y ≢ digest) → digest_at x ≢ digest
@@ -19,15 +19,15 @@ others_more digest xs i x lt is before other y there =
       | inr this ↦ subst (λ (z : EntryAt). digest_at z ≢ digest) this (subst (λ (z : EntryAt). digest_at z ≢ digest) is other)
     ]
 
-module _ (front digest : List ℕ) (indexes : List (List (List ℕ))) (live : List EntryAt) (is : live ≡ filter (λ x. lives_under front (all_of indexes) x.entry) (all_at 0 indexes)) where
+module _ (prefix digest : List ℕ) (indexes : List (List (List ℕ))) (live : List EntryAt) (is : live ≡ filter (λ x. lives_under prefix (all_of indexes) x.entry) (all_at 0 indexes)) where
   abbrev lives : EntryAt → Bool
-  lives x = lives_under front (all_of indexes) x.entry
+  lives x = lives_under prefix (all_of indexes) x.entry
 
   abbrev found : List EntryAt
   found = filter lives (all_at 0 indexes)
 
   -- what is there lives
-  pub lives_there : (x : EntryAt) → Contains live x → digest_at x ≡ digest → LivesAmong front digest indexes x
+  pub lives_there : (x : EntryAt) → Contains live x → digest_at x ≡ digest → LivesAmong prefix digest indexes x
   lives_there x there same =
       let here : Contains found x = subst (λ (xs : List EntryAt). Contains xs x) is there in
       record {
@@ -37,12 +37,12 @@ module _ (front digest : List ℕ) (indexes : List (List (List ℕ))) (live : Li
       }
 
   -- and what lives is there
-  pub none_lives : ((x : EntryAt) → Contains live x → digest_at x ≢ digest) → (x : EntryAt) → LivesAmong front digest indexes x → ⊥
+  pub none_lives : ((x : EntryAt) → Contains live x → digest_at x ≢ digest) → (x : EntryAt) → LivesAmong prefix digest indexes x → ⊥
   none_lives none x h =
-      none x (subst (λ (xs : List EntryAt). Contains xs x) (sym is) (contains_filter lives (all_at 0 indexes) x (has_among indexes x h.among) h.lives)) h.digest_is
+      none x (subst (λ (xs : List EntryAt). Contains xs x) (sym is) (to_filter lives (all_at 0 indexes) x (has_among indexes x h.among) h.lives)) h.digest_is
 
   -- what was found of them
   pub with_digest : (result : Option NamedSlice) → MatchOption result ((x : EntryAt) → Contains live x → digest_at x ≢ digest) (λ named. (x : EntryAt) × Contains live x × (digest_at x ≡ digest) × Names x named)
-      → MatchOption result ((x : EntryAt) → LivesAmong front digest indexes x → ⊥) (λ named. (x : EntryAt) × LivesAmong front digest indexes x × Names x named)
+      → MatchOption result ((x : EntryAt) → LivesAmong prefix digest indexes x → ⊥) (λ named. (x : EntryAt) × LivesAmong prefix digest indexes x × Names x named)
   with_digest None none = none_lives none
   with_digest (Some named) (x, there, same, names) = (x, lives_there x there same, names)

@@ -14,9 +14,10 @@ use Rattle.std.proofs.lemmas.List.MinMax.{ranks_by}
 use Rattle.std.proofs.lemmas.List.Sorted.{sorted_far}
 use Rattle.archive_index.specs.Entry.{length_in, offset_in}
 use Rattle.indexed_answers.specs.Among.{EntryAt, IsRepeatOf, StandsBefore}
-use Rattle.indexed_answers.specs.InnerAnswering.{HaveOrder, is_elsewhere, place_in}
+use Rattle.indexed_answers.specs.InnerAnswering.{HaveOrder, is_elsewhere, rank_in}
 use Rattle.indexed_answers.proofs.Entries.{AreApart}
-use Rattle.indexed_answers.proofs.Lists.{contains_head, contains_tail, pairs_head, pairs_skip, pairs_tail}
+use Rattle.indexed_answers.proofs.Lists.{pairs_head, pairs_skip, pairs_tail}
+use Rattle.archive_core.proofs.Members.{in_rest, in_front}
 
 -- ---- by their places
 
@@ -58,12 +59,12 @@ not_lower a b c d e f h = elim (cases_order a d) [
 ]
 
 -- what a sort by places says
-pub in_places : (xs : List EntryAt) → IsSortedByKey place_in (slice_cmp nat_cmp) xs → (i j : ℕ) (d : EntryAt) → i ≤ j → j < length xs → IsNotAfter (get_or xs i d) (get_or xs j d)
+pub in_places : (xs : List EntryAt) → IsSortedByKey rank_in (slice_cmp nat_cmp) xs → (i j : ℕ) (d : EntryAt) → i ≤ j → j < length xs → IsNotAfter (get_or xs i d) (get_or xs j d)
 in_places xs sorted i j d le lt =
     let x = get_or xs i d in
     let y = get_or xs j d in
     not_lower (length_in x.entry) x.input (offset_in x.entry) (length_in y.entry) y.input (offset_in y.entry)
-    (sorted_far (λ a b. is_lt (slice_cmp nat_cmp (place_in a) (place_in b))) (ranks_by nat_list_cmp_total place_in) xs sorted i j d le lt)
+    (sorted_far (λ a b. is_lt (slice_cmp nat_cmp (rank_in a) (rank_in b))) (ranks_by nat_list_cmp_total rank_in) xs sorted i j d le lt)
 
 -- ---- each slice once
 
@@ -80,10 +81,10 @@ placed_skip : (k x : EntryAt) (xs : List EntryAt) → ArePlaced (k ∷ (x ∷ xs
 placed_skip k x xs h = record { rise = pairs_skip IsNotAfter k x xs h.rise; apart = pairs_skip AreApart k x xs h.apart; agree = pairs_skip HaveOrder k x xs h.agree }
 
 kept_head : (k : EntryAt) (xs : List EntryAt) → Contains (dedup_from is_elsewhere k xs) k
-kept_head k [] = contains_head k []
+kept_head k [] = in_front k []
 kept_head k (x ∷ xs) = elim (cases_Bool (is_elsewhere x k)) [
   | inl t ↦ subst (λ (zs : List EntryAt). Contains zs k) (sym (ap (λ b. cond b (dedup_from is_elsewhere k xs) (k ∷ dedup_from is_elsewhere x xs)) t)) (kept_head k xs)
-  | inr f ↦ subst (λ (zs : List EntryAt). Contains zs k) (sym (ap (λ b. cond b (dedup_from is_elsewhere k xs) (k ∷ dedup_from is_elsewhere x xs)) f)) (contains_head k (dedup_from is_elsewhere x xs))
+  | inr f ↦ subst (λ (zs : List EntryAt). Contains zs k) (sym (ap (λ b. cond b (dedup_from is_elsewhere k xs) (k ∷ dedup_from is_elsewhere x xs)) f)) (in_front k (dedup_from is_elsewhere x xs))
 ]
 
 -- an entry is kept, or it is a repeat of one that is
@@ -91,8 +92,8 @@ abbrev pub IsCovered : List EntryAt → EntryAt → Type 0
 IsCovered kept x = Contains kept x ⊎ ((y : EntryAt) × Contains kept y × IsRepeatOf y x)
 
 covered_more : (k : EntryAt) (kept : List EntryAt) (x : EntryAt) → IsCovered kept x → IsCovered (k ∷ kept) x
-covered_more k kept x (inl h) = inl (contains_tail k kept x h)
-covered_more k kept x (inr h) = inr (h.0, contains_tail k kept h.0 h.1, h.2)
+covered_more k kept x (inl h) = inl (in_rest k kept x h)
+covered_more k kept x (inr h) = inr (h.0, in_rest k kept h.0 h.1, h.2)
 
 pub elsewhere_parts : (x k : EntryAt) → is_elsewhere x k ≡ true → (length_in x.entry ≡ length_in k.entry) × (x.input ≢ k.input)
 unfolding is_elsewhere
@@ -144,7 +145,7 @@ kept_from : (k : EntryAt) (xs : List EntryAt) → ArePlaced (k ∷ xs) → KeptF
 kept_from k [] h = record {
   first = All-cons (λ y. (y ≡ k) ⊎ StandsBefore k y) k [] (inl refl) (λ i d lt. absurd (omega (arith, lt)));
   ordered = λ i j d lt le. absurd (omega (arith, lt, le));
-  covered = All-cons (IsCovered (k ∷ [])) k [] (inl (contains_head k [])) (λ i d lt. absurd (omega (arith, lt)));
+  covered = All-cons (IsCovered (k ∷ [])) k [] (inl (in_front k [])) (λ i d lt. absurd (omega (arith, lt)));
 }
 kept_from k (x ∷ xs) h = elim (cases_Bool (is_elsewhere x k)) [
   | inl t ↦ skipped t (kept_from k xs (placed_skip k x xs h))
@@ -176,7 +177,7 @@ kept_from k (x ∷ xs) h = elim (cases_Bool (is_elsewhere x k)) [
           first = subst (All (λ y. (y ≡ k) ⊎ StandsBefore k y)) same (All-cons (λ y. (y ≡ k) ⊎ StandsBefore k y) k (dedup_from is_elsewhere x xs) (inl refl) (λ i d lt. inr (after i d lt)));
           ordered = subst (AllPairs StandsBefore) same (AllPairs-cons StandsBefore k (dedup_from is_elsewhere x xs) after rest.ordered);
           covered = subst (λ (zs : List EntryAt). All (IsCovered zs) (k ∷ (x ∷ xs))) same
-              (All-cons (IsCovered (k ∷ dedup_from is_elsewhere x xs)) k (x ∷ xs) (inl (contains_head k (dedup_from is_elsewhere x xs)))
+              (All-cons (IsCovered (k ∷ dedup_from is_elsewhere x xs)) k (x ∷ xs) (inl (in_front k (dedup_from is_elsewhere x xs)))
               (All-weaker (IsCovered (dedup_from is_elsewhere x xs)) (IsCovered (k ∷ dedup_from is_elsewhere x xs)) (covered_more k (dedup_from is_elsewhere x xs)) (x ∷ xs) rest.covered));
         }
 

@@ -21,25 +21,21 @@ use Rattle.archive_core.proofs.Made.{bytes_same}
 use Rattle.indexed_answers.specs.Among.{all_of, covers, lives_under, subject_of}
 use Rattle.indexed_answers.specs.Told.{admits_under}
 use Rattle.indexed_answers.specs.InnerAnswering.{is_retired, lives_by, retired_of, retires_under}
-use Rattle.indexed_answers.proofs.Lists.{filter_passed, filter_pushed}
+use Rattle.indexed_answers.proofs.Lists.{filter_pushed}
 
 -- ---- in another order
 
 pub retired_sorted : (retired sorted : List (List ℕ)) → IsPermutation retired sorted → is_retired sorted ≡ is_retired retired
 retired_sorted retired sorted permuted = λ i e. sym (list_any-IsPermutation (λ subject. bytes_eq subject (subject_of e)) retired sorted permuted) i
 
-pub retired_append : (front : List ℕ) (es fs : List (List ℕ)) → retired_of front (es ++ fs) ≡ retired_of front es ++ retired_of front fs
-retired_append front es fs =
-    ap (map subject_of) (filter-append (retires_under front) es fs) ∙ map-append subject_of (filter (retires_under front) es) (filter (retires_under front) fs)
+pub retired_append : (prefix : List ℕ) (es fs : List (List ℕ)) → retired_of prefix (es ++ fs) ≡ retired_of prefix es ++ retired_of prefix fs
+retired_append prefix es fs =
+    ap (map subject_of) (filter-append (retires_under prefix) es fs) ∙ map-append subject_of (filter (retires_under prefix) es) (filter (retires_under prefix) fs)
 
--- one entry more that retires nothing here, or does
-pub retired_passed : (front : List ℕ) (es : List (List ℕ)) (i : ℕ) (e : List ℕ) → i < length es → e ≡ get_or es i e → retires_under front e ≡ false → retired_of front (take (i + 1) es) ≡ retired_of front (take i es)
-retired_passed front es i e lt is other = ap (map subject_of) (filter_passed (retires_under front) es i e lt is other)
-
-pub retired_pushed : (front : List ℕ) (es : List (List ℕ)) (i : ℕ) (e : List ℕ) → i < length es → e ≡ get_or es i e → retires_under front e ≡ true
-    → retired_of front (take (i + 1) es) ≡ retired_of front (take i es) ++ subject_of e ∷ []
-retired_pushed front es i e lt is here =
-    ap (map subject_of) (filter_pushed (retires_under front) es i e lt is here) ∙ map-append subject_of (filter (retires_under front) (take i es)) (e ∷ [])
+pub retired_pushed : (prefix : List ℕ) (es : List (List ℕ)) (i : ℕ) (e : List ℕ) → i < length es → e ≡ get_or es i e → retires_under prefix e ≡ true
+    → retired_of prefix (take (i + 1) es) ≡ retired_of prefix (take i es) ++ subject_of e ∷ []
+retired_pushed prefix es i e lt is here =
+    ap (map subject_of) (filter_pushed (retires_under prefix) es i e lt is here) ∙ map-append subject_of (filter (retires_under prefix) (take i es)) (e ∷ [])
 
 -- one index more
 pub all_of_more : (indexes : List (List (List ℕ))) (i : ℕ) (es : List (List ℕ)) → i < length indexes → es ≡ get_or indexes i es → all_of (take (i + 1) indexes) ≡ all_of (take i indexes) ++ es
@@ -47,9 +43,9 @@ all_of_more indexes i es lt is =
     ap all_of (take_more indexes i es lt) ∙ flat_map-append (λ (zs : List (List ℕ)). zs) (take i indexes) (get_or indexes i es ∷ [])
     ∙ ap (λ (zs : List (List ℕ)). all_of (take i indexes) ++ zs) (append-nil (get_or indexes i es) ∙ sym is)
 
-pub retired_more : (front : List ℕ) (indexes : List (List (List ℕ))) (i : ℕ) (es : List (List ℕ)) → i < length indexes → es ≡ get_or indexes i es
-    → retired_of front (all_of (take (i + 1) indexes)) ≡ retired_of front (all_of (take i indexes)) ++ retired_of front es
-retired_more front indexes i es lt is = ap (retired_of front) (all_of_more indexes i es lt is) ∙ retired_append front (all_of (take i indexes)) es
+pub retired_more : (prefix : List ℕ) (indexes : List (List (List ℕ))) (i : ℕ) (es : List (List ℕ)) → i < length indexes → es ≡ get_or indexes i es
+    → retired_of prefix (all_of (take (i + 1) indexes)) ≡ retired_of prefix (all_of (take i indexes)) ++ retired_of prefix es
+retired_more prefix indexes i es lt is = ap (retired_of prefix) (all_of_more indexes i es lt is) ∙ retired_append prefix (all_of (take i indexes)) es
 
 -- ---- by halving
 
@@ -92,17 +88,17 @@ module _ (bytes : List ℕ) where
 
 -- ---- of an admission under the same key
 
-module _ (front e : List ℕ) (long : length front ≡ 24) (under : admits_under front e ≡ true) where
-  same_key : (r : List ℕ) → subject_of r ≡ subject_of e → is_under front r ≡ true
+module _ (prefix e : List ℕ) (long : length prefix ≡ 24) (under : admits_under prefix e ≡ true) where
+  same_key : (r : List ℕ) → subject_of r ≡ subject_of e → is_under prefix r ≡ true
   unfolding is_under
   same_key r same =
-      let here : bytes_eq front (take (length front) (drop 1 e)) ≡ true = (and_parts (slice_index e 0 == 2) (bytes_eq front (take (length front) (drop 1 e))) under).1 in
-      let shorter : length front ≤ 56 = omega (arith, long) in
-      let key : take (length front) (drop 1 r) ≡ take (length front) (drop 1 e) =
-      sym (take-take (length front) 56 (drop 1 r) shorter) ∙ ap (take (length front)) same ∙ take-take (length front) 56 (drop 1 e) shorter in
-      ap (bytes_eq front) key ∙ here
+      let here : bytes_eq prefix (take (length prefix) (drop 1 e)) ≡ true = (and_parts (slice_index e 0 == 2) (bytes_eq prefix (take (length prefix) (drop 1 e))) under).1 in
+      let shorter : length prefix ≤ 56 = omega (arith, long) in
+      let key : take (length prefix) (drop 1 r) ≡ take (length prefix) (drop 1 e) =
+      sym (take-take (length prefix) 56 (drop 1 r) shorter) ∙ ap (take (length prefix)) same ∙ take-take (length prefix) 56 (drop 1 e) shorter in
+      ap (bytes_eq prefix) key ∙ here
 
-  covers_under : (r : List ℕ) → retires_under front r ≡ false → covers e r ≡ false
+  covers_under : (r : List ℕ) → retires_under prefix r ≡ false → covers e r ≡ false
   covers_under r other =
       false_from_ne_true (covers e r)
       (λ is.
@@ -110,25 +106,25 @@ module _ (front e : List ℕ) (long : length front ≡ 24) (under : admits_under
       let key = same_key r ((bytes_eq-Decides (subject_of r) (subject_of e)).0 p.1) in
       false≢true (sym other ∙ (λ i. p.0 i && key i)))
 
-  covers_here : (r : List ℕ) → retires_under front r ≡ true → bytes_eq (subject_of r) (subject_of e) ≡ covers e r
-  covers_here r is = ap (λ b. b && bytes_eq (subject_of r) (subject_of e)) (sym (and_parts (slice_index r 0 == 1) (is_under front r) is).0)
+  covers_here : (r : List ℕ) → retires_under prefix r ≡ true → bytes_eq (subject_of r) (subject_of e) ≡ covers e r
+  covers_here r is = ap (λ b. b && bytes_eq (subject_of r) (subject_of e)) (sym (and_parts (slice_index r 0 == 1) (is_under prefix r) is).0)
 
   -- it is retired where a retirement of these covers it
-  pub retired_is : (all : List (List ℕ)) → is_retired (retired_of front all) e ≡ list_any (covers e) all
+  pub retired_is : (all : List (List ℕ)) → is_retired (retired_of prefix all) e ≡ list_any (covers e) all
   retired_is [] = refl
-  retired_is (r ∷ all) = elim (cases_Bool (retires_under front r)) [
+  retired_is (r ∷ all) = elim (cases_Bool (retires_under prefix r)) [
     | inl t ↦
-        ap (λ b. is_retired (map subject_of (cond b (r ∷ filter (retires_under front) all) (filter (retires_under front) all))) e) t
+        ap (λ b. is_retired (map subject_of (cond b (r ∷ filter (retires_under prefix) all) (filter (retires_under prefix) all))) e) t
         ∙ (λ i. covers_here r t i || retired_is all i)
     | inr f ↦
-        ap (λ b. is_retired (map subject_of (cond b (r ∷ filter (retires_under front) all) (filter (retires_under front) all))) e) f
+        ap (λ b. is_retired (map subject_of (cond b (r ∷ filter (retires_under prefix) all) (filter (retires_under prefix) all))) e) f
         ∙ retired_is all
         ∙ sym (ap (λ b. b || list_any (covers e) all) (covers_under r f))
   ]
 
 -- what lives is the same by what is retired and by all entries
-pub lives_is : (front : List ℕ) (all retired : List (List ℕ)) → length front ≡ 24 → is_retired retired ≡ is_retired (retired_of front all) → (e : List ℕ) → lives_by front retired e ≡ lives_under front all e
-lives_is front all retired long same e = elim (cases_Bool (admits_under front e)) [
-  | inl t ↦ ap (λ b. admits_under front e && not b) ((λ i. same i e) ∙ retired_is front e long t all)
+pub lives_is : (prefix : List ℕ) (all retired : List (List ℕ)) → length prefix ≡ 24 → is_retired retired ≡ is_retired (retired_of prefix all) → (e : List ℕ) → lives_by prefix retired e ≡ lives_under prefix all e
+lives_is prefix all retired long same e = elim (cases_Bool (admits_under prefix e)) [
+  | inl t ↦ ap (λ b. admits_under prefix e && not b) ((λ i. same i e) ∙ retired_is prefix e long t all)
   | inr f ↦ ap (λ b. b && not (is_retired retired e)) f ∙ sym (ap (λ b. b && not (list_any (covers e) all)) f)
 ]

@@ -1,9 +1,8 @@
 -- Entries of one tag under a key, which stand together.
-use Rattle.std.proofs.Common.{◌≡◌, ℕ, zero, suc, ◌+◌, ◌-◌, ◌<◌, ◌≤◌, Bool, true, false, not, ◌&&◌, List, [], ◌∷◌, length, map, take, drop, get_or, refl, sym, ap, ◌∙◌, arith, length-drop, length-take}
-use Rattle.std.specs.Prelude.{All, filter}
+use Rattle.std.proofs.Common.{◌≡◌, ℕ, ◌+◌, ◌-◌, ◌<◌, ◌≤◌, Bool, true, false, not, ◌&&◌, List, [], length, map, take, drop, get_or, sym, ap, ◌∙◌, arith, length-drop, length-take}
+use Rattle.std.specs.Prelude.{All}
 use Rattle.std.specs.List.{AllWithin}
-use Rattle.std.proofs.Math.Seq.{take-nil}
-use Rattle.std.proofs.lemmas.List.{get_or-drop, get_or-take, length-take-le}
+use Rattle.std.proofs.lemmas.List.{get_or-drop, get_or-take}
 use Rattle.table_index.specs.Entry.{HasItsFields, entry_bytes}
 use Rattle.table_index.specs.declared.entry.TableEntry.{TableEntry}
 use Rattle.indexed_answers.specs.Among.{EntryAt}
@@ -11,14 +10,6 @@ use Rattle.indexed_answers.specs.Told.{admits_under}
 use Rattle.indexed_answers.specs.InnerAnswering.{entries_at, is_retired, lives_by}
 use Rattle.indexed_answers.proofs.Entries.{get_or-entries_at}
 use Rattle.indexed_answers.proofs.Lists.{read_map}
-
--- where none passes from one place up to another, none more is kept
-pub past : {X : Type 0} (p : X → Bool) (xs : List X) (n m : ℕ) → n ≤ m → AllWithin (λ x. p x ≡ false) xs n m → filter p (take m xs) ≡ filter p (take n xs)
-past p [] n m le none = rw (take-nil n, take-nil m)
-past p (x ∷ xs) zero zero le none = refl
-past p (x ∷ xs) zero (suc m) le none = rw (none 0 x (omega arith) (omega arith)) (past p xs 0 m (omega arith) (λ k d low high. none (suc k) d (omega arith) (omega arith)))
-past p (x ∷ xs) (suc n) zero le none = absurd (omega arith)
-past p (x ∷ xs) (suc n) (suc m) le none = rw (past p xs n m (omega arith) (λ k d low high. none (suc k) d (omega arith) (omega arith)))
 
 -- an entry of a run, among all
 pub record IsInRun (xs : List TableEntry) (start stop i : ℕ) (e : TableEntry) : Type 0 where
@@ -36,20 +27,17 @@ in_run xs start stop i e lt is =
     let below : start + i < length xs = omega (arith, long, all, lt) in
     record { before = omega (arith, inside); within = below; is = at; bytes = read_map entry_bytes xs (start + i) e below at }
 
-pub length_run : (xs : List TableEntry) (start stop : ℕ) → start ≤ stop → stop ≤ length xs → length (take (stop - start) (drop start xs)) ≡ stop - start
-length_run xs start stop ordered within = length-take-le (stop - start) (drop start xs) (omega (arith, length-drop start xs, ordered, within))
-
 pub fields_at : (xs : List TableEntry) (start stop i : ℕ) (e : TableEntry) → All HasItsFields xs → IsInRun xs start stop i e → HasItsFields e
 fields_at xs start stop i e fields there = rw there.is (fields (start + i) e there.within)
 
 -- ---- what lives
 
-module _ (front : List ℕ) (retired : List (List ℕ)) where
+module _ (prefix : List ℕ) (retired : List (List ℕ)) where
   -- none lives that is no admission here
-  pub none_lives : (input : ℕ) (es : List (List ℕ)) (low high : ℕ) → high ≤ length es → AllWithin (λ e. admits_under front e ≡ false) es low high → AllWithin (λ x. lives_by front retired x.entry ≡ false) (entries_at input 0 es) low high
+  pub none_lives : (input : ℕ) (es : List (List ℕ)) (low high : ℕ) → high ≤ length es → AllWithin (λ e. admits_under prefix e ≡ false) es low high → AllWithin (λ x. lives_by prefix retired x.entry ≡ false) (entries_at input 0 es) low high
   none_lives input es low high within none k d le lt =
-      ap (λ (x : EntryAt). lives_by front retired x.entry) (get_or-entries_at input 0 es k d [] (omega (arith, within, lt))) ∙ ap (λ (b : Bool). b && not (is_retired retired (get_or es k []))) (none k [] le lt)
+      ap (λ (x : EntryAt). lives_by prefix retired x.entry) (get_or-entries_at input 0 es k d [] (omega (arith, within, lt))) ∙ ap (λ (b : Bool). b && not (is_retired retired (get_or es k []))) (none k [] le lt)
 
   -- an admission here lives where it is not retired
-  pub lives_here : (e : List ℕ) (r : Bool) → admits_under front e ≡ true → r ≡ is_retired retired e → lives_by front retired e ≡ not r
+  pub lives_here : (e : List ℕ) (r : Bool) → admits_under prefix e ≡ true → r ≡ is_retired retired e → lives_by prefix retired e ≡ not r
   lives_here e r admits is = (λ i. admits i && not (is_retired retired e)) ∙ ap not (sym is)

@@ -13,7 +13,7 @@ use Rattle.std.proofs.lemmas.List.Quantifiers.{all_pairs_push}
 use Rattle.std.proofs.lemmas.Slice.Eq.{bytes_eq-Decides}
 use Rattle.archive_index.specs.Entry.{length_in}
 use Rattle.indexed_answers.specs.Among.{AreOfOneSlice, EntryAt}
-use Rattle.indexed_answers.specs.InnerAnswering.{HaveOrder, HaveTie, place_in}
+use Rattle.indexed_answers.specs.InnerAnswering.{HaveOrder, HaveTie, rank_in}
 use Rattle.indexed_answers.proofs.Places.{IsNotAfter, in_places}
 
 -- what is known of an entry that was passed, where this is the first of its length that was, and two of these differ or not
@@ -51,7 +51,7 @@ none_passed xs first lt is = record {
   agree = λ i j d lt le. absurd (omega (arith, lt, le));
 }
 
-module _ (xs : List EntryAt) (i : ℕ) (first : EntryAt) (differ : Bool) (q : EntryAt) (sorted : IsSortedByKey place_in (slice_cmp nat_cmp) xs) (lt : i < length xs) (q_is : (d : EntryAt) → q ≡ get_or xs i d)
+module _ (xs : List EntryAt) (i : ℕ) (first : EntryAt) (differ : Bool) (q : EntryAt) (sorted : IsSortedByKey rank_in (slice_cmp nat_cmp) xs) (lt : i < length xs) (q_is : (d : EntryAt) → q ≡ get_or xs i d)
     (passed : ArePassed xs i first differ) where
   -- the first of the length is not after this one
   reached : IsNotAfter first q

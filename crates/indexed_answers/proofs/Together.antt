@@ -11,21 +11,22 @@ use Rattle.std.proofs.lemmas.List.Kept.{AllPairs-filter}
 use Rattle.std.proofs.lemmas.List.Sorted.{All-permutation, Contains-permutation}
 use Rattle.indexed_answers.specs.Among.{AreAnsweringAmong, AreTied, EntryAt, IsAmong, IsRepeatOf, all_of, answers_among, has_live_companion, lives_under}
 use Rattle.indexed_answers.specs.Told.{is_companion}
-use Rattle.indexed_answers.specs.InnerAnswering.{HaveOrder, HaveTie, all_at, is_elsewhere, place_in}
+use Rattle.indexed_answers.specs.InnerAnswering.{HaveOrder, HaveTie, all_at, is_elsewhere, rank_in}
 use Rattle.indexed_answers.proofs.Entries.{AreApart, apart_both, are_among, are_apart, has_among, map-all_at}
-use Rattle.indexed_answers.proofs.Lists.{any_filter, any_map, contains_filter, filter_twice, pairs_permutation}
+use Rattle.indexed_answers.proofs.Lists.{any_filter, any_map, filter_twice, pairs_permutation}
 use Rattle.indexed_answers.proofs.Places.{ArePlaced, in_places, once_covered, once_ordered}
 use Rattle.indexed_answers.proofs.Tied.{untied}
+use Rattle.archive_core.proofs.Members.{to_filter}
 
-module _ (front : List ℕ) (indexes : List (List (List ℕ))) where
+module _ (prefix : List ℕ) (indexes : List (List (List ℕ))) where
   abbrev all : List (List ℕ)
   all = all_of indexes
 
   abbrev lives : EntryAt → Bool
-  lives x = lives_under front all x.entry
+  lives x = lives_under prefix all x.entry
 
   abbrev answers : EntryAt → Bool
-  answers x = answers_among front all x.entry
+  answers x = answers_among prefix all x.entry
 
   -- the entries that answer, in their order
   abbrev pub found : List EntryAt
@@ -33,18 +34,18 @@ module _ (front : List ℕ) (indexes : List (List (List ℕ))) where
 
   -- ---- companions
 
-  pub companion_is : list_any (λ x. is_companion x.entry) (filter lives (all_at 0 indexes)) ≡ has_live_companion front all
+  pub companion_is : list_any (λ x. is_companion x.entry) (filter lives (all_at 0 indexes)) ≡ has_live_companion prefix all
   companion_is =
       any_filter lives (λ x. is_companion x.entry) (all_at 0 indexes)
-      ∙ sym (any_map (λ e. lives_under front all e && is_companion e) (λ (x : EntryAt). x.entry) (all_at 0 indexes))
-      ∙ ap (list_any (λ e. lives_under front all e && is_companion e)) (map-all_at 0 indexes)
+      ∙ sym (any_map (λ e. lives_under prefix all e && is_companion e) (λ (x : EntryAt). x.entry) (all_at 0 indexes))
+      ∙ ap (list_any (λ e. lives_under prefix all e && is_companion e)) (map-all_at 0 indexes)
 
-  pub found_companions : has_live_companion front all ≡ true → filter (λ x. is_companion x.entry) (filter lives (all_at 0 indexes)) ≡ found
+  pub found_companions : has_live_companion prefix all ≡ true → filter (λ x. is_companion x.entry) (filter lives (all_at 0 indexes)) ≡ found
   found_companions has =
       filter_twice lives (λ x. is_companion x.entry) (all_at 0 indexes)
       ∙ filter_agree (λ x. lives x && is_companion x.entry) answers (λ x. sym (ap (λ b. lives x && (not b || is_companion x.entry)) has)) (all_at 0 indexes)
 
-  pub found_all : has_live_companion front all ≡ false → filter lives (all_at 0 indexes) ≡ found
+  pub found_all : has_live_companion prefix all ≡ false → filter lives (all_at 0 indexes) ≡ found
   found_all none =
       filter_agree lives answers (λ x. both_true (lives x) ∙ sym (ap (λ b. lives x && (not b || is_companion x.entry)) none)) (all_at 0 indexes)
     where
@@ -53,8 +54,8 @@ module _ (front : List ℕ) (indexes : List (List (List ℕ))) where
 
   -- ---- in the order of their records
 
-  module _ (sorted : List EntryAt) (moved : IsPermutation found sorted) (by_place : IsSortedByKey place_in (slice_cmp nat_cmp) sorted) where
-    pub tied : HaveTie sorted → AreTied front indexes
+  module _ (sorted : List EntryAt) (moved : IsPermutation found sorted) (by_place : IsSortedByKey rank_in (slice_cmp nat_cmp) sorted) where
+    pub tied : HaveTie sorted → AreTied prefix indexes
     tied tie = record {
       one = tie.one;
       other = tie.other;
@@ -72,9 +73,9 @@ module _ (front : List ℕ) (indexes : List (List (List ℕ))) where
         each = All-permutation (λ x. answers x ≡ true) found sorted moved (filter_passes answers (all_at 0 indexes))
 
     has : (x : EntryAt) → IsAmong indexes x → answers x ≡ true → Contains sorted x
-    has x among is = Contains-permutation found sorted x moved (contains_filter answers (all_at 0 indexes) x (has_among indexes x among) is)
+    has x among is = Contains-permutation found sorted x moved (to_filter answers (all_at 0 indexes) x (has_among indexes x among) is)
 
-    pub answering : AllPairs HaveOrder sorted → AreAnsweringAmong front indexes (dedup is_elsewhere sorted)
+    pub answering : AllPairs HaveOrder sorted → AreAnsweringAmong prefix indexes (dedup is_elsewhere sorted)
     answering agree = record {
       among = All-dedup is_elsewhere (IsAmong indexes) sorted (All-permutation (IsAmong indexes) found sorted moved (All-filter answers (IsAmong indexes) (all_at 0 indexes) (are_among indexes)));
       each = All-dedup is_elsewhere (λ x. answers x ≡ true) sorted (All-permutation (λ x. answers x ≡ true) found sorted moved (filter_passes answers (all_at 0 indexes)));

@@ -32,15 +32,15 @@ covers e r = (slice_index r 0 == 1) && bytes_eq (subject_of r) (subject_of e)
 
 -- an entry is that of a slice under these bytes, which no retirement of these covers
 abbrev pub lives_under : List ℕ → List (List ℕ) → List ℕ → Bool
-lives_under front all e = admits_under front e && not (list_any (covers e) all)
+lives_under prefix all e = admits_under prefix e && not (list_any (covers e) all)
 
 -- a companion lives under these bytes
 abbrev pub has_live_companion : List ℕ → List (List ℕ) → Bool
-has_live_companion front all = list_any (λ e. lives_under front all e && is_companion e) all
+has_live_companion prefix all = list_any (λ e. lives_under prefix all e && is_companion e) all
 
 -- an entry answers: it lives under these bytes, and is a companion's if one does
 abbrev pub answers_among : List ℕ → List (List ℕ) → List ℕ → Bool
-answers_among front all e = lives_under front all e && (not (has_live_companion front all) || is_companion e)
+answers_among prefix all e = lives_under prefix all e && (not (has_live_companion prefix all) || is_companion e)
 
 -- two entries are of one slice: they have the same tag, key and digest
 abbrev pub AreOfOneSlice : List ℕ → List ℕ → Type 0
@@ -53,13 +53,13 @@ pub record HaveNoOrder (x y : EntryAt) : Type 0 where
   pub slices : AreOfOneSlice x.entry y.entry → ⊥
 
 -- two such entries answer
-pub record AreTied (front : List ℕ) (indexes : List (List (List ℕ))) : Type 0 where
+pub record AreTied (prefix : List ℕ) (indexes : List (List (List ℕ))) : Type 0 where
   pub one : EntryAt
   pub other : EntryAt
   pub one_among : IsAmong indexes one
   pub other_among : IsAmong indexes other
-  pub one_answers : answers_among front (all_of indexes) one.entry ≡ true
-  pub other_answers : answers_among front (all_of indexes) other.entry ≡ true
+  pub one_answers : answers_among prefix (all_of indexes) one.entry ≡ true
+  pub other_answers : answers_among prefix (all_of indexes) other.entry ≡ true
   pub unordered : HaveNoOrder one other
 
 -- The record of the first entry stands before that of the second: it is shorter; or it has the same length and stands
@@ -76,11 +76,11 @@ pub record IsRepeatOf (x y : EntryAt) : Type 0 where
   pub slices : AreOfOneSlice x.entry y.entry
 
 -- Under these bytes the entries of these indexes answer, each slice once, in the order of their records. They tell it.
-pub record AreAnsweringAmong (front : List ℕ) (indexes : List (List (List ℕ))) (answering : List EntryAt)
+pub record AreAnsweringAmong (prefix : List ℕ) (indexes : List (List (List ℕ))) (answering : List EntryAt)
     : Type 0 where
   pub among : All (IsAmong indexes) answering
-  pub each : All (λ x. answers_among front (all_of indexes) x.entry ≡ true) answering
-  pub whole : (x : EntryAt) → IsAmong indexes x → answers_among front (all_of indexes) x.entry ≡ true
+  pub each : All (λ x. answers_among prefix (all_of indexes) x.entry ≡ true) answering
+  pub whole : (x : EntryAt) → IsAmong indexes x → answers_among prefix (all_of indexes) x.entry ≡ true
       → Contains answering x ⊎ ((y : EntryAt) × Contains answering y × IsRepeatOf y x)
   pub ordered : AllPairs StandsBefore answering
-  pub untied : AreTied front indexes → ⊥
+  pub untied : AreTied prefix indexes → ⊥

@@ -31,9 +31,9 @@ AreShownAmong texts true asked xs frames = AllZip (AreFramesToldAt texts asked) 
 AreShownAmong texts false asked xs frames = frames ≡ []
 
 -- the answer of several indexes with these bytes and entries under these bytes of a key, with the frames that are shown
-pub record IsAnswerAmong (texts : List (List ℕ)) (indexes : List (List (List ℕ))) (front : List ℕ) (lines : Bool)
+pub record IsAnswerAmong (texts : List (List ℕ)) (indexes : List (List (List ℕ))) (prefix : List ℕ) (lines : Bool)
     (asked : Where) (answer : AnswerRecord) (frames : List (List FrameRecord)) : Type 0 where
   pub answering : List EntryAt
-  pub are : AreAnsweringAmong front indexes answering
+  pub are : AreAnsweringAmong prefix indexes answering
   pub answer_is : IsToldOfAmong texts asked answering answer
   pub shown : AreShownAmong texts lines asked answering frames

@@ -50,11 +50,11 @@ all_at input (entries ∷ indexes) = entries_at input 0 entries ++ all_at (input
 
 -- an entry is that of a retirement, and its key begins with these bytes
 abbrev pub retires_under : List ℕ → List ℕ → Bool
-retires_under front e = (slice_index e 0 == 1) && is_under front e
+retires_under prefix e = (slice_index e 0 == 1) && is_under prefix e
 
 -- what the retirements of these entries under these bytes are of
 abbrev pub retired_of : List ℕ → List (List ℕ) → List (List ℕ)
-retired_of front es = map subject_of (filter (retires_under front) es)
+retired_of prefix es = map subject_of (filter (retires_under prefix) es)
 
 -- what an entry is of is among these
 abbrev pub is_retired : List (List ℕ) → List ℕ → Bool
@@ -62,11 +62,11 @@ is_retired retired e = list_any (λ subject. bytes_eq subject (subject_of e)) re
 
 -- an entry is that of a slice under these bytes that is not among those which are retired
 abbrev pub lives_by : List ℕ → List (List ℕ) → List ℕ → Bool
-lives_by front retired e = admits_under front e && not (is_retired retired e)
+lives_by prefix retired e = admits_under prefix e && not (is_retired retired e)
 
 -- by what entries are sorted: the length of the record, the index, and where the record stands in its archive
-abbrev pub place_in : EntryAt → List ℕ
-place_in x = length_in x.entry ∷ (x.input ∷ (offset_in x.entry ∷ []))
+abbrev pub rank_in : EntryAt → List ℕ
+rank_in x = length_in x.entry ∷ (x.input ∷ (offset_in x.entry ∷ []))
 
 -- two entries have one length and stand in two indexes
 unfoldable pub is_elsewhere : EntryAt → EntryAt → Bool

@@ -37,13 +37,13 @@ pub record Names (x : EntryAt) (named : NamedSlice) : Type 0 where
   pub size_is : named.size ≡ size_at x
 
 -- the entries that answer under these bytes, which tell the order, name these slices
-pub record NamesAmong (front : List ℕ) (indexes : List (List (List ℕ))) (named : List NamedSlice) : Type 0 where
+pub record NamesAmong (prefix : List ℕ) (indexes : List (List (List ℕ))) (named : List NamedSlice) : Type 0 where
   pub answering : List EntryAt
-  pub are : AreAnsweringAmong front indexes answering
+  pub are : AreAnsweringAmong prefix indexes answering
   pub each : AllZip Names answering named
 
 -- an entry of these indexes is that of a slice which lives under these bytes and has the digest
-pub record LivesAmong (front digest : List ℕ) (indexes : List (List (List ℕ))) (x : EntryAt) : Type 0 where
+pub record LivesAmong (prefix digest : List ℕ) (indexes : List (List (List ℕ))) (x : EntryAt) : Type 0 where
   pub among : IsAmong indexes x
-  pub lives : lives_under front (all_of indexes) x.entry ≡ true
+  pub lives : lives_under prefix (all_of indexes) x.entry ≡ true
   pub digest_is : digest_at x ≡ digest

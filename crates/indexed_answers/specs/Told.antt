@@ -13,7 +13,7 @@ use Rattle.archive_core.specs.declared.lookup.Where.{Where}
 
 -- an entry is that of an admission, and its key begins with these bytes
 abbrev pub admits_under : List ℕ → List ℕ → Bool
-admits_under front e = is_admission e && is_under front e
+admits_under prefix e = is_admission e && is_under prefix e
 
 -- an entry is that of a companion
 abbrev pub is_companion : List ℕ → Bool

@@ -26,9 +26,9 @@ told_view own = option_map owned_view own
 abbrev pub list_in : {A : Type 0} → Vec OwnedFrame A → List FrameRecord
 list_in list = owned_frames list.items
 
--- the same, lent
-abbrev pub lent_in : {A : Type 0} → Vec Frame A → List FrameRecord
-lent_in list = map (λ frame. frame_view frame) list.items
+-- the same, borrowed
+abbrev pub borrowed_in : {A : Type 0} → Vec Frame A → List FrameRecord
+borrowed_in list = map (λ frame. frame_view frame) list.items
 
 -- the frames of places
 abbrev pub frame_lists : EntryAnswers → List (List FrameRecord)

@@ -6,8 +6,8 @@ ghost use Rattle.indexed_answers.specs.Among.{AreAnsweringAmong, AreTied};
 
 use crate::live::answering_under;
 use crate::numbered::Numbered;
-use crate::order::{are_tied, keep_once, put_by_place};
-use archive_core::{SliceKey, key_front};
+use crate::order::{are_tied, keep_once, sort_by_rank};
+use archive_core::{SliceKey, key_prefix};
 use memory::{Heap, NoMemory};
 use std::marker::Model;
 use table_index::TableIndex;
@@ -62,8 +62,8 @@ pub fn answering_among(
     ensures { IfOk result (λ found. MatchOption found (AreTied (key_bytes key.now) indexes.now)
         (λ answering. AreAnsweringAmong (key_bytes key.now) indexes.now answering)) }
 {
-    let mut entries = answering_under(heap, &key_front(key), indexes)?;
-    put_by_place(&mut entries);
+    let mut entries = answering_under(heap, &key_prefix(key), indexes)?;
+    sort_by_rank(&mut entries);
     if are_tied(&entries) {
         return Ok(None);
     }

@@ -3,7 +3,7 @@
 ghost use Rattle.std.specs.Prelude.{◌≡◌, IfOk, map, slice_index_or, None};
 ghost use Rattle.archive_core.specs.Lookup.{Alone, answer_view, own_row, own_view};
 ghost use Rattle.line_tables.specs.FrameViews.{owned_frames};
-ghost use Rattle.indexed_answers.specs.Views.{answer_of, frames_at, lent_in, row_at, shown_of, told_view};
+ghost use Rattle.indexed_answers.specs.Views.{answer_of, frames_at, borrowed_in, row_at, shown_of, told_view};
 
 use archive_core::{Answer, Digest, Own};
 use line_tables::OwnedFrame;
@@ -35,31 +35,31 @@ impl EntryAnswers {
         ensures { own_view result ≡ slice_index_or (map told_view self.now.owns.items) number None }
     {
         match self.owns.get(number) {
-            Some(Some(found)) => Own::Symbol(found.lent()),
+            Some(Some(found)) => Own::Symbol(found.borrowed()),
             _ => Own::NoSymbol,
         }
     }
 
-    /// The frames of the place of this number, lent.
+    /// The frames of the place of this number, borrowed.
     fn frames(&self, heap: Heap, number: usize) -> Result<Vec<Frame<'_>, Heap>, NoMemory>
-        ensures { IfOk result (λ frames. lent_in frames ≡ frames_at number self.now) }
+        ensures { IfOk result (λ frames. borrowed_in frames ≡ frames_at number self.now) }
     {
         match self.frames.get(number) {
-            Some(frames) => lent_each(heap, frames),
+            Some(frames) => borrowed_each(heap, frames),
             None => Ok(Vec::new(heap)),
         }
     }
 }
 
-/// Frames, lent.
-fn lent_each(heap: Heap, frames: &[OwnedFrame]) -> Result<Vec<Frame<'_>, Heap>, NoMemory>
-    ensures { IfOk result (λ lent. lent_in lent ≡ owned_frames frames.now) }
+/// Frames, borrowed.
+fn borrowed_each(heap: Heap, frames: &[OwnedFrame]) -> Result<Vec<Frame<'_>, Heap>, NoMemory>
+    ensures { IfOk result (λ borrowed. borrowed_in borrowed ≡ owned_frames frames.now) }
 {
-    let mut lent = Vec::with_capacity(heap, frames.len())?;
+    let mut borrowed = Vec::with_capacity(heap, frames.len())?;
     'frames: for frame in frames {
-        lent.push(frame.lent())?;
+        borrowed.push(frame.borrowed())?;
     }
-    Ok(lent)
+    Ok(borrowed)
 }
 
 /// The answer where one slice alone answers.
@@ -93,7 +93,7 @@ fn frames_of_each<'c>(
     columns: &'c [EntryAnswers],
     number: usize,
 ) -> Result<Vec<Vec<Frame<'c>, Heap>, Heap>, NoMemory>
-    ensures { IfOk result (λ lists. map lent_in lists.items
+    ensures { IfOk result (λ lists. map borrowed_in lists.items
         ≡ map (frames_at number) columns.now) }
 {
     let mut lists = Vec::new(heap.clone()?);
@@ -125,7 +125,7 @@ impl Answers {
         lines: bool,
         number: usize,
     ) -> Result<Vec<Vec<Frame<'_>, Heap>, Heap>, NoMemory>
-        ensures { IfOk result (λ lists. map lent_in lists.items
+        ensures { IfOk result (λ lists. map borrowed_in lists.items
             ≡ shown_of lines number self.now.columns.items) }
     {
         if lines {

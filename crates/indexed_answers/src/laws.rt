@@ -15,10 +15,10 @@ pub fn each_told()
         (columns : List EntryAnswers) (number : ℕ) (none : Where)
         → AllZip (IsColumnAt texts lines asked) answering columns → number < length asked
         → IsToldOfAmong texts (slice_index_or asked number none) answering (answer_of (map (row_at number) columns)) }
-    ensures answer { (texts : List (List ℕ)) (indexes : List (List (List ℕ))) (front : List ℕ)
+    ensures answer { (texts : List (List ℕ)) (indexes : List (List (List ℕ))) (prefix : List ℕ)
         (answering : List EntryAt) (lines : Bool) (asked : List Where) (columns : List EntryAnswers) (number : ℕ)
-        (none : Where) → AreAnsweringAmong front indexes answering
+        (none : Where) → AreAnsweringAmong prefix indexes answering
         → AllZip (IsColumnAt texts lines asked) answering columns → number < length asked
-        → IsAnswerAmong texts indexes front lines (slice_index_or asked number none)
+        → IsAnswerAmong texts indexes prefix lines (slice_index_or asked number none)
         (answer_of (map (row_at number) columns)) (shown_of lines number columns) }
 {}

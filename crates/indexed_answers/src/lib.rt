@@ -10,13 +10,12 @@
 //! - `named`: [`NamedSlice`], a slice that an entry names, and which of them answer or have a digest;
 //! - `own`: what a table tells of a place; `lines`: its frames in the slice; `told`: what those of entries tell of
 //!   several;
-//! - `answers`: [`Answers`], what all of them tell; `asking`: [`answer_among`].
+//! - `answers`: [`Answers`], what all of them tell; `tables`: [`answer_among`], which makes them.
 //! - [`laws`]: what is told of several places is told of each.
 #![tactic(auto)]
 
 mod answering;
 mod answers;
-mod asking;
 mod fault;
 pub mod laws;
 mod lines;
@@ -26,11 +25,12 @@ mod numbered;
 mod order;
 mod own;
 mod retired;
+mod tables;
 mod told;
 mod words;
 
 pub use answering::{Answering, answering_among};
 pub use answers::{Answers, EntryAnswers};
-pub use asking::answer_among;
 pub use fault::AnswerFault;
 pub use named::{NamedSlice, named_among, named_with};
+pub use tables::answer_among;

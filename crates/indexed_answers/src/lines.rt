@@ -3,7 +3,7 @@
 ghost use Rattle.std.specs.Prelude.{◌≡◌, ◌<◌, ◌^◌, ℕ, List, IfOk, MatchOption, None, Some, length, map, true};
 ghost use Rattle.std.specs.List.{AllZip};
 ghost use Rattle.checked_pages.specs.Pages.{AreStored};
-ghost use Rattle.checked_pages.specs.Views.{ArePagesOf, claim_view};
+ghost use Rattle.checked_pages.specs.Views.{KeepsPages, claim_view};
 ghost use Rattle.checked_pages.specs.Reading.{ReadsStored};
 ghost use Rattle.line_tables.specs.FrameViews.{owned_frames};
 ghost use Rattle.line_tables.specs.Opened.{IsOpened};
@@ -31,8 +31,7 @@ fn frames_of<P: Placed>(
     asked: Where,
 ) -> Result<Vec<OwnedFrame, Heap>, CheckFault>
     ensures claim { pages.new.claim ≡ pages.old.claim }
-    ensures keeps { (text all : List ℕ) → P.whole device.old ≡ Some text → ArePagesOf pages.old text all
-        → ArePagesOf pages.new text all }
+    ensures keeps { KeepsPages P.whole device.old pages.old pages.new }
     ensures read { ReadsStored P.whole P.failures device.old device.new result
         (λ text frames. AreFramesOpened table.now pages.old base text asked (owned_frames frames.items))
         (λ text. (slice all : List ℕ) (steps : List StepRecord) → AreStored text (claim_view pages.old.claim) all

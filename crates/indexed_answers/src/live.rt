@@ -1,6 +1,6 @@
 //! The entries that live under a key.
 
-ghost use Rattle.std.specs.Prelude.{◌≡◌, ◌++◌, ◌<◌, ◌^◌, IfOk, OnOk, filter, length, map};
+ghost use Rattle.std.specs.Prelude.{◌≡◌, ◌++◌, ◌<◌, IfOk, OnOk, filter, length, map};
 ghost use Rattle.std.specs.List.{list_any};
 ghost use Rattle.std.specs.List.Sorted.{IsSortedByKey};
 ghost use Rattle.std.specs.Ordering.{nat_cmp};
@@ -19,27 +19,27 @@ use table_index::TableIndex;
 /// Adds the entries of the index of this number that live under these bytes, in their order. Of its entries the
 /// admissions under these bytes are looked at.
 fn gather(
-    front: &[u8],
+    prefix: &[u8],
     retired: &[[u8; 56]],
     input: u64,
     index: &TableIndex,
     live: &mut Vec<Numbered, Heap>,
 ) -> Result<(), NoMemory>
-    requires front { length front.now ≡ 24 }
+    requires prefix { length prefix.now ≡ 24 }
     requires sorted { IsSortedByKey (λ subject. subject) (slice_cmp nat_cmp) retired.now }
     ensures { OnOk result (map entry_at live.new.items ≡ map entry_at live.old.items
-        ++ filter (λ x. lives_by front.now retired.now x.entry) (entries_at input 0 index.now)) }
+        ++ filter (λ x. lives_by prefix.now retired.now x.entry) (entries_at input 0 index.now)) }
 {
-    let (start, stop) = index.run_under(ADMISSION, front);
+    let (start, stop) = index.run_under(ADMISSION, prefix);
     let entries = index.entries();
     let run = &entries[start..stop];
-    'run: for (place, entry) in run.iter().enumerate() {
+    'run: for (nth, entry) in run.iter().enumerate() {
         if is_retired(retired, entry) {
             continue 'run;
         }
         live.push(Numbered {
             input,
-            number: (start + place) as u64,
+            number: (start + nth) as u64,
             entry: *entry,
         })?;
     }
@@ -49,18 +49,18 @@ fn gather(
 /// The entries of several indexes that live under these bytes, by what is retired.
 fn live_besides(
     heap: Heap,
-    front: &[u8],
+    prefix: &[u8],
     retired: &[[u8; 56]],
     indexes: &[TableIndex],
 ) -> Result<Vec<Numbered, Heap>, NoMemory>
-    requires front { length front.now ≡ 24 }
+    requires prefix { length prefix.now ≡ 24 }
     requires sorted { IsSortedByKey (λ subject. subject) (slice_cmp nat_cmp) retired.now }
     ensures { IfOk result (λ live. map entry_at live.items
-        ≡ filter (λ x. lives_by front.now retired.now x.entry) (all_at 0 indexes.now)) }
+        ≡ filter (λ x. lives_by prefix.now retired.now x.entry) (all_at 0 indexes.now)) }
 {
     let mut live = Vec::new(heap);
     'indexes: for (input, index) in indexes.iter().enumerate() {
-        gather(front, retired, input as u64, index, &mut live)?;
+        gather(prefix, retired, input as u64, index, &mut live)?;
     }
     Ok(live)
 }
@@ -68,15 +68,15 @@ fn live_besides(
 /// The entries of several indexes that live under these bytes, in their order.
 pub(crate) fn live_under(
     heap: &Heap,
-    front: &[u8],
+    prefix: &[u8],
     indexes: &[TableIndex],
 ) -> Result<Vec<Numbered, Heap>, NoMemory>
-    requires { length front.now ≡ 24 }
+    requires { length prefix.now ≡ 24 }
     ensures { IfOk result (λ live. map entry_at live.items
-        ≡ filter (λ x. lives_under front.now (all_of indexes.now) x.entry) (all_at 0 indexes.now)) }
+        ≡ filter (λ x. lives_under prefix.now (all_of indexes.now) x.entry) (all_at 0 indexes.now)) }
 {
-    let retired = retired_under(heap.clone()?, front, indexes)?;
-    live_besides(heap.clone()?, front, &retired, indexes)
+    let retired = retired_under(heap.clone()?, prefix, indexes)?;
+    live_besides(heap.clone()?, prefix, &retired, indexes)
 }
 
 /// Whether one of these entries is that of a companion.
@@ -96,14 +96,14 @@ fn keep_companions(live: &mut Vec<Numbered, Heap>)
 /// The entries of several indexes that answer under these bytes, in their order.
 pub(crate) fn answering_under(
     heap: &Heap,
-    front: &[u8],
+    prefix: &[u8],
     indexes: &[TableIndex],
 ) -> Result<Vec<Numbered, Heap>, NoMemory>
-    requires { length front.now ≡ 24 }
+    requires { length prefix.now ≡ 24 }
     ensures { IfOk result (λ found. map entry_at found.items
-        ≡ filter (λ x. answers_among front.now (all_of indexes.now) x.entry) (all_at 0 indexes.now)) }
+        ≡ filter (λ x. answers_among prefix.now (all_of indexes.now) x.entry) (all_at 0 indexes.now)) }
 {
-    let mut live = live_under(heap, front, indexes)?;
+    let mut live = live_under(heap, prefix, indexes)?;
     if has_companion(&live) {
         keep_companions(&mut live);
     }

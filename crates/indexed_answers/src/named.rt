@@ -3,7 +3,7 @@
 ghost use Rattle.std.specs.Prelude.{◌≡◌, ◌≢◌, Contains, IfOk, MatchOption, drop, map, take};
 ghost use Rattle.std.specs.List.{AllZip};
 ghost use Rattle.archive_core.specs.Key.{key_bytes};
-ghost use Rattle.indexed_answers.specs.Among.{AreAnsweringAmong, AreTied, EntryAt};
+ghost use Rattle.indexed_answers.specs.Among.{AreTied, EntryAt};
 ghost use Rattle.indexed_answers.specs.InnerAnswering.{entry_at};
 ghost use Rattle.indexed_answers.specs.Named.{LivesAmong, Names, NamesAmong, digest_at, state_at};
 
@@ -11,7 +11,7 @@ use crate::answering::answering_among;
 use crate::live::live_under;
 use crate::numbered::Numbered;
 use crate::words::is_companion;
-use archive_core::{Digest, FindRow, FindState, SliceKey, key_front};
+use archive_core::{Digest, FindRow, FindState, SliceKey, key_prefix};
 use archive_records::{digest_in, key_in};
 use memory::{Heap, NoMemory};
 use table_index::TableIndex;
@@ -125,6 +125,6 @@ pub fn named_with(
         ((x : EntryAt) → LivesAmong (key_bytes key.now) digest.now.0 indexes.now x → ⊥)
         (λ named. (x : EntryAt) × LivesAmong (key_bytes key.now) digest.now.0 indexes.now x × Names x named)) }
 {
-    let live = live_under(heap, &key_front(key), indexes)?;
+    let live = live_under(heap, &key_prefix(key), indexes)?;
     Ok(first_with(&live, digest))
 }

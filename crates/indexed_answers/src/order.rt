@@ -7,24 +7,24 @@ ghost use Rattle.std.specs.List.{AllPairs, dedup};
 ghost use Rattle.std.specs.List.Sorted.{IsPermutation, IsSortedByKey};
 ghost use Rattle.std.specs.Ordering.{nat_cmp};
 ghost use Rattle.std.specs.Cmp.Lexicographic.{slice_cmp};
-ghost use Rattle.indexed_answers.specs.InnerAnswering.{HaveOrder, HaveTie, entry_at, is_elsewhere, place_in};
+ghost use Rattle.indexed_answers.specs.InnerAnswering.{HaveOrder, HaveTie, entry_at, is_elsewhere, rank_in};
 
 use crate::numbered::Numbered;
-use crate::words::{are_of_one_slice, have_one_length, is_elsewhere, place_of};
+use crate::words::{are_of_one_slice, have_one_length, is_elsewhere, rank_of};
 use memory::Heap;
 use std::cmp::Ordering;
 
 /// Compares two entries by their places.
 fn compare(numbered: &Numbered, other: &Numbered) -> Ordering
-    ensures { result ≡ slice_cmp nat_cmp (place_in (entry_at numbered.now)) (place_in (entry_at other.now)) }
+    ensures { result ≡ slice_cmp nat_cmp (rank_in (entry_at numbered.now)) (rank_in (entry_at other.now)) }
 {
-    place_of(numbered)[..].cmp(&place_of(other)[..])
+    rank_of(numbered)[..].cmp(&rank_of(other)[..])
 }
 
 /// Sorts entries by the lengths of their records, then by their indexes, and then by where the records stand.
-pub(crate) fn put_by_place(entries: &mut Vec<Numbered, Heap>)
+pub(crate) fn sort_by_rank(entries: &mut Vec<Numbered, Heap>)
     ensures moved { IsPermutation (map entry_at entries.old.items) (map entry_at entries.new.items) }
-    ensures sorted { IsSortedByKey place_in (slice_cmp nat_cmp) (map entry_at entries.new.items) }
+    ensures sorted { IsSortedByKey rank_in (slice_cmp nat_cmp) (map entry_at entries.new.items) }
 {
     entries.sort_unstable_by(|a, b| compare(a, b));
 }
@@ -46,7 +46,7 @@ fn ties(differ: bool, first: &Numbered, next: &Numbered) -> bool
 
 /// Whether two entries of one length stand in two indexes and are of two slices.
 pub(crate) fn are_tied(entries: &[Numbered]) -> bool
-    requires { IsSortedByKey place_in (slice_cmp nat_cmp) (map entry_at entries.now) }
+    requires { IsSortedByKey rank_in (slice_cmp nat_cmp) (map entry_at entries.now) }
     ensures { MatchBool result (HaveTie (map entry_at entries.now)) (AllPairs HaveOrder (map entry_at entries.now)) }
 {
     let Some(first) = entries.first() else {

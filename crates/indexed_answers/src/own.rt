@@ -1,6 +1,6 @@
 //! What a table tells of a place.
 
-ghost use Rattle.std.specs.Prelude.{◌≡◌, ℕ, List, Some, Option};
+ghost use Rattle.std.specs.Prelude.{◌≡◌, ℕ, List, Some};
 ghost use Rattle.checked_pages.specs.Pages.{AreStored};
 ghost use Rattle.checked_pages.specs.Views.{claim_view};
 ghost use Rattle.checked_pages.specs.Reading.{ReadsStored};

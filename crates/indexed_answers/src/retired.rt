@@ -1,7 +1,7 @@
 //! What the retirements under a key are of.
 
-ghost use Rattle.std.specs.Prelude.{◌≡◌, ◌++◌, All, IfOk, OnOk, length, map};
-ghost use Rattle.std.specs.List.Sorted.{IsPermutation, IsSortedByKey};
+ghost use Rattle.std.specs.Prelude.{◌≡◌, ◌++◌, IfOk, OnOk, length};
+ghost use Rattle.std.specs.List.Sorted.{IsSortedByKey};
 ghost use Rattle.std.specs.Ordering.{nat_cmp};
 ghost use Rattle.std.specs.Cmp.Lexicographic.{slice_cmp};
 ghost use Rattle.table_index.specs.Entry.{entry_bytes};
@@ -22,14 +22,14 @@ fn compare(subject: &[u8; 56], other: &[u8; 56]) -> Ordering
 
 /// Adds what the retirements of an index under these bytes are of. None of its other entries is looked at.
 fn gather(
-    front: &[u8],
+    prefix: &[u8],
     index: &TableIndex,
     retired: &mut Vec<[u8; 56], Heap>,
 ) -> Result<(), NoMemory>
-    requires { length front.now ≡ 24 }
-    ensures { OnOk result (retired.new.items ≡ retired.old.items ++ retired_of front.now index.now) }
+    requires { length prefix.now ≡ 24 }
+    ensures { OnOk result (retired.new.items ≡ retired.old.items ++ retired_of prefix.now index.now) }
 {
-    let (start, stop) = index.run_under(RETIREMENT, front);
+    let (start, stop) = index.run_under(RETIREMENT, prefix);
     let entries = index.entries();
     let run = &entries[start..stop];
     'run: for entry in run {
@@ -41,15 +41,15 @@ fn gather(
 /// What the retirements of several indexes under these bytes are of, in the order of their entries.
 fn gathered(
     heap: Heap,
-    front: &[u8],
+    prefix: &[u8],
     indexes: &[TableIndex],
 ) -> Result<Vec<[u8; 56], Heap>, NoMemory>
-    requires { length front.now ≡ 24 }
-    ensures { IfOk result (λ retired. retired.items ≡ retired_of front.now (all_of indexes.now)) }
+    requires { length prefix.now ≡ 24 }
+    ensures { IfOk result (λ retired. retired.items ≡ retired_of prefix.now (all_of indexes.now)) }
 {
     let mut retired = Vec::new(heap);
     'indexes: for index in indexes {
-        gather(front, index, &mut retired)?;
+        gather(prefix, index, &mut retired)?;
     }
     Ok(retired)
 }
@@ -57,15 +57,15 @@ fn gathered(
 /// What the retirements of several indexes under these bytes are of, in the order of its bytes.
 pub(crate) fn retired_under(
     heap: Heap,
-    front: &[u8],
+    prefix: &[u8],
     indexes: &[TableIndex],
 ) -> Result<Vec<[u8; 56], Heap>, NoMemory>
-    requires { length front.now ≡ 24 }
+    requires { length prefix.now ≡ 24 }
     ensures same { IfOk result (λ retired.
-        is_retired retired.items ≡ is_retired (retired_of front.now (all_of indexes.now))) }
+        is_retired retired.items ≡ is_retired (retired_of prefix.now (all_of indexes.now))) }
     ensures sorted { IfOk result (λ retired. IsSortedByKey (λ subject. subject) (slice_cmp nat_cmp) retired.items) }
 {
-    let mut retired = gathered(heap, front, indexes)?;
+    let mut retired = gathered(heap, prefix, indexes)?;
     retired.sort_unstable_by(|a, b| compare(a, b));
     Ok(retired)
 }

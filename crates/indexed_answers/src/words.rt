@@ -6,7 +6,7 @@ ghost use Rattle.archive_index.specs.Entry.{length_in};
 ghost use Rattle.table_index.specs.Entry.{entry_bytes};
 ghost use Rattle.indexed_answers.specs.Among.{subject_of};
 ghost use Rattle.indexed_answers.specs.Told.{is_companion};
-ghost use Rattle.indexed_answers.specs.InnerAnswering.{entry_at, is_elsewhere, place_in};
+ghost use Rattle.indexed_answers.specs.InnerAnswering.{entry_at, is_elsewhere, rank_in};
 
 use crate::numbered::Numbered;
 use table_index::TableEntry;
@@ -36,8 +36,8 @@ pub(crate) fn is_companion(entry: &TableEntry) -> bool
     entry.bytes()[57] == 1
 }
 
-/// Whether the fronts of two entries are the same: they are of one slice.
-fn have_one_front(bytes: &[u8; 122], other: &[u8; 122]) -> bool
+/// Whether two entries begin alike: they are of one slice.
+fn begin_alike(bytes: &[u8; 122], other: &[u8; 122]) -> bool
     ensures { result ≡ bytes_eq (take 57 bytes.now) (take 57 other.now) }
 {
     bytes[..SLICE_LEN].cmp(&other[..SLICE_LEN]).is_eq()
@@ -47,12 +47,12 @@ fn have_one_front(bytes: &[u8; 122], other: &[u8; 122]) -> bool
 pub(crate) fn are_of_one_slice(entry: &TableEntry, other: &TableEntry) -> bool
     ensures { result ≡ bytes_eq (take 57 (entry_bytes entry.now)) (take 57 (entry_bytes other.now)) }
 {
-    have_one_front(&entry.bytes(), &other.bytes())
+    begin_alike(&entry.bytes(), &other.bytes())
 }
 
 /// By what entries are sorted: the length of the record, the index, and where the record stands.
-pub(crate) fn place_of(numbered: &Numbered) -> [u64; 3]
-    ensures { result ≡ place_in (entry_at numbered.now) }
+pub(crate) fn rank_of(numbered: &Numbered) -> [u64; 3]
+    ensures { result ≡ rank_in (entry_at numbered.now) }
 {
     let placed = &numbered.entry.placed;
     [placed.length, numbered.input, placed.offset]

@@ -1,24 +1,17 @@
 -- Records that are gathered one after another, by the entries that name them.
-use Rattle.std.proofs.Common.{◌≡◌, ℕ, ◌+◌, ◌<◌, ◌≤◌, zero, suc, Bool, true, false, cond, ◌||◌, ◌&&◌, not, List, [], ◌∷◌, ◌++◌, length, map, take, get_or, Option, Some, None, refl, sym, ap, ◌∙◌, subst, append_assoc, arith}
+use Rattle.std.proofs.Common.{◌≡◌, ℕ, ◌+◌, ◌<◌, ◌≤◌, zero, suc, Bool, true, false, cond, List, [], ◌∷◌, ◌++◌, length, map, take, get_or, Option, Some, None, sym, ap, ◌∙◌, subst, append_assoc, arith}
 use Rattle.std.specs.Prelude.{filter, IfSome, Result, Ok, Err}
 use Rattle.std.specs.List.{AllWithin, AllZip}
 use Rattle.std.proofs.lemmas.List.{append-nil, take_all}
-use Rattle.std.proofs.Math.Seq.{take-nil}
 use Rattle.std.proofs.lemmas.Option.{IfSome_then}
 use Rattle.std.proofs.lemmas.List.Elements.{All-from_recursion, AllZip-push, filter_more}
-use Rattle.std.specs.Ordering.{nat_cmp, eq_by_cmp}
-use Rattle.std.specs.Cmp.Lexicographic.{slice_cmp, nat_list_cmp_total}
-use Rattle.std.specs.List.Sorted.{IsPermutation}
-use Rattle.std.proofs.lemmas.List.Sorted.{IsPermutation-map, list_any-IsPermutation}
 use Rattle.std.specs.FinSet as set
-use Rattle.std.specs.FinSet.{contains-from_list, contains-union, contains-empty, same_set}
-use Rattle.archive_core.specs.Content.{Operations, IsMade, is_admission, is_covered, content_of, with_records}
+use Rattle.archive_core.specs.Content.{Operations, is_admission, with_records}
 use Rattle.archive_core.specs.Part.{is_under}
-use Rattle.archive_core.proofs.Made.{and_right, bytes_same}
+use Rattle.archive_core.proofs.Made.{and_right}
 use Rattle.archive_core.specs.Record.{record_bytes}
 use Rattle.archive_core.specs.declared.operations.Operation.{Operation}
-use Rattle.archive_core.proofs.Taken.{IsUnderWay, taken_are_joined}
-use Rattle.archive_core.specs.Order.{made_again, contains_made}
+use Rattle.archive_core.proofs.Taken.{IsUnderWay}
 use Rattle.archive_index.specs.Entry.{IsPlacedEntry, offset_in}
 use Rattle.archive_index.specs.Index.{AreIndexed}
 use Rattle.archive_index.specs.Places.{BlamesPlaced, IsNamedBy, IsReadAmong}
@@ -31,21 +24,13 @@ use Rattle.join_core.specs.Listing.{listing}
 use Rattle.indexed_parts.specs.InnerPlaces.{AreGathered, IsGathered, IsReadOf, IsStaleAmong, IsUnnamed}
 use Rattle.indexed_parts.specs.Places.{AreGatheredUnder, IsEntryFault, ReadsPlaces}
 use Rattle.archive_index.specs.Runs.{is_tagged}
+use Rattle.archive_index.proofs.Runs.{past}
 use Rattle.indexed_parts.proofs.Ordered.{not_second, one_of_two, two_runs}
 
 module _ (R : List ℕ → List ℕ → Type 0) where
   picked : (p : List ℕ → Bool) (xs : List (List ℕ)) (i : ℕ) (x : List ℕ) (ys : List (List ℕ)) (y : List ℕ) → i < length xs → x ≡ get_or xs i [] → p x ≡ true → AllZip R (filter p (take i xs)) ys → R x y → AllZip R (filter p (take (i + 1) xs)) (ys ++ y ∷ [])
   picked p xs i x ys y lt is passes zip r =
       rw (filter_more p xs i [] lt, ← is, passes) (AllZip-push R (filter p (take i xs)) ys x y zip r)
-
--- where none passes from one place up to another, none more is kept
-past : (p : List ℕ → Bool) (xs : List (List ℕ)) (n m : ℕ) → n ≤ m → AllWithin (λ x. p x ≡ false) xs n m → filter p (take m xs) ≡ filter p (take n xs)
-past p [] n m le none = rw (take-nil n, take-nil m)
-past p (x ∷ xs) zero zero le none = refl
-past p (x ∷ xs) zero (suc m) le none = rw (none 0 x (omega arith) (omega arith)) (past p xs 0 m (omega arith) (λ k d low high. none (suc k) d (omega arith) (omega arith)))
-past p (x ∷ xs) (suc n) zero le none = absurd (omega arith)
-past p (x ∷ xs) (suc n) (suc m) le none =
-    rw (past p xs n m (omega arith) (λ k d low high. none (suc k) d (omega arith) (omega arith)))
 
 -- what follows of each text that is known
 pub known : (P : List ℕ → Type 0) (whole : Option (List ℕ)) → ((text : List ℕ) → P text) → IfSome whole P
@@ -109,9 +94,9 @@ read_at p entries k x n lt is passes h = record {
   offset_is = h.1 ∙ ap offset_in is;
 }
 
--- one that has a tag besides is under the front
-pub read_tagged : (tag : ℕ) (front : List ℕ) (entries : List (List ℕ)) (n : ℕ) → IsReadAmong (is_tagged tag front) entries n → IsReadAmong (is_under front) entries n
-read_tagged tag front entries n h = record {
+-- one that has a tag besides is under the prefix
+pub read_tagged : (tag : ℕ) (prefix : List ℕ) (entries : List (List ℕ)) (n : ℕ) → IsReadAmong (is_tagged tag prefix) entries n → IsReadAmong (is_under prefix) entries n
+read_tagged tag prefix entries n h = record {
   number = h.number;
   within = h.within;
   passing = and_right _ _ h.passing;
@@ -136,24 +121,24 @@ stale_at whole now p entries i x old new fault lt is passes keeps before none =
     by (Device offset) text zip h = tt
     by OutOfMemory text zip h = tt
 
--- ---- the retirements under a front, and then the admissions
+-- ---- the retirements under a prefix, and then the admissions
 
 join : (R : List ℕ → List ℕ → Type 0) (xs ys us vs : List (List ℕ)) → AllZip R xs us → AllZip R ys vs → AllZip R (xs ++ ys) (us ++ vs)
 join R [] ys us vs a b = grind arith
 join R (x ∷ xs) ys us vs a b = grind (arith, join R xs ys)
 
-module _ (whole : Option (List ℕ)) (front : List ℕ) (entries : List (List ℕ)) (are : AreIndexed entries) (n : ℕ) (all : length entries ≤ n) where
+module _ (whole : Option (List ℕ)) (prefix : List ℕ) (entries : List (List ℕ)) (are : AreIndexed entries) (n : ℕ) (all : length entries ≤ n) where
   -- together those under it
-  pub gathered_both : (now : Option (List ℕ)) (old mid new : List (List ℕ)) → now ≡ whole → AreGathered whole (is_tagged 1 front) entries n old mid → AreGathered now (is_tagged 2 front) entries n mid new → AreGathered whole (is_under front) entries n old new
+  pub gathered_both : (now : Option (List ℕ)) (old mid new : List (List ℕ)) → now ≡ whole → AreGathered whole (is_tagged 1 prefix) entries n old mid → AreGathered now (is_tagged 2 prefix) entries n mid new → AreGathered whole (is_under prefix) entries n old new
   gathered_both now old mid new keeps first behind =
-      let second = subst (λ (w : Option (List ℕ)). AreGathered w (is_tagged 2 front) entries n mid new) keeps behind in
-      let both : filter (is_tagged 1 front) (take n entries) ++ filter (is_tagged 2 front) (take n entries) ≡ filter (is_under front) (take n entries) =
-      subst (λ (xs : List (List ℕ)). filter (is_tagged 1 front) xs ++ filter (is_tagged 2 front) xs ≡ filter (is_under front) xs) (sym (take_all n entries all)) (two_runs front entries are.ascending are.are) in
+      let second = subst (λ (w : Option (List ℕ)). AreGathered w (is_tagged 2 prefix) entries n mid new) keeps behind in
+      let both : filter (is_tagged 1 prefix) (take n entries) ++ filter (is_tagged 2 prefix) (take n entries) ≡ filter (is_under prefix) (take n entries) =
+      subst (λ (xs : List (List ℕ)). filter (is_tagged 1 prefix) xs ++ filter (is_tagged 2 prefix) xs ≡ filter (is_under prefix) xs) (sym (take_all n entries all)) (two_runs prefix entries are.ascending are.are) in
       record {
         records = first.records ++ second.records;
-        named = along_both (Named whole (is_tagged 1 front) entries n first.records) (Named whole (is_tagged 2 front) entries n second.records) (Named whole (is_under front) entries n (first.records ++ second.records)) whole
+        named = along_both (Named whole (is_tagged 1 prefix) entries n first.records) (Named whole (is_tagged 2 prefix) entries n second.records) (Named whole (is_under prefix) entries n (first.records ++ second.records)) whole
             (λ text a b. subst (λ (xs : List (List ℕ)). AllZip (IsNamedBy text) xs (first.records ++ second.records)) both
-            (join (IsNamedBy text) (filter (is_tagged 1 front) (take n entries)) (filter (is_tagged 2 front) (take n entries)) first.records second.records a b))
+            (join (IsNamedBy text) (filter (is_tagged 1 prefix) (take n entries)) (filter (is_tagged 2 prefix) (take n entries)) first.records second.records a b))
             first.named second.named;
         behind = second.behind ∙ ap (λ (l : List (List ℕ)). l ++ second.records) first.behind ∙ append_assoc old first.records second.records;
       }
@@ -162,54 +147,54 @@ module _ (whole : Option (List ℕ)) (front : List ℕ) (entries : List (List �
   entry_at k lt = All-from_recursion IsPlacedEntry entries are.are k [] lt
 
   -- the first that names no record, among the retirements
-  pub stale_first : (fault : PlaceFault) → IfSome whole (λ text. IsStaleAmong (is_tagged 1 front) entries text fault) → IfSome whole (λ text. IsStaleAmong (is_under front) entries text fault)
+  pub stale_first : (fault : PlaceFault) → IfSome whole (λ text. IsStaleAmong (is_tagged 1 prefix) entries text fault) → IfSome whole (λ text. IsStaleAmong (is_under prefix) entries text fault)
   stale_first fault h = IfSome_then whole h (by fault)
     where
-      by : (f : PlaceFault) (text : List ℕ) → IsStaleAmong (is_tagged 1 front) entries text f → IsStaleAmong (is_under front) entries text f
+      by : (f : PlaceFault) (text : List ℕ) → IsStaleAmong (is_tagged 1 prefix) entries text f → IsStaleAmong (is_under prefix) entries text f
       by (Stale None) text t = t
       by (Stale (Some k)) text t = (
         t.0,
         and_right _ _ t.1,
         t.2,
-        λ j below under. one_of_two front _ (get_or entries j []) (entry_at j (omega (arith, t.0, below))) under (t.3 j below) (λ two. absurd (not_second front entries j k are below t.0 two t.1)),
+        λ j below under. one_of_two prefix _ (get_or entries j []) (entry_at j (omega (arith, t.0, below))) under (t.3 j below) (λ two. absurd (not_second prefix entries j k are below t.0 two t.1)),
       )
       by (Device offset) text t = tt
       by OutOfMemory text t = tt
 
   -- and among the admissions, where each retirement names one
-  pub stale_second : (now : Option (List ℕ)) (old mid : List (List ℕ)) (fault : PlaceFault) → now ≡ whole → AreGathered whole (is_tagged 1 front) entries n old mid
-      → IfSome now (λ text. IsStaleAmong (is_tagged 2 front) entries text fault) → IfSome whole (λ text. IsStaleAmong (is_under front) entries text fault)
+  pub stale_second : (now : Option (List ℕ)) (old mid : List (List ℕ)) (fault : PlaceFault) → now ≡ whole → AreGathered whole (is_tagged 1 prefix) entries n old mid
+      → IfSome now (λ text. IsStaleAmong (is_tagged 2 prefix) entries text fault) → IfSome whole (λ text. IsStaleAmong (is_under prefix) entries text fault)
   stale_second now old mid fault keeps first h =
-      along_both (Named whole (is_tagged 1 front) entries n first.records) (λ text. IsStaleAmong (is_tagged 2 front) entries text fault) (λ text. IsStaleAmong (is_under front) entries text fault) whole (by fault)
-      first.named (subst (λ (w : Option (List ℕ)). IfSome w (λ text. IsStaleAmong (is_tagged 2 front) entries text fault)) keeps h)
+      along_both (Named whole (is_tagged 1 prefix) entries n first.records) (λ text. IsStaleAmong (is_tagged 2 prefix) entries text fault) (λ text. IsStaleAmong (is_under prefix) entries text fault) whole (by fault)
+      first.named (subst (λ (w : Option (List ℕ)). IfSome w (λ text. IsStaleAmong (is_tagged 2 prefix) entries text fault)) keeps h)
     where
-      by : (f : PlaceFault) (text : List ℕ) → Named whole (is_tagged 1 front) entries n first.records text → IsStaleAmong (is_tagged 2 front) entries text f → IsStaleAmong (is_under front) entries text f
+      by : (f : PlaceFault) (text : List ℕ) → Named whole (is_tagged 1 prefix) entries n first.records text → IsStaleAmong (is_tagged 2 prefix) entries text f → IsStaleAmong (is_under prefix) entries text f
       by (Stale None) text zip t = t
       by (Stale (Some k)) text zip t = (
         t.0,
         and_right _ _ t.1,
         t.2,
-        λ j below under. one_of_two front _ (get_or entries j []) (entry_at j (omega (arith, t.0, below))) under
-            (λ one. partner (IsNamedBy text) (is_tagged 1 front) entries first.records n j zip (omega (arith, t.0, below, all)) (omega (arith, t.0, below)) one)
+        λ j below under. one_of_two prefix _ (get_or entries j []) (entry_at j (omega (arith, t.0, below))) under
+            (λ one. partner (IsNamedBy text) (is_tagged 1 prefix) entries first.records n j zip (omega (arith, t.0, below, all)) (omega (arith, t.0, below)) one)
             (t.3 j below),
       )
       by (Device offset) text zip t = tt
       by OutOfMemory text zip t = tt
 
-  -- ---- under a front of an index
+  -- ---- under a prefix of an index
 
-  pub under_front : (s : Entries) (old new : List (List ℕ)) → entries ≡ listing s → AreGathered whole (is_under front) entries n old new → AreGatheredUnder whole front s old new
+  pub under_front : (s : Entries) (old new : List (List ℕ)) → entries ≡ listing s → AreGathered whole (is_under prefix) entries n old new → AreGatheredUnder whole prefix s old new
   under_front s old new is h = record {
     records = h.records;
-    named = IfSome_then whole h.named (λ text zip. subst (λ (xs : List (List ℕ)). AllZip (IsNamedBy text) (filter (is_under front) xs) h.records) (take_all n entries all ∙ is) zip);
+    named = IfSome_then whole h.named (λ text zip. subst (λ (xs : List (List ℕ)). AllZip (IsNamedBy text) (filter (is_under prefix) xs) h.records) (take_all n entries all ∙ is) zip);
     behind = h.behind;
   }
 
-  pub fault_under : (s : Entries) (fault : PlaceFault) → entries ≡ listing s → IfSome whole (λ text. IsStaleAmong (is_under front) entries text fault) → IfSome whole (λ text. IsEntryFault front s text fault)
+  pub fault_under : (s : Entries) (fault : PlaceFault) → entries ≡ listing s → IfSome whole (λ text. IsStaleAmong (is_under prefix) entries text fault) → IfSome whole (λ text. IsEntryFault prefix s text fault)
   fault_under s fault is h =
-      IfSome_then whole (subst (λ (xs : List (List ℕ)). IfSome whole (λ text. IsStaleAmong (is_under front) xs text fault)) is h) (by fault)
+      IfSome_then whole (subst (λ (xs : List (List ℕ)). IfSome whole (λ text. IsStaleAmong (is_under prefix) xs text fault)) is h) (by fault)
     where
-      by : (f : PlaceFault) (text : List ℕ) → IsStaleAmong (is_under front) (listing s) text f → IsEntryFault front s text f
+      by : (f : PlaceFault) (text : List ℕ) → IsStaleAmong (is_under prefix) (listing s) text f → IsEntryFault prefix s text f
       by (Stale None) text t = t
       by (Stale (Some k)) text t = (omega (arith, t.0, length_written s), t.1, t.2, t.3)
       by (Device offset) text t = tt
@@ -235,24 +220,6 @@ module _ {P : Type 0} (whole : P → Option (List ℕ)) (failures : P → ℕ) (
   reads_behind R S M N (Err fault) made told read h = refused_behind M N fault (told fault) read h
 
 -- ---- what was taken together
-
-empty_made : IsMade set.empty
-empty_made = same_set nat_list_cmp_total bytes_same (content_of set.empty) set.empty (λ q. contains_made set.empty q ∙ ap (λ b. b && not (is_covered set.empty q)) (contains-empty _ q) ∙ sym (contains-empty _ q))
-
-none_union : (s : Operations) → set.union set.empty s ≡ s
-none_union s = same_set nat_list_cmp_total bytes_same (set.union set.empty s) s (λ q. contains-union nat_list_cmp_total set.empty s q ∙ ap (λ b. b || set.contains s q) (contains-empty _ q))
-
--- neither their order counts
-moved : (xs ys : List Operation) → IsPermutation xs ys → set.from_list {R = slice_cmp nat_cmp} (map record_bytes ys) ≡ set.from_list (map record_bytes xs)
-moved xs ys permuted = same_set nat_list_cmp_total bytes_same _ _ (λ q.
-    contains-from_list nat_list_cmp_total (map record_bytes ys) q
-    ∙ sym (list_any-IsPermutation (eq_by_cmp (slice_cmp nat_cmp) q) (map record_bytes xs) (map record_bytes ys) (IsPermutation-map record_bytes xs ys permuted))
-    ∙ sym (contains-from_list nat_list_cmp_total (map record_bytes xs) q))
-
-pub made_together : (held : Operations) (operations sorted : List Operation) → IsPermutation operations sorted → held ≡ with_records set.empty (map record_bytes sorted) → held ≡ content_of (set.from_list (map record_bytes operations))
-made_together held operations sorted permuted is =
-    let s = content_of (set.from_list (map record_bytes sorted)) in
-    is ∙ taken_are_joined set.empty (map record_bytes sorted) empty_made ∙ ap content_of (none_union s) ∙ made_again (set.from_list (map record_bytes sorted)) ∙ ap content_of (moved operations sorted permuted)
 
 -- all were taken
 pub all_taken : (old now : Operations) (all left : List Operation) → IsUnderWay old now all left → length left ≡ 0 → now ≡ with_records old (map record_bytes all)

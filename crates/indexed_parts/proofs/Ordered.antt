@@ -1,4 +1,4 @@
--- Entries of one tag under a front stand together, and the retirements before the admissions.
+-- Entries of one tag under a prefix stand together, and the retirements before the admissions.
 use Rattle.std.proofs.Common.{◌≡◌, ℕ, ◌+◌, ◌-◌, ◌<◌, ◌≤◌, Bool, true, false, cond, ◌&&◌, eqb, List, [], ◌∷◌, ◌++◌, length, map, take, drop, get_or, refl, sym, ap, ◌∙◌, arith, length-drop, length-take}
 use mathlib.Core.Bool.{true≢false}
 use Rattle.std.specs.declared.cmp.Ordering.{Ordering}
@@ -9,7 +9,7 @@ use Rattle.std.specs.Cmp.Lexicographic.{slice_cmp}
 use Rattle.std.specs.List.{AllByRecursion}
 use Rattle.std.specs.List.Sorted.{IsStrictlySortedBy}
 use Rattle.std.proofs.lemmas.Bool.{eqb-true}
-use Rattle.std.proofs.lemmas.List.{get_or-drop, get_or-take, length-take-le}
+use Rattle.std.proofs.lemmas.List.{get_or-drop, get_or-take}
 use Rattle.std.proofs.lemmas.Map.Keys.{Less-from_sorted}
 use Rattle.archive_core.specs.Part.{is_under}
 use Rattle.archive_core.proofs.Made.{and_left, by_test, either}
@@ -37,9 +37,6 @@ in_run xs start stop i e lt is =
     let below : start + i < length xs = omega (arith, long, all, lt) in
     (omega (arith, within), below, at, bytes_at xs (start + i) e (placed_bytes e) below at refl)
 
-pub length_run : (xs : List PlacedEntry) (start stop : ℕ) → start ≤ stop → stop ≤ length xs → length (take (stop - start) (drop start xs)) ≡ stop - start
-length_run xs start stop ordered within = length-take-le (stop - start) (drop start xs) (omega (arith, length-drop start xs, ordered, within))
-
 -- ---- retirements before admissions
 
 -- what stands behind an admission is no retirement
@@ -52,10 +49,10 @@ not_before (a ∷ xs) (b ∷ ys) e h = by_test _ (eqb b 1)
     absurd cc)
     (λ no. no)
 
-module _ (front : List ℕ) where
-  none_behind : (x : List ℕ) (xs : List (List ℕ)) → get_or x 0 0 ≡ 2 → AllByRecursion (λ y. order x y ≡ Less) xs → filter (is_tagged 1 front) xs ≡ []
+module _ (prefix : List ℕ) where
+  none_behind : (x : List ℕ) (xs : List (List ℕ)) → get_or x 0 0 ≡ 2 → AllByRecursion (λ y. order x y ≡ Less) xs → filter (is_tagged 1 prefix) xs ≡ []
   none_behind x [] e up = refl
-  none_behind x (y ∷ ys) e up = rw (ap (λ (b : Bool). b && is_under front y) (not_before x y e up.0)) (none_behind x ys e up.1)
+  none_behind x (y ∷ ys) e up = rw (ap (λ (b : Bool). b && is_under prefix y) (not_before x y e up.0)) (none_behind x ys e up.1)
 
   first_one : (p q u : Bool) (x : List ℕ) (xs ys all : List (List ℕ)) → p ≡ true → q ≡ false → xs ++ ys ≡ all → cond (p && u) (x ∷ xs) xs ++ cond (q && u) (x ∷ ys) ys ≡ cond u (x ∷ all) all
   first_one p q u x xs ys all e f h = grind arith
@@ -63,8 +60,8 @@ module _ (front : List ℕ) where
   second_one : (p q u : Bool) (x : List ℕ) (xs ys all : List (List ℕ)) → p ≡ false → q ≡ true → xs ≡ [] → xs ++ ys ≡ all → cond (p && u) (x ∷ xs) xs ++ cond (q && u) (x ∷ ys) ys ≡ cond u (x ∷ all) all
   second_one p q u x xs ys all e f none h = grind arith
 
-  -- so the entries under a front are the retirements there, and behind them the admissions
-  pub two_runs : (xs : List (List ℕ)) → IsStrictlySortedBy order xs → AllByRecursion IsPlacedEntry xs → filter (is_tagged 1 front) xs ++ filter (is_tagged 2 front) xs ≡ filter (is_under front) xs
+  -- so the entries under a prefix are the retirements there, and behind them the admissions
+  pub two_runs : (xs : List (List ℕ)) → IsStrictlySortedBy order xs → AllByRecursion IsPlacedEntry xs → filter (is_tagged 1 prefix) xs ++ filter (is_tagged 2 prefix) xs ≡ filter (is_under prefix) xs
   unfolding IsStrictlySortedBy
   two_runs [] up are = refl
   two_runs (x ∷ xs) up are =
@@ -73,22 +70,22 @@ module _ (front : List ℕ) where
       either _ (eqb t 1) (eqb t 2)
       (λ one.
       let other : eqb t 2 ≡ false = ap (λ (n : ℕ). eqb n 2) (eqb-true t 1 one) in
-      first_one (eqb t 1) (eqb t 2) (is_under front x) x (filter (is_tagged 1 front) xs) (filter (is_tagged 2 front) xs) (filter (is_under front) xs) one other rest)
+      first_one (eqb t 1) (eqb t 2) (is_under prefix x) x (filter (is_tagged 1 prefix) xs) (filter (is_tagged 2 prefix) xs) (filter (is_under prefix) xs) one other rest)
       (λ two.
       let is : t ≡ 2 = eqb-true t 2 two in
       let other : eqb t 1 ≡ false = ap (λ (n : ℕ). eqb n 1) is in
-      second_one (eqb t 1) (eqb t 2) (is_under front x) x (filter (is_tagged 1 front) xs) (filter (is_tagged 2 front) xs) (filter (is_under front) xs) other two (none_behind x xs is up.0) rest)
+      second_one (eqb t 1) (eqb t 2) (is_under prefix x) x (filter (is_tagged 1 prefix) xs) (filter (is_tagged 2 prefix) xs) (filter (is_under prefix) xs) other two (none_behind x xs is up.0) rest)
       are.0.tag
 
-  -- an entry under a front is a retirement or an admission there
-  pub one_of_two : (P : Type 0) (e : List ℕ) → IsPlacedEntry e → is_under front e ≡ true → (is_tagged 1 front e ≡ true → P) → (is_tagged 2 front e ≡ true → P) → P
+  -- an entry under a prefix is a retirement or an admission there
+  pub one_of_two : (P : Type 0) (e : List ℕ) → IsPlacedEntry e → is_under prefix e ≡ true → (is_tagged 1 prefix e ≡ true → P) → (is_tagged 2 prefix e ≡ true → P) → P
   one_of_two P e is under first second =
       either P (eqb (get_or e 0 0) 1) (eqb (get_or e 0 0) 2)
-      (λ one. first (ap (λ (b : Bool). b && is_under front e) one ∙ under))
-      (λ two. second (ap (λ (b : Bool). b && is_under front e) two ∙ under))
+      (λ one. first (ap (λ (b : Bool). b && is_under prefix e) one ∙ under))
+      (λ two. second (ap (λ (b : Bool). b && is_under prefix e) two ∙ under))
       is.tag
 
   -- no admission stands before a retirement
-  pub not_second : (xs : List (List ℕ)) (j k : ℕ) → AreIndexed xs → j < k → k < length xs → is_tagged 2 front (get_or xs j []) ≡ true → is_tagged 1 front (get_or xs k []) ≡ true → ⊥
+  pub not_second : (xs : List (List ℕ)) (j k : ℕ) → AreIndexed xs → j < k → k < length xs → is_tagged 2 prefix (get_or xs j []) ≡ true → is_tagged 1 prefix (get_or xs k []) ≡ true → ⊥
   not_second xs j k are below there two one =
       true≢false (sym (and_left _ _ one) ∙ not_before (get_or xs j []) (get_or xs k []) (eqb-true (get_or (get_or xs j []) 0 0) 2 (and_left _ _ two)) (Less-from_sorted order xs j k [] are.ascending below there))

@@ -17,19 +17,19 @@ ReadsPlaces whole failures old new (Err fault) IsTrue IsRefused IsRead =
     IfSome (whole old) (λ text. IsRefused text fault) × (whole new ≡ whole old)
     × BlamesPlaced IsRead failures old new fault
 
--- Each entry under the front names one of these records, in their order, and they stand behind what was gathered.
-pub record AreGatheredUnder (whole : Option (List ℕ)) (front : List ℕ) (entries : Entries) (old new : List (List ℕ))
+-- Each entry under the prefix names one of these records, in their order, and they stand behind what was gathered.
+pub record AreGatheredUnder (whole : Option (List ℕ)) (prefix : List ℕ) (entries : Entries) (old new : List (List ℕ))
     : Type 0 where
   pub records : List (List ℕ)
-  pub named : IfSome whole (λ text. AllZip (IsNamedBy text) (entries_under front entries) records)
+  pub named : IfSome whole (λ text. AllZip (IsNamedBy text) (entries_under prefix entries) records)
   pub behind : new ≡ old ++ records
 
--- why nothing is gathered under a front: an entry names no record of the text
+-- why nothing is gathered under a prefix: an entry names no record of the text
 abbrev pub IsEntryFault : List ℕ → Entries → List ℕ → PlaceFault → Type 0
-IsEntryFault front entries text (Stale None) = ⊥
-IsEntryFault front entries text (Stale (Some k)) = IsStale front entries text (Some k)
-IsEntryFault front entries text (Device offset) = Unit {0}
-IsEntryFault front entries text OutOfMemory = Unit {0}
+IsEntryFault prefix entries text (Stale None) = ⊥
+IsEntryFault prefix entries text (Stale (Some k)) = IsStale prefix entries text (Some k)
+IsEntryFault prefix entries text (Device offset) = Unit {0}
+IsEntryFault prefix entries text OutOfMemory = Unit {0}
 
 -- why the size of an archive is refused: it is another than the index tells
 abbrev pub IsLengthFault : Entries → List ℕ → PlaceFault → Type 0

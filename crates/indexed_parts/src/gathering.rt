@@ -1,4 +1,4 @@
-//! The operations that the entries under a front name.
+//! The operations that the entries under a prefix name.
 
 ghost use Rattle.std.specs.Prelude.{◌≤◌, length, map};
 ghost use Rattle.archive_core.specs.Part.{is_under};
@@ -11,10 +11,11 @@ ghost use Rattle.indexed_parts.specs.InnerPlaces.{AreGathered, IsGathered, IsRea
 ghost use Rattle.archive_index.specs.Runs.{is_tagged};
 ghost use Rattle.indexed_parts.specs.Places.{AreGatheredUnder, IsEntryFault, ReadsPlaces};
 
-use crate::records::{ADMISSION, RETIREMENT, operation_at};
+use crate::records::operation_at;
 use crate::runs::run_under;
 use archive_core::Operation;
 use archive_index::{Index, PlaceFault, PlacedEntry};
+use archive_records::{ADMISSION, RETIREMENT};
 use byte_device::Placed;
 use memory::Heap;
 
@@ -41,54 +42,54 @@ fn gather_entry<P: Placed>(
     Ok(())
 }
 
-/// Gathers the operations that the entries of a tag under a front name. None of the other entries is looked at.
+/// Gathers the operations that the entries of a tag under a prefix name. None of the other entries is looked at.
 fn gather_run<P: Placed>(
     heap: &Heap,
     gathered: &mut Vec<Operation, Heap>,
     tag: u8,
-    front: &[u8],
+    prefix: &[u8],
     entries: &[PlacedEntry],
     archive: &mut P,
     size: u64,
 ) -> Result<(), PlaceFault>
     requires size { HasSize (P.whole archive.old) size }
     requires indexed { AreIndexed (map placed_bytes entries.now) }
-    requires short { length front.now ≤ 24 }
+    requires short { length prefix.now ≤ 24 }
     ensures { ReadsPlaces P.whole P.failures archive.old archive.new result
-        (λ _. AreGathered (P.whole archive.old) (is_tagged tag front.now) (map placed_bytes entries.now)
+        (λ _. AreGathered (P.whole archive.old) (is_tagged tag prefix.now) (map placed_bytes entries.now)
         (length entries.now) (map record_bytes gathered.old.items) (map record_bytes gathered.new.items))
-        (IsStaleAmong (is_tagged tag front.now) (map placed_bytes entries.now))
-        (IsReadAmong (is_tagged tag front.now) (map placed_bytes entries.now)) }
+        (IsStaleAmong (is_tagged tag prefix.now) (map placed_bytes entries.now))
+        (IsReadAmong (is_tagged tag prefix.now) (map placed_bytes entries.now)) }
 {
-    let (start, stop) = run_under(entries, tag, front);
+    let (start, stop) = run_under(entries, tag, prefix);
     let run = &entries[start..stop];
-    'run: for (place, entry) in run.iter().enumerate() {
-        gather_entry(heap, gathered, (start + place) as u64, entry, archive, size)?;
+    'run: for (index, entry) in run.iter().enumerate() {
+        gather_entry(heap, gathered, (start + index) as u64, entry, archive, size)?;
     }
     Ok(())
 }
 
-/// Gathers the operations that the entries under a front name, in the order of these: the retirements, then the
+/// Gathers the operations that the entries under a prefix name, in the order of these: the retirements, then the
 /// admissions.
 fn gather_under<P: Placed>(
     heap: &Heap,
     gathered: &mut Vec<Operation, Heap>,
-    front: &[u8],
+    prefix: &[u8],
     entries: &[PlacedEntry],
     archive: &mut P,
     size: u64,
 ) -> Result<(), PlaceFault>
     requires size { HasSize (P.whole archive.old) size }
     requires indexed { AreIndexed (map placed_bytes entries.now) }
-    requires short { length front.now ≤ 24 }
+    requires short { length prefix.now ≤ 24 }
     ensures { ReadsPlaces P.whole P.failures archive.old archive.new result
-        (λ _. AreGathered (P.whole archive.old) (is_under front.now) (map placed_bytes entries.now)
+        (λ _. AreGathered (P.whole archive.old) (is_under prefix.now) (map placed_bytes entries.now)
         (length entries.now) (map record_bytes gathered.old.items) (map record_bytes gathered.new.items))
-        (IsStaleAmong (is_under front.now) (map placed_bytes entries.now))
-        (IsReadAmong (is_under front.now) (map placed_bytes entries.now)) }
+        (IsStaleAmong (is_under prefix.now) (map placed_bytes entries.now))
+        (IsReadAmong (is_under prefix.now) (map placed_bytes entries.now)) }
 {
-    gather_run(heap, gathered, RETIREMENT, front, entries, archive, size)?;
-    gather_run(heap, gathered, ADMISSION, front, entries, archive, size)
+    gather_run(heap, gathered, RETIREMENT, prefix, entries, archive, size)?;
+    gather_run(heap, gathered, ADMISSION, prefix, entries, archive, size)
 }
 
 /// Gathers the records under a UUID or a key at the places that an index names, behind those that were gathered: each
@@ -102,18 +103,18 @@ fn gather_under<P: Placed>(
 pub fn gather_at<P: Placed>(
     heap: &Heap,
     gathered: &mut Vec<Operation, Heap>,
-    front: &[u8],
+    prefix: &[u8],
     entries: &Index,
     archive: &mut P,
     size: u64,
 ) -> Result<(), PlaceFault>
-    requires front { length front.now ≤ 24 }
+    requires prefix { length prefix.now ≤ 24 }
     requires size { HasSize (P.whole archive.old) size }
     ensures { ReadsPlaces P.whole P.failures archive.old archive.new result
-        (λ _. AreGatheredUnder (P.whole archive.old) front.now entries.now (map record_bytes gathered.old.items)
-        (map record_bytes gathered.new.items)) (IsEntryFault front.now entries.now)
-        (IsReadUnder front.now entries.now) }
+        (λ _. AreGatheredUnder (P.whole archive.old) prefix.now entries.now (map record_bytes gathered.old.items)
+        (map record_bytes gathered.new.items)) (IsEntryFault prefix.now entries.now)
+        (IsReadUnder prefix.now entries.now) }
 {
     let _count = entries.len();
-    gather_under(heap, gathered, front, entries.entries(), archive, size)
+    gather_under(heap, gathered, prefix, entries.entries(), archive, size)
 }

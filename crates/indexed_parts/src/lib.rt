@@ -1,10 +1,10 @@
 //! Parts of archives, read at the places that an index names.
 //!
 //! - `records`: the record at the place of an entry, tested and hashed;
-//! - `runs`: the entries of one tag under a front, which stand together;
+//! - `runs`: the entries of one tag under a prefix, which stand together;
 //! - `gathering`: [`gather_at`], the records under a UUID or a key;
 //! - `parts`: [`archive_of`], what they make; [`has_size`], whether an archive has a size; [`indexed_size`], the size
-//!   that the index tells; [`is_under`], whether an entry is under a front.
+//!   that the index tells; [`is_under`], whether an entry is under a prefix.
 //!
 //! # What is proved
 //!
@@ -21,7 +21,7 @@
 //!   slices, and each would shift what is there.
 //! - What a retirement among the named ones covers is not kept, as in every content. An index whose own entries cover
 //!   one another is of no archive, and is answered so.
-//! - A front has at most 24 bytes: after them an entry has the digest, and an admission its length.
+//! - A prefix has at most 24 bytes: after them an entry has the digest, and an admission its length.
 //! - An entry that reaches past the archive is `Stale` before memory is asked for.
 #![tactic(auto)]
 

@@ -21,18 +21,18 @@ use memory::{Heap, NoMemory};
 const FRAME_LEN: u64 = 17;
 
 /// Whether the key of an entry begins with these bytes.
-pub fn is_under(front: &[u8], entry: &PlacedEntry) -> bool
-    ensures { result ≡ is_under front.now (placed_bytes entry.now) }
+pub fn is_under(prefix: &[u8], entry: &PlacedEntry) -> bool
+    ensures { result ≡ is_under prefix.now (placed_bytes entry.now) }
 {
-    begins(&entry.bytes(), front)
+    begins(&entry.bytes(), prefix)
 }
 
 /// Whether bytes behind a tag begin with these.
-fn begins(bytes: &[u8], front: &[u8]) -> bool
+fn begins(bytes: &[u8], prefix: &[u8]) -> bool
     requires { 0 < length bytes.now }
-    ensures { result ≡ is_under front.now bytes.now }
+    ensures { result ≡ is_under prefix.now bytes.now }
 {
-    bytes[1..].starts_with(front)
+    bytes[1..].starts_with(prefix)
 }
 
 /// Whether an archive of this size has the length that the index tells.

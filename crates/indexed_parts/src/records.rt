@@ -3,8 +3,7 @@
 ghost use Rattle.std.specs.Prelude.{◌≡◌, ◌≢◌, ◌+◌, ◌≤◌, ◌↔◌, Err, true, false, length, take, drop};
 ghost use Rattle.std.specs.Prelude.{slice_index, IfNone, IfOk, IfSome, IsTrue, MatchOption, OnOk};
 ghost use Rattle.std.specs.Int.{w64, from_be_bytes};
-ghost use Rattle.archive_core.specs.Key.{IsKey, key_bytes};
-ghost use Rattle.archive_core.specs.Record.{Admits, lent_bytes, record_bytes, retirement_record};
+ghost use Rattle.archive_core.specs.Record.{Admits, borrowed_bytes, record_bytes};
 ghost use Rattle.archive_core.specs.declared.find.FindState.TheVariants.{Retired};
 ghost use Rattle.byte_device.specs.Devices.{FailedIn};
 ghost use Rattle.byte_device.specs.Places.{EndsBefore, HasSize, Stands};
@@ -13,26 +12,11 @@ ghost use Rattle.archive_index.specs.Places.{IsNamedBy};
 ghost use Rattle.indexed_parts.specs.InnerPlaces.{IsReadOf, IsUnnamed};
 ghost use Rattle.indexed_parts.specs.Places.{ReadsPlaces};
 
-use archive_core::{Digest, FindState, Operation, Record, Slice, SliceKey};
+use archive_core::{FindState, Operation, Record, Slice, retirement};
 use archive_index::{PlaceFault, PlacedEntry};
-use archive_records::{ADMISSION_HEAD_LEN, key_front};
+use archive_records::{ADMISSION, ADMISSION_HEAD_LEN, has_key, number_at};
 use byte_device::{Placed, ReadFault, read_at};
-use byteorder::{BigEndian, ByteOrder};
 use memory::{Heap, NoMemory};
-
-/// The tag of a retirement. Those stand before the admissions.
-pub(crate) const RETIREMENT: u8 = 1;
-
-/// The tag of an admission.
-pub(crate) const ADMISSION: u8 = 2;
-
-/// The number in eight bytes at a place.
-fn number_at(bytes: &[u8], at: usize) -> u64
-    requires { at + 8 ≤ length bytes.now }
-    ensures { result ≡ from_be_bytes w64 (take 8 (drop at bytes.now)) }
-{
-    BigEndian::read_u64(&bytes[at..])
-}
 
 /// Whether the bytes begin with the tag of an admission and a key, and the length behind them is that of the rest.
 fn has_head(bytes: &[u8]) -> bool
@@ -50,18 +34,9 @@ fn has_head(bytes: &[u8]) -> bool
     number_at(bytes, 25) == (bytes.len() - ADMISSION_HEAD_LEN) as u64
 }
 
-/// Whether the bytes behind the tag begin with the key.
-fn has_key(bytes: &[u8], key: &SliceKey) -> bool
-    requires { 25 ≤ length bytes.now }
-    ensures { IsTrue result ↔ (take 24 (drop 1 bytes.now) ≡ key_bytes key.now) }
-{
-    let whole = key_front(key);
-    &bytes[1..25] == &whole[..]
-}
-
 /// The record of an admission, if these bytes are one.
 fn admission_in(bytes: &[u8]) -> Option<Record<'_>>
-    ensures found { IfSome result (λ lent. lent_bytes lent ≡ bytes.now) }
+    ensures found { IfSome result (λ borrowed. borrowed_bytes borrowed ≡ bytes.now) }
     ensures admits { IfSome result (λ _. Admits bytes.now) }
     ensures none { IfNone result (Admits bytes.now → ⊥) }
 {
@@ -82,7 +57,7 @@ fn admission_in(bytes: &[u8]) -> Option<Record<'_>>
 
 /// Whether a record, which is these bytes, is the one that the entry is of. Its slice is hashed.
 fn is_of(entry: &PlacedEntry, bytes: &[u8], record: &Record<'_>) -> bool
-    requires { lent_bytes record.now ≡ bytes.now }
+    requires { borrowed_bytes record.now ≡ bytes.now }
     ensures { IsTrue result ↔ (placed_bytes entry.now ≡ placed_entry entry.now.offset bytes.now) }
 {
     let made = PlacedEntry::of_record(record, entry.offset, bytes.len() as u64);
@@ -160,15 +135,6 @@ fn is_retirement(state: FindState) -> bool
     }
 }
 
-/// The operation of a retirement.
-fn retirement(key: SliceKey, digest: Digest) -> Operation
-    ensures record { record_bytes result ≡ retirement_record key digest.0 }
-    ensures key { IsKey key }
-    ensures digest { length digest.0 ≡ 32 }
-{
-    Operation::Retire(key, digest)
-}
-
 /// The operation that the entry with this number names: a retirement is the entry's own, and an admission stands at its
 /// place. Else the entry is stale.
 pub(crate) fn operation_at<P: Placed>(
@@ -189,10 +155,10 @@ pub(crate) fn operation_at<P: Placed>(
     if is_retirement(entry.row.state) {
         return Ok(retirement(entry.row.key, entry.row.digest));
     }
-    let Ok(place) = heap.clone() else {
+    let Ok(own) = heap.clone() else {
         return Err(PlaceFault::OutOfMemory);
     };
-    let bytes = match bytes_at(place, archive, size, entry) {
+    let bytes = match bytes_at(own, archive, size, entry) {
         Ok(Some(bytes)) => bytes,
         Ok(None) => return Err(PlaceFault::Stale(Some(number))),
         Err(ReadFault::Device) => return Err(PlaceFault::Device(entry.offset)),

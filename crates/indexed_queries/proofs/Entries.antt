@@ -17,7 +17,7 @@ use Rattle.archive_index.specs.declared.entry.PlacedEntry.{PlacedEntry}
 use Rattle.archive_index.specs.Entry.{IsPlacedEntry, dsym_byte, offset_in, placed_bytes, tag_byte}
 use Rattle.archive_index.proofs.Entries.{offset_of_bytes}
 use Rattle.archive_index.proofs.Texts.{bytes_at}
-use Rattle.command_ends.proofs.Readers.{pairs_more}
+use Rattle.command_core.proofs.Readers.{pairs_more}
 use Rattle.indexed_queries.specs.Rows.{IsEntryRow}
 
 -- ---- the parts of an entry

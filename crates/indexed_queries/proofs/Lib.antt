@@ -1,4 +1,1 @@
 pub mod Entries
-pub mod Refused
-pub mod Joined
-pub mod Groups

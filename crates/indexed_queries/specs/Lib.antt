@@ -1,9 +1,4 @@
-pub mod Indexes
 pub mod Rows
 pub mod Find
 pub mod List
 pub mod Summary
-pub mod Prefixes
-pub mod InnerParts
-pub mod Together
-pub mod Several

@@ -3,11 +3,11 @@ use Rattle.std.specs.Prelude.{◌≡◌, ℕ, List, []}
 use Rattle.archive_core.specs.Summary.{Entries}
 use Rattle.archive_core.specs.declared.find.FindRow.{FindRow}
 use Rattle.report_text.specs.Finds.{list_lines}
-use Rattle.command_ends.specs.declared.faults.Status.{Status}
-use Rattle.command_ends.specs.Ends.{Query}
-use Rattle.indexed_queries.specs.Indexes.{IsIndexOf, IsRefusedByIndex}
-use Rattle.command_ends.specs.Inputs.{Reader, Unfailed}
-use Rattle.command_ends.specs.Found.{found_status}
+use Rattle.command_core.specs.declared.faults.Status.{Status}
+use Rattle.command_core.specs.Ends.{Query}
+use Rattle.index_inputs.specs.Indexes.{IsIndexOf, IsRefusedByIndex}
+use Rattle.command_core.specs.Inputs.{Reader, Unfailed}
+use Rattle.command_core.specs.Found.{found_status}
 use Rattle.indexed_queries.specs.Rows.{AreIndexRows}
 
 -- what an index tells: the status of the rows of all its entries, and their lines

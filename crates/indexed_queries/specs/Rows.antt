@@ -31,7 +31,7 @@ has_lower_key a b = is_lt (slice_cmp nat_cmp (key_bytes a.key) (key_bytes b.key)
 pub record AreIndexRows (prefix : List ℕ) (entries : Entries) (rows : List FindRow) : Type 0 where
   pub placed : List (List ℕ)
   pub moved : IsPermutation (entries_under prefix entries) placed
-  pub by_place : IsSortedBy stands_before placed
+  pub by_offset : IsSortedBy stands_before placed
   pub told : List FindRow
   pub each : AllZip IsEntryRow placed told
   pub by_key : IsSortedBy has_lower_key rows

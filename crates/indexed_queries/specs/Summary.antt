@@ -4,10 +4,10 @@ use Rattle.std.specs.FinSet as set
 use Rattle.join_core.specs.Listing.{listing}
 use Rattle.archive_core.specs.Summary.{Entries}
 use Rattle.archive_records.specs.Text.{summary_text}
-use Rattle.command_ends.specs.Ends.{Command}
-use Rattle.indexed_queries.specs.Indexes.{IsIndexOf, IsRefusedByIndex}
-use Rattle.command_ends.specs.Inputs.{Reader, Unfailed}
-use Rattle.command_ends.specs.Outputs.{summary_report_of}
+use Rattle.command_core.specs.Ends.{Command}
+use Rattle.index_inputs.specs.Indexes.{IsIndexOf, IsRefusedByIndex}
+use Rattle.command_core.specs.Inputs.{Reader, Unfailed}
+use Rattle.command_core.specs.Outputs.{summary_report_of}
 
 -- the summary that an index tells: its entries without their kinds and places
 abbrev pub summary_in : Entries → Entries

@@ -1,13 +1,13 @@
 //! `list ARCHIVE --index INDEX`.
-ghost use Rattle.command_ends.specs.Ends.{EndsReport};
-ghost use Rattle.command_ends.specs.Inputs.{reader};
-ghost use Rattle.command_ends.specs.Outputs.{writer};
+ghost use Rattle.command_core.specs.Ends.{EndsReport};
+ghost use Rattle.command_core.specs.Inputs.{reader};
+ghost use Rattle.command_core.specs.Outputs.{writer};
 ghost use Rattle.indexed_queries.specs.List.{list_at};
 
-use crate::inputs::read_index_of;
 use crate::rows::rows_under;
 use byte_device::{CannotOpen, Placed, Sink};
-use command_ends::{CommandFault, Status, found_status, publish_report};
+use command_core::{CommandFault, Status, found_status, publish_report};
+use index_inputs::read_index_of;
 use memory::Heap;
 use report_text::list_lines;
 

@@ -49,7 +49,7 @@ fn entries_under(
 }
 
 /// Where the record of an entry with this row stands.
-fn place_with(row: FindRow, offset: u64) -> u64
+fn offset_with(row: FindRow, offset: u64) -> u64
     ensures offset { result ≡ offset }
     ensures fits { offset < 2 ^ 64 }
     ensures key { IsKey row.key }
@@ -59,18 +59,18 @@ fn place_with(row: FindRow, offset: u64) -> u64
 }
 
 /// Where the record of an entry stands.
-fn place_of(entry: &PlacedEntry) -> u64
+fn offset_of(entry: &PlacedEntry) -> u64
     ensures { result ≡ offset_in (placed_bytes entry.now) }
 {
-    place_with(entry.row, entry.offset)
+    offset_with(entry.row, entry.offset)
 }
 
 /// Puts entries in the order in which their records stand.
-fn put_by_place(entries: &mut Vec<PlacedEntry, Heap>)
+fn sort_by_offset(entries: &mut Vec<PlacedEntry, Heap>)
     ensures moved { IsPermutation (map placed_bytes entries.old.items) (map placed_bytes entries.new.items) }
     ensures sorted { IsSortedBy stands_before (map placed_bytes entries.new.items) }
 {
-    entries.sort_unstable_by(|a, b| place_of(a).cmp(&place_of(b)));
+    entries.sort_unstable_by(|a, b| offset_of(a).cmp(&offset_of(b)));
 }
 
 /// The rows that entries tell, in their order.
@@ -104,7 +104,7 @@ pub(crate) fn rows_under(
 {
     let _count = index.len();
     let mut placed = entries_under(heap.clone()?, prefix, index.entries())?;
-    put_by_place(&mut placed);
+    sort_by_offset(&mut placed);
     let mut rows = rows_of(heap.clone()?, &placed)?;
     put_by_key(&mut rows)?;
     Ok(rows)

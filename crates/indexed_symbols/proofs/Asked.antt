@@ -8,9 +8,10 @@ use Rattle.archive_core.specs.declared.keys.SliceKey.{SliceKey}
 use Rattle.archive_core.specs.declared.lookup.Where.{Where}
 use Rattle.archive_core.proofs.Members.{in_map, to_map}
 use Rattle.crash_frames.specs.declared.frame.Frame.{Frame}
-use Rattle.command_ends.specs.Inputs.{IsRefusal}
-use Rattle.command_ends.specs.declared.faults.CommandFault.{CommandFault}
-use Rattle.command_ends.specs.declared.faults.CommandFault.TheVariants.{Input, Output, Report, OutOfMemory}
+use Rattle.command_core.specs.Inputs.{IsRefusal}
+use Rattle.command_core.specs.declared.faults.CommandFault.{CommandFault}
+use Rattle.command_core.specs.declared.faults.CommandFault.TheVariants.{Input, OutOfMemory}
+use Rattle.command_inputs.proofs.Parts.{refusal_of}
 use Rattle.indexed_answers.specs.Among.{AreAnsweringAmong, EntryAt}
 use Rattle.indexed_answers.specs.AmongAsked.{AsksAmong, BlamesAmong, HasText, HaveTexts, each_known}
 use Rattle.indexed_answers.specs.AmongTold.{IsAnswerAmong}
@@ -43,9 +44,9 @@ module _ {D : Type 0} (whole : D → Option (List ℕ)) (failures : D → ℕ) (
 
   -- each column tells of each place
   pub told_of : (answers : Answers) → AsksAmong whole failures lines answering old new (Ok answers) AreColumns
-      → ((texts : List (List ℕ)) (indexes : List (List (List ℕ))) (front : List ℕ) (answering : List EntryAt) (lines : Bool) (asked : List Where) (columns : List EntryAnswers) (number : ℕ) (none : Where)
-      → AreAnsweringAmong front indexes answering → AllZip (IsColumnAt texts lines asked) answering columns → number < length asked
-      → IsAnswerAmong texts indexes front lines (get_or asked number none) (answer_of (map (row_at number) columns)) (shown_of lines number columns))
+      → ((texts : List (List ℕ)) (indexes : List (List (List ℕ))) (prefix : List ℕ) (answering : List EntryAt) (lines : Bool) (asked : List Where) (columns : List EntryAnswers) (number : ℕ) (none : Where)
+      → AreAnsweringAmong prefix indexes answering → AllZip (IsColumnAt texts lines asked) answering columns → number < length asked
+      → IsAnswerAmong texts indexes prefix lines (get_or asked number none) (answer_of (map (row_at number) columns)) (shown_of lines number columns))
       → AreToldOf (HaveTexts whole old) all key lines places answers
   told_of answers asks law = λ texts have number place at.
       let is : get_or places number place ≡ place = get_or_from_slice_get places number place place at in
@@ -78,9 +79,8 @@ module _ {D : Type 0} (whole : D → Option (List ℕ)) (failures : D → ℕ) (
     says = λ texts have. r.says texts (subst (λ (ds : List (Result (Option (List ℕ)) CannotOpen)). AllZip HasText ds texts) (sym texts_kept) have);
     counts = subst (λ (olds : List (Result ℕ CannotOpen)). BlamesAmong lines r.answering olds (each_known failures new) r.fault) counts_kept r.counts;
   }
-  untold_first counts_kept new key keys (Output n) there r = absurd r
-  untold_first counts_kept new key keys (Report n) there r = absurd r
   untold_first counts_kept new key keys OutOfMemory there r = r ∙ counts_kept
+  untold_first counts_kept new key keys fault there r = absurd r
 
 -- ---- the keys of frames
 
@@ -100,7 +100,5 @@ module _ (frames : List Frame) (asked : List AskedPlace) (of : AreAskedOf frames
 
   pub untold_of_frames : {D : Type 0} (whole : D → Option (List ℕ)) (failures : D → ℕ) (lines : Bool) (all : List (List (List ℕ))) (old new : List (Result D CannotOpen)) (fault : CommandFault)
       → IsRefusal (IsUntoldBy whole failures lines (keys_asked asked) all old new) (NoneFailed failures old new) fault → IsRefusal (IsUntoldBy whole failures lines (keys_of frames) all old new) (NoneFailed failures old new) fault
-  untold_of_frames whole failures lines all old new (Input at why) r = record { key = r.key; key_is = among_frames r.key r.key_is; answering = r.answering; are = r.are; fault = r.fault; told_as = r.told_as; says = r.says; counts = r.counts }
-  untold_of_frames whole failures lines all old new (Output n) r = absurd r
-  untold_of_frames whole failures lines all old new (Report n) r = absurd r
-  untold_of_frames whole failures lines all old new OutOfMemory r = r
+  untold_of_frames whole failures lines all old new fault r =
+      refusal_of _ _ _ _ fault (λ at why u. record { key = u.key; key_is = among_frames u.key u.key_is; answering = u.answering; are = u.are; fault = u.fault; told_as = u.told_as; says = u.says; counts = u.counts }) (λ u. u) r

@@ -1,34 +1,26 @@
 -- How a command ends that asks by tables, or by slices.
-use Rattle.std.proofs.Common.{◌≡◌, ℕ, ◌⊎◌, Bool, List, [], length, Option, Result, Ok, Err, sym, ap, ◌∙◌, subst, inl, inr}
+use Rattle.std.proofs.Common.{◌≡◌, ℕ, ◌⊎◌, Bool, List, [], length, Option, Result, Ok, sym, ap, ◌∙◌, subst, inl, inr}
 use Rattle.std.specs.Prelude.{slice_get, slice_set}
 use Rattle.std.specs.List.{AllZip}
 use Rattle.byte_device.specs.declared.disks.CannotOpen.{CannotOpen}
 use Rattle.archive_core.specs.Content.{HaveSameMembers, Operations}
-use Rattle.command_ends.specs.Ends.{EndsReport, Query}
-use Rattle.command_ends.specs.Inputs.{Reader, readers, EachUnfailed, IsRefusal}
-use Rattle.command_ends.specs.Outputs.{Takes, Writer}
-use Rattle.command_ends.specs.declared.faults.CommandFault.{CommandFault}
-use Rattle.command_ends.specs.declared.faults.CommandFault.TheVariants.{Input, Output, Report, OutOfMemory}
-use Rattle.command_ends.specs.declared.faults.InputName.{InputName}
-use Rattle.command_ends.specs.declared.faults.Status.{Status}
-use Rattle.command_ends.specs.declared.faults.Why.{Why}
+use Rattle.command_core.specs.Inputs.{Reader, readers, EachUnfailed, IsRefusal}
+use Rattle.command_core.specs.declared.faults.CommandFault.{CommandFault}
+use Rattle.command_core.specs.declared.faults.CommandFault.TheVariants.{Input, OutOfMemory}
+use Rattle.command_core.specs.declared.faults.InputName.{InputName}
+use Rattle.command_core.specs.declared.faults.Status.{Status}
+use Rattle.command_core.specs.declared.faults.Why.{Why}
+use Rattle.command_inputs.proofs.Parts.{refusal_of}
 use Rattle.indexed_answers.specs.Among.{EntryAt}
 use Rattle.indexed_answers.specs.AmongAsked.{BlamesAmong, HasText, HaveTexts, IsUntoldAmong, each_known}
 use Rattle.indexed_answers.specs.declared.fault.AnswerFault.{AnswerFault}
 use Rattle.indexed_answers.specs.declared.fault.AnswerFault.TheVariants as answer
-use Rattle.indexed_queries.specs.Several.{AreRefusedLater, AreUnfailedTogether, MakesTogether}
-use Rattle.indexed_queries.specs.Together.{AreAllKept, AreReadWith, IsFirstRefusedAtPlaces}
-use Rattle.indexed_queries.proofs.Groups.{later_readers, read_earlier, unfailed_through}
+use Rattle.index_inputs.specs.Several.{AreRefusedLater, AreUnfailedTogether, MakesTogether}
+use Rattle.index_inputs.specs.Together.{AreAllKept, AreReadWith, IsFirstRefusedAtPlaces}
+use Rattle.index_inputs.proofs.Groups.{later_readers, read_earlier, unfailed_through}
 use Rattle.indexed_symbols.specs.Asking.{AreGiven, AreRefusedAsking, AreTiedUnder, AreUntold, IsChanged, IsLineless, IsUntoldUnder, IsUnreadTable}
 use Rattle.indexed_symbols.specs.InnerAsking.{AreHeldUnder, AreRefusedUnder, IsUntoldBy, NoneFailed, command_fault}
 use Rattle.indexed_symbols.proofs.States.{fails_alone, kept_counts, kept_texts, none_failed_of, read_before, texts_of}
-
--- an input is refused, or memory is wanting
-pub refused_ends : (query : Query) (report : Writer) (fault : CommandFault) → IsRefusal query.Refuses query.Unfailed fault → Takes report [] → EndsReport query report (Err fault)
-refused_ends query report (Input at why) r t = (r, t)
-refused_ends query report (Output n) r t = absurd r
-refused_ends query report (Report n) r t = absurd r
-refused_ends query report OutOfMemory r t = (r, t)
 
 -- slices that are tied under some keys are tied under others with the same members
 pub tied_same : (keys others : List (List ℕ)) (all : List (List (List ℕ))) → HaveSameMembers others keys → AreTiedUnder keys all → AreTiedUnder others all
@@ -37,10 +29,7 @@ tied_same keys others all same (key, there, tied) = (key, (same key).1 there, ti
 -- an archive is refused under keys that are such
 pub sought_refused : {P : Type 0} (IsSought : List (List ℕ) → Type 0) (all : List (List (List ℕ))) (archives : List (Reader P)) (keys : List (List ℕ)) (Unfailed : Type 0) (fault : CommandFault) → IsSought keys
     → IsRefusal (IsFirstRefusedAtPlaces keys archives all) Unfailed fault → IsRefusal (AreRefusedUnder IsSought all archives) Unfailed fault
-sought_refused IsSought all archives keys Unfailed (Input at why) sought r = (keys, sought, r)
-sought_refused IsSought all archives keys Unfailed (Output n) sought r = absurd r
-sought_refused IsSought all archives keys Unfailed (Report n) sought r = absurd r
-sought_refused IsSought all archives keys Unfailed OutOfMemory sought r = r
+sought_refused IsSought all archives keys Unfailed fault sought r = refusal_of _ _ _ _ fault (λ at why refused. (keys, sought, refused)) (λ u. u) r
 
 module _ {D P : Type 0} (lines : Bool) (IsSought : List (List ℕ) → Type 0) (whole : D → Option (List ℕ)) (failures : D → ℕ) (keys : List (List ℕ)) (all : List (List (List ℕ))) (old new : List (Result D CannotOpen)) (archives : List (Reader P)) where
   -- tables are refused, or slices that are read for them
@@ -49,21 +38,10 @@ module _ {D P : Type 0} (lines : Bool) (IsSought : List (List ℕ) → Type 0) (
       (EachUnfailed archives × IsUntoldBy whole failures lines keys all old new at why)
       ⊎ (AreTiedUnder keys all × NoneFailed failures old new × AreRefusedUnder IsSought all archives at why)
 
-  -- slices were asked after tables were not
-  pub slices_refused : (fault : CommandFault) → AreTiedUnder keys all → NoneFailed failures old new → IsRefusal (AreRefusedUnder IsSought all archives) (EachUnfailed archives) fault
-      → IsRefusal IsEitherRefused (NoneFailed failures old new × EachUnfailed archives) fault
-  slices_refused (Input at why) tied none r = inr (tied, none, r)
-  slices_refused (Output n) tied none r = absurd r
-  slices_refused (Report n) tied none r = absurd r
-  slices_refused OutOfMemory tied none r = (none, r)
-
   -- tables are refused, before slices were asked
   pub tables_refused : (fault : CommandFault) → EachUnfailed archives → IsRefusal (IsUntoldBy whole failures lines keys all old new) (NoneFailed failures old new) fault
       → IsRefusal IsEitherRefused (NoneFailed failures old new × EachUnfailed archives) fault
-  tables_refused (Input at why) unfailed r = inl (unfailed, r)
-  tables_refused (Output n) unfailed r = absurd r
-  tables_refused (Report n) unfailed r = absurd r
-  tables_refused OutOfMemory unfailed r = (r, unfailed)
+  tables_refused fault unfailed r = refusal_of _ _ _ _ fault (λ at why refused. inl (unfailed, refused)) (λ u. (u, unfailed)) r
 
 -- after the indexes were read
 module _ {I P : Type 0} (left : I → Option (List ℕ)) (failures : I → ℕ) (whole : P → Option (List ℕ)) (failures_at : P → ℕ)
@@ -167,9 +145,8 @@ module _ {I P : Type 0} (left : I → Option (List ℕ)) (failures : I → ℕ) 
           refused = refused;
         } in
         (others, sought, inr (inl (told, same others sought tied)))
-    asked_refused (Output n) r = absurd r
-    asked_refused (Report n) r = absurd r
     asked_refused OutOfMemory r = unfailed_all r
+    asked_refused fault r = absurd r
 
     -- what the slices hold
     pub slices_make : (Tells : Operations → Status → List ℕ → Type 0) (status : Status) (text : List ℕ) → AreTiedUnder keys all → AreHeldUnder IsSought all later (λ content. Tells content status text)

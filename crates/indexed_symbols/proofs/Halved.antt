@@ -17,9 +17,8 @@ module _ {X : Type 0} where
   each_more P (x ∷ xs) y all one = (all.0, each_more P xs y all.1 one)
 
   each_first : (P : X → Type 0) (n : ℕ) (xs : List X) → AllByRecursion P xs → AllByRecursion P (take n xs)
-  each_first P zero xs all = tt
-  each_first P (suc n) [] all = tt
   each_first P (suc n) (x ∷ xs) all = (all.0, each_first P n xs all.1)
+  each_first P n xs all = tt
 
   -- what is there is true of what stands there
   pub each_there : (P : X → Type 0) (xs : List X) (x : X) → AllByRecursion P xs → Contains xs x → P x
@@ -30,9 +29,8 @@ module _ {X : Type 0} where
 module _ {X : Type 0} (R : X → X → Ordering) where
   pub last_ascend : (n : ℕ) (xs : List X) → IsStrictlySortedBy R xs → IsStrictlySortedBy R (drop n xs)
   unfolding IsStrictlySortedBy
-  last_ascend zero xs up = up
-  last_ascend (suc n) [] up = up
   last_ascend (suc n) (x ∷ xs) up = last_ascend n xs up.1
+  last_ascend n xs up = up
 
   pub first_ascend : (n : ℕ) (xs : List X) → IsStrictlySortedBy R xs → IsStrictlySortedBy R (take n xs)
   unfolding IsStrictlySortedBy
@@ -59,8 +57,6 @@ module _ {K : Type 0} {R : K → K → Ordering} (o : IsTotalOrder R) {X : Type 
   -- none is less than the one before it
   pub neighbours : (xs : List X) → IsStrictlySortedBy (λ a b. R (key a) (key b)) xs → IsSortedBy (λ a b. is_lt (R (key a) (key b))) xs
   unfolding IsStrictlySortedBy
-  neighbours [] up = λ k d _ lt. absurd (omega (arith, lt))
-  neighbours (x ∷ []) up = λ k d _ lt. absurd (omega (arith, lt))
   neighbours (x ∷ (y ∷ xs)) up = from (neighbours (y ∷ xs) up.1)
     where
       from : IsSortedBy (λ a b. is_lt (R (key a) (key b))) (y ∷ xs) → IsSortedBy (λ a b. is_lt (R (key a) (key b))) (x ∷ (y ∷ xs))
@@ -68,6 +64,7 @@ module _ {K : Type 0} {R : K → K → Ordering} (o : IsTotalOrder R) {X : Type 
       from rest (suc k) d _ lt =
           let e : suc k + 1 ≡ suc (k + 1) = omega arith in
           rw e (rest k d (omega arith) (omega (arith, lt)))
+  neighbours xs up = λ k d _ lt. absurd (omega (arith, lt))
 
   -- what stands there is found
   pub found : (xs : List X) (q : K) (x : X) (r : Result ℕ ℕ) → IsStrictlySortedBy (λ a b. R (key a) (key b)) xs → Contains xs x → R (key x) q ≡ Equal

@@ -3,14 +3,14 @@ use Rattle.std.proofs.Common.{◌≡◌, ℕ, ◌⊎◌, Bool, List, [], ◌∷�
 use Rattle.byte_device.specs.declared.disks.CannotOpen.{CannotOpen}
 use Rattle.archive_core.specs.Key.{key_bytes}
 use Rattle.archive_core.specs.declared.keys.SliceKey.{SliceKey}
-use Rattle.archive_queries.specs.Symbolicate.{TellsAddresses}
-use Rattle.command_ends.specs.Inputs.{Reader, readers, EachUnfailed, IsRefusal}
-use Rattle.command_ends.specs.declared.faults.CommandFault.{CommandFault}
-use Rattle.command_ends.specs.declared.faults.CommandFault.TheVariants.{Input, Output, Report, OutOfMemory}
-use Rattle.command_ends.specs.declared.faults.Status.{Status}
+use Rattle.address_queries.specs.Symbolicate.{TellsAddresses}
+use Rattle.command_core.specs.Inputs.{Reader, readers, EachUnfailed, IsRefusal}
+use Rattle.command_core.specs.declared.faults.CommandFault.{CommandFault}
+use Rattle.command_core.specs.declared.faults.Status.{Status}
+use Rattle.command_inputs.proofs.Parts.{refusal_of}
 use Rattle.indexed_answers.specs.AmongAsked.{HaveTexts}
-use Rattle.indexed_queries.specs.Several.{AreUnfailedTogether, MakesTogether}
-use Rattle.indexed_queries.specs.Together.{AreAllKept, AreReadWith}
+use Rattle.index_inputs.specs.Several.{AreUnfailedTogether, MakesTogether}
+use Rattle.index_inputs.specs.Together.{AreAllKept, AreReadWith}
 use Rattle.indexed_symbols.specs.Asking.{AreRefusedAsking, AreTiedUnder, TellTables}
 use Rattle.indexed_symbols.specs.InnerAsking.{AreHeldUnder, NoneFailed}
 use Rattle.indexed_symbols.specs.Symbolicate.{symbolicate_at}
@@ -41,10 +41,8 @@ module _ {I P : Type 0} (left : I → Option (List ℕ)) (failures : I → ℕ) 
 
   own_refused : (fault : CommandFault) → IsRefusal (λ at why. (others : List (List ℕ)) × (others ≡ keys) × AreRefusedAsking lines others named known at why) (AreUnfailedTogether named known) fault
       → IsRefusal (AreRefusedAsking lines keys named known) (AreUnfailedTogether named known) fault
-  own_refused (Input at why) (others, same, r) = subst (λ (ks : List (List ℕ)). AreRefusedAsking lines ks named known at why) same r
-  own_refused (Output n) r = absurd r
-  own_refused (Report n) r = absurd r
-  own_refused OutOfMemory r = r
+  own_refused fault r =
+      refusal_of _ _ _ _ fault (λ at why x. subst (λ (ks : List (List ℕ)). AreRefusedAsking lines ks named known at why) x.1.0 x.1.1) (λ u. u) r
 
   -- tables or slices are refused
   pub key_refused : (fault : CommandFault)

@@ -19,7 +19,7 @@ use Rattle.archive_core.proofs.Members.{in_front, in_map, in_rest, to_map}
 use Rattle.indexed_symbols.proofs.Halved.{each_there, found, first_ascend, last_ascend, more_ascend, none_ascend}
 use Rattle.archive_core.specs.Content.{HaveSameMembers}
 use Rattle.archive_core.specs.Key.{key_bytes}
-use Rattle.archive_queries.specs.Symbolicate.{asked_of}
+use Rattle.address_queries.specs.Symbolicate.{asked_of}
 use Rattle.archive_core.specs.declared.keys.SliceKey.{SliceKey}
 use Rattle.crash_frames.specs.declared.frame.Frame.{Frame}
 use Rattle.archive_core.specs.declared.lookup.Where.{Where}
@@ -32,9 +32,8 @@ use Rattle.indexed_symbols.specs.InnerTold.{AreInOrder, HasTold, IsToldSoFar, St
 -- ---- orders
 
 eq_true : (o : Ordering) → is_eq o ≡ true → o ≡ Equal
-eq_true Less e = absurd (cc e)
 eq_true Equal e = refl
-eq_true Greater e = absurd (cc e)
+eq_true o e = absurd (cc e)
 
 -- where two orders say less, the first says so, or none
 first_less : (a b : Ordering) → ordering_then a b ≡ Less → (a ≡ Less) ⊎ ((a ≡ Equal) × (b ≡ Less))
@@ -43,9 +42,8 @@ first_less Equal b e = inr (refl, e)
 first_less Greater b e = absurd (cc e)
 
 first_equal : (a b : Ordering) → ordering_then a b ≡ Equal → (a ≡ Equal) × (b ≡ Equal)
-first_equal Less b e = absurd (cc e)
 first_equal Equal b e = (refl, e)
-first_equal Greater b e = absurd (cc e)
+first_equal a b e = absurd (cc e)
 
 bytes_itself : (a : List ℕ) → slice_cmp nat_cmp a a ≡ Equal
 bytes_itself a = tied_itself nat_list_cmp_total a

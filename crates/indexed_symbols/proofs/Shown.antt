@@ -14,11 +14,11 @@ use Rattle.archive_core.specs.declared.lookup.Answer.{Answer}
 use Rattle.archive_core.specs.declared.lookup.Where.{Where}
 use Rattle.crash_frames.specs.declared.frame.Frame.{Frame}
 use Rattle.report_text.specs.Answers.{answer_lines}
-use Rattle.command_ends.specs.declared.faults.Status.{Status}
-use Rattle.command_ends.specs.declared.faults.Status.TheVariants.{Done, Partial}
-use Rattle.command_ends.proofs.Readers.{pairs_more}
-use Rattle.archive_queries.proofs.Answered.{status_more}
-use Rattle.archive_queries.specs.Symbolicate.{Answered, asked_of, is_symbol}
+use Rattle.command_core.specs.declared.faults.Status.{Status}
+use Rattle.command_core.specs.declared.faults.Status.TheVariants.{Done, Partial}
+use Rattle.command_core.proofs.Readers.{pairs_more}
+use Rattle.address_queries.proofs.Answered.{status_more}
+use Rattle.address_queries.specs.Symbolicate.{Answered, asked_of, is_symbol}
 use Rattle.indexed_answers.specs.AmongTold.{IsAnswerAmong}
 use Rattle.indexed_answers.specs.declared.answers.Answers.{Answers}
 use Rattle.indexed_symbols.specs.Asking.{TellTables}
@@ -80,9 +80,8 @@ module _ (AreTexts : List (List ℕ) → Type 0) (all : List (List (List ℕ))) 
 
   each_by_tables : (frames : List Frame) (rows : List Answered) → AllZip (IsFrameTold told lines) frames rows → AllZip (IsFrameByTables AreTexts all lines) frames rows
   each_by_tables [] [] a = tt
-  each_by_tables [] (_ ∷ _) a = absurd a
-  each_by_tables (_ ∷ _) [] a = absurd a
   each_by_tables (frame ∷ frames) (row ∷ rows) a = (by_tables frame row a.0, each_by_tables frames rows a.1)
+  each_by_tables frames rows a = absurd a
 
   -- what is shown of frames is what tables tell of them
   pub frames_by_tables : (frames : List Frame) (status : Status) (text : List ℕ) → ShowsFrames told lines frames status text → TellTablesOfFrames AreTexts all lines frames status text
@@ -94,9 +93,6 @@ module _ (AreTexts : List (List ℕ) → Type 0) (all : List (List (List ℕ))) 
   }
 
 -- ---- addresses
-
-pub no_addresses : (answers : Answers) (lines : Bool) → ShowsAddresses answers lines [] Done []
-no_addresses answers lines = record { rows = []; addresses_are = refl; numbered = λ number row at. absurd (cc at); status_is = refl; text_is = refl }
 
 -- what stands in a list with one more
 pushed : (rows : List Answered) (row : Answered) (n : ℕ) (one : Answered) → slice_get (rows ++ row ∷ []) n ≡ Some one → (slice_get rows n ≡ Some one) ⊎ ((n ≡ length rows) × (row ≡ one))

@@ -4,18 +4,12 @@ use Rattle.std.specs.Prelude.{IsOk, slice_get, slice_set}
 use Rattle.std.proofs.lemmas.Option.{slice_get_within}
 use Rattle.byte_device.specs.Devices.{FailedIn}
 use Rattle.byte_device.specs.declared.disks.CannotOpen.{CannotOpen}
-use Rattle.command_ends.specs.Inputs.{Reader, reader, readers, EachUnfailed, Gives, IsGiven, failures_of}
+use Rattle.command_core.specs.Inputs.{Reader, reader, readers, EachUnfailed, Gives, IsGiven, failures_of}
 use Rattle.indexed_answers.specs.Among.{AreAnsweringAmong, EntryAt}
 use Rattle.indexed_answers.specs.AmongAsked.{AreOpened, HasText, HaveTexts, IsOpenedAt, each_known, known_of}
-use Rattle.indexed_queries.specs.Together.{AreAllKept, AreReadWith, IsKept}
+use Rattle.index_inputs.specs.Together.{AreAllKept, AreReadWith, IsKept}
 use Rattle.indexed_symbols.specs.Asking.{AreGiven, FailsAlone}
 use Rattle.indexed_symbols.specs.InnerAsking.{AreAllOpened}
-
-module _ {D V : Type 0} (known : D → V) where
-  -- of a device that was opened, the same is known of one that was
-  ok_known : (x : Result D CannotOpen) (v : V) → known_of known x ≡ Ok v → (d : D) × (x ≡ Ok d) × (known d ≡ v)
-  ok_known (Ok d) v e = (d, refl, cc)
-  ok_known (Err r) v e = absurd (cc e)
 
 module _ {D : Type 0} (whole : D → Option (List ℕ)) where
   opened_one : (x y : Result D CannotOpen) → known_of whole y ≡ known_of whole x → IsOk x → IsOk y
@@ -39,8 +33,8 @@ module _ {D : Type 0} (whole : D → Option (List ℕ)) where
   opened_at (d ∷ ds) (suc n) are lt = opened_at ds n are.1 (omega (arith, lt))
 
   -- those in which entries stand are open
-  pub opened_among : (devices : List (Result D CannotOpen)) (front : List ℕ) (all : List (List (List ℕ))) (answering : List EntryAt) → length all ≡ length devices → AreAllOpened devices → AreAnsweringAmong front all answering → AreOpened devices answering
-  opened_among devices front all answering long are among = λ k d lt.
+  pub opened_among : (devices : List (Result D CannotOpen)) (prefix : List ℕ) (all : List (List (List ℕ))) (answering : List EntryAt) → length all ≡ length devices → AreAllOpened devices → AreAnsweringAmong prefix all answering → AreOpened devices answering
+  opened_among devices prefix all answering long are among = λ k d lt.
       let x = get_or answering k d in
       let at = among.among k d lt in
       opened_at devices x.input are (omega (arith, long, slice_get_within all x.input at.entries at.index_is))
@@ -57,36 +51,31 @@ module _ {S : Type 0} (left : S → Option (List ℕ)) (failures : S → ℕ) wh
 
   pub texts_of : (old new : List (Result S CannotOpen)) (texts : List (List ℕ)) → length new ≡ length old → AreGiven (between old new) texts → HaveTexts left old texts
   texts_of [] new [] long given = tt
-  texts_of [] new (_ ∷ _) long given = absurd given
   texts_of (x ∷ xs) [] texts long given = absurd (omega (arith, long))
-  texts_of (x ∷ xs) (y ∷ ys) [] long given = absurd given
   texts_of (x ∷ xs) (y ∷ ys) (t ∷ ts) long given = let rest : length ys ≡ length xs = omega (arith, long) in (text_of x y t given.0, texts_of xs ys ts rest given.1)
+  texts_of old new texts long given = absurd given
 
   -- ---- which are kept
 
   kept_text : (x y : Result S CannotOpen) → IsKept left failures x y → known_of left y ≡ known_of left x
   kept_text (Ok d) (Ok e) k = ap Ok k.0
-  kept_text (Ok d) (Err r) k = absurd k
-  kept_text (Err r) (Ok e) k = absurd k
   kept_text (Err r) (Err q) k = ap Err k
+  kept_text x y k = absurd k
 
   pub kept_texts : (old new : List (Result S CannotOpen)) → AreAllKept left failures old new → each_known left new ≡ each_known left old
   kept_texts [] [] k = refl
-  kept_texts [] (_ ∷ _) k = absurd k
-  kept_texts (_ ∷ _) [] k = absurd k
   kept_texts (x ∷ xs) (y ∷ ys) k = λ i. kept_text x y k.0 i ∷ kept_texts xs ys k.1 i
+  kept_texts old new k = absurd k
 
   kept_count : (x y : Result S CannotOpen) → IsKept left failures x y → known_of failures y ≡ known_of failures x
   kept_count (Ok d) (Ok e) k = ap Ok k.1
-  kept_count (Ok d) (Err r) k = absurd k
-  kept_count (Err r) (Ok e) k = absurd k
   kept_count (Err r) (Err q) k = ap Err k
+  kept_count x y k = absurd k
 
   pub kept_counts : (old new : List (Result S CannotOpen)) → AreAllKept left failures old new → each_known failures new ≡ each_known failures old
   kept_counts [] [] k = refl
-  kept_counts [] (_ ∷ _) k = absurd k
-  kept_counts (_ ∷ _) [] k = absurd k
   kept_counts (x ∷ xs) (y ∷ ys) k = λ i. kept_count x y k.0 i ∷ kept_counts xs ys k.1 i
+  kept_counts old new k = absurd k
 
   opened_kept : (x y : Result S CannotOpen) → IsOk x → IsKept left failures x y → IsOk y
   opened_kept (Ok d) (Ok e) is k = refl
@@ -101,40 +90,34 @@ module _ {S : Type 0} (left : S → Option (List ℕ)) (failures : S → ℕ) wh
   pub opened_read : {P : Type 0} (archives : List (Reader P)) (all : List (List (List ℕ))) (old new : List (Result S CannotOpen)) → AreReadWith (between old new) archives all → AreAllKept left failures old new → AreAllOpened new
   opened_read archives all old [] read kept = tt
   opened_read archives all [] (_ ∷ _) read kept = absurd kept
-  opened_read [] [] (x ∷ xs) (y ∷ ys) read kept = absurd read
-  opened_read [] (_ ∷ _) (x ∷ xs) (y ∷ ys) read kept = absurd read
-  opened_read (_ ∷ _) [] (x ∷ xs) (y ∷ ys) read kept = absurd read
   opened_read (archive ∷ archives) (entries ∷ all) (x ∷ xs) (y ∷ ys) read kept =
       (opened_kept x y (opened_given x y _ read.0.index_is) kept.0, opened_read archives all xs ys read.1 kept.1)
+  opened_read archives all old new read kept = absurd read
 
   -- what was read with the first states was so whatever the last are
   pub read_before : {P : Type 0} (archives : List (Reader P)) (all : List (List (List ℕ))) (old mid new : List (Result S CannotOpen)) → length mid ≡ length old → length new ≡ length old → AreReadWith (between old mid) archives all → AreReadWith (between old new) archives all
   read_before archives all [] mid new long more read = read
   read_before archives all (x ∷ xs) [] new long more read = absurd (omega (arith, long))
   read_before archives all (x ∷ xs) (y ∷ ys) [] long more read = absurd (omega (arith, more))
-  read_before [] [] (x ∷ xs) (y ∷ ys) (z ∷ zs) long more read = absurd read
-  read_before [] (_ ∷ _) (x ∷ xs) (y ∷ ys) (z ∷ zs) long more read = absurd read
-  read_before (_ ∷ _) [] (x ∷ xs) (y ∷ ys) (z ∷ zs) long more read = absurd read
   read_before (archive ∷ archives) (entries ∷ all) (x ∷ xs) (y ∷ ys) (z ∷ zs) long more read =
       let rest : length ys ≡ length xs = omega (arith, long) in
       let rest_more : length zs ≡ length xs = omega (arith, more) in
       (record { index_is = read.0.index_is; archive_is = read.0.archive_is }, read_before archives all xs ys zs rest rest_more read.1)
+  read_before archives all old mid new long more read = absurd read
 
   -- ---- which failed
 
   unfailed_one : (x y : Result S CannotOpen) → known_of failures y ≡ known_of failures x → failures_of failures y ≡ failures_of failures x
   unfailed_one (Ok d) (Ok e) same = cc
-  unfailed_one (Ok d) (Err r) same = absurd (cc same)
-  unfailed_one (Err r) (Ok e) same = absurd (cc same)
   unfailed_one (Err r) (Err q) same = refl
+  unfailed_one x y same = absurd (cc same)
 
   pub none_failed_of : (old new : List (Result S CannotOpen)) → each_known failures new ≡ each_known failures old → EachUnfailed (between old new)
-  none_failed_of [] new same = tt
-  none_failed_of (x ∷ xs) [] same = tt
   none_failed_of (x ∷ xs) (y ∷ ys) same =
       let head : known_of failures y ≡ known_of failures x = cc in
       let tail : each_known failures ys ≡ each_known failures xs = cc in
       (unfailed_one x y head, none_failed_of xs ys tail)
+  none_failed_of old new same = tt
 
   count_of : (x : Result S CannotOpen) (n : ℕ) → known_of failures x ≡ Ok n → failures_of failures x ≡ n
   count_of (Ok d) n same = cc

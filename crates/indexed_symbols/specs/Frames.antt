@@ -3,17 +3,17 @@ use Rattle.std.specs.Prelude.{◌≡◌, ◌⊎◌, ℕ, List, Bool, Ok, map}
 use Rattle.std.specs.List.{AllZip}
 use Rattle.archive_core.specs.Content.{HaveSameMembers}
 use Rattle.archive_core.specs.Key.{key_bytes}
-use Rattle.archive_queries.specs.Frames.{TellsFrames}
-use Rattle.archive_queries.specs.Symbolicate.{Answered, answers_status, answers_text}
+use Rattle.address_queries.specs.Frames.{TellsFrames}
+use Rattle.address_queries.specs.Symbolicate.{Answered, answers_status, answers_text}
 use Rattle.crash_frames.specs.Frames.{frames_of}
 use Rattle.crash_frames.specs.declared.frame.Frame.{Frame}
-use Rattle.command_ends.specs.Ends.{Query}
-use Rattle.command_ends.specs.Inputs.{Reader, EachUntouched, Gives, IsRefusedFrames, Unfailed}
-use Rattle.command_ends.specs.declared.faults.InputName.{InputName}
-use Rattle.command_ends.specs.declared.faults.Status.{Status}
-use Rattle.command_ends.specs.declared.faults.Why.{Why}
-use Rattle.indexed_queries.specs.Several.{AreUnfailedTogether, MakesTogether}
-use Rattle.indexed_queries.specs.Together.{AreReadWith}
+use Rattle.command_core.specs.Ends.{Query}
+use Rattle.command_core.specs.Inputs.{Reader, EachUntouched, Gives, IsRefusedFrames, Unfailed}
+use Rattle.command_core.specs.declared.faults.InputName.{InputName}
+use Rattle.command_core.specs.declared.faults.Status.{Status}
+use Rattle.command_core.specs.declared.faults.Why.{Why}
+use Rattle.index_inputs.specs.Several.{AreUnfailedTogether, MakesTogether}
+use Rattle.index_inputs.specs.Together.{AreReadWith}
 use Rattle.indexed_symbols.specs.Asking.{AreGiven, AreRefusedAsking, AreTiedUnder, IsAnsweredByTables}
 
 -- the keys of frames
@@ -64,9 +64,9 @@ AreRefusedAt lines indexes archives frames at why =
 -- FRAMES says these frames, and this is told of them.
 pub record MakesFramedAt {Q I P : Type 0} (lines : Bool) (frames : Reader Q) (indexes : List (Reader I))
     (archives : List (Reader P)) (status : Status) (text : List ℕ) : Type 0 where
-  pub said : List Frame
-  pub frames_are : Gives frames (λ bytes. frames_of bytes ≡ Ok said)
-  pub told : AreToldAt lines indexes archives said status text
+  pub listed : List Frame
+  pub frames_are : Gives frames (λ bytes. frames_of bytes ≡ Ok listed)
+  pub told : AreToldAt lines indexes archives listed status text
 
 -- FRAMES is refused, and nothing else is touched; or FRAMES says frames, its reader does not fail, and another is
 -- refused
@@ -74,8 +74,8 @@ abbrev pub RefusesFramesAt : {Q I P : Type 0} → Bool → Reader Q → List (Re
     → Type 0
 RefusesFramesAt lines frames indexes archives at why =
     (IsRefusedFrames frames at why × EachUntouched indexes × EachUntouched archives)
-    ⊎ ((said : List Frame) × Gives frames (λ bytes. frames_of bytes ≡ Ok said) × Unfailed frames
-    × AreRefusedAt lines indexes archives said at why)
+    ⊎ ((listed : List Frame) × Gives frames (λ bytes. frames_of bytes ≡ Ok listed) × Unfailed frames
+    × AreRefusedAt lines indexes archives listed at why)
 
 -- `frames`, over these frames and these archives
 abbrev pub frames_at : {Q I P : Type 0} → Bool → Reader Q → List (Reader I) → List (Reader P) → Query

@@ -9,14 +9,14 @@ use Rattle.indexed_answers.specs.Among.{AreAnsweringAmong, EntryAt}
 use Rattle.indexed_answers.specs.AmongAsked.{BlamesAmong, HaveTexts, IsUntoldAmong, each_known}
 use Rattle.indexed_answers.specs.declared.fault.AnswerFault.{AnswerFault}
 use Rattle.indexed_answers.specs.declared.fault.AnswerFault.TheVariants.{Damaged, Device, NoLines, OutOfMemory}
-use Rattle.command_ends.specs.Inputs.{Reader, EachUnfailed, ReadsInputs}
-use Rattle.command_ends.specs.declared.faults.CommandFault.{CommandFault}
-use Rattle.command_ends.specs.declared.faults.CommandFault.TheVariants as command
-use Rattle.command_ends.specs.declared.faults.InputName.{InputName}
-use Rattle.command_ends.specs.declared.faults.InputName.TheVariants.{Index}
-use Rattle.command_ends.specs.declared.faults.Why.{Why}
-use Rattle.command_ends.specs.declared.faults.Why.TheVariants as why
-use Rattle.indexed_queries.specs.Together.{HoldNamed, IsFirstRefusedAtPlaces}
+use Rattle.command_core.specs.Inputs.{Reader, EachUnfailed, ReadsInputs}
+use Rattle.command_core.specs.declared.faults.CommandFault.{CommandFault}
+use Rattle.command_core.specs.declared.faults.CommandFault.TheVariants as command
+use Rattle.command_core.specs.declared.faults.InputName.{InputName}
+use Rattle.command_core.specs.declared.faults.InputName.TheVariants.{Index}
+use Rattle.command_core.specs.declared.faults.Why.{Why}
+use Rattle.command_core.specs.declared.faults.Why.TheVariants as why
+use Rattle.index_inputs.specs.Together.{HoldNamed, IsFirstRefusedAtPlaces}
 use Rattle.indexed_symbols.specs.Asking.{AreTiedUnder}
 
 -- each device was opened

@@ -3,7 +3,7 @@
 ghost use Rattle.std.specs.Prelude.{◌≡◌, ◌++◌, IfOk, OnOk, map, string_bytes};
 ghost use Rattle.report_text.specs.Answers.{answer_lines};
 ghost use Rattle.report_text.specs.FrameLists.{lists_view};
-ghost use Rattle.indexed_answers.specs.Views.{lent_in};
+ghost use Rattle.indexed_answers.specs.Views.{borrowed_in};
 ghost use Rattle.indexed_symbols.specs.InnerTold.{shown_at};
 
 use archive_core::Answer;
@@ -12,18 +12,18 @@ use memory::{Heap, NoMemory};
 use report_text::push_answer;
 use source_frames::Frame;
 
-/// Lists of frames, lent.
-fn lent_lists<'l, 'f>(
+/// Lists of frames, borrowed.
+fn borrowed_lists<'l, 'f>(
     heap: Heap,
     lists: &'l [Vec<Frame<'f>, Heap>],
 ) -> Result<Vec<&'l [Frame<'f>], Heap>, NoMemory>
-    ensures { IfOk result (λ lent. lists_view lent.items ≡ map lent_in lists.now) }
+    ensures { IfOk result (λ borrowed. lists_view borrowed.items ≡ map borrowed_in lists.now) }
 {
-    let mut lent = Vec::with_capacity(heap, lists.len())?;
+    let mut borrowed = Vec::with_capacity(heap, lists.len())?;
     'lists: for list in lists {
-        lent.push(list.as_slice())?;
+        borrowed.push(list.as_slice())?;
     }
-    Ok(lent)
+    Ok(borrowed)
 }
 
 /// Writes an answer to an address, which stands at this number of what is told, and if lines are wanted its frames.
@@ -40,6 +40,6 @@ pub(crate) fn push_told(
         ++ answer_lines address answer.now (shown_at lines answers.now number)) }
 {
     let lists = answers.frames(heap, lines, number)?;
-    let lent = lent_lists(heap.clone()?, &lists)?;
-    push_answer(heap, text, address, answer, &lent)
+    let borrowed = borrowed_lists(heap.clone()?, &lists)?;
+    push_answer(heap, text, address, answer, &borrowed)
 }

@@ -9,7 +9,7 @@ ghost use Rattle.indexed_symbols.specs.InnerTold.{AreToldOf};
 
 use archive_core::{SliceKey, Where};
 use byte_device::{CannotOpen, Placed};
-use command_ends::{CommandFault, InputName, Why};
+use command_core::{CommandFault, InputName, Why};
 use index_faults::{IndexFault, IndexFaultKind};
 use indexed_answers::laws::each_told;
 use indexed_answers::{AnswerFault, Answers, answer_among, answering_among};

@@ -18,25 +18,25 @@ use Rattle.sha2.proofs.Facts256.{length-sha256}
 use Rattle.join_core.specs.Listing.{ascending_of, listing}
 use Rattle.join_core.proofs.Listing.{listed}
 use Rattle.checked_pages.specs.Pages.{page_digests, stored}
-use Rattle.table_index.specs.Entry.{zeros}
+use Rattle.table_index.specs.Entry.{zeros, claim_at, claim_bytes, claim_in, has_claim, no_claim, stored_size}
 use Rattle.archive_core.specs.Content.{IsContent, Operations, is_admission}
 use Rattle.archive_core.specs.Record.{IsRecord}
+use Rattle.archive_core.proofs.Made.{bytes_same}
 use Rattle.archive_records.specs.Layout.{largest_slice}
 use Rattle.archive_records.specs.Text.{InOrder, written}
 use Rattle.archive_records.specs.declared.format.Format.TheVariants.{Archive}
-use Rattle.archive_records.proofs.Puts.{bytes_same}
 use Rattle.archive_records.proofs.Contents.{InOrder-listing, along, containing, order}
 use Rattle.archive_index.specs.Text.{index_magic}
 use Rattle.archive_index.specs.Entry.{has_kind, has_length, has_tag, length_in, offset_in, placed_entry}
 use Rattle.archive_index.proofs.Placed.{entry_long, is_placed, length_is, offset_is, tag_is}
 use Rattle.archive_index.proofs.Sums.{AreApart as AreDistinct, any_ascending_of, is_same, listing_of, nonempty, text_length}
 use Rattle.indexed_tables.specs.Content.{IsIndexOf, IsTableOf, claim_of, entries_of, table_entries, table_entry, tables_text}
-use Rattle.table_index.specs.Entry.{claim_at, claim_bytes, claim_in, has_claim, no_claim, stored_size}
 use Rattle.table_index.specs.Text.{FollowOn, IsIndexText, PassChecks, end_of, check_entry}
 use Rattle.table_index.proofs.Entries.{byte_kept, claim_read, long_with, number_kept}
 use Rattle.table_index.proofs.Checks.{long_entries}
 use Rattle.indexed_tables.proofs.Apart.{apart, moved, near_all}
 use Rattle.indexed_tables.proofs.Contents.{claim_admitted, claim_retired, stored_long}
+use Rattle.archive_index.proofs.Ascending.{along_list}
 
 -- ---- the claim of a table
 
@@ -165,8 +165,6 @@ pub follow_entries : (low : List ℕ) (offset at : ℕ) (rs ts : List (List ℕ)
     → FollowOn offset at (at + length (tables_text ts)) (table_entries offset at rs ts)
 unfolding table_entry
 follow_entries low offset at [] [] a each of fits = omega arith
-follow_entries low offset at [] (t ∷ ts) a each of fits = absurd each
-follow_entries low offset at (r ∷ rs) [] a each of fits = absurd each
 follow_entries low offset at (r ∷ rs) (t ∷ ts) a each of fits =
     let longer = length-append r (concat rs) in
     let more = length-append (stored t) (tables_text ts) in
@@ -185,6 +183,7 @@ follow_entries low offset at (r ∷ rs) (t ∷ ts) a each of fits =
           (subst (λ (n : ℕ). FollowOn (offset + length r) (at + length (stored t)) n (table_entries (offset + length r) (at + length (stored t)) rs ts)) end
           (follow_entries r (offset + length r) (at + length (stored t)) rs ts a.2 each.1 (omega (arith, of, longer)) (omega (arith, fits, more))))),
     )
+follow_entries low offset at rs ts a each of fits = absurd each
 
 -- ---- entries in byte order
 
@@ -197,10 +196,6 @@ pass_sorted end low (x ∷ xs) sound above sorted = (sound.0.long, sound_passes 
 above_empty : (end : ℕ) (x : List ℕ) → IsSound end x → order [] x ≡ Less
 above_empty end [] s = absurd (omega (arith, s.long))
 above_empty end (b ∷ bs) s = refl
-
-along_list : (P Q : List ℕ → Type 0) → ((x : List ℕ) → P x → Q x) → (xs : List (List ℕ)) → AllByRecursion P xs → AllByRecursion Q xs
-along_list P Q f [] h = tt
-along_list P Q f (x ∷ xs) h = (f x h.0, along_list P Q f xs h.1)
 
 -- ---- the index of a content
 

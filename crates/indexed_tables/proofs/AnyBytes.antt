@@ -6,7 +6,7 @@ use Rattle.std.specs.List.{AllByRecursion, concat}
 use Rattle.std.proofs.lemmas.List.{drop_at}
 use Rattle.sha2.specs.Sha256.{sha256}
 use Rattle.join_core.specs.Listing.{listing}
-use Rattle.symbol_tables.specs.Asked.{IsSaid}
+use Rattle.symbol_tables.specs.Found.{IsSaid}
 use Rattle.symbol_tables.specs.Steps.{AreBytes}
 use Rattle.symbol_tables.specs.declared.nearest.NearestSymbol.{NearestSymbol}
 use Rattle.slice_tables.proofs.SliceTables.{table_of_symbols}

@@ -23,22 +23,20 @@ use Rattle.indexed_tables.specs.Making.{AreNear}
 -- ---- records and tables that begin below 2^64
 
 pub near_all : (offset at : ℕ) (rs ts : List (List ℕ)) → offset + length (concat rs) < 2 ^ 64 → at + length (tables_text ts) < 2 ^ 64 → AreNear offset at rs ts
-near_all offset at [] ts of fits = tt
-near_all offset at (r ∷ rs) [] of fits = tt
 near_all offset at (r ∷ rs) (t ∷ ts) of fits =
     let longer = length-append r (concat rs) in
     let more = length-append (stored t) (tables_text ts) in
     (omega (arith, of, longer), omega (arith, fits, more), near_all (offset + length r) (at + length (stored t)) rs ts (omega (arith, of, longer)) (omega (arith, fits, more)))
+near_all offset at rs ts of fits = tt
 
 pub near_push : (offset at : ℕ) (rs ts : List (List ℕ)) (r t : List ℕ) → AllZip IsTableOf rs ts → AreNear offset at rs ts → offset + length (concat rs) < 2 ^ 64 → at + length (tables_text ts) < 2 ^ 64 → AreNear offset at (rs ++ r ∷ []) (ts ++ t ∷ [])
 near_push offset at [] [] r t each near of fits = (omega (arith, of), omega (arith, fits), tt)
-near_push offset at [] (u ∷ ts) r t each near of fits = absurd each
-near_push offset at (x ∷ rs) [] r t each near of fits = absurd each
 near_push offset at (x ∷ rs) (u ∷ ts) r t each near of fits = (
   near.0,
   near.1,
   near_push (offset + length x) (at + length (stored u)) rs ts r t each.1 near.2 (omega (arith, of, length-append x (concat rs))) (omega (arith, fits, length-append (stored u) (tables_text ts))),
 )
+near_push offset at rs ts r t each near of fits = absurd each
 
 -- ---- none comes twice
 
@@ -48,22 +46,20 @@ entry_offset offset at r t is near =
     ap (from_be_bytes w64) (number_kept (placed_entry offset r) (claim_of at r t) (entry_long offset r is) 58 (omega arith)) ∙ offset_is offset r is near
 
 others : (x : List ℕ) (k : ℕ) (low : List ℕ) (offset at : ℕ) (rs ts : List (List ℕ)) → offset_in x ≡ k → k < offset → InOrder Archive low rs → AreNear offset at rs ts → list_any (is_same x) (table_entries offset at rs ts) ≡ false
-others x k low offset at [] ts of lt a near = refl
-others x k low offset at (r ∷ rs) [] of lt a near = refl
 others x k low offset at (r ∷ rs) (t ∷ ts) of lt a near =
     let e : List ℕ = table_entry offset at r t in
     elim (is_same x e) as (λ b. is_same x e ≡ b → (b || list_any (is_same x) (table_entries (offset + length r) (at + length (stored t)) rs ts)) ≡ false) [
       | true ↦ λ s. absurd (omega (arith, of, lt, entry_offset offset at r t a.0 near.0, ap offset_in (tied_is x e s)))
       | false ↦ λ _. others x k r (offset + length r) (at + length (stored t)) rs ts of (omega (arith, lt)) a.2 near.2
     ] refl
+others x k low offset at rs ts of lt a near = refl
 
 pub apart : (low : List ℕ) (offset at : ℕ) (rs ts : List (List ℕ)) → InOrder Archive low rs → AreNear offset at rs ts → AreDistinct (table_entries offset at rs ts)
-apart low offset at [] ts a near = tt
-apart low offset at (r ∷ rs) [] a near = tt
 apart low offset at (r ∷ rs) (t ∷ ts) a near = (
   others (table_entry offset at r t) offset r (offset + length r) (at + length (stored t)) rs ts (entry_offset offset at r t a.0 near.0) (omega (arith, nonempty r a.0)) a.2 near.2,
   apart r (offset + length r) (at + length (stored t)) rs ts a.2 near.2,
 )
+apart low offset at rs ts a near = tt
 
 -- ---- in byte order
 

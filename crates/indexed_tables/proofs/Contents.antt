@@ -8,7 +8,7 @@ use Rattle.std.proofs.lemmas.List.Concat.{flat_map-append}
 use Rattle.join_core.specs.Listing.{listing}
 use Rattle.checked_pages.specs.Pages.{AreStored, page_digests, pages_in, stored}
 use Rattle.checked_pages.proofs.PageLemmas.{length-digests, may_be}
-use Rattle.symbol_tables.specs.Asked.{IsSaid}
+use Rattle.symbol_tables.specs.Found.{IsSaid}
 use Rattle.symbol_tables.specs.Steps.{AreBytes}
 use Rattle.symbol_tables.specs.Table.{IsTableText}
 use Rattle.symbol_tables.specs.declared.nearest.NearestSymbol.{NearestSymbol}
@@ -19,7 +19,7 @@ use Rattle.archive_records.proofs.Contents.{members_listed}
 use Rattle.archive_index.proofs.Kept.{in_made}
 use Rattle.archive_core.specs.Record.{IsRecord}
 use Rattle.archive_core.specs.Summary.{entry}
-use Rattle.archive_records.proofs.Ascending.{cons_cases, here, later}
+use Rattle.archive_core.proofs.Members.{in_rest, in_cons, in_front}
 use Rattle.archive_index.specs.Entry.{placed_entry}
 use Rattle.archive_index.specs.Text.{index_magic}
 use Rattle.archive_index.proofs.Placed.{entry_front, entry_long}
@@ -43,11 +43,10 @@ same_table once r t u a b = elim (cases_Bool (is_admission r)) [
 
 pub same_tables : HaveOneTable → (rs ts us : List (List ℕ)) → AllZip IsTableOf rs ts → AllZip IsTableOf rs us → ts ≡ us
 same_tables once [] [] [] a b = refl
-same_tables once [] [] (u ∷ us) a b = absurd b
 same_tables once [] (t ∷ ts) us a b = absurd a
 same_tables once (r ∷ rs) [] us a b = absurd a
-same_tables once (r ∷ rs) (t ∷ ts) [] a b = absurd b
 same_tables once (r ∷ rs) (t ∷ ts) (u ∷ us) a b = cc (same_table once r t u a.0 b.0, same_tables once rs ts us a.1 b.1)
+same_tables once rs ts us a b = absurd b
 
 pub one_of_content : HaveOneTable → (o : Operations) (text other : List ℕ) → IsIndexOf o text → IsIndexOf o other → text ≡ other
 one_of_content once o text other a b =
@@ -82,7 +81,7 @@ pub record IsPlacedAmong (offset at : ℕ) (rs ts : List (List ℕ)) (r : List �
 pub placed_among : (offset at : ℕ) (rs ts : List (List ℕ)) (r : List ℕ) → AllZip IsTableOf rs ts → Contains rs r → IsPlacedAmong offset at rs ts r
 placed_among offset at [] ts r each c = absurd (omega (arith, c.1))
 placed_among offset at (x ∷ rs) [] r each c = absurd each
-placed_among offset at (x ∷ rs) (t ∷ ts) r each c = elim (cons_cases x r rs c) [
+placed_among offset at (x ∷ rs) (t ∷ ts) r each c = elim (in_cons x rs r c) [
   | inl e ↦
       let start : at + 0 ≡ at = omega arith in
       let mine : table_entry offset at x t ≡ table_entry offset (at + 0) r t = λ i. table_entry offset (sym start i) (e i) t in
@@ -93,7 +92,7 @@ placed_among offset at (x ∷ rs) (t ∷ ts) r each c = elim (cons_cases x r rs 
         after = ts;
         tables_are = refl;
         is_table = subst (λ (y : List ℕ). IsTableOf y t) e each.0;
-        among = subst (Contains (table_entries offset at (x ∷ rs) (t ∷ ts))) mine (here (table_entry offset at x t) (table_entries (offset + length x) (at + length (stored t)) rs ts));
+        among = subst (Contains (table_entries offset at (x ∷ rs) (t ∷ ts))) mine (in_front (table_entry offset at x t) (table_entries (offset + length x) (at + length (stored t)) rs ts));
       }
   | inr there ↦
       let p = placed_among (offset + length x) (at + length (stored t)) rs ts r each.1 there in
@@ -106,7 +105,7 @@ placed_among offset at (x ∷ rs) (t ∷ ts) r each c = elim (cons_cases x r rs 
         tables_are = ap (λ (us : List (List ℕ)). t ∷ us) p.tables_are;
         is_table = p.is_table;
         among = subst (λ (n : ℕ). Contains (table_entries offset at (x ∷ rs) (t ∷ ts)) (table_entry p.place n r p.table)) far
-            (later (table_entry offset at x t) (table_entry p.place (at + length (stored t) + length (tables_text p.before)) r p.table) (table_entries (offset + length x) (at + length (stored t)) rs ts) p.among);
+            (in_rest (table_entry offset at x t) (table_entries (offset + length x) (at + length (stored t)) rs ts) (table_entry p.place (at + length (stored t) + length (tables_text p.before)) r p.table) p.among);
       }
 ]
 

@@ -38,12 +38,11 @@ records_begin o records rest (Some left) content ordered apart taken =
 -- their tables begin those of all
 tables_begin : HaveOneTable → (rs more ts us : List (List ℕ)) → AllZip IsTableOf (rs ++ more) ts → AllZip IsTableOf rs us → (vs : List (List ℕ)) × (ts ≡ us ++ vs)
 tables_begin once [] more ts [] a b = (ts, refl)
-tables_begin once [] more ts (u ∷ us) a b = absurd b
 tables_begin once (r ∷ rs) more [] us a b = absurd a
-tables_begin once (r ∷ rs) more (t ∷ ts) [] a b = absurd b
 tables_begin once (r ∷ rs) more (t ∷ ts) (u ∷ us) a b =
     let n = tables_begin once rs more ts us a.1 b.1 in
     (n.0, cc (same_table once r t u a.0 b.0, n.1))
+tables_begin once rs more ts us a b = absurd b
 
 -- the front of an index, and some bytes more
 pub record IsFrontOf (front index : List ℕ) : Type 0 where

@@ -31,14 +31,13 @@ entries_push offset at [] [] r t each =
     let o : offset ≡ offset + 0 = omega arith in
     let a : at ≡ at + 0 = omega arith in
     λ i. table_entry (o i) (a i) r t ∷ []
-entries_push offset at [] (u ∷ ts) r t each = absurd each
-entries_push offset at (x ∷ rs) [] r t each = absurd each
 entries_push offset at (x ∷ rs) (u ∷ ts) r t each =
     let o : offset + length x + length (concat rs) ≡ offset + length (concat (x ∷ rs)) = omega (arith, length-append x (concat rs)) in
     let a : at + length (stored u) + length (tables_text ts) ≡ at + length (tables_text (u ∷ ts)) = omega (arith, length-append (stored u) (tables_text ts)) in
     ap (λ (es : List (List ℕ)). table_entry offset at x u ∷ es)
     (entries_push (offset + length x) (at + length (stored u)) rs ts r t each.1
     ∙ (λ i. table_entries (offset + length x) (at + length (stored u)) rs ts ++ table_entry (o i) (a i) r t ∷ []))
+entries_push offset at rs ts r t each = absurd each
 
 -- the front with one table more
 pub front_push : (tables : List (List ℕ)) (t : List ℕ) → front_of tables ++ stored t ≡ front_of (tables ++ t ∷ [])

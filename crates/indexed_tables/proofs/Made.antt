@@ -14,6 +14,7 @@ use Rattle.byte_device.specs.Writes.{IsPut, StopsPut, WritesFirst}
 use Rattle.byte_device.specs.declared.writing.WriteFault.{WriteFault}
 use Rattle.byte_device.proofs.Gains.{puts_then}
 use Rattle.archive_core.specs.Content.{IsContent, Operations}
+use Rattle.archive_core.proofs.Made.{bytes_same}
 use Rattle.archive_records.specs.Reading.{IsReadWhole}
 use Rattle.archive_records.specs.Reader.{Position, set_of}
 use Rattle.archive_records.specs.Text.{IsArchiveOf, text_of, written}
@@ -21,11 +22,11 @@ use Rattle.archive_records.specs.declared.format.Format.TheVariants.{Archive as 
 use Rattle.archive_records.specs.declared.kind.TextKind.TheVariants.{Archive}
 use Rattle.archive_records.specs.declared.writing.Sizes.{Sizes}
 use Rattle.archive_records.proofs.Contents.{order, sorted-InOrder, written-records}
-use Rattle.archive_records.proofs.Inputs.{IsReadTo, read_whole}
-use Rattle.archive_records.proofs.Puts.{bytes_same, length_written}
+use Rattle.archive_records.proofs.Inputs.{IsReadTo, read_whole, all_taken as taken_whole}
+use Rattle.archive_records.proofs.Puts.{length_written}
 use Rattle.archive_index.specs.Text.{index_magic}
 use Rattle.archive_index.specs.declared.fault.IndexingFault.TheVariants.{Archive as Archive_fault, OldArchive, TooLong}
-use Rattle.archive_index.proofs.Made.{refused as indexing_refused, taken_whole, text_along}
+use Rattle.archive_index.proofs.Made.{refused as indexing_refused, text_along}
 use Rattle.table_index.specs.Entry.{entry_bytes}
 use Rattle.table_index.specs.Text.{end_of, index_text}
 use Rattle.table_index.specs.declared.entry.TableEntry.{TableEntry}

@@ -14,8 +14,9 @@ use Rattle.sha2.specs.Sha256.{sha256}
 use Rattle.join_core.specs.Listing.{listing}
 use Rattle.join_core.proofs.Listing.{listing_ascending}
 use Rattle.archive_core.proofs.Members.{ascending_map}
+use Rattle.archive_core.proofs.Made.{bytes_same}
 use Rattle.archive_records.proofs.Contents.{order}
-use Rattle.archive_records.proofs.Puts.{bytes_same, concat-push}
+use Rattle.archive_records.proofs.Puts.{concat-push}
 use Rattle.archive_index.proofs.Kept.{set_kept}
 use Rattle.table_index.specs.Entry.{entry_bytes}
 use Rattle.table_index.specs.Text.{end_of}

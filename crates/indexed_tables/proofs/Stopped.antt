@@ -114,9 +114,8 @@ module _ {W : Type 0} (a b : Option (List ℕ)) (held : W → Option (List ℕ))
 
 -- nothing was written yet
 pub none_stopped : {W : Type 0} (a b : Option (List ℕ)) (held : W → Option (List ℕ)) (failures : W → ℕ) (w : W) (fault : IndexingFault) → HasStoppedIndexing a b fault → (fault ≡ TooLong → ⊥) → HasStoppedMaking a b held failures w w (Refused fault)
-none_stopped a b held failures w (Archive_fault fault) stopped short = (stopped, refl, (0, inl (refl, Appends-none (held w))))
-none_stopped a b held failures w OldArchive stopped short = (stopped, refl, (0, inl (refl, Appends-none (held w))))
 none_stopped a b held failures w TooLong stopped short = absurd (short refl)
+none_stopped a b held failures w fault stopped short = (stopped, refl, (0, inl (refl, Appends-none (held w))))
 
 -- whom a fault blames behind a step in which the reader did not fail
 pub making_behind : {R : Type 0} (left : R → Option (List ℕ)) (failures : R → ℕ) (old mid new : R) → failures mid ≡ failures old → (fault : MakingFault) → BlamesMaking left failures mid new fault → BlamesMaking left failures old new fault

@@ -1,4 +1,4 @@
-//! Why no index is made, and why a table of one is not read.
+//! Why no index is made.
 
 use archive_index::IndexingFault;
 use byte_device::WriteFault;
@@ -19,15 +19,4 @@ pub(crate) enum TableFault {
     OutOfMemory,
     /// The writer failed.
     Write(WriteFault),
-}
-
-/// Why the table of an entry is not read.
-#[derive(Clone, Copy, Debug, PartialEq, Eq)]
-pub enum EntryFault {
-    /// What stands where the table of this entry is stored, from 0 on, is not what the entry vouches for.
-    Damaged(u64),
-    /// The device failed while a table was read that is stored at this offset.
-    Device(u64),
-    /// A growth of the memory was refused.
-    OutOfMemory,
 }

@@ -6,7 +6,7 @@ ghost use Rattle.sha2.specs.Sha256.{sha256};
 ghost use Rattle.std.specs.FinSet as set;
 ghost use Rattle.join_core.specs.Listing.{listing};
 ghost use Rattle.checked_pages.specs.Pages.{AreStored};
-ghost use Rattle.symbol_tables.specs.Asked.{IsSaid};
+ghost use Rattle.symbol_tables.specs.Found.{IsSaid};
 ghost use Rattle.symbol_tables.specs.Steps.{AreBytes};
 ghost use Rattle.symbol_tables.specs.Table.{IsTableText};
 ghost use Rattle.symbol_tables.specs.declared.nearest.NearestSymbol.{NearestSymbol};

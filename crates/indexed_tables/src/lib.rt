@@ -1,9 +1,8 @@
-//! The tables of an archive's slices in its index: made as the archive comes, and asked.
+//! The tables of an archive's slices in its index, made as the archive comes.
 //!
 //! - `tables`: the table of a record, made and written; `records`: those of all records, one after another;
 //! - `entries`: the entries in byte order, and the end record; `making`: [`index_into`];
-//! - `asking`: [`nearest_at`], the nearest symbol of an address by the table of an entry;
-//! - `fault`: why no index is made, and why a table is not read;
+//! - `fault`: why no index is made;
 //! - [`laws`]: what an index tells of the content that it was made of.
 //!
 //! # Why it is so
@@ -12,7 +11,6 @@
 //!   held, 122 bytes each, and written last.
 #![tactic(auto)]
 
-mod asking;
 mod entries;
 mod fault;
 pub mod laws;
@@ -20,6 +18,5 @@ mod making;
 mod records;
 mod tables;
 
-pub use asking::nearest_at;
-pub use fault::{EntryFault, MakingFault};
+pub use fault::MakingFault;
 pub use making::index_into;

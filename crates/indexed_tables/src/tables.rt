@@ -5,7 +5,7 @@ ghost use Rattle.byte_device.specs.Writes.{IsPut};
 ghost use Rattle.checked_pages.specs.Pages.{page_digests, stored};
 ghost use Rattle.checked_pages.specs.Views.{claim_view};
 ghost use Rattle.slice_tables.specs.SliceTable.{IsSliceTable};
-ghost use Rattle.archive_core.specs.Record.{IsOperation, lent_bytes, operation_lent};
+ghost use Rattle.archive_core.specs.Record.{IsOperation, borrowed_bytes, operation_borrowed};
 ghost use Rattle.archive_core.specs.Valid.{IsValid};
 ghost use Rattle.table_index.specs.Entry.{claim_at};
 ghost use Rattle.indexed_tables.specs.Content.{IsTableOf, claim_of};
@@ -67,12 +67,12 @@ pub(crate) fn put_table<W: Sink>(
     w: &mut W,
     done: u64,
 ) -> Result<(Claim, u128), TableFault>
-    requires { IsOperation (operation_lent item.now) }
+    requires { IsOperation (operation_borrowed item.now) }
     ensures short { IfOk result (λ put. put.1 < 2 ^ 80) }
-    ensures put { IfOk result (λ put. (table : List ℕ) × IsTableOf (lent_bytes item.now) table
-        × (claim_view put.0 ≡ claim_of done (lent_bytes item.now) table)
+    ensures put { IfOk result (λ put. (table : List ℕ) × IsTableOf (borrowed_bytes item.now) table
+        × (claim_view put.0 ≡ claim_of done (borrowed_bytes item.now) table)
         × IsPut W.held W.failures w.old w.new done (stored table) put.1) }
-    ensures stopped { IfErr result (StopsTable W.held W.failures w.old w.new done (IsTableOf (lent_bytes item.now))) }
+    ensures stopped { IfErr result (StopsTable W.held W.failures w.old w.new done (IsTableOf (borrowed_bytes item.now))) }
 {
     match item {
         Record::Admit(slice) => put_slice_table(heap, slice, w, done),

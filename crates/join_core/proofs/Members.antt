@@ -11,7 +11,7 @@ use Rattle.join_core.proofs.Unions.{union_empty}
 
 module _ {K : Type 0} {R : K → K → Ordering} (o : IsTotalOrder R) (same : IsAntisymmetric R) where
   -- keys that the order ties are one
-  one_key : (x y : K) → eq_by_cmp R x y ≡ true → x ≡ y
+  pub one_key : (x y : K) → eq_by_cmp R x y ≡ true → x ≡ y
   one_key x y h = same x y ((Equal-is (R x y)).0 h)
 
   -- lists with the same members make one set

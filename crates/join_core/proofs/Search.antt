@@ -2,21 +2,29 @@
 use Rattle.std.proofs.Common.{◌≡◌, ℕ, ◌+◌, ◌-◌, ◌<◌, Bool, true, false, nat_lt, get_or, ◌||◌, List, [], ◌∷◌, length, map, take, drop, refl, sym, ap, ◌∙◌, arith, Result, Ok, Err}
 use Rattle.std.specs.declared.cmp.Ordering.{Ordering}
 use Rattle.std.specs.declared.cmp.Ordering.TheVariants.{Less, Greater}
-use Rattle.std.specs.Ordering.{eq_by_cmp, is_eq, is_lt, ordering_reverse, ordering_index}
+use Rattle.std.specs.Ordering.{eq_by_cmp, is_eq, is_le, is_lt, ordering_reverse, ordering_index}
 use Rattle.std.specs.Cmp.{IsTotalOrder, tied_back}
 use Rattle.std.specs.List.{AllByRecursion, list_any}
-use Rattle.std.specs.List.Sorted.{IsStrictlySortedBy, IsBinarySearchResult, IsSearchInRange, IsSortedBy}
+use Rattle.std.specs.List.Sorted.{IsStrictlySortedBy, IsBinarySearchResult, IsSearchInRange, IsSortedBy, IsNonDecreasingBy}
 use Rattle.std.specs.FinSet.{contains-from_list}
-use Rattle.std.proofs.lemmas.List.{take-append-drop}
+use Rattle.std.proofs.lemmas.List.{take-append-drop, get_or-map, get_or_default}
 use Rattle.std.proofs.lemmas.List.Folds.{list_any-append, list_any_at}
 use Rattle.std.proofs.lemmas.List.Sorted.{searchable_from_sorted}
 use Rattle.std.proofs.lemmas.Map.Keys.{Less-from_sorted}
 use Rattle.join_core.specs.InnerSearch.{IsFound}
-use Rattle.std.proofs.lemmas.List.{get_or-map, get_or_default}
 use Rattle.std.proofs.lemmas.Bool.Decides.{nat_tests}
 use Rattle.std.proofs.Math.ListN.{get_or-map as get_or-map_at, length-map}
-use Rattle.std.specs.List.Sorted.{IsNonDecreasingBy}
 use Rattle.join_core.proofs.Place.{along, along_take, along_drop, ascending_insert}
+
+-- the three tests of a comparison
+pub eq_of_lt : (r : Ordering) → is_lt r ≡ true → is_eq r ≡ false
+eq_of_lt r h = grind arith
+
+pub eq_of_gt : (r : Ordering) → is_le r ≡ false → is_eq r ≡ false
+eq_of_gt r h = grind arith
+
+pub eq_of_both : (r : Ordering) → is_lt r ≡ false → is_le r ≡ true → is_eq r ≡ true
+eq_of_both r h g = grind arith
 
 -- no key passes a test that each fails
 none : {K : Type 0} (p : K → Bool) (xs : List K) → AllByRecursion (λ x. p x ≡ false) xs → list_any p xs ≡ false

@@ -1,5 +1,5 @@
 -- A store that takes turns.
-use Rattle.std.proofs.Common.{◌≡◌, List, [], ◌∷◌, ◌++◌, Option, Some, refl, sym, ap, ◌∙◌, map}
+use Rattle.std.proofs.Common.{◌≡◌, List, [], ◌∷◌, ◌++◌, Option, Some, refl, sym, ap, ◌∙◌}
 use Rattle.std.proofs.lemmas.List.{append-nil, map-append}
 use Rattle.frame_turns.specs.Given.{Takes, TurnRecord}
 use Rattle.line_making.specs.TurnSteps.{step_of_turn, steps_of_turns}

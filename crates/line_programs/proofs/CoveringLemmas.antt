@@ -13,10 +13,10 @@ pub record IsCovered (address : ℕ) (row next : Row) : Type 0 where
   pub above : row.registers.address ≤ address
   pub below : address < next.registers.address
 
-test_true : (address : ℕ) (row next : Row) → covers address row next ≡ true → IsCovered address row next
+pub test_true : (address : ℕ) (row next : Row) → covers address row next ≡ true → IsCovered address row next
 test_true address row next h = record { inside = grind (arith, nat_tests); above = grind (arith, nat_tests); below = grind (arith, nat_tests) }
 
-test_false : (address : ℕ) (row next : Row) → covers address row next ≡ false → IsCovered address row next → ⊥
+pub test_false : (address : ℕ) (row next : Row) → covers address row next ≡ false → IsCovered address row next → ⊥
 test_false address row next h k = let a = k.inside in let b = k.above in let c = k.below in grind (arith, nat_tests)
 
 -- the first row

@@ -1,5 +1,5 @@
 mod ShorterLemmas
 pub mod RowLemmas
 pub mod CoveringLemmas
-mod RunLemmas
+pub mod RunLemmas
 mod NameLemmas

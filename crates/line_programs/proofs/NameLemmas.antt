@@ -1,5 +1,5 @@
 -- Steps over the names of a header.
-use Rattle.std.proofs.Common.{◌≡◌, ℕ, ◌+◌, ◌<◌, ◌≤◌, List, ◌∷◌, length, drop, get_or, ◌==◌, Option, Some, None, ap, sym, ◌∙◌, inl, inr, arith}
+use Rattle.std.proofs.Common.{◌≡◌, ℕ, ◌+◌, ◌<◌, ◌≤◌, Bool, true, false, List, ◌∷◌, length, drop, get_or, ◌==◌, Option, Some, None, ap, sym, ◌∙◌, inl, inr, arith}
 use Rattle.std.specs.Option.{option_map, option_and_then}
 use Rattle.std.proofs.lemmas.Bool.{cases_Bool}
 use Rattle.std.proofs.lemmas.Option.{option_and_then_some}
@@ -8,18 +8,11 @@ use Rattle.dwarf_numbers.specs.Leb128.{last_unsigned, unsigned_leb128_at}
 use Rattle.dwarf_numbers.specs.Text.{text_at}
 use Rattle.dwarf_numbers.specs.Values.{ValueRecord, InlineString}
 use Rattle.dwarf_numbers.specs.Sequences.{Shortens}
-use Rattle.dwarf_numbers.proofs.ShorterLemmas.{mapped_some, text_shorter, leb128_shorter}
-use Rattle.line_programs.specs.Names.{NameRecord, FieldsRecord, include_directory_at, directory_index_at, file_name_at, name_value_at, with_value, fields_from}
+use Rattle.dwarf_numbers.proofs.ShorterLemmas.{text_shorter, leb128_shorter}
+use Rattle.line_programs.specs.Names.{NameRecord, FieldsRecord, directory_index_at, directory_or_none_at, listed_name_at, name_value_at, with_value, fields_from}
+use Rattle.dwarf_numbers.proofs.SequenceLemmas.{mapped as mapped_some}
 
--- a directory has a byte
-pub include_directory_shortens : Shortens include_directory_at
-include_directory_shortens = record {
-  less = λ bytes x e.
-      let y = mapped_some _ (text_at bytes) x e in
-      omega (arith, text_shorter bytes y.0 y.1, ap (λ (z : Option NameRecord × List ℕ). length z.1) y.2);
-}
-
--- an index has one, too
+-- an index has a byte
 index_shorter : (bytes : List ℕ) (x : ℕ × List ℕ) → directory_index_at bytes ≡ Some x → length x.1 < length bytes
 unfolding directory_index_at
 index_shorter bytes x e =
@@ -30,10 +23,14 @@ index_shorter bytes x e =
     let w = mapped_some (λ (v : ℕ × List ℕ). (y.0, v.1)) (unsigned_leb128_at z.1) x third in
     omega (arith, leb128_shorter last_unsigned bytes y found, leb128_shorter last_unsigned y.1 z second, leb128_shorter last_unsigned z.1 w.0 w.1, ap (λ (v : ℕ × List ℕ). length v.1) w.2)))
 
--- a file has one
-pub file_name_shortens : Shortens file_name_at
-unfolding file_name_at
-file_name_shortens = record {
+index_no_longer : (is_file : Bool) (bytes : List ℕ) (x : ℕ × List ℕ) → directory_or_none_at is_file bytes ≡ Some x → length x.1 ≤ length bytes
+index_no_longer true bytes x e = omega (arith, index_shorter bytes x e)
+index_no_longer false bytes x e = let same : (0, bytes) ≡ x = cc e in omega (arith, ap (λ (v : ℕ × List ℕ). length v.1) same)
+
+-- a file or a directory has one
+pub listed_name_shortens : (is_file : Bool) → Shortens (listed_name_at is_file)
+unfolding listed_name_at
+listed_name_shortens is_file = record {
   less = λ bytes x e.
       option_and_then_some _ (text_at bytes) x e
       (λ y found after. elim (cases_Bool (length y.0 == 0)) [
@@ -42,9 +39,9 @@ file_name_shortens = record {
             let same : (None, y.1) ≡ x = cc here in
             omega (arith, text_shorter bytes y found, ap (λ (z : Option NameRecord × List ℕ). length z.1) same)
         | inr f ↦
-            let here : option_map {U = Option NameRecord × List ℕ} (λ (z : ℕ × List ℕ). (Some (record { name = InlineString y.0; directory = z.0 }), z.1)) (directory_index_at y.1) ≡ Some x = rw f at after in
-            let z = mapped_some _ (directory_index_at y.1) x here in
-            omega (arith, text_shorter bytes y found, index_shorter y.1 z.0 z.1, ap (λ (w : Option NameRecord × List ℕ). length w.1) z.2)
+            let here : option_map {U = Option NameRecord × List ℕ} (λ (z : ℕ × List ℕ). (Some (record { name = InlineString y.0; directory = z.0 }), z.1)) (directory_or_none_at is_file y.1) ≡ Some x = rw f at after in
+            let z = mapped_some _ (directory_or_none_at is_file y.1) x here in
+            omega (arith, text_shorter bytes y found, index_no_longer is_file y.1 z.0 z.1, ap (λ (w : Option NameRecord × List ℕ). length w.1) z.2)
       ]);
 }
 

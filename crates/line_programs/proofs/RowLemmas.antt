@@ -7,9 +7,10 @@ use Rattle.line_programs.specs.Machine.{applied, row_with, registers_with, appen
 use Rattle.line_programs.specs.declared.instruction.Instruction.{Instruction}
 use Rattle.line_programs.specs.declared.registers.Registers.{Registers}
 use Rattle.line_programs.specs.declared.registers.Row.{Row}
-use Rattle.line_programs.proofs.ShorterLemmas.{none_or_some, nothing_read, instruction_shorter}
+use Rattle.line_programs.proofs.ShorterLemmas.{nothing_read, instruction_shorter}
+use Rattle.dwarf_numbers.proofs.SequenceLemmas.{none_or_some}
 
--- the rows where so covering_rows instructions are read, and where none is
+-- the rows where so many instructions are read, and where none is
 within_some : (count : ℕ) (header : HeaderRecord) (r : Registers) (bytes : List ℕ) (x : Instruction × List ℕ) → instruction_at header bytes ≡ Some x
     → rows_within (suc count) header r bytes ≡ appended header r x.0 ++ rows_within count header (following header r x.0) x.1
 unfolding rows_within

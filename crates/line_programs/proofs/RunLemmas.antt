@@ -9,8 +9,9 @@ use Rattle.line_programs.specs.Covering.{IsCovering}
 use Rattle.line_programs.specs.declared.instruction.Instruction.{Instruction}
 use Rattle.line_programs.specs.declared.registers.Registers.{Registers}
 use Rattle.line_programs.specs.declared.registers.Row.{Row}
-use Rattle.line_programs.proofs.ShorterLemmas.{none_or_some, nothing_read, instruction_shorter}
+use Rattle.line_programs.proofs.ShorterLemmas.{nothing_read, instruction_shorter}
 use Rattle.line_programs.proofs.RowLemmas.{rows_some, rows_none}
+use Rattle.dwarf_numbers.proofs.SequenceLemmas.{none_or_some}
 
 -- the rows of the instructions
 rows_are : (header : HeaderRecord) (r : Registers) (bytes : List ℕ) (is : List Instruction) → AreInstructions header bytes is → rows_from header r bytes ≡ rows_of header r is

@@ -1,38 +1,14 @@
 -- Fewer bytes are left behind an instruction.
-use Rattle.std.proofs.Common.{◌≡◌, ℕ, zero, suc, ◌-◌, ◌<◌, ◌≤◌, ◌⊎◌, Bool, true, false, List, [], ◌∷◌, length, take, drop, cond, Option, Some, None, refl, ap, sym, inl, inr, arith, length-drop, nat_lt}
+use Rattle.std.proofs.Common.{◌≡◌, ℕ, zero, suc, ◌-◌, ◌<◌, ◌≤◌, Bool, true, false, List, [], ◌∷◌, length, take, drop, cond, Some, None, refl, ap, sym, arith, length-drop, nat_lt}
 use Rattle.std.specs.Option.{option_map, option_and_then}
-use Rattle.std.proofs.lemmas.Bool.{cases_Bool}
-use Rattle.std.proofs.lemmas.Option.{option_and_then_some, none-some}
-use Rattle.dwarf_numbers.specs.Leb128.{onto, leb128_at, last_unsigned, unsigned_leb128_at}
+use Rattle.std.proofs.lemmas.Option.{option_and_then_some}
+use Rattle.dwarf_numbers.specs.Leb128.{leb128_at, last_unsigned, unsigned_leb128_at}
 use Rattle.line_programs.specs.Header.{HeaderRecord}
 use Rattle.line_programs.specs.Instructions.{Read, with_number, after_operands, other_at, fixed_advance_at, standard_at, extended, extended_at, instruction_at}
 use Rattle.line_programs.specs.declared.instruction.Instruction.{Instruction}
 use Rattle.line_programs.specs.declared.instruction.Instruction.TheVariants.{Other}
-
--- what an option is
-pub none_or_some : {A : Type 0} (o : Option A) → (o ≡ None) ⊎ ((x : A) × (o ≡ Some x))
-none_or_some None = inl refl
-none_or_some (Some x) = inr (x, refl)
-
--- what is made of an option is made of what it has
-mapped_some : {A B : Type 0} (f : A → B) (o : Option A) (y : B) → option_map f o ≡ Some y → (x : A) × (o ≡ Some x) × (f x ≡ y)
-mapped_some f None y e = cc e
-mapped_some f (Some x) y e = (x, refl, cc e)
-
--- a number has a byte
-pub leb_shorter : (last : ℕ → ℕ) (bytes : List ℕ) (x : ℕ × List ℕ) → leb128_at last bytes ≡ Some x → length x.1 < length bytes
-unfolding leb128_at
-leb_shorter last [] x e = cc e
-leb_shorter last (b ∷ bs) x e = elim (cases_Bool (nat_lt b 128)) [
-  | inl t ↦
-      let found : ◌≡◌ {A = Option (ℕ × List ℕ)} (Some (last b, bs)) (Some x) = rw t at e in
-      let same : (last b, bs) ≡ x = cc found in
-      omega (arith, ap (λ (y : ℕ × List ℕ). length y.1) same)
-  | inr f ↦
-      let found : option_map (λ (y : ℕ × List ℕ). (onto b y.0, y.1)) (leb128_at last bs) ≡ Some x = rw f at e in
-      let y = mapped_some _ (leb128_at last bs) x found in
-      omega (arith, leb_shorter last bs y.0 y.1, ap (λ (z : ℕ × List ℕ). length z.1) y.2)
-]
+use Rattle.dwarf_numbers.proofs.SequenceLemmas.{mapped as mapped_some}
+use Rattle.dwarf_numbers.proofs.ShorterLemmas.{Leaves, leaves_nothing, leaves_some, leaves_either, leaves_number, leb128_shorter as leb_shorter}
 
 -- numbers have none or more
 pub operands_shorter : (count : ℕ) (bytes rest : List ℕ) → after_operands count bytes ≡ Some rest → length rest ≤ length bytes
@@ -42,36 +18,7 @@ operands_shorter (suc count) bytes rest e =
     option_and_then_some (λ x. after_operands count x.1) (unsigned_leb128_at bytes) rest e
     (λ x found behind. omega (arith, leb_shorter last_unsigned bytes x found, operands_shorter count x.1 rest behind))
 
--- what is read leaves at most so covering_rows bytes
-pub record Leaves (count : ℕ) (read : Read) : Type 0 where
-  pub most : (x : Instruction × List ℕ) → read ≡ Some x → length x.1 ≤ count
-
--- nothing is read
-leaves_nothing : (count : ℕ) → Leaves count None
-leaves_nothing count = record { most = λ x e. absurd (none-some x e) }
-
--- so covering_rows are left
-leaves_some : (i : Instruction) (count : ℕ) (rest : List ℕ) → length rest ≤ count → Leaves count (Some (i, rest))
-leaves_some i count rest h = record {
-  most = λ x e.
-      let same : (i, rest) ≡ x = cc e in
-      omega (arith, ap (λ (z : Instruction × List ℕ). length z.1) same);
-}
-
--- whichever is read
-leaves_either : (b : Bool) (count : ℕ) (read other : Read) → Leaves count read → Leaves count other → Leaves count (cond b read other)
-leaves_either true count read other h k = h
-leaves_either false count read other h k = k
-
--- an instruction with a number
-leaves_number : (last : ℕ → ℕ) (f : ℕ → Instruction) (bytes : List ℕ) → Leaves (length bytes) (with_number f (leb128_at last bytes))
-leaves_number last f bytes = record {
-  most = λ x e.
-      let y = mapped_some (λ (z : ℕ × List ℕ). (f z.0, z.1)) (leb128_at last bytes) x e in
-      omega (arith, leb_shorter last bytes y.0 y.1, ap (λ (z : Instruction × List ℕ). length z.1) y.2);
-}
-
--- so covering_rows numbers and no register
+-- so many numbers and no register
 leaves_other : (count : ℕ) (bytes : List ℕ) → Leaves (length bytes) (other_at count bytes)
 leaves_other count bytes = record {
   most = λ x e.

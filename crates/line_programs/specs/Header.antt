@@ -1,7 +1,6 @@
 -- The header of a line number program (DWARF 5, section 6.2.4), of the versions 2 to 5 in the 32-bit format.
 use Rattle.std.specs.Prelude.{ℕ, List, take, drop, length, slice_index, ◌+◌, ◌-◌, ◌==◌, ◌&&◌, ◌||◌, Bool, nat_le}
-use Rattle.std.specs.Prelude.{nat_lt}
-use Rattle.std.specs.Prelude.{Option, Some, None, if◌then◌else◌}
+use Rattle.std.specs.Prelude.{nat_lt, Option, Some, None, if◌then◌else◌}
 use Rattle.dwarf_numbers.specs.LittleEndian.{u16_le_at, u32_le_at}
 
 -- what the machine takes from a header; line_base as its byte

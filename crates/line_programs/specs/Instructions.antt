@@ -1,7 +1,6 @@
 -- The instructions in the bytes of a line number program (DWARF 5, sections 6.2.5 and 7.22).
 use Rattle.std.specs.Prelude.{ℕ, zero, suc, List, [], ◌∷◌, take, drop, length, slice_index, ◌-◌, ◌==◌, ◌||◌, nat_le}
-use Rattle.std.specs.Prelude.{nat_lt}
-use Rattle.std.specs.Prelude.{Option, Some, None, if◌then◌else◌}
+use Rattle.std.specs.Prelude.{nat_lt, Option, Some, None, if◌then◌else◌}
 use Rattle.std.specs.Option.{option_map, option_and_then}
 use Rattle.dwarf_numbers.specs.Leb128.{unsigned_leb128_at, signed_leb128_at}
 use Rattle.dwarf_numbers.specs.LittleEndian.{u16_le_at, u64_le_at}

@@ -1,7 +1,6 @@
 -- The machine on which a line number program runs (DWARF 5, sections 6.2.2 and 6.2.5). Registers have 64 bits.
 use Rattle.std.specs.Prelude.{ℕ, zero, suc, Bool, true, false, List, [], ◌∷◌, ◌++◌, length, ◌+◌, ◌-◌, ◌*◌, ◌/◌, ◌%◌}
-use Rattle.std.specs.Prelude.{◌^◌}
-use Rattle.std.specs.Prelude.{nat_lt, if◌then◌else◌}
+use Rattle.std.specs.Prelude.{◌^◌, nat_lt, if◌then◌else◌}
 use Rattle.std.specs.Option.{option_map_or}
 use Rattle.line_programs.specs.Header.{HeaderRecord}
 use Rattle.line_programs.specs.Instructions.{instruction_at}

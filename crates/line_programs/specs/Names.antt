@@ -1,7 +1,6 @@
 -- The names of directories and files in the header of a line number program (DWARF 5, section 6.2.4). What cannot be
 -- read leaves the header without names.
-use Rattle.std.specs.Prelude.{ℕ, List, [], ◌∷◌, ◌==◌, length}
-use Rattle.std.specs.Prelude.{Option, Some, None, if◌then◌else◌}
+use Rattle.std.specs.Prelude.{ℕ, Bool, true, false, List, [], ◌∷◌, ◌==◌, length, Option, Some, None, if◌then◌else◌}
 use Rattle.std.specs.Option.{option_map, option_and_then, option_or, unwrap_or}
 use Rattle.dwarf_numbers.specs.Leb128.{unsigned_leb128_at}
 use Rattle.dwarf_numbers.specs.Text.{text_at}
@@ -24,13 +23,6 @@ pub record NamesRecord : Type 0 where
   pub directories : List NameRecord
   pub files : List NameRecord
 
--- up to version 4: an include directory is a text; an empty one ends them
-abbrev pub include_directory_at : List ℕ → Option (Option NameRecord × List ℕ)
-include_directory_at bytes =
-    option_map
-    (λ x. (if length x.0 == 0 then None else Some (record { name = InlineString x.0; directory = 0 }), x.1))
-    (text_at bytes)
-
 -- what follows the name of a file: the index of its directory, its time and its length
 unfoldable pub directory_index_at : List ℕ → Option (ℕ × List ℕ)
 directory_index_at bytes =
@@ -38,20 +30,26 @@ directory_index_at bytes =
     (λ x. option_and_then (λ y. option_map (λ z. (x.0, z.1)) (unsigned_leb128_at y.1)) (unsigned_leb128_at x.1))
     (unsigned_leb128_at bytes)
 
--- a file; an empty name ends them
-unfoldable pub file_name_at : List ℕ → Option (Option NameRecord × List ℕ)
-file_name_at bytes =
+-- what follows the name of a file or of an include directory, which has no more
+abbrev pub directory_or_none_at : Bool → List ℕ → Option (ℕ × List ℕ)
+directory_or_none_at is_file bytes = if is_file then directory_index_at bytes else Some (0, bytes)
+
+-- up to version 4: a file or an include directory; an empty name ends them
+unfoldable pub listed_name_at : Bool → List ℕ → Option (Option NameRecord × List ℕ)
+listed_name_at is_file bytes =
     option_and_then
     (λ x. if length x.0 == 0 then Some (None, x.1)
-    else option_map (λ y. (Some (record { name = InlineString x.0; directory = y.0 }), y.1)) (directory_index_at x.1))
+    else option_map (λ y. (Some (record { name = InlineString x.0; directory = y.0 }), y.1))
+    (directory_or_none_at is_file x.1))
     (text_at bytes)
 
 -- include_directories, then file_names
 abbrev pub names_to_version_4 : ℕ → List ℕ → Option NamesRecord
 names_to_version_4 version bytes =
     option_and_then
-    (λ x. option_map (λ y. record { version = version; directories = x.0; files = y.0 }) (ended file_name_at x.1))
-    (ended include_directory_at bytes)
+    (λ x. option_map (λ y. record { version = version; directories = x.0; files = y.0 })
+    (ended (listed_name_at true) x.1))
+    (ended (listed_name_at false) bytes)
 
 -- version 5: a pair of an entry format is a content type code and a form
 abbrev pub format_pair_at : List ℕ → Option ((ℕ × ℕ) × List ℕ)

@@ -1,6 +1,6 @@
 -- Addresses whose row is pending, and rows that were assigned: the words of inner functions. No contract of a public
 -- one has them.
-use Rattle.std.specs.Prelude.{ℕ, true, false, ◌≡◌, ◌≤◌, ◌<◌, Option, Some, None}
+use Rattle.std.specs.Prelude.{ℕ, true, false, ◌≡◌, Option, Some, None}
 use Rattle.std.specs.Ordering.{nat_cmp}
 use Rattle.std.specs.BTreeSet as tree_set
 use Rattle.std.specs.BTreeMap as tree_map

@@ -1,8 +1,8 @@
 //! The header of a line number program (DWARF 5, section 6.2.4).
 
-ghost use Rattle.std.specs.Prelude.{◌≡◌, ◌+◌, ◌≤◌, ◌<◌, length, slice_index, IfSome, true};
+ghost use Rattle.std.specs.Prelude.{◌≡◌, ◌+◌, ◌≤◌, ◌<◌, length, IfSome, true};
 ghost use Rattle.std.specs.Option.{option_map};
-ghost use Rattle.line_programs.specs.Header.{version, header_length_offset, minimum_instruction_length_offset};
+ghost use Rattle.line_programs.specs.Header.{version, header_length_offset};
 ghost use Rattle.line_programs.specs.Header.{default_is_stmt_offset, opcode_base, names_offset, program_offset};
 ghost use Rattle.line_programs.specs.Header.{has_header, program_of, name_bytes};
 

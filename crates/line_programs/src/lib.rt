@@ -4,12 +4,10 @@
 //!
 //! The modules in reading order: `opcodes`, the constants; `header`; `names`, the names of directories and files, as
 //! `name_lists` (versions 2 to 4) and `name_entries` (version 5) read them; `path`, the paths of files; `instruction`,
-//! and `reading`, how an instruction is written; `registers`; `rows`, one after another; `covering`, the row that
-//! covers an address, and `one_pass`, the rows of many addresses in one pass; `laws`, what the definitions say of each
-//! other.
+//! and `reading`, how an instruction is written; `registers`; `rows`, one after another; `one_pass`, the rows of
+//! many addresses in one pass; `laws`, what the definitions say of each other.
 #![tactic(auto)]
 
-mod covering;
 mod header;
 mod instruction;
 pub mod laws;
@@ -23,7 +21,6 @@ mod reading;
 mod registers;
 mod rows;
 
-pub use covering::covering_row;
 pub use header::{Header, Program};
 pub use instruction::Instruction;
 pub use names::{Name, Names};

@@ -1,13 +1,12 @@
 //! Directories and files as version 5 lists them: each by an entry format.
 
-ghost use Rattle.std.specs.Prelude.{◌≡◌, ◌<◌, IfOk, length, map};
+ghost use Rattle.std.specs.Prelude.{◌≡◌, ◌<◌, IfOk, map};
 ghost use Rattle.std.specs.Option.{option_map};
 ghost use Rattle.dwarf_numbers.specs.Sequences.{counted};
 ghost use Rattle.dwarf_numbers.specs.Views.{value_view};
 ghost use Rattle.line_programs.specs.Names.{format_pair_at, format_at, name_value_at, with_value, index_of};
-ghost use Rattle.line_programs.specs.Names.{fields_from, name_of, entry_at, entries_at};
+ghost use Rattle.line_programs.specs.Names.{fields_from, entry_at, entries_at};
 ghost use Rattle.line_programs.specs.NameViews.{name_view, fields_view};
-ghost use Rattle.line_programs.specs.Names.{FieldsRecord};
 
 use crate::names::Name;
 use dwarf_numbers::dw_form::*;

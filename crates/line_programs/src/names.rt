@@ -7,7 +7,7 @@ ghost use Rattle.line_programs.specs.NameViews.{names_view};
 
 use crate::header::{has_header, name_bytes, version};
 use crate::name_entries::read_entries;
-use crate::name_lists::{read_file_names, read_include_directories};
+use crate::name_lists::read_listed_names;
 use dwarf_numbers::Value;
 use memory::{Heap, NoMemory};
 
@@ -36,10 +36,10 @@ fn read_to_version_4<'a>(
 ) -> Result<Option<Names<'a>>, NoMemory>
     ensures { IfOk result (λ names. option_map names_view names ≡ names_to_version_4 version bytes.now) }
 {
-    let Some((directories, rest)) = read_include_directories(heap.clone()?, bytes)? else {
+    let Some((directories, rest)) = read_listed_names(heap.clone()?, false, bytes)? else {
         return Ok(None);
     };
-    let Some((files, _)) = read_file_names(heap, rest)? else {
+    let Some((files, _)) = read_listed_names(heap, true, rest)? else {
         return Ok(None);
     };
     Ok(Some(Names {

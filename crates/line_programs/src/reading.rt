@@ -1,6 +1,6 @@
 //! How instructions are written (DWARF 5, sections 6.2.5 and 7.22).
 
-ghost use Rattle.std.specs.Prelude.{◌≡◌, ◌<◌, length, IfSome};
+ghost use Rattle.std.specs.Prelude.{◌≡◌, ◌<◌, length};
 ghost use Rattle.std.specs.Option.{option_map};
 ghost use Rattle.line_programs.specs.Instructions.{after_operands, other_at, fixed_advance_at};
 ghost use Rattle.line_programs.specs.Instructions.{standard_at, extended, extended_at, instruction_at};

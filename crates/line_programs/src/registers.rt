@@ -1,6 +1,6 @@
 //! The registers of the machine, and the rows that it appends (DWARF 5, section 6.2.2).
 
-ghost use Rattle.std.specs.Prelude.{◌≡◌, ◌<◌, ◌≤◌, ◌^◌};
+ghost use Rattle.std.specs.Prelude.{◌≡◌, ◌<◌};
 ghost use Rattle.line_programs.specs.Machine.{signed_byte};
 
 use crate::header::Header;

@@ -123,11 +123,6 @@ module _ {A : Type 0} (same : A → A → Bool) (decides : IsExact same) where
     | inr h ↦ omega (arith, h.0)
   ]
 
-  -- two that have one number are equal
-  pub same_number : (xs : List A) (x y : A) → 0 < number_in same xs x → number_in same xs x ≡ number_in same xs y → x ≡ y
-  same_number xs x y some e =
-      same_Some x y (sym (numbered_at xs x some) ∙ ap (λ n. slice_get xs (n - 1)) e ∙ numbered_at xs y (omega (arith, some, e)))
-
   -- ---- more of them
 
   from_append : (n : ℕ) (xs ys : List A) (x : A) → 0 < number_from n xs x → number_from n (xs ++ ys) x ≡ number_from n xs x

@@ -9,7 +9,8 @@ use Rattle.checked_pages.specs.Views.{ArePagesOf}
 use Rattle.checked_pages.specs.declared.pages.Pages.{Pages}
 use Rattle.line_tables.specs.LineTable.{AreFew, IsLineTable, IsLineTextWithin, no_lines, room_of}
 use Rattle.line_tables.specs.LineText.{LineParts, head_bytes, line_text, parts_of}
-use Rattle.line_tables.specs.Opened.{IsOpened, StandsAt}
+use Rattle.checked_pages.specs.Standing.{IsRestFrom}
+use Rattle.line_tables.specs.Opened.{IsOpened}
 use Rattle.line_tables.specs.Runs.{runs_of}
 use Rattle.line_tables.specs.Steps.{AreFrameSteps, StepRecord}
 use Rattle.line_tables.specs.declared.opening.Head.{Head}
@@ -39,7 +40,7 @@ pub record IsHead (head : Head) (bytes : List ℕ) : Type 0 where
   pub bytes_of : head.bytes ≡ from_be_bytes w64 (take 8 (drop 48 bytes))
 
 -- what was read from where a table stands is its head
-pub head_read : (all bytes buf : List ℕ) (n offset : ℕ) (head : Head) → StandsAt all offset bytes → n ≡ 56 → buf ≡ take n (drop offset all) → IsHead head buf → IsHead head (take 56 bytes)
+pub head_read : (all bytes buf : List ℕ) (n offset : ℕ) (head : Head) → IsRestFrom all offset bytes → n ≡ 56 → buf ≡ take n (drop offset all) → IsHead head buf → IsHead head (take 56 bytes)
 head_read all bytes buf n offset head stands long came is =
     subst (IsHead head) (came ∙ ap (λ k. take k (drop offset all)) long ∙ ap (take 56) stands.1) is
 
@@ -126,7 +127,7 @@ opens_none image bytes head is has none = by_text is.is_text
     by_text (inl h) = absurd (omega (arith, none, (says_parts head is.steps bytes h.0.few h.1 has).lines))
     by_text (inr h) = h.1
 
-pub opens_some : (image all bytes text : List ℕ) (pages : Pages) (offset : ℕ) (head : Head) (table : LineTable) → ArePagesOf pages text all → StandsAt all offset bytes → IsLineTable image bytes → IsHead head (take 56 bytes)
+pub opens_some : (image all bytes text : List ℕ) (pages : Pages) (offset : ℕ) (head : Head) (table : LineTable) → ArePagesOf pages text all → IsRestFrom all offset bytes → IsLineTable image bytes → IsHead head (take 56 bytes)
     → (head.lines ≡ 0 → ⊥) → HasHead table offset head → (steps : List StepRecord) × AreFrameSteps image steps × IsOpened table pages text all steps
 opens_some image all bytes text pages offset head table are stands is has some made = by_text is.is_text
   where
@@ -137,7 +138,7 @@ opens_some image all bytes text pages offset head table are stands is has some m
           is.are_steps,
           record {
             are_pages = are;
-            stands = subst (λ n. StandsAt all n (line_text is.steps)) (sym made.offset_is) (stands.0, stands.1 ∙ h.1);
+            stands = subst (λ n. IsRestFrom all n (line_text is.steps)) (sym made.offset_is) (stands.0, stands.1 ∙ h.1);
             widths = record { starts = is.are_steps.below; lines = h.0.lines; few = h.0.few };
             head = record {
               runs = made.runs ∙ says.runs;
@@ -151,7 +152,7 @@ opens_some image all bytes text pages offset head table are stands is has some m
         )
     by_text (inr h) = absurd (some (no_lines_read head bytes h.1 has))
 
-pub opens_not : (image all bytes : List ℕ) (offset size : ℕ) (head : Head) → StandsAt all offset bytes → IsLineTable image bytes → IsHead head (take 56 bytes)
+pub opens_not : (image all bytes : List ℕ) (offset size : ℕ) (head : Head) → IsRestFrom all offset bytes → IsLineTable image bytes → IsHead head (take 56 bytes)
     → (head.lines ≡ 0 → ⊥) → length all ≡ size
     → (offset + 56 + 8 * head.runs + 8 * head.steps + 20 * head.locations + 12 * head.files + 8 * head.texts + head.bytes ≡ size → ⊥) → ⊥
 opens_not image all bytes offset size head stands is has some long none = by_text is.is_text

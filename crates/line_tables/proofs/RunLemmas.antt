@@ -218,7 +218,7 @@ run_upper_fits steps below k d l =
         let within : j < length steps = omega (arith, m, starts_long steps) in
         upper_fits (get_or (starts_of steps) j 0) (omega (arith, start_at steps j no_step 0 within, below j no_step within))
 
-uppers_long : (steps : List StepRecord) → length (run_halves steps) ≡ length (runs_of steps)
+pub uppers_long : (steps : List StepRecord) → length (run_halves steps) ≡ length (runs_of steps)
 uppers_long steps = length-map (runs_of steps) (λ r. r.upper)
 
 halves_long : (steps : List StepRecord) → length (step_halves steps) ≡ length steps

@@ -46,9 +46,6 @@ halved all limit low high within ends most below others = record { within = most
 
 -- ---- runs
 
-pub runs_long : (steps : List StepRecord) → length (run_halves steps) ≡ length (runs_of steps)
-runs_long steps = length-map (runs_of steps) (λ r. r.upper)
-
 -- the upper half of the run of an index, by its row
 pub upper_of_row : (steps : List StepRecord) (index : ℕ) (row : Run) → IsRunRow steps index row → index < length (runs_of steps) → row.upper ≡ get_or (run_halves steps) index 0
 upper_of_row steps index row is within = is.upper no_run ∙ sym (upper_at steps index within)

@@ -1,5 +1,5 @@
 -- The frames of an address by the steps of its image, and that these are one list.
-use Rattle.std.proofs.Common.{◌≡◌, ℕ, zero, suc, ◌<◌, ◌^◌, List, [], ◌∷◌, length, get_or, refl, sym, ap, ◌∙◌, subst, inl, inr, arith, Contains, Option, Some, None, ◌⊎◌}
+use Rattle.std.proofs.Common.{◌≡◌, ℕ, zero, suc, ◌<◌, ◌^◌, List, [], ◌∷◌, length, get_or, sym, ap, ◌∙◌, subst, inl, inr, arith, Contains, Option, Some, None, ◌⊎◌}
 use Rattle.std.specs.Option.{option_map_or}
 use Rattle.std.proofs.lemmas.Bool.{cases_eq}
 use Rattle.std.proofs.lemmas.List.{get_or-map, get_or_default, same_lists}
@@ -8,6 +8,8 @@ use Rattle.std.proofs.lemmas.Option.{slice_get-get_or}
 use Rattle.std.proofs.Math.ListN.{length-map}
 use Rattle.source_frames.specs.AddressFrames.{AreFramesOf}
 use Rattle.source_frames.specs.Frames.{FrameRecord}
+use Rattle.waiting_indexes.specs.Rising.{AreRising}
+use Rattle.waiting_indexes.proofs.RisingLists.{first_or_rest, one_rising, rest_is}
 use Rattle.line_tables.specs.Steps.{StepRecord, starts_of, AreAscending, AreFramesBefore, Changes, Stays, AreFrameSteps, IsLastNotAbove, IsStepFor, frames_at}
 
 -- ---- numbers that ascend
@@ -15,51 +17,9 @@ use Rattle.line_tables.specs.Steps.{StepRecord, starts_of, AreAscending, AreFram
 pub rising_rest : (x : ℕ) (xs : List ℕ) → AreAscending (x ∷ xs) → AreAscending xs
 rising_rest x xs rising i j l m = rising (suc i) (suc j) (omega arith) (omega arith)
 
--- a member is the first one, or behind it
-first_or_rest : (x : ℕ) (xs : List ℕ) (a : ℕ) → Contains (x ∷ xs) a → (x ≡ a) ⊎ Contains xs a
-first_or_rest x xs a h = at_place h.0 h.1 h.2
-  where
-    at_place : (k : ℕ) → k < suc (length xs) → get_or (x ∷ xs) k a ≡ a → (x ≡ a) ⊎ Contains xs a
-    at_place zero l e = inl e
-    at_place (suc k) l e = inr (k, omega arith, e)
-
-first_is : (x : ℕ) (xs : List ℕ) → Contains (x ∷ xs) x
-first_is x xs = (0, omega arith, refl)
-
-rest_is : (x : ℕ) (xs : List ℕ) (a : ℕ) → Contains xs a → Contains (x ∷ xs) a
-rest_is x xs a h = (suc h.0, omega (arith, h.1), h.2)
-
--- the first one is below the others
-first_below : (x : ℕ) (xs : List ℕ) → AreAscending (x ∷ xs) → (a : ℕ) → Contains xs a → x < a
-first_below x xs rising a h = omega (arith, rising 0 (suc h.0) (omega arith) (omega (arith, h.1)), get_or_default xs h.0 a 0 h.1, h.2)
-
--- two rising lists of the same numbers have the same first one
-same_first : (x y : ℕ) (xs ys : List ℕ) → AreAscending (x ∷ xs) → AreAscending (y ∷ ys) → Contains (y ∷ ys) x → Contains (x ∷ xs) y → x ≡ y
-same_first x y xs ys r s h k = elim (first_or_rest y ys x h) [
-  | inl e ↦ sym e
-  | inr m ↦ elim (first_or_rest x xs y k) [
-    | inl e ↦ e
-    | inr n ↦ absurd (omega (arith, first_below y ys s x m, first_below x xs r y n))
-  ]
-]
-
--- what is behind the first one of the one is behind that of the other
-same_rest : (x y : ℕ) (xs ys : List ℕ) → AreAscending (x ∷ xs) → x ≡ y → (a : ℕ) → Contains xs a → Contains (y ∷ ys) a → Contains ys a
-same_rest x y xs ys r e a h k = elim (first_or_rest y ys a k) [
-  | inl m ↦ absurd (omega (arith, first_below x xs r a h, e, m))
-  | inr m ↦ m
-]
-
-one_rising : (xs ys : List ℕ) → AreAscending xs → AreAscending ys → ((a : ℕ) → Contains xs a → Contains ys a) → ((a : ℕ) → Contains ys a → Contains xs a) → xs ≡ ys
-one_rising [] [] r s to from = refl
-one_rising [] (y ∷ ys) r s to from = let h = from y (first_is y ys) in absurd (omega (arith, h.1))
-one_rising (x ∷ xs) [] r s to from = let h = to x (first_is x xs) in absurd (omega (arith, h.1))
-one_rising (x ∷ xs) (y ∷ ys) r s to from =
-    let e : x ≡ y = same_first x y xs ys r s (to x (first_is x xs)) (from y (first_is y ys)) in
-    let rest : xs ≡ ys = one_rising xs ys (rising_rest x xs r) (rising_rest y ys s)
-    (λ a h. same_rest x y xs ys r e a h (to a (rest_is x xs a h)))
-    (λ a h. same_rest y x ys xs s (sym e) a h (from a (rest_is y ys a h))) in
-    λ i. e i ∷ rest i
+-- so they rise, whatever stands for one that is missing
+risen : (xs : List ℕ) → AreAscending xs → AreRising xs
+risen xs rising i j d l m = omega (arith, rising i j l m, get_or_default xs i d 0 (omega (arith, l, m)), get_or_default xs j d 0 m)
 
 -- a number is among some, or not
 member : (xs : List ℕ) (a : ℕ) → Contains xs a ⊎ (Contains xs a → ⊥)
@@ -161,7 +121,7 @@ module _ (only : (image : List ℕ) (address : ℕ) (one other : List FrameRecor
 
   pub steps_once : (steps others : List StepRecord) → AreFrameSteps image steps → AreFrameSteps image others → steps ≡ others
   steps_once steps others p q =
-      let starts : starts_of steps ≡ starts_of others = one_rising (starts_of steps) (starts_of others) p.rising q.rising (also_there steps others p q) (also_there others steps q p) in
+      let starts : starts_of steps ≡ starts_of others = one_rising (starts_of steps) (starts_of others) (risen (starts_of steps) p.rising) (risen (starts_of others) q.rising) (also_there steps others p q) (also_there others steps q p) in
       let long : length steps ≡ length others = sym (starts_long steps) ∙ ap length starts ∙ starts_long others in
       same_lists steps others long (λ k d l.
       let within : k < length others = omega (arith, l, long) in

@@ -1,6 +1,5 @@
 -- Things that are numbered from 1 on, in the order in which they first come.
-use Rattle.std.specs.Prelude.{◌==◌, ◌&&◌, ℕ, Bool, List, [], ◌∷◌, ◌++◌, Option, nat_eq, unwrap_or}
-use Rattle.std.specs.Prelude.{if◌then◌else◌}
+use Rattle.std.specs.Prelude.{◌==◌, ◌&&◌, ℕ, Bool, List, [], ◌∷◌, ◌++◌, Option, nat_eq, unwrap_or, if◌then◌else◌}
 use Rattle.std.specs.List.{list_any, position_from}
 use Rattle.std.specs.Option.{option_eq, option_map_or}
 use Rattle.std.specs.Cmp.Lexicographic.{pointwise}

@@ -1,17 +1,17 @@
 -- A line table that was opened, among the bytes of stored pages.
-use Rattle.std.specs.Prelude.{◌≡◌, ◌<◌, ◌≤◌, ◌^◌, ℕ, List, All, length, drop}
+use Rattle.std.specs.Prelude.{◌≡◌, ◌<◌, ◌^◌, ℕ, List, Option, Result, All, length}
 use Rattle.std.specs.List.{concat}
-use Rattle.checked_pages.specs.Views.{ArePagesOf}
+use Rattle.checked_pages.specs.Pages.{AreStored}
+use Rattle.checked_pages.specs.Reading.{ReadsStored}
+use Rattle.checked_pages.specs.Standing.{IsRestFrom}
+use Rattle.checked_pages.specs.Views.{ArePagesOf, claim_view}
+use Rattle.checked_pages.specs.declared.fault.CheckFault.{CheckFault}
 use Rattle.checked_pages.specs.declared.pages.Pages.{Pages}
 use Rattle.line_tables.specs.LineTable.{AreFew, HaveFewLines}
 use Rattle.line_tables.specs.LineText.{LineParts, line_text, parts_of}
 use Rattle.line_tables.specs.Runs.{runs_of}
 use Rattle.line_tables.specs.Steps.{StepRecord}
 use Rattle.line_tables.specs.declared.table.LineTable.{LineTable}
-
--- these bytes stand among others from an offset on, and end them
-abbrev pub StandsAt : List ℕ → ℕ → List ℕ → Type 0
-StandsAt all offset bytes = (offset ≤ length all) × (drop offset all ≡ bytes)
 
 -- the numbers of a head are those of the parts of a table
 pub record IsHeadOf (table : LineTable) (parts : LineParts) : Type 0 where
@@ -31,6 +31,28 @@ pub record HaveWidths (steps : List StepRecord) : Type 0 where
 -- The bytes of these pages end with the table of these steps, which was opened.
 pub record IsOpened (table : LineTable) (pages : Pages) (text all : List ℕ) (steps : List StepRecord) : Type 0 where
   pub are_pages : ArePagesOf pages text all
-  pub stands : StandsAt all table.offset (line_text steps)
+  pub stands : IsRestFrom all table.offset (line_text steps)
   pub widths : HaveWidths steps
   pub head : IsHeadOf table (parts_of steps)
+
+-- no table that was opened is stored there
+abbrev pub IsUnstored : LineTable → Pages → List ℕ → Type 0
+IsUnstored table pages text = (all : List ℕ) (steps : List StepRecord) → AreStored text (claim_view pages.claim) all
+    → IsOpened table pages text all steps → ⊥
+
+-- A call reads of a table that was opened: what it gives is true of the steps of that table, and it is refused as changed
+-- only if no such table is stored there.
+abbrev pub ReadsTable : {D T : Type 0} → (D → Option (List ℕ)) → (D → ℕ) → D → D → Result T CheckFault → LineTable → Pages
+    → (List StepRecord → T → Type 0) → Type 0
+ReadsTable whole failures old new result table pages IsTrue = ReadsStored whole failures old new result
+    (λ text given. (all : List ℕ) (steps : List StepRecord) → IsOpened table pages text all steps → IsTrue steps given)
+    (IsUnstored table pages)
+
+-- The same of a part of that table which it is asked for: whatever that is, what the call gives is true of it.
+abbrev pub ReadsPart : {D T : Type 0} (A : Type 0) → (D → Option (List ℕ)) → (D → ℕ) → D → D → Result T CheckFault → LineTable
+    → Pages → (List StepRecord → A → Type 0) → (List StepRecord → A → T → Type 0) → Type 0
+ReadsPart A whole failures old new result table pages IsPart IsTrue = ReadsStored whole failures old new result
+    (λ text given. (all : List ℕ) (steps : List StepRecord) (part : A) → IsOpened table pages text all steps
+    → IsPart steps part → IsTrue steps part given)
+    (λ text. (all : List ℕ) (steps : List StepRecord) (part : A) → AreStored text (claim_view pages.claim) all
+    → IsOpened table pages text all steps → IsPart steps part → ⊥)

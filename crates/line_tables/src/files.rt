@@ -1,23 +1,20 @@
 //! The files of a table, by their numbers.
 
-ghost use Rattle.std.specs.Prelude.{◌≡◌, ◌<◌, ℕ, List, Option, Some};
+ghost use Rattle.std.specs.Prelude.{◌≡◌, Option, Some};
 ghost use Rattle.std.specs.Option.{option_map};
-ghost use Rattle.checked_pages.specs.Pages.{AreStored};
-ghost use Rattle.checked_pages.specs.Views.{ArePagesOf, claim_view};
-ghost use Rattle.checked_pages.specs.Reading.{ReadsStored};
+ghost use Rattle.checked_pages.specs.Views.{KeepsPages};
 ghost use Rattle.line_programs.specs.Paths.{PathRecord};
 ghost use Rattle.line_tables.specs.FrameViews.{owned_path_view};
 ghost use Rattle.line_tables.specs.Inner.{IsFileNumber, IsFileRow, IsMaybeFile};
 ghost use Rattle.line_tables.specs.LineText.{parts_of};
-ghost use Rattle.line_tables.specs.Opened.{IsOpened};
-ghost use Rattle.line_tables.specs.Steps.{StepRecord};
+ghost use Rattle.line_tables.specs.Opened.{ReadsPart};
 
 use crate::frame::OwnedPath;
-use crate::row::{FILE_LEN, File, index_of, u32_be_at};
+use crate::row::{FILE_LEN, File, index_of};
 use crate::table::LineTable;
 use crate::texts::handle;
 use byte_device::Placed;
-use checked_pages::{CheckFault, Pages};
+use checked_pages::{CheckFault, Pages, u32_be_at};
 use memory::Heap;
 
 impl LineTable {
@@ -29,15 +26,10 @@ impl LineTable {
         number: u32,
     ) -> Result<File, CheckFault>
         ensures claim { pages.new.claim ≡ pages.old.claim }
-        ensures keeps { (text all : List ℕ) → P.whole device.old ≡ Some text → ArePagesOf pages.old text all
-            → ArePagesOf pages.new text all }
-        ensures read { ReadsStored P.whole P.failures device.old device.new result
-            (λ text row. (all : List ℕ) (steps : List StepRecord) (path : PathRecord)
-            → IsOpened self.now pages.old text all steps → IsFileNumber (parts_of steps) number path
-            → IsFileRow (parts_of steps) row path)
-            (λ text. (all : List ℕ) (steps : List StepRecord) (path : PathRecord)
-            → AreStored text (claim_view pages.old.claim) all → IsOpened self.now pages.old text all steps
-            → IsFileNumber (parts_of steps) number path → ⊥) }
+        ensures keeps { KeepsPages P.whole device.old pages.old pages.new }
+        ensures read { ReadsPart PathRecord P.whole P.failures device.old device.new result self.now pages.old
+            (λ steps path. IsFileNumber (parts_of steps) number path)
+            (λ steps path row. IsFileRow (parts_of steps) row path) }
     {
         let Some(index) = index_of(number, self.files) else {
             return Err(CheckFault::Changed);
@@ -61,15 +53,10 @@ impl LineTable {
         row: File,
     ) -> Result<OwnedPath, CheckFault>
         ensures claim { pages.new.claim ≡ pages.old.claim }
-        ensures keeps { (text all : List ℕ) → P.whole device.old ≡ Some text → ArePagesOf pages.old text all
-            → ArePagesOf pages.new text all }
-        ensures read { ReadsStored P.whole P.failures device.old device.new result
-            (λ text path. (all : List ℕ) (steps : List StepRecord) (told : PathRecord)
-            → IsOpened self.now pages.old text all steps → IsFileRow (parts_of steps) row told
-            → owned_path_view path ≡ told)
-            (λ text. (all : List ℕ) (steps : List StepRecord) (told : PathRecord)
-            → AreStored text (claim_view pages.old.claim) all → IsOpened self.now pages.old text all steps
-            → IsFileRow (parts_of steps) row told → ⊥) }
+        ensures keeps { KeepsPages P.whole device.old pages.old pages.new }
+        ensures read { ReadsPart PathRecord P.whole P.failures device.old device.new result self.now pages.old
+            (λ steps told. IsFileRow (parts_of steps) row told)
+            (λ _ told path. owned_path_view path ≡ told) }
     {
         let first = handle(&heap)?;
         let second = handle(&heap)?;
@@ -92,15 +79,10 @@ impl LineTable {
         number: u32,
     ) -> Result<Option<OwnedPath>, CheckFault>
         ensures claim { pages.new.claim ≡ pages.old.claim }
-        ensures keeps { (text all : List ℕ) → P.whole device.old ≡ Some text → ArePagesOf pages.old text all
-            → ArePagesOf pages.new text all }
-        ensures read { ReadsStored P.whole P.failures device.old device.new result
-            (λ text found. (all : List ℕ) (steps : List StepRecord) (told : Option PathRecord)
-            → IsOpened self.now pages.old text all steps → IsMaybeFile (parts_of steps) number told
-            → option_map owned_path_view found ≡ told)
-            (λ text. (all : List ℕ) (steps : List StepRecord) (told : Option PathRecord)
-            → AreStored text (claim_view pages.old.claim) all → IsOpened self.now pages.old text all steps
-            → IsMaybeFile (parts_of steps) number told → ⊥) }
+        ensures keeps { KeepsPages P.whole device.old pages.old pages.new }
+        ensures read { ReadsPart (Option PathRecord) P.whole P.failures device.old device.new result self.now pages.old
+            (λ steps told. IsMaybeFile (parts_of steps) number told)
+            (λ _ told found. option_map owned_path_view found ≡ told) }
     {
         if number == 0 {
             return Ok(None);

@@ -33,8 +33,8 @@ pub struct OwnedFrame {
 }
 
 impl OwnedPath {
-    /// The same with its parts lent.
-    pub fn lent(&self) -> PathParts<'_>
+    /// The same with its parts borrowed.
+    pub fn borrowed(&self) -> PathParts<'_>
         ensures { path_view result ≡ owned_path_view self.now }
     {
         PathParts {
@@ -46,8 +46,8 @@ impl OwnedPath {
 }
 
 impl OwnedFrame {
-    /// The name, lent.
-    fn lent_name(&self) -> Option<&[u8]>
+    /// The name, borrowed.
+    fn borrowed_name(&self) -> Option<&[u8]>
         ensures { option_map (λ n. n.now) result ≡ option_map (λ n. n.items) self.now.name }
     {
         match &self.name {
@@ -56,23 +56,23 @@ impl OwnedFrame {
         }
     }
 
-    /// The path, lent.
-    fn lent_path(&self) -> Option<PathParts<'_>>
+    /// The path, borrowed.
+    fn borrowed_path(&self) -> Option<PathParts<'_>>
         ensures { option_map path_view result ≡ option_map owned_path_view self.now.path }
     {
         match &self.path {
-            Some(path) => Some(path.lent()),
+            Some(path) => Some(path.borrowed()),
             None => None,
         }
     }
 
-    /// The same with its texts lent.
-    pub fn lent(&self) -> Frame<'_>
+    /// The same with its texts borrowed.
+    pub fn borrowed(&self) -> Frame<'_>
         ensures { frame_view result ≡ owned_frame_view self.now }
     {
         Frame {
-            name: self.lent_name(),
-            path: self.lent_path(),
+            name: self.borrowed_name(),
+            path: self.borrowed_path(),
             line: self.line,
             column: self.column,
         }

@@ -9,8 +9,7 @@
 //! - `opening`: [`LineTable::open`]; `halves`: the two halves of an address; `runs`: how many steps have a start
 //!   whose upper half is below a limit; `search`: the step that an address belongs to;
 //! - `frame`: [`OwnedFrame`]; `texts`, `files`: the texts and paths of a table by their numbers;
-//! - `asking`: [`LineTable::frames_at`], the frames of an address, and [`frames_by_claim`], of a table that is opened
-//!   for it;
+//! - `address_frames`: [`LineTable::frames_at`], the frames of an address;
 //! - `laws`: what the definitions say of each other.
 //!
 //! Decided:
@@ -22,7 +21,7 @@
 //! - A step stores the lower half of its start alone: the upper half is that of its run, and most tables have one run.
 #![tactic(auto)]
 
-mod asking;
+mod address_frames;
 mod files;
 mod frame;
 pub mod halves;
@@ -34,6 +33,5 @@ mod search;
 mod table;
 mod texts;
 
-pub use asking::frames_by_claim;
 pub use frame::{OwnedFrame, OwnedPath};
 pub use table::LineTable;

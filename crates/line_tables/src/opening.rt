@@ -1,19 +1,19 @@
 //! The head of a line table.
 
-ghost use Rattle.std.specs.Prelude.{◌≡◌, ◌+◌, ◌*◌, ◌<◌, ◌≤◌, ◌^◌, ℕ, List, IfSome, MatchOption, None, Some, length};
-ghost use Rattle.std.specs.Prelude.{take, drop};
+ghost use Rattle.std.specs.Prelude.{◌≡◌, ◌+◌, ◌*◌, ℕ, List, IfSome, MatchOption, None, Some, length, take, drop};
 ghost use Rattle.std.specs.Int.{w64, from_be_bytes};
 ghost use Rattle.checked_pages.specs.Pages.{AreStored};
-ghost use Rattle.checked_pages.specs.Views.{ArePagesOf, claim_view};
+ghost use Rattle.checked_pages.specs.Standing.{IsRestFrom};
+ghost use Rattle.checked_pages.specs.Views.{ArePagesOf, KeepsPages, claim_view};
 ghost use Rattle.checked_pages.specs.Reading.{ReadsStored};
 ghost use Rattle.line_tables.specs.LineTable.{IsLineTable, no_lines};
-ghost use Rattle.line_tables.specs.Opened.{IsOpened, StandsAt};
+ghost use Rattle.line_tables.specs.Opened.{IsOpened};
 ghost use Rattle.line_tables.specs.Steps.{AreFrameSteps, StepRecord};
 
-use crate::row::{FILE_LEN, LOCATION_LEN, RUN_LEN, STEP_LEN, TEXT_LEN, u64_be_at};
+use crate::row::{FILE_LEN, LOCATION_LEN, RUN_LEN, STEP_LEN, TEXT_LEN};
 use crate::table::{HEAD_LEN, LineTable};
 use byte_device::Placed;
-use checked_pages::{CheckFault, Pages};
+use checked_pages::{CheckFault, Pages, u64_be_at};
 
 /// What a head says: whether there are lines, and how many there are of each part.
 #[derive(Clone, Copy)]
@@ -92,24 +92,19 @@ impl Head {
 
 impl LineTable {
     /// The line table that stands among stored bytes from an offset on, and ends them; none where it has no lines.
-    ///
-    /// # Errors
-    ///
-    /// Those of [`Pages::read`], and `Changed` also where the head is that of no table that ends there.
     pub fn open<P: Placed>(
         device: &mut P,
         pages: &mut Pages,
         offset: u64,
     ) -> Result<Option<LineTable>, CheckFault>
         ensures claim { pages.new.claim ≡ pages.old.claim }
-        ensures keeps { (text all : List ℕ) → P.whole device.old ≡ Some text → ArePagesOf pages.old text all
-            → ArePagesOf pages.new text all }
+        ensures keeps { KeepsPages P.whole device.old pages.old pages.new }
         ensures read { ReadsStored P.whole P.failures device.old device.new result
-            (λ text found. (image all bytes : List ℕ) → ArePagesOf pages.old text all → StandsAt all offset bytes
+            (λ text found. (image all bytes : List ℕ) → ArePagesOf pages.old text all → IsRestFrom all offset bytes
             → IsLineTable image bytes → MatchOption found (bytes ≡ no_lines)
             (λ table. (steps : List StepRecord) × AreFrameSteps image steps × IsOpened table pages.new text all steps))
             (λ text. (image all bytes : List ℕ) → AreStored text (claim_view pages.old.claim) all
-            → ArePagesOf pages.old text all → StandsAt all offset bytes → IsLineTable image bytes → ⊥) }
+            → ArePagesOf pages.old text all → IsRestFrom all offset bytes → IsLineTable image bytes → ⊥) }
     {
         let mut bytes = [0; HEAD_LEN];
         pages.read(device, offset, &mut bytes)?;

@@ -1,9 +1,6 @@
 //! The rows of a table.
 
-ghost use Rattle.std.specs.Prelude.{◌≡◌, ◌+◌, ◌<◌, ◌≤◌, length, take, drop, IfSome, None};
-ghost use Rattle.std.specs.Int.{w32, w64, from_be_bytes};
-
-use byteorder::{BigEndian, ByteOrder};
+ghost use Rattle.std.specs.Prelude.{◌≡◌, ◌+◌, ◌<◌, ◌≤◌, IfSome, None};
 
 /// How many bytes a run has.
 pub(crate) const RUN_LEN: usize = 8;
@@ -62,22 +59,6 @@ pub(crate) struct File {
 pub(crate) struct Text {
     pub place: u32,
     pub length: u32,
-}
-
-/// The number in eight bytes from an offset on.
-pub(crate) fn u64_be_at(bytes: &[u8], offset: usize) -> u64
-    requires { offset + 8 ≤ length bytes.now }
-    ensures { result ≡ from_be_bytes w64 (take 8 (drop offset bytes.now)) }
-{
-    BigEndian::read_u64(&bytes[offset..])
-}
-
-/// The number in four bytes from an offset on.
-pub(crate) fn u32_be_at(bytes: &[u8], offset: usize) -> u32
-    requires { offset + 4 ≤ length bytes.now }
-    ensures { result ≡ from_be_bytes w32 (take 4 (drop offset bytes.now)) }
-{
-    BigEndian::read_u32(&bytes[offset..])
 }
 
 /// The index of what has this number among so many, which are numbered from 1 on.

@@ -1,17 +1,16 @@
 //! The steps whose starts have a lower upper half than others, found by halving.
 
-ghost use Rattle.std.specs.Prelude.{◌≡◌, ◌<◌, ◌≤◌, ℕ, List, Some, IfOk};
-ghost use Rattle.checked_pages.specs.Pages.{AreStored};
-ghost use Rattle.checked_pages.specs.Views.{ArePagesOf, claim_view};
+ghost use Rattle.std.specs.Prelude.{◌≡◌, ◌<◌, ◌≤◌, ℕ, List, IfOk};
+ghost use Rattle.checked_pages.specs.Views.{KeepsPages};
 ghost use Rattle.checked_pages.specs.Reading.{ReadsStored};
 ghost use Rattle.line_tables.specs.Inner.{AreBelow, IsRunRow, run_halves, step_halves};
-ghost use Rattle.line_tables.specs.Opened.{IsOpened};
+ghost use Rattle.line_tables.specs.Opened.{IsOpened, IsUnstored, ReadsTable};
 ghost use Rattle.line_tables.specs.Steps.{AreAscending, StepRecord, starts_of};
 
-use crate::row::{RUN_LEN, Run, u32_be_at};
+use crate::row::{RUN_LEN, Run};
 use crate::table::LineTable;
 use byte_device::Placed;
-use checked_pages::{CheckFault, Pages};
+use checked_pages::{CheckFault, Pages, u32_be_at};
 
 impl LineTable {
     /// The run of an index.
@@ -23,13 +22,9 @@ impl LineTable {
     ) -> Result<Run, CheckFault>
         requires { index < self.now.runs }
         ensures claim { pages.new.claim ≡ pages.old.claim }
-        ensures keeps { (text all : List ℕ) → P.whole device.old ≡ Some text → ArePagesOf pages.old text all
-            → ArePagesOf pages.new text all }
-        ensures read { ReadsStored P.whole P.failures device.old device.new result
-            (λ text row. (all : List ℕ) (steps : List StepRecord) → IsOpened self.now pages.old text all steps
-            → IsRunRow steps index row)
-            (λ text. (all : List ℕ) (steps : List StepRecord) → AreStored text (claim_view pages.old.claim) all
-            → IsOpened self.now pages.old text all steps → ⊥) }
+        ensures keeps { KeepsPages P.whole device.old pages.old pages.new }
+        ensures read { ReadsTable P.whole P.failures device.old device.new result self.now pages.old
+            (λ steps row. IsRunRow steps index row) }
     {
         let mut bytes = [0; RUN_LEN];
         let offset = self.first_run() + RUN_LEN as u64 * index;
@@ -48,14 +43,12 @@ impl LineTable {
         limit: u64,
     ) -> Result<u64, CheckFault>
         ensures claim { pages.new.claim ≡ pages.old.claim }
-        ensures keeps { (text all : List ℕ) → P.whole device.old ≡ Some text → ArePagesOf pages.old text all
-            → ArePagesOf pages.new text all }
+        ensures keeps { KeepsPages P.whole device.old pages.old pages.new }
         ensures within { IfOk result (λ count. count ≤ self.now.runs) }
         ensures read { ReadsStored P.whole P.failures device.old device.new result
             (λ text count. (all : List ℕ) (steps : List StepRecord) → AreAscending (starts_of steps)
             → IsOpened self.now pages.old text all steps → AreBelow (run_halves steps) limit count)
-            (λ text. (all : List ℕ) (steps : List StepRecord) → AreStored text (claim_view pages.old.claim) all
-            → IsOpened self.now pages.old text all steps → ⊥) }
+            (IsUnstored self.now pages.old) }
     {
         let mut low = 0;
         let mut high = self.runs;
@@ -79,14 +72,12 @@ impl LineTable {
         limit: u64,
     ) -> Result<u64, CheckFault>
         ensures claim { pages.new.claim ≡ pages.old.claim }
-        ensures keeps { (text all : List ℕ) → P.whole device.old ≡ Some text → ArePagesOf pages.old text all
-            → ArePagesOf pages.new text all }
+        ensures keeps { KeepsPages P.whole device.old pages.old pages.new }
         ensures within { IfOk result (λ count. count ≤ self.now.steps) }
         ensures read { ReadsStored P.whole P.failures device.old device.new result
             (λ text count. (all : List ℕ) (steps : List StepRecord) → AreAscending (starts_of steps)
             → IsOpened self.now pages.old text all steps → AreBelow (step_halves steps) limit count)
-            (λ text. (all : List ℕ) (steps : List StepRecord) → AreStored text (claim_view pages.old.claim) all
-            → IsOpened self.now pages.old text all steps → ⊥) }
+            (IsUnstored self.now pages.old) }
     {
         let runs = self.runs_below(device, pages, limit)?;
         if runs == 0 {

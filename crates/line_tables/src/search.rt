@@ -1,19 +1,18 @@
 //! The step of an address, found by halving.
 
-ghost use Rattle.std.specs.Prelude.{◌≡◌, ◌+◌, ◌<◌, ◌≤◌, ℕ, List, Option, Some, IfOk};
-ghost use Rattle.checked_pages.specs.Pages.{AreStored};
-ghost use Rattle.checked_pages.specs.Views.{ArePagesOf, claim_view};
+ghost use Rattle.std.specs.Prelude.{◌≡◌, ◌+◌, ◌<◌, ◌≤◌, ℕ, List, Option, IfOk};
+ghost use Rattle.checked_pages.specs.Views.{KeepsPages};
 ghost use Rattle.checked_pages.specs.Reading.{ReadsStored};
 ghost use Rattle.line_tables.specs.Inner.{AreBelow, IsMaybeChain, IsStepRow};
 ghost use Rattle.line_tables.specs.LineText.{parts_of};
-ghost use Rattle.line_tables.specs.Opened.{IsOpened};
+ghost use Rattle.line_tables.specs.Opened.{IsOpened, IsUnstored, ReadsTable};
 ghost use Rattle.line_tables.specs.Steps.{AreAscending, IsStepFor, StepRecord, frames_at, starts_of};
 
 use crate::halves::{lower_half, upper_half};
-use crate::row::{STEP_LEN, Step, u32_be_at};
+use crate::row::{STEP_LEN, Step};
 use crate::table::LineTable;
 use byte_device::Placed;
-use checked_pages::{CheckFault, Pages};
+use checked_pages::{CheckFault, Pages, u32_be_at};
 
 impl LineTable {
     /// The step of an index.
@@ -25,13 +24,9 @@ impl LineTable {
     ) -> Result<Step, CheckFault>
         requires { index < self.now.steps }
         ensures claim { pages.new.claim ≡ pages.old.claim }
-        ensures keeps { (text all : List ℕ) → P.whole device.old ≡ Some text → ArePagesOf pages.old text all
-            → ArePagesOf pages.new text all }
-        ensures read { ReadsStored P.whole P.failures device.old device.new result
-            (λ text row. (all : List ℕ) (steps : List StepRecord) → IsOpened self.now pages.old text all steps
-            → IsStepRow steps index row)
-            (λ text. (all : List ℕ) (steps : List StepRecord) → AreStored text (claim_view pages.old.claim) all
-            → IsOpened self.now pages.old text all steps → ⊥) }
+        ensures keeps { KeepsPages P.whole device.old pages.old pages.new }
+        ensures read { ReadsTable P.whole P.failures device.old device.new result self.now pages.old
+            (λ steps row. IsStepRow steps index row) }
     {
         let mut bytes = [0; STEP_LEN];
         let offset = self.first_step() + STEP_LEN as u64 * index;
@@ -51,14 +46,12 @@ impl LineTable {
         address: u64,
     ) -> Result<u64, CheckFault>
         ensures claim { pages.new.claim ≡ pages.old.claim }
-        ensures keeps { (text all : List ℕ) → P.whole device.old ≡ Some text → ArePagesOf pages.old text all
-            → ArePagesOf pages.new text all }
+        ensures keeps { KeepsPages P.whole device.old pages.old pages.new }
         ensures within { IfOk result (λ count. count ≤ self.now.steps) }
         ensures read { ReadsStored P.whole P.failures device.old device.new result
             (λ text count. (all : List ℕ) (steps : List StepRecord) → AreAscending (starts_of steps)
             → IsOpened self.now pages.old text all steps → AreBelow (starts_of steps) (address + 1) count)
-            (λ text. (all : List ℕ) (steps : List StepRecord) → AreStored text (claim_view pages.old.claim) all
-            → IsOpened self.now pages.old text all steps → ⊥) }
+            (IsUnstored self.now pages.old) }
     {
         let upper = u64::from(upper_half(address));
         let lower = lower_half(address);
@@ -84,15 +77,13 @@ impl LineTable {
         address: u64,
     ) -> Result<u32, CheckFault>
         ensures claim { pages.new.claim ≡ pages.old.claim }
-        ensures keeps { (text all : List ℕ) → P.whole device.old ≡ Some text → ArePagesOf pages.old text all
-            → ArePagesOf pages.new text all }
+        ensures keeps { KeepsPages P.whole device.old pages.old pages.new }
         ensures read { ReadsStored P.whole P.failures device.old device.new result
             (λ text number. (all : List ℕ) (steps : List StepRecord) → AreAscending (starts_of steps)
             → IsOpened self.now pages.old text all steps
             → (found : Option ℕ) × IsStepFor (starts_of steps) address found
             × IsMaybeChain (parts_of steps) number (frames_at steps found))
-            (λ text. (all : List ℕ) (steps : List StepRecord) → AreStored text (claim_view pages.old.claim) all
-            → IsOpened self.now pages.old text all steps → ⊥) }
+            (IsUnstored self.now pages.old) }
     {
         let count = self.steps_up_to(device, pages, address)?;
         if count == 0 {

@@ -3,17 +3,17 @@
 ghost use Rattle.std.specs.Prelude.{◌≡◌, ◌<◌, ℕ, List, Option, Some, IfErr, IfOk, length, slice_get};
 ghost use Rattle.std.specs.Option.{option_map};
 ghost use Rattle.checked_pages.specs.Pages.{AreStored};
-ghost use Rattle.checked_pages.specs.Views.{ArePagesOf, claim_view};
+ghost use Rattle.checked_pages.specs.Views.{KeepsPages, claim_view};
 ghost use Rattle.checked_pages.specs.Reading.{ReadsStored};
 ghost use Rattle.line_tables.specs.Inner.{IsMaybeText, IsTextNumber, IsTextRow};
 ghost use Rattle.line_tables.specs.LineText.{parts_of};
-ghost use Rattle.line_tables.specs.Opened.{IsOpened};
+ghost use Rattle.line_tables.specs.Opened.{IsOpened, ReadsPart, ReadsTable};
 ghost use Rattle.line_tables.specs.Steps.{StepRecord};
 
-use crate::row::{TEXT_LEN, Text, index_of, u32_be_at};
+use crate::row::{TEXT_LEN, Text, index_of};
 use crate::table::LineTable;
 use byte_device::Placed;
-use checked_pages::{CheckFault, Pages};
+use checked_pages::{CheckFault, Pages, u32_be_at};
 use memory::Heap;
 
 /// A handle to the memory.
@@ -48,13 +48,9 @@ impl LineTable {
     ) -> Result<Text, CheckFault>
         requires { index < self.now.texts }
         ensures claim { pages.new.claim ≡ pages.old.claim }
-        ensures keeps { (text all : List ℕ) → P.whole device.old ≡ Some text → ArePagesOf pages.old text all
-            → ArePagesOf pages.new text all }
-        ensures read { ReadsStored P.whole P.failures device.old device.new result
-            (λ text row. (all : List ℕ) (steps : List StepRecord) → IsOpened self.now pages.old text all steps
-            → IsTextRow (parts_of steps) index row)
-            (λ text. (all : List ℕ) (steps : List StepRecord) → AreStored text (claim_view pages.old.claim) all
-            → IsOpened self.now pages.old text all steps → ⊥) }
+        ensures keeps { KeepsPages P.whole device.old pages.old pages.new }
+        ensures read { ReadsTable P.whole P.failures device.old device.new result self.now pages.old
+            (λ steps row. IsTextRow (parts_of steps) index row) }
     {
         let mut bytes = [0; TEXT_LEN];
         let offset = self.first_text() + TEXT_LEN as u64 * index;
@@ -74,8 +70,7 @@ impl LineTable {
         row: Text,
     ) -> Result<Vec<u8, Heap>, CheckFault>
         ensures claim { pages.new.claim ≡ pages.old.claim }
-        ensures keeps { (text all : List ℕ) → P.whole device.old ≡ Some text → ArePagesOf pages.old text all
-            → ArePagesOf pages.new text all }
+        ensures keeps { KeepsPages P.whole device.old pages.old pages.new }
         ensures read { ReadsStored P.whole P.failures device.old device.new result
             (λ text bytes. (all : List ℕ) (steps : List StepRecord) (index : ℕ)
             → IsOpened self.now pages.old text all steps → index < length (parts_of steps).texts
@@ -104,15 +99,10 @@ impl LineTable {
         number: u32,
     ) -> Result<Vec<u8, Heap>, CheckFault>
         ensures claim { pages.new.claim ≡ pages.old.claim }
-        ensures keeps { (text all : List ℕ) → P.whole device.old ≡ Some text → ArePagesOf pages.old text all
-            → ArePagesOf pages.new text all }
-        ensures read { ReadsStored P.whole P.failures device.old device.new result
-            (λ text bytes. (all : List ℕ) (steps : List StepRecord) (told : List ℕ)
-            → IsOpened self.now pages.old text all steps → IsTextNumber (parts_of steps) number told
-            → bytes.items ≡ told)
-            (λ text. (all : List ℕ) (steps : List StepRecord) (told : List ℕ)
-            → AreStored text (claim_view pages.old.claim) all → IsOpened self.now pages.old text all steps
-            → IsTextNumber (parts_of steps) number told → ⊥) }
+        ensures keeps { KeepsPages P.whole device.old pages.old pages.new }
+        ensures read { ReadsPart (List ℕ) P.whole P.failures device.old device.new result self.now pages.old
+            (λ steps told. IsTextNumber (parts_of steps) number told)
+            (λ _ told bytes. bytes.items ≡ told) }
     {
         let Some(index) = index_of(number, self.texts) else {
             return Err(CheckFault::Changed);
@@ -131,15 +121,10 @@ impl LineTable {
         number: u32,
     ) -> Result<Option<Vec<u8, Heap>>, CheckFault>
         ensures claim { pages.new.claim ≡ pages.old.claim }
-        ensures keeps { (text all : List ℕ) → P.whole device.old ≡ Some text → ArePagesOf pages.old text all
-            → ArePagesOf pages.new text all }
-        ensures read { ReadsStored P.whole P.failures device.old device.new result
-            (λ text found. (all : List ℕ) (steps : List StepRecord) (told : Option (List ℕ))
-            → IsOpened self.now pages.old text all steps → IsMaybeText (parts_of steps) number told
-            → option_map (λ n. n.items) found ≡ told)
-            (λ text. (all : List ℕ) (steps : List StepRecord) (told : Option (List ℕ))
-            → AreStored text (claim_view pages.old.claim) all → IsOpened self.now pages.old text all steps
-            → IsMaybeText (parts_of steps) number told → ⊥) }
+        ensures keeps { KeepsPages P.whole device.old pages.old pages.new }
+        ensures read { ReadsPart (Option (List ℕ)) P.whole P.failures device.old device.new result self.now pages.old
+            (λ steps told. IsMaybeText (parts_of steps) number told)
+            (λ _ told found. option_map (λ n. n.items) found ≡ told) }
     {
         if number == 0 {
             return Ok(None);

@@ -14,9 +14,6 @@ use Rattle.line_writing.specs.Lines.{AreLeastSteps, IsWritten, after_steps, chan
 
 -- ---- steps in the order of their starts
 
-abbrev NotBelow : ℕ → StepRecord → Type 0
-NotBelow low s = low ≤ s.start
-
 with_step : StepRecord → List StepRecord → List StepRecord
 with_step s [] = s ∷ []
 with_step s (t ∷ ts) = cond (nat_lt t.start s.start) (t ∷ with_step s ts) (s ∷ t ∷ ts)

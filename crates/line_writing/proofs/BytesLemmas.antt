@@ -186,6 +186,3 @@ module _ (k : KeptRecord) (kept : IsKept k) where
     pub too_much_text : (room most : ℕ) → most ≡ min room 4294967295 → most < length (concat (texts_at k texts)) → FitsLines room (map (step_of k) steps) → ⊥
     too_much_text room most is more fit =
         omega (arith, is, more, fit.size, fit.few.bytes, ap length line_text_is, texts_within, ap (λ (ts : List (List ℕ)). length (concat ts)) texts_is)
-
-pub too_many_steps : (k : KeptRecord) (steps : List Step) (room : ℕ) → 2 ^ 32 ≤ length steps → FitsLines room (map (step_of k) steps) → ⊥
-too_many_steps k steps room many fit = omega (arith, many, fit.few.steps, length-map steps (step_of k))

@@ -27,11 +27,6 @@ or_get [] d x i e = cc e
 or_get (y ∷ ys) d x zero e = (cc e, omega arith)
 or_get (y ∷ ys) d x (suc i) e = let h = or_get ys d x i e in (h.0, omega (arith, h.1))
 
-get_or_is : {A : Type 0} (xs : List A) (d : A) (i : ℕ) → i < length xs → slice_get xs i ≡ Some (get_or xs i d)
-get_or_is [] d i h = absurd (omega arith)
-get_or_is (y ∷ ys) d zero h = refl
-get_or_is (y ∷ ys) d (suc i) h = get_or_is ys d i (omega arith)
-
 slice_get-map : {A B : Type 0} (f : A → B) (xs : List A) (i : ℕ) (x : A) → slice_get xs i ≡ Some x → slice_get (map f xs) i ≡ Some (f x)
 slice_get-map f [] i x e = cc e
 slice_get-map f (y ∷ ys) zero x e = let same : y ≡ x = cc e in ap (λ z. Some (f z)) same
@@ -72,9 +67,6 @@ module _ {K A : Type 0} (cmp : K → K → Ordering) (f : K → A) (exact : (a b
           cc (yes, no)
 
 -- ---- one thing more
-
-number_more : {A : Type 0} (xs ys : List A) (n : ℕ) → IsNumber (length xs) n → IsNumber (length (xs ++ ys)) n
-number_more xs ys n h = record { some = h.some; within = omega (arith, h.within, length-append xs ys) }
 
 last_or_first : {A : Type 0} (xs : List A) (x : A) (n : ℕ) → IsNumber (length (xs ++ x ∷ [])) n → IsNumber (length xs) n ⊎ (n ≡ suc (length xs))
 last_or_first xs x n h = elim (cases_eq n (suc (length xs))) [

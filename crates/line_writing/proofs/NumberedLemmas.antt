@@ -18,10 +18,6 @@ pub each_append : (P : ℕ → Type 0) (xs ys : List ℕ) → Each P xs → Each
 each_append P [] ys a b = b
 each_append P (x ∷ xs) ys a b = (a.0, each_append P xs ys a.1 b)
 
-pub each_at : (P : ℕ → Type 0) (xs : List ℕ) → ((i : ℕ) → i < length xs → P (get_or xs i 0)) → Each P xs
-each_at P [] h = tt
-each_at P (x ∷ xs) h = (h 0 (omega arith), each_at P xs (λ i less. h (suc i) (omega arith)))
-
 pub at_each : (P : ℕ → Type 0) (xs : List ℕ) → Each P xs → (i : ℕ) → i < length xs → P (get_or xs i 0)
 at_each P [] a i less = absurd (omega arith)
 at_each P (x ∷ xs) a zero less = a.0

@@ -3,10 +3,10 @@ use Rattle.std.proofs.Common.{◌≡◌, ℕ, ◌≤◌, nat_eq, Bool, true, fal
 use Rattle.std.specs.List.Sorted.{IsNonDecreasingBy, IsPermutation}
 use Rattle.std.proofs.lemmas.Bool.{cases_Bool}
 use Rattle.std.proofs.lemmas.List.{get_or-map, length-map, map-append}
-use Rattle.std.proofs.lemmas.List.Elements.{All-cons, All-head, All-tail, All-weaker}
+use Rattle.std.proofs.lemmas.List.Elements.{All-cons, All-head, All-tail}
 use Rattle.std.proofs.lemmas.List.Sorted.{All-permutation, IsPermutation-map}
 use Rattle.source_frames.specs.Frames.{FrameRecord}
-use Rattle.line_tables.specs.LineTable.{IsLineTextWithin, no_lines}
+use Rattle.line_tables.specs.LineTable.{IsLineTextWithin}
 use Rattle.line_tables.specs.Numbering.{same_chain}
 use Rattle.line_tables.specs.Steps.{StepRecord}
 use Rattle.line_tables.proofs.SameLemmas.{chain_decides}
@@ -16,7 +16,7 @@ use Rattle.line_writing.specs.Located.{IsLocated, StillTells}
 use Rattle.line_writing.specs.StepViews.{HaveLocations, changed_after, step_of}
 use Rattle.line_writing.specs.StoreViews.{taken_steps}
 use Rattle.line_writing.specs.declared.step.Step.{Step}
-use Rattle.line_writing.proofs.KeptLemmas.{chain_none, chain_same, location_stays, longer_on, name_stays, path_stays}
+use Rattle.line_writing.proofs.KeptLemmas.{chain_none, chain_same, location_stays, name_stays, path_stays}
 use Rattle.line_writing.proofs.NumberedLemmas.{told_same}
 use Rattle.line_writing.proofs.ApartLemmas.{chain_apart}
 
@@ -29,10 +29,6 @@ module _ (old new : KeptRecord) (kept : IsKept old) (grows : Grows old new) wher
       let here : step_of new s ≡ step_of old s =
       λ i. record { start = s.start; frames = chain_same old new grows kept s.location (All-head (λ (t : Step). t.location ≤ length old.locations) s steps h) i } in
       λ i. here i ∷ steps_same steps (All-tail (λ (t : Step). t.location ≤ length old.locations) s steps h) i
-
-  pub locations_stay : (steps : List Step) → HaveLocations old steps → HaveLocations new steps
-  locations_stay steps h =
-      All-weaker (λ (t : Step). t.location ≤ length old.locations) (λ (t : Step). t.location ≤ length new.locations) (λ t within. omega (arith, within, longer_on old.locations new.locations grows.locations)) steps h
 
   pub still_tells : StillTells old new
   still_tells = record { names = name_stays old new kept grows; paths = path_stays old new kept grows; frames = frames_stay }
@@ -118,7 +114,3 @@ module _ (k : KeptRecord) (kept : IsKept k) where
       → IsLineTextWithin room (map (step_of k) changed) bytes → IsWritten room value bytes
   written room true steps changed value bytes not_wide e least text = cc not_wide
   written room false steps changed value bytes not_wide e least text = subst (λ v. IsWritten room v bytes) e (map (step_of k) changed, least, text)
-
-  pub written_none : (room : ℕ) (wide : Bool) (steps : List Step) (value : Option (List StepRecord)) (bytes : List ℕ) → wide ≡ true → taken_steps wide k steps ≡ value → bytes ≡ no_lines → IsWritten room value bytes
-  written_none room true steps value bytes is e text = subst (λ v. IsWritten room v bytes) e text
-  written_none room false steps value bytes is e text = cc is

@@ -1,6 +1,6 @@
 //! The location of the frames of an address.
 
-ghost use Rattle.std.specs.Prelude.{◌≡◌, IfOk, map};
+ghost use Rattle.std.specs.Prelude.{IfOk, map};
 ghost use Rattle.source_frames.specs.FrameViews.{frame_view};
 ghost use Rattle.line_writing.specs.Kept.{Grows};
 ghost use Rattle.line_writing.specs.KeptViews.{kept_view};

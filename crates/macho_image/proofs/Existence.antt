@@ -13,7 +13,7 @@ use Rattle.macho_image.specs.declared.fault.ImageFault.{ImageFault}
 use Rattle.macho_image.specs.declared.fault.ImageFault.TheVariants.{BadCommand, NoUuid}
 use Rattle.macho_image.specs.declared.symtab_command.Symtab.{Symtab}
 use Rattle.macho_image.proofs.CommandFaults.{none_or_some}
-use Rattle.macho_image.proofs.Fronts.{no_short_command, no_outside_command, no_command_in_few, command_of_size}
+use Rattle.macho_image.proofs.FirstCommands.{no_short_command, no_outside_command, no_command_in_few, command_of_size}
 use Rattle.macho_image.proofs.Walk.{Reached, reached_start, reached_next, reached_fault, reached_end, reached_all}
 
 -- bytes begin with a command

@@ -4,10 +4,10 @@ use Rattle.std.specs.List.{concat, list_any}
 use Rattle.std.proofs.lemmas.List.{take-append-drop, same_from_push}
 use Rattle.std.proofs.lemmas.Bool.{cases_Bool, cases_order}
 use Rattle.macho_image.specs.Layout.{u32_le_at, ncmds, command_bytes}
-use Rattle.macho_image.specs.Commands.{IsFront, first_commands, is_uuid}
+use Rattle.macho_image.specs.Commands.{AreFirst, first_commands, is_uuid}
 use Rattle.macho_image.specs.Fault.{IsFaultAt, NoneBelow, IsFirstFault, IsImageFault, IsImage}
 use Rattle.macho_image.specs.declared.fault.ImageFault.{ImageFault}
-use Rattle.macho_image.proofs.Fronts.{one_front, command_of_size}
+use Rattle.macho_image.proofs.FirstCommands.{one_list_of_commands, command_of_size}
 use Rattle.macho_image.proofs.Images.{fits_of}
 
 -- at one place there is one fault
@@ -16,7 +16,7 @@ same_at area i f g (inl p) (inl q) = p.1 ∙ sym q.1
 same_at area i f g (inl p) (inr q) = absurd (p.0 (q.0 ++ q.1 ∷ [], q.2))
 same_at area i f g (inr p) (inl q) = absurd (q.0 (p.0 ++ p.1 ∷ [], p.2))
 same_at area i f g (inr p) (inr q) =
-    let whole = one_front area (i + 1) (p.0 ++ p.1 ∷ []) (q.0 ++ q.1 ∷ []) p.2 q.2 in
+    let whole = one_list_of_commands area (i + 1) (p.0 ++ p.1 ∷ []) (q.0 ++ q.1 ∷ []) p.2 q.2 in
     let parts = same_from_push p.0 q.0 p.1 q.1 whole in
     cc (parts.0, parts.1, p.3, q.3)
 
@@ -46,11 +46,11 @@ pub no_image_fault : (bytes : List ℕ) (f : ImageFault) → IsImage bytes → I
 no_image_fault bytes f image (inl p) = cc (image.header, p)
 no_image_fault bytes f image (inr (inl p)) = none_first (command_bytes bytes) (ncmds bytes) f image.sound.0 p.1
 no_image_fault bytes f image (inr (inr p)) =
-    let same = one_front (command_bytes bytes) (ncmds bytes) image.commands p.2 image.sound.1 p.3.1 in
+    let same = one_list_of_commands (command_bytes bytes) (ncmds bytes) image.commands p.2 image.sound.1 p.3.1 in
     cc (image.has_uuid, ap (list_any is_uuid) same, p.4)
 
 -- where the definition cuts as many as are asked for, they are the front
-pub front_of-first_commands : (count : ℕ) (area : List ℕ) → length (first_commands count area) ≡ count → IsFront area count (first_commands count area)
+pub front_of-first_commands : (count : ℕ) (area : List ℕ) → length (first_commands count area) ≡ count → AreFirst area count (first_commands count area)
 unfolding first_commands
 front_of-first_commands zero area h = record { number = refl; each = tt; rest = area; begins = refl }
 front_of-first_commands (suc count) area h = elim (cases_Bool (nat_le 8 (u32_le_at area 4) && nat_le 8 (length area) && nat_le (u32_le_at area 4) (length area))) [

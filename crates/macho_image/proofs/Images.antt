@@ -7,14 +7,14 @@ use Rattle.std.proofs.Math.Seq.{take-append_seam, drop-append_seam}
 use Rattle.std.proofs.lemmas.Bool.Decides.{nat_tests}
 use Rattle.std.proofs.lemmas.Bool.{cases_Bool}
 use Rattle.macho_image.specs.Layout.{u32_le_at, ncmds, command_bytes}
-use Rattle.macho_image.specs.Commands.{IsCommand, IsFront, first_commands, commands, is_uuid}
+use Rattle.macho_image.specs.Commands.{IsCommand, AreFirst, first_commands, commands, is_uuid}
 use Rattle.macho_image.specs.Inner.{HasNoCommand, AreContents}
 use Rattle.macho_image.specs.Fault.{header_fault, IsFirstFault, AreCommands, IsImageFault}
 use Rattle.macho_image.specs.Contents.{uuid_bytes, uuid_among, symtab_among, IsRead}
 use Rattle.macho_image.specs.declared.fault.ImageFault.{ImageFault}
 use Rattle.macho_image.specs.declared.fault.ImageFault.TheVariants.{NoUuid}
 use Rattle.macho_image.specs.declared.symtab_command.Symtab.{Symtab}
-use Rattle.macho_image.proofs.Fronts.{size_in_front, command_of_size}
+use Rattle.macho_image.proofs.FirstCommands.{size_in_front, command_of_size}
 use Rattle.macho_image.proofs.Walk.{is_some-found}
 
 fits_in : (n m : ℕ) → 8 ≤ n → n ≤ m → (nat_le 8 n && nat_le 8 m && nat_le n m) ≡ true
@@ -67,7 +67,7 @@ not_a_command (suc count) area none = elim (cases_Bool (nat_le 8 (u32_le_at area
 pub ruleset of_commands = (one_command, no_command, not_a_command)
 
 -- the commands that the definition cuts are those in front
-pub first_commands-front : (count : ℕ) (area : List ℕ) (cs : List (List ℕ)) → IsFront area count cs → first_commands count area ≡ cs
+pub first_commands-front : (count : ℕ) (area : List ℕ) (cs : List (List ℕ)) → AreFirst area count cs → first_commands count area ≡ cs
 first_commands-front count area cs front = cut_front count cs front.rest area front.number front.each front.begins
 
 module _ (bytes area : List ℕ) (count : ℕ) (header : header_fault bytes ≡ None) (number : count ≡ ncmds bytes) (index : area ≡ command_bytes bytes) where

@@ -1,4 +1,4 @@
-pub mod Fronts
+pub mod FirstCommands
 pub mod CommandFaults
 pub mod Walk
 pub mod Images

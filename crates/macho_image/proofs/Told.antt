@@ -8,7 +8,7 @@ use Rattle.std.proofs.lemmas.List.Folds.{concat-append}
 use Rattle.std.proofs.lemmas.Bool.{ltb-false, cases_Bool, or_parts}
 use Rattle.std.proofs.lemmas.Bool.Decides.{nat_tests}
 use Rattle.macho_image.specs.Layout.{sizeofcmds, ncmds, command_bytes}
-use Rattle.macho_image.specs.Commands.{IsCommand, IsFront, HasRoom, commands, is_uuid, is_symtab}
+use Rattle.macho_image.specs.Commands.{IsCommand, AreFirst, HasRoom, commands, is_uuid, is_symtab}
 use Rattle.macho_image.specs.Fault.{header_fault, command_fault, IsImage}
 use Rattle.macho_image.specs.Contents.{uuid_bytes, uuid_of, symtab_fields, symtab_of}
 use Rattle.macho_image.proofs.CommandFaults.{passes_tests, none_or_some, room_of}
@@ -27,7 +27,7 @@ pub length-image : (image : List ℕ) → IsImage image → length image < 2 ^ 3
 length-image image sound = (has_header image sound.header).small
 
 -- a front ends behind each of its commands
-front_to : (area : List ℕ) (count : ℕ) (before after : List (List ℕ)) (command : List ℕ) → IsFront area count (before ++ command ∷ after) → IsFront area (length before + 1) (before ++ command ∷ [])
+front_to : (area : List ℕ) (count : ℕ) (before after : List (List ℕ)) (command : List ℕ) → AreFirst area count (before ++ command ∷ after) → AreFirst area (length before + 1) (before ++ command ∷ [])
 front_to area count before after command front = record {
   number = length-append before (command ∷ []);
   each = each_to before front.each;
@@ -44,7 +44,7 @@ pub command_fault-image : (image : List ℕ) → IsImage image → (before after
     → command_fault (length before) (list_any is_uuid before) (list_any is_symtab before) command ≡ None
 command_fault-image image sound before after command split =
     let same : sound.commands ≡ before ++ command ∷ after = sym (first_commands-front (ncmds image) (command_bytes image) sound.commands sound.sound.1) ∙ split in
-    let front : IsFront (command_bytes image) (ncmds image) (before ++ command ∷ after) = rw same at sound.sound.1 in
+    let front : AreFirst (command_bytes image) (ncmds image) (before ++ command ∷ after) = rw same at sound.sound.1 in
     let below : length before < ncmds image = omega (arith, front.number, length-append before (command ∷ after)) in
     elim (none_or_some (command_fault (length before) (list_any is_uuid before) (list_any is_symtab before) command)) [
       | inl fine ↦ fine

@@ -4,14 +4,14 @@ use Rattle.std.specs.List.{concat, AllByRecursion, list_any, find}
 use Rattle.std.specs.Option.{option_map, option_or, is_some}
 use Rattle.std.proofs.lemmas.List.{append-nil, same_from_push}
 use Rattle.std.proofs.lemmas.List.Folds.{concat-append, find-append}
-use Rattle.macho_image.specs.Commands.{IsCommand, IsFront, HasRoom, is_uuid, is_symtab}
+use Rattle.macho_image.specs.Commands.{IsCommand, AreFirst, HasRoom, is_uuid, is_symtab}
 use Rattle.macho_image.specs.Inner.{HasNoCommand, AreContents}
 use Rattle.macho_image.specs.Fault.{command_fault, IsFaultAt, NoneBelow, IsFirstFault}
 use Rattle.macho_image.specs.Contents.{uuid_bytes, symtab_fields, uuid_among, symtab_among}
 use Rattle.macho_image.specs.declared.fault.ImageFault.{ImageFault}
 use Rattle.macho_image.specs.declared.fault.ImageFault.TheVariants.{BadCommand}
 use Rattle.macho_image.specs.declared.symtab_command.Symtab.{Symtab}
-use Rattle.macho_image.proofs.Fronts.{fronts_agree, one_front}
+use Rattle.macho_image.proofs.FirstCommands.{fronts_agree, one_list_of_commands}
 use Rattle.macho_image.proofs.CommandFaults.{room_of}
 
 -- Before this place stand commands without a fault, the rest is behind them, and they say this.
@@ -67,7 +67,7 @@ module _ (area : List ℕ) (index : ℕ) (rest : List ℕ) (uuid : Option (List 
 
   module _ (command after : List ℕ) (whole : IsCommand command) (cut : rest ≡ command ++ after) where
     -- the commands with this one
-    front_more : IsFront area (index + 1) (reached.before ++ command ∷ [])
+    front_more : AreFirst area (index + 1) (reached.before ++ command ∷ [])
     front_more = record {
       number = length-append reached.before (command ∷ []) ∙ omega (arith, reached.number);
       each = each_more IsCommand reached.before command reached.each whole;
@@ -90,9 +90,9 @@ module _ (area : List ℕ) (index : ℕ) (rest : List ℕ) (uuid : Option (List 
     )
 
     -- any command at this place is this one
-    this_one : (xs : List (List ℕ)) (x : List ℕ) → IsFront area (index + 1) (xs ++ x ∷ []) → (reached.before ≡ xs) × (command ≡ x)
+    this_one : (xs : List (List ℕ)) (x : List ℕ) → AreFirst area (index + 1) (xs ++ x ∷ []) → (reached.before ≡ xs) × (command ≡ x)
     this_one xs x front =
-        let same = one_front area (index + 1) (reached.before ++ command ∷ []) (xs ++ x ∷ []) front_more front in
+        let same = one_list_of_commands area (index + 1) (reached.before ++ command ∷ []) (xs ++ x ∷ []) front_more front in
         same_from_push reached.before xs command x same
 
     -- a command without a fault leads on

@@ -10,15 +10,15 @@ pub record IsCommand (command : List ℕ) : Type 0 where
   pub sized : length command ≡ u32_le_at command 4
 
 -- these are the first `count` commands of the bytes
-pub record IsFront (bytes : List ℕ) (count : ℕ) (commands : List (List ℕ)) : Type 0 where
+pub record AreFirst (bytes : List ℕ) (count : ℕ) (commands : List (List ℕ)) : Type 0 where
   pub number : length commands ≡ count
   pub each : AllByRecursion IsCommand commands
   pub rest : List ℕ
   pub begins : bytes ≡ concat commands ++ rest
 
 -- so many commands begin the bytes
-abbrev pub HasFront : List ℕ → ℕ → Type 0
-HasFront bytes count = (commands : List (List ℕ)) × IsFront bytes count commands
+abbrev pub HasFirst : List ℕ → ℕ → Type 0
+HasFirst bytes count = (commands : List (List ℕ)) × AreFirst bytes count commands
 
 -- load_command.cmd is LC_SEGMENT_64 (0x19)
 abbrev pub is_segment : List ℕ → Bool
@@ -49,7 +49,7 @@ pub record HasRoom (command : List ℕ) : Type 0 where
   pub uuid : is_uuid command ≡ true → 24 ≤ length command
   pub symtab : is_symtab command ≡ true → 24 ≤ length command
 
--- the commands that begin the bytes, at most so many; laws.one_front says that they are the front, where there is one
+-- the commands that begin the bytes, at most so many; laws.one_list_of_commands says that they are the first ones
 unfoldable pub first_commands : ℕ → List ℕ → List (List ℕ)
 first_commands zero bytes = []
 first_commands (suc count) bytes =

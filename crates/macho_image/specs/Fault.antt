@@ -3,7 +3,7 @@ use Rattle.std.specs.Prelude.{ℕ, Bool, true, false, List, [], ◌∷◌, ◌++
 use Rattle.std.specs.Prelude.{◌&&◌, nat_lt, nat_eq, if◌then◌else◌, Option, Some, None, ◌⊎◌}
 use Rattle.std.specs.List.{list_any, starts_with}
 use Rattle.macho_image.specs.Layout.{magic, ncmds, sizeofcmds, command_bytes}
-use Rattle.macho_image.specs.Commands.{IsFront, HasFront, is_segment, is_uuid, is_symtab, nsects}
+use Rattle.macho_image.specs.Commands.{AreFirst, HasFirst, is_segment, is_uuid, is_symtab, nsects}
 use Rattle.macho_image.specs.declared.fault.ImageFault.{ImageFault}
 use Rattle.macho_image.specs.declared.fault.ImageFault.TheVariants.{NotMachO64, HeaderTruncated, CommandsOutside}
 use Rattle.macho_image.specs.declared.fault.ImageFault.TheVariants.{BadCommand, BadSegment, BadUuid, SecondUuid}
@@ -33,8 +33,8 @@ command_fault i has_uuid has_symtab command =
 -- what is wrong at place i of the command bytes: there is no command, or it has a fault
 abbrev pub IsFaultAt : List ℕ → ℕ → ImageFault → Type 0
 IsFaultAt area i fault =
-    ((HasFront area (i + 1) → ⊥) × (fault ≡ BadCommand i))
-    ⊎ ((before : List (List ℕ)) × (command : List ℕ) × IsFront area (i + 1) (before ++ command ∷ [])
+    ((HasFirst area (i + 1) → ⊥) × (fault ≡ BadCommand i))
+    ⊎ ((before : List (List ℕ)) × (command : List ℕ) × AreFirst area (i + 1) (before ++ command ∷ [])
     × (command_fault i (list_any is_uuid before) (list_any is_symtab before) command ≡ Some fault))
 
 -- nothing is wrong at the places below i
@@ -47,7 +47,7 @@ IsFirstFault area count fault = (i : ℕ) × (i < count) × NoneBelow area i × 
 
 -- nothing is wrong with so many commands, and these are they
 abbrev pub AreCommands : List ℕ → ℕ → List (List ℕ) → Type 0
-AreCommands area count commands = NoneBelow area count × IsFront area count commands
+AreCommands area count commands = NoneBelow area count × AreFirst area count commands
 
 -- why the bytes are no image: the header, else the first faulty command, else the lack of an LC_UUID
 abbrev pub IsImageFault : List ℕ → ImageFault → Type 0

@@ -70,7 +70,7 @@ impl Contents {
         })
     }
 
-    /// What they say with one command more, which stands at a place of the image. Its number counts the
+    /// What they say with one command more, which stands at an offset of the image. Its number counts the
     /// commands before it. A segment and a command of any other kind say nothing.
     #[tactic(auto, unfolding(crate::specs::Kinds::load_command))]
     fn with_command(self, number: u32, offset: u32, command: &[u8]) -> Result<Contents, ImageFault>
@@ -94,7 +94,7 @@ impl Contents {
 }
 
 /// What the first commands of the bytes say, so many of them, or the first fault among them. The bytes begin
-/// at a place of the image. It stops where no command is left, however many the count promises.
+/// at an offset of the image. It stops where no command is left, however many the count promises.
 pub(crate) fn read_contents(area: &[u8], start: u32, count: u32) -> Result<Contents, ImageFault>
     requires { start + length area.now < 2 ^ 32 }
     ensures faulty { IfErr result (λ fault. IsFirstFault area.now count fault) }

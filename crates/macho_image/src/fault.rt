@@ -1,7 +1,7 @@
 /// Why bytes are no image.
 ///
 /// `TooLarge` is tested first, then the first three in this order, then the load commands from the first
-/// on, and last `NoUuid`. A number is the place of the faulty load command, counted from 0; where several
+/// on, and last `NoUuid`. A number is the index of the faulty load command, counted from 0; where several
 /// faults of that command apply, it is the first of them here.
 #[derive(Clone, Copy, Debug, PartialEq, Eq)]
 pub enum ImageFault {

@@ -3,7 +3,7 @@
 
 ghost use Rattle.std.specs.Prelude.{◌≡◌, ◌+◌, ◌*◌, ◌<◌, ◌⊎◌, ℕ, List, true, Some};
 ghost use Rattle.std.specs.Prelude.{Contains, drop, take, length, slice_get};
-ghost use Rattle.macho_image.specs.Commands.{IsFront, SegmentRecord, first_commands};
+ghost use Rattle.macho_image.specs.Commands.{AreFirst, SegmentRecord, first_commands};
 ghost use Rattle.macho_image.specs.Commands.{commands, is_uuid, is_symtab, nsects};
 ghost use Rattle.macho_image.specs.Kinds.{segments};
 ghost use Rattle.macho_image.specs.Contents.{uuid_bytes, uuid_of, symtab_fields, symtab_of};
@@ -11,12 +11,12 @@ ghost use Rattle.macho_image.specs.Fault.{IsImageFault, IsImage};
 ghost use Rattle.macho_image.specs.Sections.{SectionRecord, IsSectionOf, section_record, sections, sections_in};
 ghost use Rattle.macho_image.specs.declared.fault.ImageFault.{ImageFault};
 
-/// There is at most one front of a length, and it is what the definition cuts.
-pub fn one_front()
+/// There is at most one list of so many first commands, and it is what the definition cuts.
+pub fn one_list_of_commands()
     ensures is_cut { (count : ℕ) (area : List ℕ) (commands : List (List ℕ)) →
-        IsFront area count commands → first_commands count area ≡ commands }
+        AreFirst area count commands → first_commands count area ≡ commands }
     ensures cut_is { (count : ℕ) (area : List ℕ) →
-        length (first_commands count area) ≡ count → IsFront area count (first_commands count area) }
+        length (first_commands count area) ≡ count → AreFirst area count (first_commands count area) }
 {}
 
 /// Bytes are an image or have a fault, never both and never two faults.

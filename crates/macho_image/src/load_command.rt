@@ -36,7 +36,7 @@ pub(crate) fn cmd(command: &[u8]) -> u32
 
 /// The bytes of the load command that begins some bytes, and those behind it. Any `cmdsize` that fits will
 /// do, a multiple of 8 or not.
-#[tactic(auto, using(crate::proofs::Fronts::commands_in_front))]
+#[tactic(auto, using(crate::proofs::FirstCommands::commands_in_front))]
 pub(crate) fn split_command(bytes: &[u8]) -> Option<(&[u8], &[u8])>
     ensures { MatchOption result (HasNoCommand bytes.now) (λ p. IsCommand p.0.now × (bytes.now ≡ p.0.now ++ p.1.now)) }
 {
@@ -51,7 +51,7 @@ pub(crate) fn split_command(bytes: &[u8]) -> Option<(&[u8], &[u8])>
 }
 
 impl<'a> LoadCommand<'a> {
-    /// The command of these bytes, which stand at a place of the image.
+    /// The command of these bytes, which stand at an offset of the image.
     #[tactic(auto, unfolding(crate::specs::Kinds::load_command))]
     pub(crate) fn of(offset: u32, bytes: &'a [u8]) -> LoadCommand<'a>
         requires room { HasRoom bytes.now }

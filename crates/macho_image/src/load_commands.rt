@@ -33,7 +33,7 @@ impl<'a> Model for LoadCommands<'a> {
 }
 
 impl<'a> LoadCommands<'a> {
-    /// So many, from the first of the bytes on, which stand at a place of the image.
+    /// So many, from the first of the bytes on, which stand at an offset of the image.
     pub(crate) fn new(offset: u32, bytes: &'a [u8], count: u32) -> LoadCommands<'a>
         requires room { AllByRecursion HasRoom (first_commands count bytes.now) }
         requires small { offset + length bytes.now < 2 ^ 32 }

@@ -6,7 +6,7 @@ ghost use Rattle.macho_image.specs.Layout.{name_at};
 
 use crate::loader::NAME_LEN;
 
-/// The place of the first NUL.
+/// The index of the first NUL.
 fn nul_in(field: &[u8]) -> Option<usize>
     ensures { result ≡ position (λ b. b == 0) field.now }
 {
@@ -24,7 +24,7 @@ fn before_nul(field: &[u8]) -> &[u8]
     }
 }
 
-/// The name in the sixteen bytes from a place.
+/// The name in the sixteen bytes from an offset.
 pub(crate) fn name(bytes: &[u8], offset: usize) -> &[u8]
     requires { offset + 16 ≤ length bytes.now }
     ensures { result.now ≡ name_at bytes.now offset }

@@ -5,7 +5,7 @@ ghost use Rattle.macho_image.specs.Layout.{u32_le_at, u64_le_at};
 
 use byteorder::{ByteOrder, LittleEndian};
 
-/// The number in the four bytes from a place.
+/// The number in the four bytes from an offset.
 #[tactic(auto, unfolding(crate::specs::Layout::u32_le_at))]
 pub(crate) fn number32(bytes: &[u8], offset: usize) -> u32
     requires { offset + 4 ≤ length bytes.now }
@@ -14,7 +14,7 @@ pub(crate) fn number32(bytes: &[u8], offset: usize) -> u32
     LittleEndian::read_u32(&bytes[offset..])
 }
 
-/// The number in the eight bytes from a place.
+/// The number in the eight bytes from an offset.
 #[tactic(auto, unfolding(crate::specs::Layout::u64_le_at))]
 pub(crate) fn number64(bytes: &[u8], offset: usize) -> u64
     requires { offset + 8 ≤ length bytes.now }

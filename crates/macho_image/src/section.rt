@@ -25,7 +25,7 @@ pub struct Section<'a> {
 impl<'a> Section<'a> {
     ghost use Rattle.macho_image.specs.SectionViews.{section_view};
 
-    /// The section whose `section_64` stands at a place of the image, as `offset` of a section of that image
+    /// The section whose `section_64` stands at an offset of the image, as `offset` of a section of that image
     /// told it.
     #[tactic(auto, unfolding(crate::specs::Sections::section_at))]
     pub fn at(image: &'a [u8], offset: u32) -> Section<'a>
@@ -35,7 +35,7 @@ impl<'a> Section<'a> {
         Section::first_of(offset, image.split_at(offset as usize).1)
     }
 
-    /// The section that the first 80 bytes tell, which stand at a place of the image.
+    /// The section that the first 80 bytes tell, which stand at an offset of the image.
     #[tactic(auto, unfolding(crate::specs::Sections::section_record))]
     pub(crate) fn first_of(offset: u32, bytes: &'a [u8]) -> Section<'a>
         requires { 80 ≤ length bytes.now }

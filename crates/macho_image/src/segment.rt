@@ -29,7 +29,7 @@ pub(crate) fn is_short(segment: &[u8]) -> bool
     segment.len() < SEGMENT_COMMAND_64_LEN + SECTION_64_LEN * nsects(segment) as usize
 }
 
-/// A segment, which has room for its sections. A contract sees its place in the image, and its bytes.
+/// A segment, which has room for its sections. A contract sees its offset in the image, and its bytes.
 #[derive(Drop)]
 pub struct SegmentCommand64<'a> {
     offset: u32,
@@ -49,7 +49,7 @@ impl<'a> Model for SegmentCommand64<'a> {
 }
 
 impl<'a> SegmentCommand64<'a> {
-    /// The segment of these bytes, which stand at a place of the image.
+    /// The segment of these bytes, which stand at an offset of the image.
     pub(crate) fn of(offset: u32, bytes: &'a [u8]) -> SegmentCommand64<'a>
         requires room { 72 + 80 * nsects bytes.now ≤ length bytes.now }
         requires small { offset + length bytes.now < 2 ^ 32 }

@@ -6,7 +6,7 @@ use Rattle.std.specs.declared.cmp.Ordering.{Ordering}
 use Rattle.std.specs.declared.cmp.Ordering.TheVariants.{Less, Equal, Greater}
 use Rattle.std.specs.Cmp.{IsTotalOrder, bool_cmp_total}
 use Rattle.std.specs.Cmp.Lexicographic.{slice_cmp}
-use Rattle.std.proofs.lemmas.Cmp.{upto, tied_itself, nat_cmp_total, on_total, then_total, back_total}
+use Rattle.std.proofs.lemmas.Cmp.{nat_list_cmp_total, upto, tied_itself, nat_cmp_total, on_total, then_total, back_total}
 use Rattle.std.proofs.lemmas.Bool.{cases_lt, cases_Bool, cond_both, false_from_ne_true}
 use Rattle.std.proofs.lemmas.Bool.Decides.{nat_tests}
 use Rattle.std.proofs.lemmas.List.{take_all, drop_all}
@@ -19,12 +19,12 @@ use Rattle.macho_symbols.specs.declared.candidate.Candidate.{Candidate}
 use Rattle.macho_symbols.specs.declared.ends.Ends.{Ends}
 use Rattle.macho_symbols.proofs.Order.{UpTo, tuples_total, upto_less, upto_other, not_less, both_equal, exact_flags}
 use Rattle.macho_symbols.proofs.Orders.{upto_from_not_less}
-use Rattle.macho_symbols.proofs.Overlaps.{names_total, name_behind, three_names}
+use Rattle.macho_symbols.proofs.Overlaps.{name_behind, three_names}
 
 pub cuts_total : (size : ℕ) → IsTotalOrder (cut_cmp size)
 cuts_total size =
     then_total
-    (then_total (back_total (on_total (λ c. c.value) nat_cmp_total)) (then_total (back_total (on_total (λ c. c.external) bool_cmp_total)) (on_total (λ c. take size c.name) names_total)))
+    (then_total (back_total (on_total (λ c. c.value) nat_cmp_total)) (then_total (back_total (on_total (λ c. c.external) bool_cmp_total)) (on_total (λ c. take size c.name) nat_list_cmp_total)))
     (on_total (λ c. c.sect) nat_cmp_total)
 
 -- what decides behind a part that is the same
@@ -75,7 +75,7 @@ same_heads c d v x = rw (v, x, tied_itself nat_cmp_total d.value, tied_itself bo
 
 -- and of the same name sections alone
 same_names : (c d : Tuple) → c.value ≡ d.value → c.external ≡ d.external → c.name ≡ d.name → tuple_cmp c d ≡ nat_cmp c.sect d.sect
-same_names c d v x n = same_heads c d v x ∙ rw (n, tied_itself names_total d.name)
+same_names c d v x n = same_heads c d v x ∙ rw (n, tied_itself nat_list_cmp_total d.name)
 
 lesser_name : (size : ℕ) (c d : Tuple) → IsAlike size c d → slice_cmp nat_cmp c.name d.name ≡ Less → UpTo c d
 lesser_name size c d h e = rw (same_heads c d h.value h.external, e)

@@ -11,7 +11,7 @@ use Rattle.macho_symbols.specs.Halving.{is_within}
 use Rattle.macho_symbols.specs.Extents.{extent_of, AreExtents}
 use Rattle.macho_symbols.specs.declared.extents.Extent.{Extent}
 
-get-take : {X : Type 0} (n : ℕ) (xs : List X) (i : ℕ) → i < n → slice_get (take n xs) i ≡ slice_get xs i
+pub get-take : {X : Type 0} (n : ℕ) (xs : List X) (i : ℕ) → i < n → slice_get (take n xs) i ≡ slice_get xs i
 get-take zero xs i h = absurd (omega arith)
 get-take (suc n) [] i h = refl
 get-take (suc n) (x ∷ xs) zero h = refl

@@ -3,9 +3,8 @@ use Rattle.std.proofs.Common.{◌≡◌, ◌+◌, ◌*◌, ◌-◌, ◌<◌, ◌
 use Rattle.std.specs.Ordering.{ordering_then, ordering_reverse, nat_cmp}
 use Rattle.std.specs.declared.cmp.Ordering.{Ordering}
 use Rattle.std.specs.declared.cmp.Ordering.TheVariants.{Less, Equal, Greater}
-use Rattle.std.specs.Cmp.{IsTotalOrder}
 use Rattle.std.specs.Cmp.Lexicographic.{slice_cmp}
-use Rattle.std.proofs.lemmas.Cmp.{tied_itself, nat_cmp_total, lists_total}
+use Rattle.std.proofs.lemmas.Cmp.{nat_list_cmp_total, tied_itself, nat_cmp_total}
 use Rattle.std.proofs.lemmas.List.{append-nil, take-append-drop, take-take, drop-drop, take_at}
 use Rattle.std.proofs.lemmas.Bool.Decides.{nat_tests}
 use Rattle.std.proofs.lemmas.Map.Lookups.{exact_bytes}
@@ -16,9 +15,6 @@ use Rattle.macho_symbols.proofs.Pieces.{before, before_nul, before_other, before
 
 abbrev cmp : List ℕ → List ℕ → Ordering
 cmp xs ys = slice_cmp nat_cmp xs ys
-
-pub names_total : IsTotalOrder (slice_cmp nat_cmp)
-names_total = lists_total nat_cmp_total
 
 -- a word so many times
 abbrev power : ℕ → List ℕ → List ℕ
@@ -49,11 +45,11 @@ behind_same (b ∷ w) xs ys = ap (λ o. ordering_then o (cmp (w ++ xs) (w ++ ys)
 -- a word that makes what follows it greater does so as often as it stands there
 rising : (n : ℕ) (w z : List ℕ) → cmp z (w ++ z) ≡ Less → cmp z (onto (suc n) w z) ≡ Less
 rising zero w z h = h
-rising (suc n) w z h = names_total.trans z (w ++ z) (w ++ onto (suc n) w z) h (behind_same w z (onto (suc n) w z) ∙ rising n w z h)
+rising (suc n) w z h = nat_list_cmp_total.trans z (w ++ z) (w ++ onto (suc n) w z) h (behind_same w z (onto (suc n) w z) ∙ rising n w z h)
 
 falling : (n : ℕ) (w z : List ℕ) → cmp (w ++ z) z ≡ Less → cmp (onto (suc n) w z) z ≡ Less
 falling zero w z h = h
-falling (suc n) w z h = names_total.trans (w ++ onto (suc n) w z) (w ++ z) z (behind_same w (onto (suc n) w z) z ∙ falling n w z h) h
+falling (suc n) w z h = nat_list_cmp_total.trans (w ++ onto (suc n) w z) (w ++ z) z (behind_same w (onto (suc n) w z) z ∙ falling n w z h) h
 
 -- words of which either may stand first
 one_power : (n : ℕ) (u v : List ℕ) → u ++ v ≡ v ++ u → power n u ++ v ≡ v ++ power n u
@@ -84,15 +80,15 @@ middle (a ∷ us) (b ∷ vs) z h l m up down =
     let same : onto (length v) u z ≡ onto (length u) v z =
     onto_power (length v) u z ∙ ap (λ xs. xs ++ z) (common_power u v h) ∙ sym (onto_power (length u) v z) in
     cc (
-      tied_itself names_total z,
-      names_total.trans z (onto (length v) u z) z (rising (length vs) u z raised) (ap (λ xs. cmp xs z) same ∙ falling (length us) v z down),
+      tied_itself nat_list_cmp_total z,
+      nat_list_cmp_total.trans z (onto (length v) u z) z (rising (length vs) u z raised) (ap (λ xs. cmp xs z) same ∙ falling (length us) v z down),
     )
 
 shorter : (m n : ℕ) (xs ys : List ℕ) → m ≤ n → take n xs ≡ take n ys → take m xs ≡ take m ys
 shorter m n xs ys l e = sym (take-take m n xs l) ∙ ap (take m) e ∙ take-take m n ys l
 
 reversed : (xs ys : List ℕ) → cmp xs ys ≡ Greater → cmp ys xs ≡ Less
-reversed xs ys h = names_total.antisymm ys xs ∙ ap ordering_reverse h
+reversed xs ys h = nat_list_cmp_total.antisymm ys xs ∙ ap ordering_reverse h
 
 module _ (xs : List ℕ) (size d e : ℕ) (some : 0 < d) (more : 0 < e) (near : d + e ≤ size) (long : size ≤ length xs)
     (first : take size xs ≡ take size (drop d xs)) (second : take size (drop d xs) ≡ take size (drop e (drop d xs))) where

@@ -13,21 +13,21 @@ use Rattle.std.proofs.lemmas.Bool.Decides.{nat_tests}
 use Rattle.macho_symbols.specs.Symbols.{Tuple, strings_of, candidates}
 use Rattle.macho_symbols.specs.Nearest.{tuple_cmp, IsFirst}
 use Rattle.macho_symbols.specs.Views.{tuple_of}
-use Rattle.macho_symbols.specs.Halving.{place_cmp, is_before, AreSorted}
+use Rattle.macho_symbols.specs.Halving.{row_cmp, is_before, AreSorted}
 use Rattle.macho_symbols.specs.Rows.{Precedes, IsBeside, AreRows, AreFalling}
 use Rattle.macho_symbols.specs.declared.candidate.Candidate.{Candidate}
 use Rattle.macho_symbols.proofs.RowMembers.{row_to, row_from}
 
-pub places_total : IsStrictWeakOrder (λ r s. is_lt (place_cmp r s))
+pub places_total : IsStrictWeakOrder (λ r s. is_lt (row_cmp r s))
 places_total = ranks_by (then_total (on_total (λ c. c.sect) nat_cmp_total) (back_total (on_total (λ c. c.value) nat_cmp_total))) (λ r. r)
 
 -- what does not come before a row has a later section, or the same one and no greater value
-in_order : (r s : Candidate) → is_lt (place_cmp s r) ≡ false → Precedes r s ⊎ IsBeside r s
+in_order : (r s : Candidate) → is_lt (row_cmp s r) ≡ false → Precedes r s ⊎ IsBeside r s
 in_order r s h = grind (arith, nat_tests)
 
-pub rows_sorted : (rows : List Candidate) → IsSortedBy (λ r s. is_lt (place_cmp r s)) rows → AreSorted rows
+pub rows_sorted : (rows : List Candidate) → IsSortedBy (λ r s. is_lt (row_cmp r s)) rows → AreSorted rows
 rows_sorted rows ordered i j d h l =
-    in_order (slice_index_or rows i d) (slice_index_or rows j d) (sorted_far (λ r s. is_lt (place_cmp r s)) places_total rows ordered i j d (omega arith) l)
+    in_order (slice_index_or rows i d) (slice_index_or rows j d) (sorted_far (λ r s. is_lt (row_cmp r s)) places_total rows ordered i j d (omega arith) l)
 
 not_before_own : (n a s v : ℕ) → s ≡ n → v ≤ a → (nat_lt s n || ((s == n) && nat_lt a v)) ≡ false
 not_before_own n a s v e l = grind (arith, nat_tests)

@@ -40,8 +40,8 @@ standing_at image address i =
     (row_at image i) None
 
 -- the order in which rows are sorted: by section, then by falling value
-abbrev pub place_cmp : Candidate → Candidate → Ordering
-place_cmp c d = ordering_then (nat_cmp c.sect d.sect) (nat_cmp d.value c.value)
+abbrev pub row_cmp : Candidate → Candidate → Ordering
+row_cmp c d = ordering_then (nat_cmp c.sect d.sect) (nat_cmp d.value c.value)
 
 -- sections rise along the rows, and in a section no value is above one before it
 abbrev pub AreSorted : List Candidate → Type 0

@@ -30,7 +30,7 @@ pub mod laws;
 mod name;
 mod named;
 mod nearest;
-mod nlist;
+pub mod nlist;
 mod nul_places;
 mod rows;
 mod scan;
@@ -41,6 +41,7 @@ mod table;
 
 pub use fault::SymbolFault;
 pub use found::Found;
+pub use name::{Name, before_nul};
 pub use named::Named;
-pub use symbols::Symbols;
+pub use symbols::{Symbols, strings_of, table_of};
 pub use table::AddressTable;

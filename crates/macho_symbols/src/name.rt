@@ -1,6 +1,6 @@
 //! Names in the string table.
 
-ghost use Rattle.std.specs.Prelude.{◌≡◌, ◌==◌, length, take, drop, not, nat_lt, nat_eq};
+ghost use Rattle.std.specs.Prelude.{◌≡◌, ◌==◌, ◌<◌, ◌^◌, length, take, drop, not, nat_lt, nat_eq};
 ghost use Rattle.std.specs.List.{before_first};
 ghost use Rattle.std.specs.Ordering.{nat_cmp};
 ghost use Rattle.std.specs.Cmp.Lexicographic.{slice_cmp, pointwise};
@@ -13,7 +13,7 @@ use std::cmp::Ordering;
 
 /// What stands before the first NUL, or all.
 #[tactic(auto, using(crate::proofs::Names::parts_at_nul))]
-pub(crate) fn before_nul(bytes: &[u8]) -> &[u8]
+pub fn before_nul(bytes: &[u8]) -> &[u8]
     ensures { result.now ≡ before_first (λ b. b == 0) bytes.now }
 {
     match memchr(0, bytes) {
@@ -24,7 +24,8 @@ pub(crate) fn before_nul(bytes: &[u8]) -> &[u8]
 
 /// The string table of an image with this LC_SYMTAB, or as much of it as there is.
 pub(crate) fn strings_in<'b>(image: &'b [u8], symtab: &Symtab) -> &'b [u8]
-    ensures { result.now ≡ take symtab.now.strsize (drop symtab.now.stroff image.now) }
+    ensures is { result.now ≡ take symtab.now.strsize (drop symtab.now.stroff image.now) }
+    ensures few { length result.now < 2 ^ 32 }
 {
     let from = image.split_at(image.len().min(symtab.stroff as usize)).1;
     from.split_at(from.len().min(symtab.strsize as usize)).0
@@ -45,16 +46,38 @@ fn split_piece(bytes: &[u8], size: usize) -> (&[u8], &[u8])
     bytes.split_at(bytes.len().min(size))
 }
 
+/// Compares bytes, each up to its first NUL, piece by piece: it reads no more than some times the bytes that they
+/// share.
+fn compare_to_nul(name: &[u8], other: &[u8]) -> Ordering
+    ensures { result ≡ slice_cmp nat_cmp (before_first (λ b. b == 0) name.now) (before_first (λ b. b == 0) other.now) }
+{
+    let (mut own, mut others) = (name, other);
+    let mut size = FIRST_PIECE;
+    'pieces: loop {
+        let (piece, rest) = split_piece(own, size);
+        let (other_piece, other_rest) = split_piece(others, size);
+        if piece != other_piece {
+            return before_nul(piece).cmp(&before_nul(other_piece));
+        }
+        if before_nul(piece).len() < size {
+            return Ordering::Equal;
+        }
+        own = rest;
+        others = other_rest;
+        size = LARGEST_PIECE.min(2 * size);
+    }
+}
+
 /// A name: the string table from its first byte on. It ends before the first NUL, or with the table, and
 /// its end is searched for only where all of it is wanted.
 #[derive(Clone, Copy)]
-pub(crate) struct Name<'a> {
+pub struct Name<'a> {
     from: &'a [u8],
 }
 
 impl<'a> Name<'a> {
     /// The name from a place of the string table.
-    pub(crate) fn at(strings: &'a [u8], index: u32) -> Name<'a>
+    pub fn at(strings: &'a [u8], index: u32) -> Name<'a>
         ensures { name_view result ≡ name_of strings.now index }
     {
         let index = index as usize;
@@ -67,7 +90,7 @@ impl<'a> Name<'a> {
     }
 
     /// Whether it has no byte. It looks at the first alone.
-    pub(crate) fn is_empty(&self) -> bool
+    pub fn is_empty(&self) -> bool
         ensures { not result ≡ nat_lt 0 (length (name_view self.now)) }
     {
         self.from.is_empty() || self.from[0] == 0
@@ -97,32 +120,17 @@ impl<'a> Name<'a> {
     }
 
     /// All its bytes.
-    pub(crate) fn bytes(&self) -> &'a [u8]
+    pub fn bytes(&self) -> &'a [u8]
         ensures { result.now ≡ name_view self.now }
     {
         before_nul(self.from)
     }
 
-    /// Compares two names in byte order, piece by piece: it reads no more than some times the bytes that they
-    /// share.
-    pub(crate) fn compare(&self, other: &Name<'_>) -> Ordering
+    /// Compares two names in byte order.
+    pub fn compare(&self, other: &Name<'_>) -> Ordering
         ensures { result ≡ slice_cmp nat_cmp (name_view self.now) (name_view other.now) }
     {
-        let (mut own, mut others) = (self.from, other.from);
-        let mut size = FIRST_PIECE;
-        'pieces: loop {
-            let (piece, rest) = split_piece(own, size);
-            let (other_piece, other_rest) = split_piece(others, size);
-            if piece != other_piece {
-                return before_nul(piece).cmp(&before_nul(other_piece));
-            }
-            if before_nul(piece).len() < size {
-                return Ordering::Equal;
-            }
-            own = rest;
-            others = other_rest;
-            size = LARGEST_PIECE.min(2 * size);
-        }
+        compare_to_nul(self.from, other.from)
     }
 
     /// Whether these are its bytes. It reads no more than these, and one byte behind them.

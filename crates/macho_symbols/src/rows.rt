@@ -8,7 +8,7 @@ ghost use Rattle.std.specs.Option.{option_map, option_to_list};
 ghost use Rattle.macho_symbols.specs.Symbols.{strings_of};
 ghost use Rattle.macho_symbols.specs.Views.{tuple_of, rows_of};
 ghost use Rattle.macho_symbols.specs.declared.candidate.Candidate.{Candidate};
-ghost use Rattle.macho_symbols.specs.Halving.{place_cmp, index_in, row_at, is_before, AreSorted, IsFirstNotAbove};
+ghost use Rattle.macho_symbols.specs.Halving.{row_cmp, index_in, row_at, is_before, AreSorted, IsFirstNotAbove};
 ghost use Rattle.macho_symbols.specs.Rows.{IsBeside, AreFirsts, AreFalling, AreRows};
 
 use crate::candidate::Candidate;
@@ -21,8 +21,8 @@ use std::cmp::Ordering;
 
 impl Candidate {
     /// Compares two candidates by section and value. Nothing tells apart those that have both.
-    fn compare_places(&self, other: &Candidate) -> Ordering
-        ensures { result ≡ place_cmp self.now other.now }
+    fn compare_rows(&self, other: &Candidate) -> Ordering
+        ensures { result ≡ row_cmp self.now other.now }
     {
         self.sect
             .cmp(&other.sect)
@@ -76,7 +76,7 @@ fn collect_rows(heap: Heap, symbols: &Symbols<'_>) -> Result<Vec<Candidate, Heap
     rows_of_keys(heap, &scan, &keys)
 }
 
-/// The place behind the row at a place and those beside it.
+/// The index after the row of an index and those beside it.
 fn group_end(rows: &[Candidate], index: usize) -> usize
     requires { index < length rows.now }
     ensures behind { index < result }
@@ -119,14 +119,14 @@ pub(crate) fn sorted_rows(
     ensures { IfOk result (λ rows. AreRows symbols.now rows.items) }
 {
     let mut rows = collect_rows(heap, symbols)?;
-    rows.sort_unstable_by(|a, b| a.compare_places(b));
+    rows.sort_unstable_by(|a, b| a.compare_rows(b));
     keep_firsts(&mut rows, symbols.strings());
     rows.shrink_to_fit();
     Ok(rows)
 }
 
-/// The place of the first row that is not before those that may answer.
-fn place_of(rows: &[Candidate], number: usize, address: u64) -> usize
+/// The index of the first row that is not before those that may answer.
+fn row_index(rows: &[Candidate], number: usize, address: u64) -> usize
     requires { AreFalling rows.now }
     ensures { IsPartitionPoint (λ r. is_before number address r ≡ true) (λ r. is_before number address r ≡ false)
         rows.now result }
@@ -140,7 +140,7 @@ pub(crate) fn first_not_above(rows: &[Candidate], number: usize, address: u64) -
     ensures { (image : List ℕ) → AreRows image rows.now →
         IsFirstNotAbove image number address (option_map (tuple_of (strings_of image)) result) }
 {
-    let index = place_of(rows, number, address);
+    let index = row_index(rows, number, address);
     if index >= rows.len() {
         return None;
     }

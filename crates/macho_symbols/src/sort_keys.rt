@@ -23,7 +23,7 @@ fn section_starts(scan: &Scan<'_>) -> [u64; N_SECT_COUNT] {
 
 /// Where the row of an entry stands: among the bytes of all sections, each from its end on, as far as 32 bits tell. No
 /// answer depends on it.
-fn rough_place(scan: &Scan<'_>, starts: &[u64; N_SECT_COUNT], entry: &[u8]) -> u32
+fn rough_rank(scan: &Scan<'_>, starts: &[u64; N_SECT_COUNT], entry: &[u8]) -> u32
     requires { 16 ≤ length entry.now }
 {
     let number = n_sect(entry);
@@ -66,7 +66,7 @@ fn push_placed(
     if !scan.is_placed(entry) {
         return Ok(());
     }
-    keys.push(key_of(rough_place(scan, starts, entry), index))?;
+    keys.push(key_of(rough_rank(scan, starts, entry), index))?;
     Ok(())
 }
 

@@ -39,7 +39,7 @@ impl<'a> Symbols<'a> {
         ensures sound { IfOk result (λ _. HasSymbols image.now) }
         ensures bytes { IfOk result (λ symbols. symbols ≡ image.now) }
     {
-        let table = table_in(image);
+        let table = table_of(image);
         let len = image.bytes().len() as u64;
         let entries_len = NLIST_64_LEN as u64 * u64::from(table.nsyms);
         if table.nsyms > 0 && len < u64::from(table.symoff) + entries_len {
@@ -58,7 +58,7 @@ impl<'a> Symbols<'a> {
     {
         Symbols {
             image: image.copy(),
-            table: table_in(image),
+            table: table_of(image),
         }
     }
 
@@ -122,9 +122,9 @@ impl<'a> Symbols<'a> {
     }
 }
 
-/// Where the tables of an image lie.
+/// Where the tables of an image lie; nowhere, where it has no LC_SYMTAB.
 #[tactic(auto, unfolding(crate::specs::Symbols::table_of))]
-fn table_in(image: &Image<'_>) -> Symtab
+pub fn table_of(image: &Image<'_>) -> Symtab
     ensures { result ≡ table_of image.now }
 {
     image.symtab().unwrap_or(Symtab {
@@ -133,4 +133,13 @@ fn table_in(image: &Image<'_>) -> Symtab
         stroff: 0,
         strsize: 0,
     })
+}
+
+/// The string table of an image, or as much of it as there is.
+#[tactic(auto, unfolding(crate::specs::Symbols::strings_of))]
+pub fn strings_of<'a>(image: &Image<'a>) -> &'a [u8]
+    ensures is { result.now ≡ strings_of image.now }
+    ensures few { length result.now < 2 ^ 32 }
+{
+    strings_in(image.bytes(), &table_of(image))
 }

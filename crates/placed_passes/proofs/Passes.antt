@@ -7,7 +7,7 @@ use Rattle.sha2.specs.Hashers.{Holds256}
 use Rattle.sha2.specs.declared.Sha256.{Sha256}
 use Rattle.byte_device.specs.Devices.{Stream}
 use Rattle.byte_device.specs.declared.Failed.{Failed}
-use Rattle.byte_device.proofs.Known.{Appends-none, Appends-then}
+use Rattle.byte_device.proofs.Known.{Appends-then}
 use Rattle.byte_device.proofs.PlacedReading.{stands_more}
 use Rattle.byte_device.specs.Places.{Stands, TakenAt}
 use Rattle.placed_passes.specs.Copies.{HasFewer, HashesAt, IsUnfailed}
@@ -25,16 +25,6 @@ pub record HaveGone (whole held_old held_new : Option (List ℕ)) (at done : ℕ
 pub stands_none : (whole : Option (List ℕ)) (at : ℕ) → Stands whole at []
 stands_none None at = tt
 stands_none (Some all) at = refl
-
--- before the first piece
-pub gone_none : (whole held : Option (List ℕ)) (at : ℕ) (hasher : Sha256) → Holds256 hasher [] → HaveGone whole held held at 0 hasher
-gone_none whole held at hasher holds = record {
-  bytes = [];
-  long = refl;
-  stands = stands_none whole at;
-  gained = Appends-none held;
-  holds = holds;
-}
 
 -- the first of bytes that stand at a place do
 stands_front : (whole : Option (List ℕ)) (at : ℕ) (front back : List ℕ) → Stands whole at (front ++ back) → Stands whole at front

@@ -1,6 +1,5 @@
 -- What comes of sending bytes of a known SHA-256.
-use Rattle.std.specs.Prelude.{◌≡◌, ◌≢◌, ℕ, ◌<◌, ◌≤◌, Bool, List, [], length, Option, Some, IfSome}
-use Rattle.std.specs.Prelude.{Result, MatchResult}
+use Rattle.std.specs.Prelude.{◌≡◌, ◌≢◌, ℕ, ◌<◌, ◌≤◌, Bool, List, [], length, Option, Some, IfSome, Result, MatchResult}
 use Rattle.std.specs.Bool.{MatchBool}
 use Rattle.byte_device.specs.Devices.{Stream}
 use Rattle.byte_device.specs.declared.Failed.{Failed}

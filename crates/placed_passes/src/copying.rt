@@ -19,7 +19,7 @@ pub enum CopyFault {
     Sink(u128),
 }
 
-/// Takes bytes from the place on into the front of a buffer, no more than so many.
+/// Takes bytes from the place on into the first bytes of a buffer, no more than so many.
 fn take_piece<P: Placed>(
     device: &mut P,
     at: u64,
@@ -39,10 +39,6 @@ fn take_piece<P: Placed>(
 }
 
 /// Copies `size` bytes from the place on into a sink, and gives their SHA-256. The buffer has one piece at a time.
-///
-/// # Errors
-///
-/// `Ended` where fewer bytes stand there; `Device`; `Sink`. The sink has the bytes that came before.
 pub fn copy_at<P: Placed, W: Sink>(
     device: &mut P,
     at: u64,

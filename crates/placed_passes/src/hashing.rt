@@ -1,6 +1,6 @@
 //! Bytes that are hashed at a place.
 
-ghost use Rattle.std.specs.Prelude.{◌≡◌, ◌+◌, ◌<◌, ◌^◌, length};
+ghost use Rattle.std.specs.Prelude.{◌+◌, ◌<◌, ◌^◌, length};
 ghost use Rattle.byte_device.specs.Devices.{stream};
 ghost use Rattle.placed_passes.specs.Copies.{HashesAt};
 

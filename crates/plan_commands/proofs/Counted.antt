@@ -1,14 +1,11 @@
 -- How many inputs a line has by its plan.
-use Rattle.std.proofs.Common.{◌≡◌, ◌∙◌, ◌≤◌, ◌+◌, ◌&&◌, ◌||◌, ℕ, suc, zero, Bool, true, false, List, [], ◌∷◌, ◌++◌}
-use Rattle.std.proofs.Common.{arith, length, length-append, refl, sym, true≢false, if◌then◌else◌, Option, Some, None}
+use Rattle.std.proofs.Common.{◌≡◌, ◌≤◌, ◌+◌, ◌&&◌, ℕ, suc, Bool, true, false, List, [], ◌∷◌, ◌++◌, arith, length, length-append, refl, sym, true≢false, if◌then◌else◌, Option, Some, None}
 use Rattle.std.specs.Option.{option_map_or}
 use Rattle.clap.proofs.WalkLemmas.{both}
 use Rattle.clap.specs.Words.{Text}
-use Rattle.command_line.specs.Arguments.{Amount, Argument, Count, Flag, Often, Once, Perhaps, Several, Values, are_values_of}
-use Rattle.command_line.specs.Arguments.{form_of, is_counted, is_formed, reads, reads_kind, several, texts}
-use Rattle.command_line.specs.Lines.{Line, inputs_of, inputs_of_kind, texts_by, texts_of}
-use Rattle.command_line.specs.Table.{Signature, arguments_named, frames_command, index_paths, is_listed, lines_flag}
-use Rattle.command_line.specs.Table.{signature_named}
+use Rattle.command_line.specs.Arguments.{Argument, Count, Flag, Often, Once, Perhaps, Several, Values, are_values_of, form_of, is_formed, reads, reads_kind}
+use Rattle.command_line.specs.Lines.{Line, inputs_of, texts_by, texts_of}
+use Rattle.command_line.specs.Table.{Signature, arguments_named, frames_command, index_paths, is_listed, lines_flag, signature_named}
 use Rattle.command_line.specs.declared.commands.Form.TheVariants as forms
 use Rattle.command_line.specs.declared.commands.Kind.{Kind}
 use Rattle.command_line.specs.declared.commands.Kind.TheVariants as kinds
@@ -52,8 +49,6 @@ few (a ∷ rest) (v ∷ vs) are =
 -- of one kind there are no more than of all
 few_of_kind : (kind : Kind) (arguments : List Argument) (vs : List Values)
     → length (texts_by (reads_kind kind) arguments vs) ≤ length (texts_by reads arguments vs)
-few_of_kind kind [] vs = omega arith
-few_of_kind kind (a ∷ rest) [] = omega arith
 few_of_kind kind (a ∷ rest) (v ∷ vs) = go a.role (few_of_kind kind rest vs)
   where
     some : (b : Bool) → length (texts_by (reads_kind kind) rest vs) ≤ length (texts_by reads rest vs)
@@ -73,8 +68,8 @@ few_of_kind kind (a ∷ rest) (v ∷ vs) = go a.role (few_of_kind kind rest vs)
         else texts_by (reads_kind kind) rest vs)
         ≤ length (if reads role then texts_of v ++ texts_by reads rest vs else texts_by reads rest vs)
     go (roles.Reads other) more = some (reads_kind kind (roles.Reads other)) more
-    go roles.Writes more = more
-    go (roles.Says form) more = more
+    go role more = more
+few_of_kind kind arguments vs = omega arith
 
 -- FRAMES, so many indexes, and an archive; a flag names none
 frames_few : (vs : List Values) → are_values_of frames_command.arguments vs ≡ true

@@ -1,18 +1,18 @@
 -- Archives and indexes that are handed on, and the query that they make.
-use Rattle.std.proofs.Common.{◌≡◌, ◌∙◌, ℕ, ◌<◌, ◌≤◌, suc, List, [], ◌∷◌, ◌++◌, length, take, drop, Option, Result}
-use Rattle.std.proofs.Common.{Bool, false, Err, refl, ap, sym, subst, arith, inl, inr}
+use Rattle.std.proofs.Common.{◌≡◌, ℕ, ◌<◌, List, [], ◌∷◌, ◌++◌, length, take, drop, Option, Result, Bool, false, Err, refl, ap, sym, subst, arith, inl, inr}
 use Rattle.std.proofs.KnownBytes.{Appends-nil}
 use Rattle.std.proofs.lemmas.Bool.{le-ltb, lt-ltb}
 use Rattle.std.proofs.lemmas.Bool.Decides.{nat_tests}
 use Rattle.std.proofs.Math.Seq.{drop-append_seam, take-append_seam}
-use Rattle.std.specs.Prelude.{◌==◌, nat_lt}
-use Rattle.command_ends.specs.Ends.{EndsReport, Query}
-use Rattle.command_ends.specs.Outputs.{Writer, writer}
-use Rattle.command_ends.specs.declared.faults.CommandFault.{CommandFault}
-use Rattle.command_ends.specs.declared.faults.Status.{Status}
+use Rattle.std.specs.Prelude.{◌==◌}
+use Rattle.command_core.specs.Ends.{EndsReport, Query}
+use Rattle.command_core.specs.Outputs.{Writer, writer}
+use Rattle.command_core.specs.declared.faults.CommandFault.{CommandFault}
+use Rattle.command_core.specs.declared.faults.Status.{Status}
 use Rattle.byte_device.specs.declared.disks.CannotOpen.{CannotOpen}
 use Rattle.archive_core.specs.declared.keys.SliceKey.{SliceKey}
-use Rattle.command_ends.specs.Inputs.{Reader, reader, readers}
+use Rattle.command_core.specs.Inputs.{Reader, reader, readers}
+use Rattle.command_core.proofs.Readers.{readers_long}
 use Rattle.indexed_queries.specs.Find.{find_together}
 use Rattle.indexed_symbols.specs.Frames.{frames_at}
 use Rattle.indexed_symbols.specs.Symbolicate.{symbolicate_at}
@@ -21,38 +21,29 @@ use Rattle.plan_commands.specs.QueryDispatch.{IsAlone, find_of, frames_of, if_pa
 -- ---- inputs in two parts
 
 module _ {S : Type 0} (left : S → Option (List ℕ)) (failures : S → ℕ) where
-  -- there are as many as inputs
-  pub as_many_readers : (a c : List (Result S CannotOpen)) → length c ≡ length a
-      → length (readers left failures a c) ≡ length a
-  as_many_readers [] [] is = refl
-  as_many_readers [] (y ∷ c) is = absurd (omega arith)
-  as_many_readers (x ∷ a) [] is = absurd (omega arith)
-  as_many_readers (x ∷ a) (y ∷ c) is = ap suc (as_many_readers a c (omega arith))
-
   -- there is one where there is an input
   pub some_read : (a c : List (Result S CannotOpen)) → length c ≡ length a → 0 < length a
       → 0 < length (readers left failures a c)
-  some_read a c same some = omega (arith, as_many_readers a c same)
+  some_read a c same some = omega (arith, readers_long left failures a c same)
 
   joined : (a b c d : List (Result S CannotOpen)) → length c ≡ length a
       → readers left failures (a ++ b) (c ++ d) ≡ readers left failures a c ++ readers left failures b d
   joined [] b [] d is = refl
-  joined [] b (y ∷ c) d is = absurd (omega arith)
-  joined (x ∷ a) b [] d is = absurd (omega arith)
   joined (x ∷ a) b (y ∷ c) d is = ap (λ rest. reader left failures x y ∷ rest) (joined a b c d (omega arith))
+  joined a b c d is = absurd (omega arith)
 
   -- the first part, between its states
   pub taken : (n : ℕ) (a b c d : List (Result S CannotOpen)) → length a ≡ n → length c ≡ length a
       → take n (readers left failures (a ++ b) (c ++ d)) ≡ readers left failures a c
   taken n a b c d is same =
-      rw (← is, ← as_many_readers a c same, joined a b c d same)
+      rw (← is, ← readers_long left failures a c same, joined a b c d same)
       (take-append_seam (readers left failures a c) (readers left failures b d))
 
   -- the second part
   pub dropped : (n : ℕ) (a b c d : List (Result S CannotOpen)) → length a ≡ n → length c ≡ length a
       → drop n (readers left failures (a ++ b) (c ++ d)) ≡ readers left failures b d
   dropped n a b c d is same =
-      rw (← is, ← as_many_readers a c same, joined a b c d same)
+      rw (← is, ← readers_long left failures a c same, joined a b c d same)
       (drop-append_seam (readers left failures a c) (readers left failures b d))
 
 -- ---- queries by indexes
@@ -83,12 +74,8 @@ pub find_by : {S : Type 0} (archives places indexes : List (Reader S)) (uuid : L
     → find_of archives places indexes uuid
     ≡ if_paired (paired (length archives) (length indexes)) (find_together indexes places uuid)
 find_by archives places [] uuid some several = absurd (omega arith)
-find_by [] places (i ∷ indexes) uuid some several = refl
-find_by (a ∷ b ∷ archives) places (i ∷ indexes) uuid some several = refl
-find_by (a ∷ []) [] (i ∷ indexes) uuid some several = refl
-find_by (a ∷ []) (p ∷ q ∷ places) (i ∷ indexes) uuid some several = refl
-find_by (a ∷ []) (p ∷ []) (i ∷ j ∷ indexes) uuid some several = refl
 find_by (a ∷ []) (p ∷ []) (i ∷ []) uuid some several = absurd (several refl refl)
+find_by archives places indexes uuid some several = refl
 
 -- ---- how they end
 
@@ -126,8 +113,8 @@ module _ {S W : Type 0} (left whole : S → Option (List ℕ)) (failures place_f
   alone_refused archives ix query report fault alone by =
       let known = readers left failures archives archives in
       let named = readers whole place_failures ix ix in
-      let many = as_many_readers left failures archives archives refl in
-      let numbered = as_many_readers whole place_failures ix ix refl in
+      let many = readers_long left failures archives archives refl in
+      let numbered = readers_long whole place_failures ix ix refl in
       subst (λ (q : Query). EndsReport q (writer held write_failures report report) (Err fault)) (sym by)
       (refused_by held write_failures report (length known) (length named)
       (make named (readers whole place_failures archives archives)) fault
@@ -144,8 +131,8 @@ module _ {S W : Type 0} (left whole : S → Option (List ℕ)) (failures place_f
   paired_kept a c ix iy query report result as_many same indexes by ends =
       let known = readers left failures a c in
       let named = readers whole place_failures ix iy in
-      let many = as_many_readers left failures a c same in
-      let numbered = as_many_readers whole place_failures ix iy indexes in
+      let many = readers_long left failures a c same in
+      let numbered = readers_long whole place_failures ix iy indexes in
       subst (λ (q : Query). EndsReport q report result) (sym by)
       (kept_by (length known) (length named) (make named (readers whole place_failures a c)) report result
       (omega (arith, many, numbered, as_many)) ends)

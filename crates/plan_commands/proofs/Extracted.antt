@@ -1,26 +1,25 @@
 -- How `extract` ends over archives and indexes that are handed on.
-use Rattle.std.proofs.Common.{◌≡◌, ◌∙◌, ℕ, ◌<◌, List, [], ◌∷◌, length, Option, Result}
-use Rattle.std.proofs.Common.{true, ◌==◌, true≢false, Err, refl, ap, sym, subst, arith, inl, inr}
+use Rattle.std.proofs.Common.{◌≡◌, ◌∙◌, ℕ, ◌<◌, List, [], ◌∷◌, length, Option, Result, true, ◌==◌, true≢false, Err, refl, ap, sym, subst, arith, inl, inr}
 use Rattle.std.proofs.KnownBytes.{Appends-nil}
 use Rattle.std.proofs.lemmas.Bool.{le-ltb, lt-ltb, ne_eqb}
 use Rattle.std.specs.Io.KnownBytes.{Appends}
 use Rattle.archive_core.specs.declared.keys.Digest.{Digest}
 use Rattle.archive_core.specs.declared.keys.SliceKey.{SliceKey}
 use Rattle.byte_device.specs.declared.disks.CannotOpen.{CannotOpen}
-use Rattle.command_ends.specs.Inputs.{Reader, reader, readers}
-use Rattle.command_ends.specs.Outputs.{Outs, Takes, Writer, out_of}
-use Rattle.command_ends.specs.declared.faults.CommandFault.{CommandFault}
-use Rattle.command_ends.specs.declared.faults.CommandFault.TheVariants.{Input}
-use Rattle.command_ends.specs.declared.faults.InputName.{InputName}
-use Rattle.command_ends.specs.declared.faults.InputName.TheVariants.{Archive, Index}
-use Rattle.command_ends.specs.declared.faults.Why.{Why}
-use Rattle.command_ends.specs.declared.faults.Why.TheVariants.{NoArchive, NoIndex}
-use Rattle.command_ends.specs.declared.faults.Status.{Status}
-use Rattle.command_ends.specs.declared.outputs.Output.{Output as Out}
+use Rattle.command_core.specs.Inputs.{Reader, reader, readers}
+use Rattle.command_core.specs.Outputs.{Outs, Takes, Writer, out_of}
+use Rattle.command_core.specs.declared.faults.CommandFault.{CommandFault}
+use Rattle.command_core.specs.declared.faults.CommandFault.TheVariants.{Input}
+use Rattle.command_core.specs.declared.faults.InputName.{InputName}
+use Rattle.command_core.specs.declared.faults.InputName.TheVariants.{Archive, Index}
+use Rattle.command_core.specs.declared.faults.Why.{Why}
+use Rattle.command_core.specs.declared.faults.Why.TheVariants.{NoArchive, NoIndex}
+use Rattle.command_core.specs.declared.faults.Status.{Status}
+use Rattle.command_core.specs.declared.outputs.Output.{Output as Out}
 use Rattle.slice_extraction.specs.Extract.{Extraction, Extracts, extract}
 use Rattle.slice_extraction.specs.Indexed.{extract_at}
 use Rattle.plan_commands.specs.QueryDispatch.{IsAlone, extract_of, extraction_if_paired, paired}
-use Rattle.plan_commands.proofs.Dispatched.{as_many_readers}
+use Rattle.command_core.proofs.Readers.{readers_long}
 
 -- with an index
 extract_by : {S : Type 0} (archives places indexes : List (Reader S)) (key : SliceKey) (digest : Option Digest)
@@ -95,8 +94,8 @@ module _ {S : Type 0} (left whole : S → Option (List ℕ)) (failures place_fai
   alone_stopped archives ix out report fault alone some same unreported =
       let known = readers left failures archives archives in
       let named = readers whole place_failures ix ix in
-      let many = as_many_readers left failures archives archives refl in
-      let numbered = as_many_readers whole place_failures ix ix refl in
+      let many = readers_long left failures archives archives refl in
+      let numbered = readers_long whole place_failures ix ix refl in
       subst (λ (e : Extraction). Extracts e out report (Err fault))
       (sym (extract_by known (readers whole place_failures archives archives) named key digest (out_of out).draft some))
       (stopped_by out report (length known) (length named) _ fault
@@ -113,8 +112,8 @@ module _ {S : Type 0} (left whole : S → Option (List ℕ)) (failures place_fai
   paired_extracted a c ix iy out report result as_many same indexes some ends =
       let named = readers whole place_failures ix iy in
       let known = readers left failures a c in
-      let many = as_many_readers left failures a c same in
-      let numbered = as_many_readers whole place_failures ix iy indexes in
+      let many = readers_long left failures a c same in
+      let numbered = readers_long whole place_failures ix iy indexes in
       subst (λ (e : Extraction). Extracts e out report result)
       (sym (extract_by known (readers whole place_failures a c) named key digest (out_of out).draft some))
       (extracted_by out report (length known) (length named) _ result (omega (arith, many, numbered, as_many)) ends)

@@ -4,19 +4,15 @@ use Rattle.std.specs.Prelude.{MatchResult, OnOk}
 use Rattle.clap.specs.Words.{Text}
 use Rattle.command_line.specs.Lines.{Line, error_kinds, line_of}
 use Rattle.archive_files.specs.declared.replaceable.OutFault.{OutFault}
-use Rattle.archive_updates.specs.declared.notes.Note.{Note}
-use Rattle.command_ends.specs.declared.failures.Failure.{Failure}
-use Rattle.command_ends.specs.declared.faults.CommandFault.{CommandFault}
-use Rattle.command_ends.specs.declared.faults.Status.{Status}
-use Rattle.command_ends.specs.Outputs.{Writer}
-use Rattle.command_ends.specs.Statuses.{status_of}
+use Rattle.archive_writing.specs.declared.notes.Note.{Note}
+use Rattle.command_core.specs.declared.failures.Failure.{Failure}
+use Rattle.command_core.specs.declared.faults.CommandFault.{CommandFault}
+use Rattle.command_core.specs.declared.faults.Status.{Status}
+use Rattle.command_core.specs.Outputs.{Writer}
+use Rattle.command_core.specs.Statuses.{status_of}
 use Rattle.plan_commands.specs.Ends.{Ran}
 use Rattle.plan_commands.specs.Files.{Calls, IsCarriedOut, IsDone, command_fault_of}
 use Rattle.error_lines.specs.StandardError.{SaysFailure, SaysNotes}
-
-pub on_any : {X E P : Type 0} (r : Result X E) → P → OnOk r P
-on_any (Ok x) p = p
-on_any (Err e) p = tt
 
 both_on : {X E A : Type 0} (r : Result X E) (x y z : A) → OnOk r (x ≡ y) → OnOk r (y ≡ z) → OnOk r (x ≡ z)
 both_on (Ok r) x y z first then = first ∙ then
@@ -60,10 +56,10 @@ module _ {S D T V : Type 0} (items : V → List Note) (calls : Calls S D T) (lin
   told_done report fault ended noted (Ok both) told is = inr (told_as calls line report (command_fault_of fault ended) noted is (Ok both.0) (items both.1) told.0 told.1)
   told_done report fault ended noted (Err failure) told is = inr (told_as calls line report (command_fault_of fault ended) noted is (Err failure) [] told tt)
 
-  pub ran : (words : List Text) (told said : Writer) (status : ℕ) → error_kinds words ≡ [] → Some line ≡ line_of words → (r : Result (Status × V) Failure) → Done told r
-      → MatchResult r (λ both. SaysNotes said (items both.1)) (λ failure. SaysFailure said line failure)
-      → MatchResult r (λ both. status ≡ status_of (Ok both.0)) (λ failure. status ≡ status_of (Err failure)) → Ran calls words told said status
-  ran words told said status accepted line_is (Ok both) carried says status_is = record {
+  pub ran : (words : List Text) (told standard_error : Writer) (status : ℕ) → error_kinds words ≡ [] → Some line ≡ line_of words → (r : Result (Status × V) Failure) → Done told r
+      → MatchResult r (λ both. SaysNotes standard_error (items both.1)) (λ failure. SaysFailure standard_error line failure)
+      → MatchResult r (λ both. status ≡ status_of (Ok both.0)) (λ failure. status ≡ status_of (Err failure)) → Ran calls words told standard_error status
+  ran words told standard_error status accepted line_is (Ok both) carried says status_is = record {
     line = line;
     ended = Ok both.0;
     notes = items both.1;
@@ -73,7 +69,7 @@ module _ {S D T V : Type 0} (items : V → List Note) (calls : Calls S D T) (lin
     says = says;
     status_is = status_is;
   }
-  ran words told said status accepted line_is (Err failure) carried says status_is = record {
+  ran words told standard_error status accepted line_is (Err failure) carried says status_is = record {
     line = line;
     ended = Err failure;
     notes = [];

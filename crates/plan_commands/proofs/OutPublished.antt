@@ -1,8 +1,5 @@
 -- What is in place of OUT, by what is known of it.
-use Rattle.std.proofs.Common.{◌≡◌, ◌∙◌, ℕ, Bool, true, false, List, [], ◌∷◌, ◌++◌, length, take, drop}
-use Rattle.std.proofs.Common.{get_or, suc}
-use Rattle.std.proofs.Common.{Option, Some, None, Result, OnOk, refl, ap, sym, subst, inl, inr}
-use Rattle.std.proofs.Common.{append-nil, append_assoc, arith, string_bytes}
+use Rattle.std.proofs.Common.{◌≡◌, ◌∙◌, ℕ, Bool, true, false, List, [], ◌∷◌, ◌++◌, length, take, drop, get_or, suc, Option, Some, None, Result, OnOk, refl, ap, sym, subst, inl, inr, append-nil, append_assoc, arith, string_bytes}
 use Rattle.std.proofs.lemmas.List.{append_cancel_left}
 use Rattle.std.proofs.Math.Seq.{take-append_seam}
 use Rattle.std.proofs.lemmas.Grind.{not_there}
@@ -11,34 +8,23 @@ use Rattle.std.specs.Io.KnownBytes.{Appends}
 use Rattle.clap.specs.Words.{Text}
 use Rattle.archive_files.specs.InputStates.{AreFirstAsked}
 use Rattle.archive_files.specs.FileCalls.{FileCall, bytes_in}
-use Rattle.archive_files.specs.OutFiles.{Stage}
-use Rattle.archive_files.specs.OutFiles.{draft_account, has_calls, is_settled, published_account, publishing_calls}
+use Rattle.archive_files.specs.OutFiles.{Stage, draft_account, has_calls, is_settled, published_account, publishing_calls}
 use Rattle.archive_files.specs.Publishing.{IsPath, IsPublished, IsRemoved, account, number_of, place, took_nothing}
 use Rattle.archive_files.specs.declared.replaceable.Replaces.{Replaces}
-use Rattle.archive_files.specs.declared.replaceable.Replaces.TheVariants.{OwnFiles, ArchivesBelow, SameBytes}
 use Rattle.archive_files.specs.declared.published.Published.{Published}
 
 -- what is known tells the path
 place_first : (p q : Option (List ℕ)) (xs ys : List ℕ) → place p ++ xs ≡ place q ++ ys → p ≡ q
 place_first None None xs ys same = refl
-place_first None (Some q) xs ys same = let h = ap (λ l. get_or l 0 0) same in grind (arith, h)
-place_first (Some p) None xs ys same = let h = ap (λ l. get_or l 0 0) same in grind (arith, h)
 place_first (Some p) (Some q) xs ys same =
     let first : suc (length p) ≡ suc (length q) = ap (λ l. get_or l 0 0) same in
     let long : length p ≡ length q = grind (arith, first) in
     ap (λ path. Some path) (sym (take-append_seam p xs) ∙ ap (λ l. take (length p) (drop 1 l)) same
     ∙ ap (λ n. take n (q ++ ys)) long ∙ take-append_seam q ys)
+place_first p q xs ys same = let h = ap (λ l. get_or l 0 0) same in grind (arith, h)
 
 same_rule : (r s : Replaces) → number_of r ≡ number_of s → r ≡ s
-same_rule OwnFiles OwnFiles same = refl
-same_rule OwnFiles ArchivesBelow same = grind (arith, same)
-same_rule ArchivesBelow OwnFiles same = grind (arith, same)
-same_rule ArchivesBelow ArchivesBelow same = refl
-same_rule SameBytes SameBytes same = refl
-same_rule OwnFiles SameBytes same = grind (arith, same)
-same_rule ArchivesBelow SameBytes same = grind (arith, same)
-same_rule SameBytes OwnFiles same = grind (arith, same)
-same_rule SameBytes ArchivesBelow same = grind (arith, same)
+same_rule r s same = grind (arith, same)
 
 -- what took a text has the path and the rule that were there, and the text
 known : (p q : Option (List ℕ)) (r s : Replaces) (bytes text : List ℕ) → account q s bytes ≡ account p r [] ++ text

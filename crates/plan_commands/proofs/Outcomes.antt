@@ -1,6 +1,5 @@
 -- What is put in OUT's place in a command, however it ends.
-use Rattle.std.proofs.Common.{◌≡◌, ℕ, List, [], length, take, Option, Some, None, Result, Ok, Err, refl}
-use Rattle.std.proofs.Common.{ap, sym, subst, inl, inr, arith, length-take-le}
+use Rattle.std.proofs.Common.{◌≡◌, ℕ, List, [], length, take, Option, Some, None, Result, Ok, Err, refl, ap, sym, subst, inl, inr, arith, length-take-le}
 use Rattle.std.proofs.KnownBytes.{Appends-nil}
 use Rattle.std.specs.FinSet as set
 use Rattle.std.specs.Io.KnownBytes.{Appends}
@@ -8,23 +7,22 @@ use Rattle.std.specs.Prelude.{option_and_then, slice_get}
 use Rattle.command_line.specs.Lines.{Line}
 use Rattle.archive_records.specs.Text.{written}
 use Rattle.byte_device.specs.declared.disks.CannotOpen.{CannotOpen}
-use Rattle.command_ends.specs.declared.faults.CommandFault.{CommandFault}
-use Rattle.command_ends.specs.declared.faults.CommandFault.TheVariants.{Input, Output, Report, OutOfMemory}
-use Rattle.command_ends.specs.declared.outputs.Output.{Output as Out}
-use Rattle.command_ends.specs.declared.faults.InputName.{InputName}
-use Rattle.command_ends.specs.declared.faults.Status.{Status}
-use Rattle.command_ends.specs.declared.faults.Why.{Why}
-use Rattle.command_ends.specs.Ends.{Command, Ends, EndsStreamed, Query, Streamed}
-use Rattle.command_ends.specs.Inputs.{readers}
-use Rattle.command_ends.specs.Outputs.{FailsAt, IsKept, Outs, Publishes, Writer, out_of, report_of}
+use Rattle.command_core.specs.declared.faults.CommandFault.{CommandFault}
+use Rattle.command_core.specs.declared.faults.CommandFault.TheVariants.{Input, Output, Report, OutOfMemory}
+use Rattle.command_core.specs.declared.outputs.Output.{Output as Out}
+use Rattle.command_core.specs.declared.faults.InputName.{InputName}
+use Rattle.command_core.specs.declared.faults.Status.{Status}
+use Rattle.command_core.specs.declared.faults.Why.{Why}
+use Rattle.command_core.specs.Ends.{Command, Ends, EndsStreamed, Query, Streamed}
+use Rattle.command_core.specs.Inputs.{readers}
+use Rattle.command_core.specs.Outputs.{FailsAt, IsKept, Outs, Publishes, Writer, out_of, report_of}
 use Rattle.archive_files.specs.InputStates.{Told}
-use Rattle.archive_updates.specs.declared.notes.Note.{Note}
+use Rattle.archive_writing.specs.declared.notes.Note.{Note}
 use Rattle.archive_files.specs.declared.input_state.Unopened.{Unopened}
 use Rattle.archive_files.specs.declared.input_state.Unopened.TheVariants as unopened
-use Rattle.command_ends.specs.declared.faults.Why.TheVariants.{CannotOpen as NotOpened}
+use Rattle.command_core.specs.declared.faults.Why.TheVariants.{CannotOpen as NotOpened}
 use Rattle.plan_commands.specs.Disks.{Carried, Tells, fault_at, unopened_of}
-use Rattle.plan_commands.specs.Plans.{Deed, EndsDeed, EndsQuery, answers, changes, deed_of, empties, extracts, none}
-use Rattle.plan_commands.specs.Plans.{streams}
+use Rattle.plan_commands.specs.Plans.{Deed, EndsDeed, EndsQuery, answers, changes, deed_of, empties, extracts, none, streams}
 use Rattle.slice_extraction.specs.Extract.{Extraction, Extracts, LacksSlice}
 use Rattle.error_lines.specs.Numbers.{number_at}
 use Rattle.plan_commands.specs.Files.{IsNotPut, IsOutcome}
@@ -87,11 +85,10 @@ unchanged {D = D} {T = T} out r same count =
 
 queried : {D T : Type 0} (query : Query) (out : Outs D T) (report : Writer) (r : Result Status CommandFault)
     → EndsQuery query out report r → IsOutcome out r
-queried query out report (Ok status) e = inr e.1
 queried query out report (Err (Input at why)) e = unchanged out (Err (Input at why)) e.1 (λ n h. cc)
 queried query out report (Err (Output m)) e = absurd e.0
-queried query out report (Err (Report m)) e = inr e.1
 queried query out report (Err OutOfMemory) e = unchanged out (Err OutOfMemory) e.1 (λ n h. cc)
+queried query out report r e = inr e.1
 
 -- ---- what is written as it is read
 
@@ -115,10 +112,8 @@ streamed command out report (Err OutOfMemory) e = elim e [
 lacking : {D T : Type 0} (command : Extraction) (out : Outs D T) (report : Writer) (r : Result Status CommandFault)
     → LacksSlice command out report r → IsOutcome out r
 lacking command out report (Ok status) e = inr e.kept
-lacking command out report (Err (Input at why)) e = absurd e.reported
-lacking command out report (Err (Output m)) e = absurd e.reported
 lacking command out report (Err (Report m)) e = inr e.kept
-lacking command out report (Err OutOfMemory) e = absurd e.reported
+lacking command out report r e = absurd e.reported
 
 extracted : {D T : Type 0} (command : Extraction) (out : Outs D T) (report : Writer) (r : Result Status CommandFault)
     → Extracts command out report r → IsOutcome out r
@@ -148,13 +143,10 @@ module _ {S D T : Type 0} (told : Told S) (line : Line) (behind : List (Result S
 
   told_outcome : (ended result : Result Status CommandFault) → Tells told line behind ended result → IsOutcome out ended
       → IsOutcome out result
-  told_outcome (Ok status) result tells o = subst (IsOutcome out) (sym tells) o
   told_outcome (Err (Input name why)) result tells o =
       subst (IsOutcome out) (sym tells)
       (by_fault (unopened_of told (option_and_then (slice_get behind) (number_at line name))) name why o)
-  told_outcome (Err (Output n)) result tells o = subst (IsOutcome out) (sym tells) o
-  told_outcome (Err (Report n)) result tells o = subst (IsOutcome out) (sym tells) o
-  told_outcome (Err OutOfMemory) result tells o = subst (IsOutcome out) (sym tells) o
+  told_outcome ended result tells o = subst (IsOutcome out) (sym tells) o
 
 pub carried_outcome : {S D T : Type 0} (told : Told S) (line : Line) (plan : Plan) (before behind : List (Result S CannotOpen))
     (out : Outs D T) (report : Writer) (r : Result Status CommandFault) (notes noted : List Note)

@@ -1,15 +1,15 @@
 -- An output that has no path.
-use Rattle.std.proofs.Common.{◌≡◌, List, [], None, Result, Ok, Err, refl, sym, ap, subst, inl, inr}
+use Rattle.std.proofs.Common.{◌≡◌, List, [], None, Result, Err, refl, sym, ap, subst, inl, inr}
 use Rattle.std.proofs.KnownBytes.{Appends-nil}
 use Rattle.std.specs.Io.KnownBytes.{Appends}
 use Rattle.command_line.specs.Lines.{Line}
-use Rattle.archive_updates.specs.declared.notes.Note.{Note}
-use Rattle.command_ends.specs.declared.failures.Failure.{Failure}
-use Rattle.command_ends.specs.declared.faults.CommandFault.{CommandFault}
-use Rattle.command_ends.specs.declared.faults.CommandFault.TheVariants.{Input, Output, Report, OutOfMemory}
-use Rattle.command_ends.specs.declared.faults.Status.{Status}
-use Rattle.command_ends.specs.declared.outputs.Output.{Output as Out}
-use Rattle.command_ends.specs.Outputs.{IsKept, Outs, Writer, out_of as known_of}
+use Rattle.archive_writing.specs.declared.notes.Note.{Note}
+use Rattle.command_core.specs.declared.failures.Failure.{Failure}
+use Rattle.command_core.specs.declared.faults.CommandFault.{CommandFault}
+use Rattle.command_core.specs.declared.faults.CommandFault.TheVariants.{Input, Output, OutOfMemory}
+use Rattle.command_core.specs.declared.faults.Status.{Status}
+use Rattle.command_core.specs.declared.outputs.Output.{Output as Out}
+use Rattle.command_core.specs.Outputs.{IsKept, Outs, Writer, out_of as known_of}
 use Rattle.plan_commands.specs.Files.{Calls, IsCarriedOut, IsNotPut, IsOutcome, IsPut, outs_in}
 use Rattle.plan_commands.proofs.OutPublished.{called_nowhere}
 
@@ -35,11 +35,10 @@ module _ {S D T : Type 0} (calls : Calls S D T) (line : Line) (report : Writer) 
   not_put r same not = called_nowhere is.path calls.called none (is.removed (subst (IsNotPut out) (sym same) not)).0
 
   by_end : (r : Result Status CommandFault) → is.ended ≡ r → IsOutcome out r → calls.called ≡ []
-  by_end (Ok status) same o = put o
   by_end (Err (Input at why)) same o = not_put (Err (Input at why)) same o
   by_end (Err (Output n)) same o = not_put (Err (Output n)) same o
-  by_end (Err (Report n)) same o = put o
   by_end (Err OutOfMemory) same o = not_put (Err OutOfMemory) same o
+  by_end r same o = put o
 
   pub nothing_called : calls.called ≡ []
   nothing_called = by_end is.ended refl is.outcome

@@ -9,21 +9,21 @@ use Rattle.command_line.specs.LineFaults.{IsHelpUnlessMemory, IsRefusalUnlessMem
 use Rattle.command_line.specs.Lines.{error_kinds, is_in_order, named_command}
 use Rattle.command_line.specs.declared.line_faults.LineFault.{LineFault}
 use Rattle.command_line.specs.declared.line_faults.LineFault.TheVariants.{Help, Refused, OutOfMemory}
-use Rattle.command_ends.specs.Outputs.{Writer}
+use Rattle.command_core.specs.Outputs.{Writer}
 use Rattle.plan_commands.specs.Ends.{EndsLine, IsHelped, IsRefused, WantsMemory}
 
 -- ---- words that give no plan
 
-pub no_plan : (words : List Text) (fault : LineFault) (told said : Writer) (status : ℕ) → EndsLine fault told said status
+pub no_plan : (words : List Text) (fault : LineFault) (told standard_error : Writer) (status : ℕ) → EndsLine fault told standard_error status
     → (error_kinds words ≡ [] → is_in_order words ≡ true → fault ≡ OutOfMemory)
     → (error_kinds words ≡ DisplayHelp ∷ [] → IsHelpUnlessMemory fault)
     → (error_kinds words ≡ DisplayVersion ∷ [] → IsHelpUnlessMemory fault)
     → (¬ IsAmong DisplayHelp (error_kinds words) → ¬ IsAmong DisplayVersion (error_kinds words)
     → IsRefusalUnlessMemory fault)
     → (error_kinds words ≡ [] → IsRefusedBy (refusal_of (named_command words)) fault)
-    → IsRefused words told said status ⊎ IsHelped words told said status ⊎ WantsMemory told said status
-no_plan words OutOfMemory told said status is memory help version refusal telling = inr (inr is)
-no_plan words (Refused text) told said status is memory help version refusal telling = inl (record {
+    → IsRefused words told standard_error status ⊎ IsHelped words told standard_error status ⊎ WantsMemory told standard_error status
+no_plan words OutOfMemory told standard_error status is memory help version refusal telling = inr (inr is)
+no_plan words (Refused text) told standard_error status is memory help version refusal telling = inl (record {
   no_plan = λ accepted ordered. cc (memory accepted ordered);
   no_help = help;
   no_version = version;
@@ -31,7 +31,7 @@ no_plan words (Refused text) told said status is memory help version refusal tel
   accepted = telling;
   refuses = is;
 })
-no_plan words (Help text) told said status is memory help version refusal telling = inr (inl (record {
+no_plan words (Help text) told standard_error status is memory help version refusal telling = inr (inl (record {
   no_plan = λ accepted ordered. cc (memory accepted ordered);
   asked = refusal;
   text = string_bytes text;

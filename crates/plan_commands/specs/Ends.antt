@@ -7,11 +7,11 @@ use Rattle.command_line.specs.LineFaults.{IsRefusedBy, refusal_of}
 use Rattle.command_line.specs.Lines.{Line, error_kinds, is_in_order, line_of, named_command}
 use Rattle.command_line.specs.declared.line_faults.LineFault.{LineFault}
 use Rattle.command_line.specs.declared.line_faults.LineFault.TheVariants as fault
-use Rattle.command_ends.specs.declared.failures.Failure.{Failure}
-use Rattle.command_ends.specs.declared.faults.Status.{Status}
-use Rattle.command_ends.specs.Outputs.{Takes, Writer}
-use Rattle.command_ends.specs.Statuses.{status_of}
-use Rattle.archive_updates.specs.declared.notes.Note.{Note}
+use Rattle.command_core.specs.declared.failures.Failure.{Failure}
+use Rattle.command_core.specs.declared.faults.Status.{Status}
+use Rattle.command_core.specs.Outputs.{Takes, Writer}
+use Rattle.command_core.specs.Statuses.{status_of}
+use Rattle.archive_writing.specs.declared.notes.Note.{Note}
 use Rattle.plan_commands.specs.Files.{Calls, IsDone}
 use Rattle.error_lines.specs.StandardError.{IsPushed, SaysEnd, SaysRefused, SaysWanting, reason_in}
 
@@ -22,7 +22,7 @@ pub record IsIdle {S D T : Type 0} (calls : Calls S D T) : Type 0 where
 
 -- The words are accepted and ask for this line, it was carried out over files of the system, unless there was no memory
 -- to begin it, its notes were said, or why it failed, and the exit status is that of how it ended.
-pub record Ran {S D T : Type 0} (calls : Calls S D T) (words : List Text) (told said : Writer) (status : ℕ)
+pub record Ran {S D T : Type 0} (calls : Calls S D T) (words : List Text) (told standard_error : Writer) (status : ℕ)
     : Type 0 where
   pub line : Line
   pub ended : Result Status Failure
@@ -30,7 +30,7 @@ pub record Ran {S D T : Type 0} (calls : Calls S D T) (words : List Text) (told 
   pub accepted : error_kinds words ≡ []
   pub line_is : Some line ≡ line_of words
   pub carried : IsDone calls line told ended notes
-  pub says : SaysEnd said line ended notes
+  pub says : SaysEnd standard_error line ended notes
   pub status_is : status ≡ status_of ended
 
 -- the words are not accepted, or a value has not its form, or OUT is an input
@@ -38,52 +38,54 @@ abbrev pub HasNoPlan : List Text → Type 0
 HasNoPlan words = error_kinds words ≡ [] → is_in_order words ≡ true → ⊥
 
 -- Nothing is told, and this reason is said.
-pub record Refuses (told said : Writer) (reason : Text) (status : ℕ) : Type 0 where
+pub record Refuses (told standard_error : Writer) (reason : Text) (status : ℕ) : Type 0 where
   pub nothing_told : Takes told []
-  pub says : SaysRefused said reason
+  pub says : SaysRefused standard_error reason
   pub status_is : status ≡ 3
 
 -- The words are refused, and why is said: of words that are accepted the first reason of the command that they name.
-pub record IsRefused (words : List Text) (told said : Writer) (status : ℕ) : Type 0 where
+pub record IsRefused (words : List Text) (told standard_error : Writer) (status : ℕ) : Type 0 where
   pub no_plan : HasNoPlan words
   pub no_help : error_kinds words ≢ DisplayHelp ∷ []
   pub no_version : error_kinds words ≢ DisplayVersion ∷ []
   pub text : String Global
   pub accepted : error_kinds words ≡ [] → IsRefusedBy (refusal_of (named_command words)) (fault.Refused text)
-  pub refuses : Refuses told said (reason_in (string_bytes text)) status
+  pub refuses : Refuses told standard_error (reason_in (string_bytes text)) status
 
 -- The words ask for help or for the version, and that is told.
-pub record IsHelped (words : List Text) (told said : Writer) (status : ℕ) : Type 0 where
+pub record IsHelped (words : List Text) (told standard_error : Writer) (status : ℕ) : Type 0 where
   pub no_plan : HasNoPlan words
   pub asked : ¬ IsAmong DisplayHelp (error_kinds words) → ¬ IsAmong DisplayVersion (error_kinds words) → ⊥
   pub text : List ℕ
   pub whole : Bool
   pub tells : IsPushed told text whole
-  pub nothing_said : Takes said []
+  pub nothing_said : Takes standard_error []
   pub status_is : status ≡ 0
 
 -- Memory is wanting, and that is said.
-pub record WantsMemory (told said : Writer) (status : ℕ) : Type 0 where
+pub record WantsMemory (told standard_error : Writer) (status : ℕ) : Type 0 where
   pub nothing_told : Takes told []
   pub whole : Bool
-  pub says : SaysWanting said whole
+  pub says : SaysWanting standard_error whole
   pub status_is : status ≡ 4
 
 -- How the program ends with these words: what they ask for was carried out; or they are refused, or ask for help, or
 -- memory is wanting, and nothing was called.
 abbrev pub EndsWords : {S D T : Type 0} → Calls S D T → List Text → Writer → Writer → ℕ → Type 0
-EndsWords calls words told said status =
-    Ran calls words told said status
+EndsWords calls words told standard_error status =
+    Ran calls words told standard_error status
     ⊎ (IsIdle calls
-    × (IsRefused words told said status ⊎ IsHelped words told said status ⊎ WantsMemory told said status))
+    × (IsRefused words told standard_error status ⊎ IsHelped words told standard_error status
+    ⊎ WantsMemory told standard_error status))
 
 -- It ends so where the words could not be read, for another reason than want of memory.
 abbrev pub IsUnreadable : Writer → Writer → ℕ → Type 0
-IsUnreadable told said status = Refuses told said (codes "invalid word: expected UTF-8 text") status
+IsUnreadable told standard_error status = Refuses told standard_error (codes "invalid word: expected UTF-8 text") status
 
 -- what is told and said of a line that gives no plan, and the exit status
 abbrev pub EndsLine : LineFault → Writer → Writer → ℕ → Type 0
-EndsLine (fault.Help text) told said status =
-    (whole : Bool) × IsPushed told (string_bytes text) whole × Takes said [] × (status ≡ 0)
-EndsLine (fault.Refused text) told said status = Refuses told said (reason_in (string_bytes text)) status
-EndsLine fault.OutOfMemory told said status = WantsMemory told said status
+EndsLine (fault.Help text) told standard_error status =
+    (whole : Bool) × IsPushed told (string_bytes text) whole × Takes standard_error [] × (status ≡ 0)
+EndsLine (fault.Refused text) told standard_error status =
+    Refuses told standard_error (reason_in (string_bytes text)) status
+EndsLine fault.OutOfMemory told standard_error status = WantsMemory told standard_error status

@@ -6,13 +6,13 @@ use Rattle.std.specs.declared.io.traits.Seek.{Ghosts as Seeks}
 use Rattle.std.specs.declared.io.traits.Write.{Ghosts as Writes}
 use Rattle.clap.specs.Words.{Text}
 use Rattle.command_line.specs.Lines.{Line, inputs_of, out_of}
-use Rattle.command_ends.specs.declared.failures.Failure.{Failure}
-use Rattle.command_ends.specs.declared.failures.Failure.TheVariants.{Command, CannotCreate, CannotReplace}
-use Rattle.command_ends.specs.declared.faults.CommandFault.{CommandFault}
-use Rattle.command_ends.specs.declared.faults.CommandFault.TheVariants.{Input, Output, Report, OutOfMemory}
-use Rattle.command_ends.specs.declared.faults.Status.{Status}
-use Rattle.command_ends.specs.declared.outputs.Output.{Output as Out}
-use Rattle.command_ends.specs.Outputs.{IsKept, Outs, Places, Writer, out_of as known_of, outs}
+use Rattle.command_core.specs.declared.failures.Failure.{Failure}
+use Rattle.command_core.specs.declared.failures.Failure.TheVariants.{Command, CannotCreate, CannotReplace}
+use Rattle.command_core.specs.declared.faults.CommandFault.{CommandFault}
+use Rattle.command_core.specs.declared.faults.CommandFault.TheVariants.{Input, Output, Report, OutOfMemory}
+use Rattle.command_core.specs.declared.faults.Status.{Status}
+use Rattle.command_core.specs.declared.outputs.Output.{Output as Out}
+use Rattle.command_core.specs.Outputs.{IsKept, IsPublished as Publishes, Outs, Writer, out_of as known_of, outs}
 use Rattle.archive_files.specs.FileCalls.{FileCall, bytes_in}
 use Rattle.archive_files.specs.OutFiles.{fault_of, publishing_calls, stage_of}
 use Rattle.archive_files.specs.Publishing.{IsPath, IsPublished, IsRemoved, account}
@@ -21,7 +21,7 @@ use Rattle.archive_files.specs.declared.replaceable.OutFault.{OutFault}
 use Rattle.archive_files.specs.declared.replaceable.Replaces.{Replaces}
 use Rattle.archive_files.specs.declared.replaceable.OutFault.TheVariants as fault
 use Rattle.archive_files.specs.declared.system_files.SystemFiles.{SystemFiles}
-use Rattle.archive_updates.specs.declared.notes.Note.{Note}
+use Rattle.archive_writing.specs.declared.notes.Note.{Note}
 use Rattle.plan_commands.specs.Disks.{Carried}
 use Rattle.plan_commands.specs.Plans.{replaces_of}
 use Rattle.plan_commands.specs.declared.plans.Plan.{Plan}
@@ -42,18 +42,18 @@ command_fault_of fault (Err (Output n)) = Err (out_failure fault n)
 command_fault_of fault (Err (Report n)) = Err (Command (Report n))
 command_fault_of fault (Err OutOfMemory) = Err (Command OutOfMemory)
 
--- Nothing was put in place. OUT's draft took these bytes, as many as are told where OUT failed.
+-- Nothing was published. OUT's draft took these bytes, as many as are told where OUT failed.
 pub record IsNotPut {D T : Type 0} (out : Outs D T) (ended : Result Status CommandFault) : Type 0 where
   pub bytes : List ℕ
   pub took : Appends (out.held out.old.draft) (out.held out.new.draft) bytes
   pub kept : out.published out.new.target ≡ out.published out.old.target
   pub count : (n : ℕ) → ended ≡ Err (Output n) → n ≡ length bytes
 
--- A text was put in place, or OUT is as it was, since the command has none.
+-- A text was published, or OUT is as it was, since the command has none.
 abbrev pub IsPut : {D T : Type 0} → Outs D T → Type 0
-IsPut out = ((text : List ℕ) × Places (known_of out) text) ⊎ (out.new ≡ out.old)
+IsPut out = ((text : List ℕ) × Publishes (known_of out) text) ⊎ (out.new ≡ out.old)
 
--- A text is in place where the command ended well, or failed only to report it; else nothing is.
+-- A text is published where the command ended well, or failed only to report it; else nothing is.
 abbrev pub IsOutcome : {D T : Type 0} → Outs D T → Result Status CommandFault → Type 0
 IsOutcome out (Ok status) = IsPut out
 IsOutcome out (Err (Input name why)) = IsNotPut out (Err (Input name why))
@@ -63,15 +63,15 @@ IsOutcome out (Err OutOfMemory) = IsNotPut out (Err OutOfMemory)
 
 -- What was called of the system in a command: the paths that inputs were made for, before it and after it, which alone
 -- may be opened, the inputs that were found to be other files than OUT's, the one that was found to be OUT's own, the
--- calls for OUT, and why it was not begun or not put in place, if it was not. What is told of an input stands first,
+-- calls for OUT, and why it was not begun or not published, if it was not. What is told of an input stands first,
 -- with the paths that were opened for it; then what is known of OUT's draft and how often it failed, and of what was
--- put in place.
+-- published.
 pub record Calls (S D T : Type 0) : Type 0 where
   pub told : Told S
   pub held : D → Option (List ℕ)
   pub draft_failures : D → ℕ
   pub published : T → Option (List ℕ)
-  pub place_failures : T → ℕ
+  pub target_failures : T → ℕ
   pub asked_old : List Text
   pub asked_new : List Text
   pub others : List Text
@@ -84,12 +84,12 @@ abbrev pub calls_of : {F T E S D P : Type 0} {reads : Reads T} {writes : Writes 
     → Told S → (D → Option (List ℕ)) → (D → ℕ) → (P → Option (List ℕ)) → (P → ℕ)
     → SystemFiles F T E reads writes seeks lists
     → SystemFiles F T E reads writes seeks lists → Calls S D P
-calls_of told held draft_failures published place_failures old new = record {
+calls_of told held draft_failures published target_failures old new = record {
   told = told;
   held = held;
   draft_failures = draft_failures;
   published = published;
-  place_failures = place_failures;
+  target_failures = target_failures;
   asked_old = old.asked.entries;
   asked_new = new.asked.entries;
   others = new.others.entries;
@@ -100,11 +100,11 @@ calls_of told held draft_failures published place_failures old new = record {
 
 -- OUT in the command, between these two states
 abbrev pub outs_in : {S D T : Type 0} → Calls S D T → Out D T → Out D T → Outs D T
-outs_in calls begun done = outs calls.held calls.draft_failures calls.published calls.place_failures begun done
+outs_in calls begun done = outs calls.held calls.draft_failures calls.published calls.target_failures begun done
 
 -- The command of a line ended over files of which nothing is known, and this is told of it; where it ended well, these
 -- are its notes. Inputs were made for its paths, each once and in the order of the words, and for no other. OUT has the
--- path of the line, unless an input's file is there, and replaces what the plan says. Where a text was put in place, the
+-- path of the line, unless an input's file is there, and replaces what the plan says. Where a text was published, the
 -- calls for OUT are those by which it was put at that path; where none was, those by which nothing is left, with the
 -- bytes that the draft took; and where the draft took none and did not fail there are none.
 pub record IsCarriedOut {S D T : Type 0} (calls : Calls S D T) (line : Line) (report : Writer)
@@ -127,7 +127,7 @@ pub record IsCarriedOut {S D T : Type 0} (calls : Calls S D T) (line : Line) (re
   pub replaces_is : out_of line ≢ None → replaces ≡ replaces_of plan
   pub notes_are : OnOk told (notes ≡ noted)
   pub outcome : IsOutcome (outs_in calls begun done) ended
-  pub published : (text : List ℕ) → Places (known_of (outs_in calls begun done)) text
+  pub published : (text : List ℕ) → Publishes (known_of (outs_in calls begun done)) text
       → (p : List ℕ) × (path ≡ Some p) × ∥ IsPublished p replaces text calls.called ∥₁
   pub removed : (not_put : IsNotPut (outs_in calls begun done) ended)
       → ∥ IsRemoved path calls.called ∥₁ × (bytes_in calls.called ≡ not_put.bytes)

@@ -17,26 +17,26 @@ use Rattle.command_line.specs.Table.{rehearse_command, retire_command, summary_c
 use Rattle.archive_core.specs.declared.keys.ArchKey.{ArchKey}
 use Rattle.archive_core.specs.declared.keys.SliceKey.{SliceKey}
 use Rattle.archive_records.specs.Text.{written}
-use Rattle.command_ends.specs.declared.faults.CommandFault.{CommandFault}
-use Rattle.command_ends.specs.declared.faults.Status.{Status}
+use Rattle.command_core.specs.declared.faults.CommandFault.{CommandFault}
+use Rattle.command_core.specs.declared.faults.Status.{Status}
 use Rattle.archive_files.specs.declared.replaceable.Replaces.{Replaces}
 use Rattle.archive_files.specs.declared.replaceable.Replaces.TheVariants.{OwnFiles, ArchivesBelow, SameBytes}
-use Rattle.archive_updates.specs.Admit.{admit_as_it_comes}
-use Rattle.archive_updates.specs.Apply.{apply_as_it_comes}
-use Rattle.archive_updates.specs.Delta.{delta_as_it_comes}
-use Rattle.command_ends.specs.Ends.{Command, Ends, EndsReport, EndsStreamed, Query, Streamed}
+use Rattle.archive_writing.specs.Admit.{admit_as_it_comes}
+use Rattle.archive_writing.specs.Apply.{apply_as_it_comes}
+use Rattle.archive_writing.specs.Delta.{delta_as_it_comes}
+use Rattle.command_core.specs.Ends.{Command, Ends, EndsReport, EndsStreamed, Query, Streamed}
 use Rattle.indexed_queries.specs.Summary.{summary_at}
 use Rattle.plan_commands.specs.QueryDispatch.{NotesUnderscored, extract_of, find_of, frames_of, list_of, symbolicate_of}
-use Rattle.command_ends.specs.Inputs.{Reader}
-use Rattle.archive_updates.specs.MergeStreams.{merge_as_it_comes}
-use Rattle.archive_updates.specs.Migrate.{migrate_as_it_comes}
-use Rattle.archive_updates.specs.Notes.{NotesMissing, NotesRetired}
-use Rattle.archive_updates.specs.declared.notes.Note.{Note}
+use Rattle.command_core.specs.Inputs.{Reader}
+use Rattle.archive_writing.specs.MergeStreams.{merge_as_it_comes}
+use Rattle.archive_writing.specs.Migrate.{migrate_as_it_comes}
+use Rattle.archive_writing.specs.Notes.{NotesMissing, NotesRetired}
+use Rattle.archive_writing.specs.declared.notes.Note.{Note}
 use Rattle.archive_queries.specs.Name.{name}
-use Rattle.command_ends.specs.Outputs.{Outs, Publishes, Writer, draft_of, out_of, report_of}
+use Rattle.command_core.specs.Outputs.{Outs, Publishes, Writer, draft_of, out_of, report_of}
 use Rattle.rehearse.specs.Rehearse.{rehearse}
-use Rattle.archive_updates.specs.Retire.{retire_as_it_comes}
-use Rattle.archive_updates.specs.Summary.{summary}
+use Rattle.archive_writing.specs.Retire.{retire_as_it_comes}
+use Rattle.archive_writing.specs.Summary.{summary}
 use Rattle.index_writing.specs.Index.{index}
 use Rattle.slice_extraction.specs.Extract.{Extraction, Extracts}
 use Rattle.plan_commands.specs.declared.plans.Plan.{Plan}

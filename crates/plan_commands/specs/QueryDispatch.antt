@@ -3,21 +3,21 @@ use Rattle.std.specs.Prelude.{◌≡◌, ◌<◌, ◌⊎◌, ℕ, List, [], ◌�
 use Rattle.std.specs.Prelude.{if◌then◌else◌, Result, Ok, Err}
 use Rattle.archive_core.specs.declared.keys.Digest.{Digest}
 use Rattle.archive_core.specs.declared.keys.SliceKey.{SliceKey}
-use Rattle.command_ends.specs.declared.faults.CommandFault.{CommandFault}
-use Rattle.command_ends.specs.declared.faults.CommandFault.TheVariants.{Input}
-use Rattle.command_ends.specs.declared.faults.InputName.TheVariants.{Archive, Index}
-use Rattle.command_ends.specs.declared.faults.Why.TheVariants.{NoArchive, NoIndex}
-use Rattle.command_ends.specs.Archives.{HoldTogether}
-use Rattle.command_ends.specs.Ends.{Query}
-use Rattle.command_ends.specs.Inputs.{Reader}
-use Rattle.command_ends.specs.Outputs.{Takes, Writer}
+use Rattle.command_core.specs.declared.faults.CommandFault.{CommandFault}
+use Rattle.command_core.specs.declared.faults.CommandFault.TheVariants.{Input}
+use Rattle.command_core.specs.declared.faults.InputName.TheVariants.{Archive, Index}
+use Rattle.command_core.specs.declared.faults.Why.TheVariants.{NoArchive, NoIndex}
+use Rattle.command_core.specs.Archives.{HoldTogether}
+use Rattle.command_core.specs.Ends.{Query}
+use Rattle.command_core.specs.Inputs.{Reader}
+use Rattle.command_core.specs.Outputs.{Takes, Writer}
 use Rattle.archive_queries.specs.Find.{find}
-use Rattle.archive_queries.specs.Frames.{frames}
+use Rattle.address_queries.specs.Frames.{frames}
 use Rattle.archive_queries.specs.List.{list}
 use Rattle.archive_queries.specs.Name.{SaysUnderscored}
-use Rattle.archive_queries.specs.Symbolicate.{symbolicate}
-use Rattle.archive_updates.specs.declared.notes.Note.{Note}
-use Rattle.archive_updates.specs.declared.notes.Note.TheVariants.{Retired, Missing, Underscored}
+use Rattle.address_queries.specs.Symbolicate.{symbolicate}
+use Rattle.archive_writing.specs.declared.notes.Note.{Note}
+use Rattle.archive_writing.specs.declared.notes.Note.TheVariants.{Retired, Missing, Underscored}
 use Rattle.indexed_queries.specs.Find.{find_at, find_together}
 use Rattle.indexed_queries.specs.List.{list_at}
 use Rattle.indexed_symbols.specs.Frames.{frames_at}

@@ -2,7 +2,7 @@
 
 ghost use Rattle.archive_files.specs.AtTurns.{told};
 ghost use Rattle.archive_files.specs.InputStates.{AreWaiting};
-ghost use Rattle.command_ends.specs.Outputs.{outs, writer};
+ghost use Rattle.command_core.specs.Outputs.{outs, writer};
 ghost use Rattle.command_line.specs.LineView.{line_view};
 ghost use Rattle.command_line.specs.Lines.{inputs_of};
 ghost use Rattle.plan_commands.specs.Disks.{Carried};
@@ -12,9 +12,9 @@ use crate::plans::{Plan, execute};
 use crate::unopened::blamed;
 use archive_core::Archive;
 use archive_files::{AtTurn, Disk};
-use archive_updates::Note;
+use archive_writing::Note;
 use byte_device::{CannotOpen, Sink};
-use command_ends::{CommandFault, Output, Status, Target};
+use command_core::{CommandFault, Output, Status, Target};
 use command_line::Line;
 use memory::Heap;
 

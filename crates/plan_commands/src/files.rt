@@ -2,7 +2,7 @@
 
 ghost use Rattle.std.specs.Prelude.{◌≡◌, ◌≢◌, ◌++◌, [], Err, IfOk, MatchResult, None, Ok, OnOk};
 ghost use Rattle.std.specs.Prelude.{option_map, string_bytes};
-ghost use Rattle.command_ends.specs.Outputs.{writer};
+ghost use Rattle.command_core.specs.Outputs.{writer};
 ghost use Rattle.archive_files.specs.AtTurns.{told as told_of, told_by};
 ghost use Rattle.archive_files.specs.Fresh.{AreFresh};
 ghost use Rattle.archive_files.specs.OutFiles.{Untouched, stage_of};
@@ -19,9 +19,9 @@ use archive_files::{
     Disk, OpenedFile, OutFault, OutFile, OutPath, PlacedFile, Replaces, SystemDisk, SystemFiles,
     SystemInput,
 };
-use archive_updates::Note;
+use archive_writing::Note;
 use byte_device::{CannotCreate, Placed, Sink, Source};
-use command_ends::{CommandFault, Failure, Status, Target};
+use command_core::{CommandFault, Failure, Status, Target};
 use command_line::Line;
 use error_lines::Seen;
 use memory::{Heap, NoMemory};
@@ -68,7 +68,7 @@ fn inputs_for<'l, 'f, F: Files>(
     files.inputs(&paths)
 }
 
-/// Why OUT failed after it took so many bytes: it was not begun, or not put in place, or its device failed.
+/// Why OUT failed after it took so many bytes: it was not begun, or not published, or its device failed.
 fn out_failure(fault: Option<OutFault>, written: u128) -> Failure
     ensures { result ≡ out_failure fault written }
 {
@@ -108,7 +108,7 @@ fn told_with(
 }
 
 /// Carries out the plan of a line over files of the system, whose report goes to `report`. Each input is opened at its turn, and
-/// closed at its end; OUT's draft is created with its first bytes, put in place when it is whole, and removed where it
+/// closed at its end; OUT's draft is created with its first bytes, published when it is whole, and removed where it
 /// was not. No line without OUT has any. What was seen of the file that it failed at is in `seen`, and what a command
 /// that ended well notes is handed back.
 pub fn execute<'f, F: Files, P: Sink>(

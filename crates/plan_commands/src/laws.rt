@@ -1,15 +1,15 @@
 //! What the definitions say of an output that has no path.
 
 ghost use Rattle.std.specs.Prelude.{◌≡◌, [], List, None, Result};
-ghost use Rattle.archive_updates.specs.declared.notes.Note.{Note};
-ghost use Rattle.command_ends.specs.Outputs.{Writer};
-ghost use Rattle.command_ends.specs.declared.failures.Failure.{Failure};
-ghost use Rattle.command_ends.specs.declared.faults.Status.{Status};
+ghost use Rattle.archive_writing.specs.declared.notes.Note.{Note};
+ghost use Rattle.command_core.specs.Outputs.{Writer};
+ghost use Rattle.command_core.specs.declared.failures.Failure.{Failure};
+ghost use Rattle.command_core.specs.declared.faults.Status.{Status};
 ghost use Rattle.command_line.specs.Lines.{Line};
 ghost use Rattle.plan_commands.specs.Files.{Calls, IsCarriedOut};
 
 use byte_device::{Sink, Source};
-use command_ends::Target;
+use command_core::Target;
 
 /// For an output without a path nothing is called: it takes nothing, and is created nowhere.
 pub fn nothing_is_called_without_a_path<S: Source, D: Sink, T: Target>()

@@ -1,8 +1,8 @@
 //! What a line asks for, and the command that does it.
 
 ghost use Rattle.std.specs.Prelude.{◌≡◌, ◌≤◌, IsSomeAnd, OnOk, length, map, true};
-ghost use Rattle.command_ends.specs.Inputs.{readers};
-ghost use Rattle.command_ends.specs.Outputs.{outs, writer};
+ghost use Rattle.command_core.specs.Inputs.{readers};
+ghost use Rattle.command_core.specs.Outputs.{outs, writer};
 ghost use Rattle.command_line.specs.Arguments.{are_values_of};
 ghost use Rattle.command_line.specs.LineView.{line_view};
 ghost use Rattle.command_line.specs.ValuesView.{values_view};
@@ -15,9 +15,9 @@ use crate::query_dispatch::{self, Input, first_and_rest};
 use crate::{queries, updates};
 use archive_core::{ArchKey, Archive, Digest, SliceKey};
 use archive_files::Replaces;
-use archive_updates::{Note, run_migrate, run_new};
+use archive_writing::{Note, run_migrate, run_new};
 use byte_device::{Placed, Sink, Source};
-use command_ends::{CommandFault, Output, Status, Target};
+use command_core::{CommandFault, Output, Status, Target};
 use command_line::Amount::{Flag, One, Perhaps, Several};
 use command_line::Values::{Archs, Digests, Numbers, Texts, Uuids};
 use command_line::{Line, Values};

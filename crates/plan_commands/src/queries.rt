@@ -1,15 +1,15 @@
 //! Queries over the inputs of a line, which stand in the order of its words.
 
-ghost use Rattle.std.specs.Prelude.{◌<◌, ◌≤◌, drop, length, suc, take};
-ghost use Rattle.command_ends.specs.Ends.{EndsReport};
-ghost use Rattle.command_ends.specs.Inputs.{reader, readers};
-ghost use Rattle.command_ends.specs.Outputs.{writer};
+ghost use Rattle.std.specs.Prelude.{◌<◌, drop, length, suc, take};
+ghost use Rattle.command_core.specs.Ends.{EndsReport};
+ghost use Rattle.command_core.specs.Inputs.{reader, readers};
+ghost use Rattle.command_core.specs.Outputs.{writer};
 ghost use Rattle.plan_commands.specs.QueryDispatch.{find_of, frames_of, symbolicate_of};
 
 use crate::query_dispatch::{self, Input};
 use archive_core::{Archive, SliceKey};
 use byte_device::{Placed, Sink, Source};
-use command_ends::{CommandFault, Status};
+use command_core::{CommandFault, Status};
 use memory::Heap;
 use uuid::Uuid;
 

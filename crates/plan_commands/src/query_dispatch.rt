@@ -2,19 +2,20 @@
 
 ghost use Rattle.std.specs.Prelude.{◌≡◌, ◌<◌, ◌∷◌, IfErr, OnOk, length};
 ghost use Rattle.std.specs.Borrow.{Array, LendsBoth, sem};
-ghost use Rattle.command_ends.specs.Ends.{EndsReport};
-ghost use Rattle.command_ends.specs.Inputs.{reader, readers};
-ghost use Rattle.command_ends.specs.Outputs.{out_of, outs, writer};
+ghost use Rattle.command_core.specs.Ends.{EndsReport};
+ghost use Rattle.command_core.specs.Inputs.{reader, readers};
+ghost use Rattle.command_core.specs.Outputs.{out_of, outs, writer};
 ghost use Rattle.archive_queries.specs.Name.{name as name_of};
 ghost use Rattle.plan_commands.specs.QueryDispatch.{AddsUnderscored, NotesUnderscored};
 ghost use Rattle.plan_commands.specs.QueryDispatch.{IsAlone, extract_of, find_of, frames_of, list_of, symbolicate_of};
 ghost use Rattle.slice_extraction.specs.Extract.{Extracts};
 
+use address_queries::{run_frames, run_symbolicate};
 use archive_core::{Archive, Digest, SliceKey};
-use archive_queries::{answer_name, run_find, run_frames, run_list, run_symbolicate};
-use archive_updates::Note;
+use archive_queries::{answer_name, run_find, run_list};
+use archive_writing::Note;
 use byte_device::{CannotOpen, Placed, Sink, Source};
-use command_ends::{CommandFault, InputName, Output, Status, Target, Why, publish_report};
+use command_core::{CommandFault, InputName, Output, Status, Target, Why, publish_report};
 use indexed_queries::{run_find_at, run_find_together, run_list_at};
 use indexed_symbols::{run_frames_at, run_symbolicate_at};
 use memory::{Heap, NoMemory};

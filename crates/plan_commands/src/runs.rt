@@ -2,25 +2,23 @@
 
 ghost use Rattle.std.specs.Prelude.{◌≡◌, ◌≢◌, Err, MatchResult, Ok, map, string_bytes};
 ghost use Rattle.std.specs.IoError.{error_kind};
-ghost use Rattle.command_ends.specs.Outputs.{writer};
+ghost use Rattle.command_core.specs.Outputs.{writer};
 ghost use Rattle.archive_files.specs.AtTurns.{told_by};
 ghost use Rattle.archive_files.specs.Fresh.{AreFresh};
 ghost use Rattle.command_line.specs.LineView.{line_view};
 ghost use Rattle.plan_commands.specs.Files.{calls_of};
-ghost use Rattle.command_ends.specs.Statuses.{status_of};
+ghost use Rattle.command_core.specs.Statuses.{status_of};
 ghost use Rattle.plan_commands.specs.Ends.{EndsLine, EndsWords, IsIdle, IsUnreadable, WantsMemory};
 ghost use Rattle.error_lines.specs.StandardError.{SaysFailure, SaysNotes, behind_error, reason_in, without_line_feed};
 
 use crate::files::execute;
 use crate::plans::Plan;
 use archive_files::{Disk, OpenedFile, OutFile, OutPath, PlacedFile, SystemDisk, SystemFiles};
-use archive_updates::Note;
+use archive_writing::Note;
 use byte_device::{Placed, Sink, Source, push_all};
-use command_ends::{Failure, Status, Target, status_of};
+use command_core::{Failure, Status, Target, status_of};
 use command_line::{Line, LineFault, read_line};
-use error_lines::{
-    FailureLine, RefusedLine, Seen, help_with, say, say_help, say_notes, say_wanting,
-};
+use error_lines::{RefusedLine, Seen, help_with, say, say_help, say_notes, say_wanting};
 use memory::Heap;
 use std::alloc::Global;
 use std::io::{self, BufReader, ErrorKind};
@@ -52,11 +50,11 @@ pub fn run<'f, F: Files, P: Sink, E: Sink>(
         ⟦<OutFile<'f, F> as Sink>⟧.failures ⟦<OutPath<'f, F> as Target>⟧.published
         ⟦<OutPath<'f, F> as Target>⟧.failures files.old files.new in
         let told = writer P.held P.failures report.old report.new in
-        let said = writer E.held E.failures errors.old errors.new in
-        MatchResult words (λ read. EndsWords calls (map string_bytes read.items) told said result)
+        let standard_error = writer E.held E.failures errors.old errors.new in
+        MatchResult words (λ read. EndsWords calls (map string_bytes read.items) told standard_error result)
         (λ error. IsIdle calls
-        × (error_kind error ≡ ErrorKind.OutOfMemory → WantsMemory told said result)
-        × (error_kind error ≢ ErrorKind.OutOfMemory → IsUnreadable told said result)) }
+        × (error_kind error ≡ ErrorKind.OutOfMemory → WantsMemory told standard_error result)
+        × (error_kind error ≢ ErrorKind.OutOfMemory → IsUnreadable told standard_error result)) }
 {
     match words {
         Ok(words) => run_words(&words, files, report, errors),
@@ -122,7 +120,7 @@ fn end<E: Sink>(
 fn say_failure<E: Sink>(alloc: Global, line: &Line, failure: Failure, seen: Seen, errors: &mut E)
     ensures { SaysFailure (writer E.held E.failures errors.old errors.new) (line_view line.now) failure }
 {
-    if !say(alloc, &FailureLine(failure), errors) {
+    if !say(alloc, &failure, errors) {
         return;
     }
     if let Some(help) = help_with(line, &failure, seen) {

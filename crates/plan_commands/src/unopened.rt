@@ -9,7 +9,7 @@ ghost use Rattle.plan_commands.specs.Disks.{Tells, fault_at, unopened_of};
 
 use archive_files::{AtTurn, Disk, Unopened};
 use byte_device::CannotOpen;
-use command_ends::{CommandFault, InputName, Status, Why};
+use command_core::{CommandFault, InputName, Status, Why};
 use command_line::Line;
 use error_lines::input_at;
 

@@ -1,8 +1,8 @@
 //! Commands that write OUT, over the inputs of a line, which stand in the order of its words.
 
 ghost use Rattle.std.specs.Prelude.{◌<◌, ◌≤◌, OnOk, drop, length, suc, take};
-ghost use Rattle.command_ends.specs.Inputs.{readers};
-ghost use Rattle.command_ends.specs.Outputs.{out_of, outs, writer};
+ghost use Rattle.command_core.specs.Inputs.{readers};
+ghost use Rattle.command_core.specs.Outputs.{out_of, outs, writer};
 ghost use Rattle.plan_commands.specs.QueryDispatch.{extract_of};
 ghost use Rattle.plan_commands.specs.Plans.{Executes, Notes};
 ghost use Rattle.slice_extraction.specs.Extract.{Extracts};
@@ -10,9 +10,9 @@ ghost use Rattle.plan_commands.specs.declared.plans.Plan.TheVariants.{Admit, App
 
 use crate::query_dispatch::{self, Input, first_and_rest};
 use archive_core::{Archive, Digest, SliceKey};
-use archive_updates::{Note, run_admit, run_apply, run_delta, run_merge, run_retire, run_summary};
+use archive_writing::{Note, run_admit, run_apply, run_delta, run_merge, run_retire, run_summary};
 use byte_device::{Placed, Sink, Source};
-use command_ends::{CommandFault, Output, Status, Target};
+use command_core::{CommandFault, Output, Status, Target};
 use indexed_queries::run_summary_at;
 use memory::Heap;
 

@@ -26,16 +26,14 @@ use Rattle.table_index.specs.Text.{placed_of}
 use Rattle.table_index.proofs.Faults.{no_fault}
 use Rattle.indexed_tables.specs.Content.{entries_of}
 use Rattle.indexed_tables.proofs.Accepted.{accepted}
-use Rattle.command_ends.specs.Inputs.{IsDeviceFault, IsGiven, IsUnread, Reader, reader}
-use Rattle.command_ends.specs.declared.faults.InputName.{InputName}
-use Rattle.command_ends.specs.declared.faults.Why.{Why}
-use Rattle.command_ends.specs.declared.faults.Why.TheVariants.{CannotOpen as NotOpened, Device as CannotRead, Record, Take}
-use Rattle.command_ends.specs.declared.faults.Why.TheVariants.{Script, BadFrame, OldArchive, TooLong}
-use Rattle.command_ends.specs.declared.faults.Why.TheVariants.{Index as IndexFaulty, Stale, Damaged, NoArchive, NoIndex, NoLines}
+use Rattle.command_core.specs.Inputs.{IsDeviceFault, IsGiven, IsUnread, Reader, reader}
+use Rattle.command_core.specs.declared.faults.InputName.{InputName}
+use Rattle.command_core.specs.declared.faults.Why.{Why}
+use Rattle.command_core.specs.declared.faults.Why.TheVariants.{CannotOpen as NotOpened, Record, Index as IndexFaulty}
 use Rattle.index_laws.specs.Indexes.{IsIndexFile}
-use Rattle.indexed_queries.specs.Prefixes.{IsReadFor, IsStaleFor, IsStaleUnder, IsUnnamedUnder}
-use Rattle.indexed_queries.specs.Indexes.{HasOtherLength, IsOfOtherLength, IsRefusedByIndex, IsUnreadAt, IsUnreadIndex}
-use Rattle.indexed_queries.specs.Together.{IsKept, IsLater, IsRefusedAtPlaces}
+use Rattle.index_inputs.specs.Prefixes.{IsReadFor, IsStaleFor, IsStaleUnder, IsUnnamedUnder}
+use Rattle.index_inputs.specs.Indexes.{HasOtherLength, IsOfOtherLength, IsRefusedByIndex, IsUnreadAt, IsUnreadIndex}
+use Rattle.index_inputs.specs.Together.{IsKept, IsLater, IsRefusedAtPlaces}
 use Rattle.query_laws.specs.Contents.{IsIndexGiven}
 use Rattle.query_laws.proofs.OfIndex.{entries_are, of_given}
 
@@ -65,19 +63,8 @@ opened_device archive text why given r = archive_device archive.left archive.fai
 -- one that is not read by its index is refused for its device alone
 unread_at_device : {S : Type 0} (IsRead : ℕ → Type 0) (archive : Reader S) (text : List ℕ) (why : Why) → IsGiven archive text → IsUnreadAt IsRead archive why → IsDeviceFault why
 unread_at_device IsRead archive text NotOpened given r = opened_device archive text NotOpened given r
-unread_at_device IsRead archive text CannotRead given r = absurd r
 unread_at_device IsRead archive text (Record fault) given r = r.0
-unread_at_device IsRead archive text (Take _) given r = absurd r
-unread_at_device IsRead archive text (Script _ _ _) given r = absurd r
-unread_at_device IsRead archive text (BadFrame _ _) given r = absurd r
-unread_at_device IsRead archive text OldArchive given r = absurd r
-unread_at_device IsRead archive text TooLong given r = absurd r
-unread_at_device IsRead archive text (IndexFaulty _) given r = absurd r
-unread_at_device IsRead archive text (Stale _) given r = absurd r
-unread_at_device IsRead archive text (Damaged _) given r = absurd r
-unread_at_device IsRead archive text (NoLines _) given r = absurd r
-unread_at_device IsRead archive text NoArchive given r = absurd r
-unread_at_device IsRead archive text NoIndex given r = absurd r
+unread_at_device IsRead archive text why given r = absurd r
 
 -- it has the length that the index tells
 same_length : {P : Type 0} (archive : Reader P) (o : Operations) (text : List ℕ) → IsIndexFile o text → IsGiven archive (written o) → HasOtherLength archive (index o) → ⊥

@@ -11,7 +11,7 @@ use Rattle.archive_core.specs.Lookup.{answer_view}
 use Rattle.archive_core.specs.Part.{AreAlikeUnder, is_under, part}
 use Rattle.archive_core.specs.Record.{admission_record}
 use Rattle.archive_core.specs.Summary.{Entries}
-use Rattle.archive_core.proofs.Made.{alike_union, bytes_same, joined_content, joined_made_right, made_alike, made_empty, made_is_alike}
+use Rattle.archive_core.proofs.Made.{alike_union, bytes_same, joined_content, joined_made_right, made_alike, made_empty, made_is_alike, union_assoc}
 use Rattle.archive_core.proofs.Members.{in_rest}
 use Rattle.archive_core.proofs.Picked.{contains_part, part_alike, part_content}
 use Rattle.archive_records.specs.Text.{written}
@@ -19,19 +19,20 @@ use Rattle.archive_index.specs.Index.{index}
 use Rattle.archive_index.specs.Places.{AreNamed, HasIndexedLength, IsNamedBy, TellsFound}
 use Rattle.archive_index.proofs.Named.{of_the_index, right}
 use Rattle.table_index.specs.Text.{placed_of}
-use Rattle.archive_queries.specs.Frames.{IsFrameAnswered, TellsFrames}
-use Rattle.archive_queries.specs.Symbolicate.{Answered, asked_of}
-use Rattle.archive_queries.proofs.Parts.{joined_alike}
-use Rattle.archive_queries.proofs.Sourced.{answers_alike, sourced_as}
+use Rattle.address_queries.specs.Frames.{IsFrameAnswered, TellsFrames}
+use Rattle.address_queries.specs.Symbolicate.{Answered, asked_of}
+use Rattle.command_inputs.proofs.Parts.{joined_alike}
+use Rattle.address_queries.proofs.Sourced.{sourced_as}
+use Rattle.command_inputs.proofs.Alike.{answers_alike}
 use Rattle.crash_frames.specs.declared.frame.Frame.{Frame}
-use Rattle.command_ends.specs.Archives.{merged}
-use Rattle.command_ends.specs.Inputs.{IsGiven, Reader}
-use Rattle.command_ends.specs.declared.faults.Status.{Status}
+use Rattle.command_core.specs.Archives.{merged}
+use Rattle.command_core.specs.Inputs.{IsGiven, Reader}
+use Rattle.command_core.specs.declared.faults.Status.{Status}
 use Rattle.index_laws.specs.Indexes.{IsIndexFile, all_joined}
 use Rattle.index_laws.proofs.Right.{zip_right}
-use Rattle.indexed_queries.specs.Prefixes.{AreNamedUnder, HoldsNamed}
-use Rattle.indexed_queries.specs.Several.{HoldTogether}
-use Rattle.indexed_queries.specs.Together.{IsLater, IsReadWith, merged_each}
+use Rattle.index_inputs.specs.Prefixes.{AreNamedUnder, HoldsNamed}
+use Rattle.index_inputs.specs.Several.{HoldTogether}
+use Rattle.index_inputs.specs.Together.{IsLater, IsReadWith, merged_each}
 use Rattle.indexed_symbols.specs.Frames.{keys_of}
 use Rattle.query_laws.specs.Contents.{AreIndexed, DigestsTellOver, IsIndexed}
 use Rattle.query_laws.proofs.Accepted.{still_given}
@@ -83,9 +84,8 @@ found_tells o prefix bytes entries p tells n = λ a b in_o found same.
 module _ (o : Operations) (content : IsContent o) where
   zip_along : (P Q : List ℕ → Operations → Type 0) (prefixes : List (List ℕ)) (parts : List Operations) → AllByRecursion (λ (f : List ℕ). length f ≤ 24) prefixes → ((f : List ℕ) (q : Operations) → length f ≤ 24 → P f q → Q f q) → AllZip P prefixes parts → AllZip Q prefixes parts
   zip_along P Q [] [] short more zip = tt
-  zip_along P Q [] (_ ∷ _) short more zip = absurd zip
-  zip_along P Q (_ ∷ _) [] short more zip = absurd zip
   zip_along P Q (f ∷ fs) (q ∷ qs) short more zip = (more f q short.0 zip.0, zip_along P Q fs qs short.1 more zip.1)
+  zip_along P Q prefixes parts short more zip = absurd zip
 
   -- in the text that the index is of
   pub parts_right : (prefixes : List (List ℕ)) (parts : List Operations) → length (written o) < 2 ^ 64 → AllByRecursion (λ (f : List ℕ). length f ≤ 24) prefixes → AreNamedUnder prefixes (index o) (written o) parts
@@ -99,11 +99,6 @@ module _ (o : Operations) (content : IsContent o) where
 
 -- ---- joined to others
 
-union_assoc : (a b c : Operations) → set.union (set.union a b) c ≡ set.union a (set.union b c)
-union_assoc a b c = same_set nat_list_cmp_total bytes_same (set.union (set.union a b) c) (set.union a (set.union b c)) (λ r.
-    contains-union nat_list_cmp_total (set.union a b) c r ∙ ap (λ (x : Bool). x || set.contains c r) (contains-union nat_list_cmp_total a b r) ∙ or_assoc (set.contains a r) (set.contains b r) (set.contains c r)
-    ∙ sym (contains-union nat_list_cmp_total a (set.union b c) r ∙ ap (λ (x : Bool). set.contains a r || x) (contains-union nat_list_cmp_total b c r)))
-
 joined_assoc : (a b c : Operations) → joined (joined a b) c ≡ joined a (joined b c)
 joined_assoc a b c =
     made_alike (set.union (content_of (set.union a b)) c) (set.union (set.union a b) c) (alike_union (content_of (set.union a b)) (set.union a b) c (made_is_alike (set.union a b)))
@@ -116,12 +111,11 @@ module _ (w : Operations) (content : IsContent w) where
   merged_after : (few : Operations) (p picks : List ℕ → Bool) (prefixes : List (List ℕ)) (parts : List Operations) → AllZip IsPart prefixes parts
       → ((r : List ℕ) → picks r ≡ (p r || list_any (λ (prefix : List ℕ). is_under prefix r) prefixes)) → merged (joined few (part w p)) parts ≡ joined few (part w picks)
   merged_after few p picks [] [] are same = ap (joined few) (part_same w content p picks (λ r. sym (same r ∙ or_none (p r))))
-  merged_after few p picks [] (q ∷ qs) are same = absurd are
-  merged_after few p picks (f ∷ fs) [] are same = absurd are
   merged_after few p picks (f ∷ fs) (q ∷ qs) are same =
       let both : List ℕ → Bool = λ (r : List ℕ). p r || is_under f r in
       ap (λ (m : Operations). merged m qs) (joined_assoc few (part w p) q ∙ ap (joined few) (ap (joined (part w p)) are.0 ∙ parts_joined w content p (is_under f)))
       ∙ merged_after few both picks fs qs are.1 (λ r. same r ∙ sym (or_assoc (p r) (is_under f r) (list_any (λ (prefix : List ℕ). is_under prefix r) fs)))
+  merged_after few p picks prefixes parts are same = absurd are
 
   merged_some : (few : Operations) (prefixes : List (List ℕ)) (parts : List Operations) (prefix : List ℕ) → Contains prefixes prefix → AllZip IsPart prefixes parts → merged few parts ≡ joined few (part w (is_under_any prefixes))
   merged_some few [] parts prefix in_prefixes are = absurd (omega (arith, in_prefixes.1))
@@ -184,13 +178,12 @@ record AreAlikeAfter (prefix : List ℕ) (few o : Operations) : Type 0 where
 module _ (prefix : List ℕ) (prefixes : List (List ℕ)) (le : length prefix ≤ 24) (in_prefixes : Contains prefixes prefix) where
   groups_alike : (os : List Operations) (groups : List (List Operations)) (few o : Operations) → AllZip (IsGroupOf prefixes) os groups → AreAlikeAfter prefix few o → AreAlikeAfter prefix (merged_each few groups) (fold joined o os)
   groups_alike [] [] few o are same = same
-  groups_alike [] (_ ∷ _) few o are same = absurd are
-  groups_alike (_ ∷ _) [] few o are same = absurd are
   groups_alike (w ∷ os) (parts ∷ groups) few o are same =
       groups_alike os groups (merged few parts) (joined o w) are.1 (record {
         alike = group_alike w are.0.content prefix prefixes few o parts le in_prefixes same.content are.0.parts_are same.alike;
         content = joined_content o w same.content are.0.content;
       })
+  groups_alike os groups few o are same = absurd are
 
 no_truth : false ≡ true → ⊥
 no_truth e = cc
@@ -218,12 +211,11 @@ held_alike prefixes inputs archives os p short are h prefix in_prefixes =
 
 rows_told : (lines : Bool) (m o : Operations) (frames : List Frame) (rows : List Answered) → ((frame : Frame) → Contains (keys_of frames) (key_bytes frame.key) → AreAlikeUnder (key_bytes frame.key) m o) → AllZip (IsFrameAnswered lines m) frames rows → AllZip (IsFrameAnswered lines o) frames rows
 rows_told lines m o [] [] alike zip = tt
-rows_told lines m o [] (_ ∷ _) alike zip = absurd zip
-rows_told lines m o (_ ∷ _) [] alike zip = absurd zip
 rows_told lines m o (frame ∷ frames) (row ∷ rows) alike zip = (
   (zip.0.0, sourced_as m o frame.key lines (asked_of frame.load row.address) (answer_view row.answer) row.frames (answers_alike m o frame.key (alike frame (0, omega arith, refl))) zip.0.1),
   rows_told lines m o frames rows (λ f h. alike f (in_rest (key_bytes frame.key) (keys_of frames) (key_bytes f.key) h)) zip.1,
 )
+rows_told lines m o frames rows alike zip = absurd zip
 
 pub frames_told : (lines : Bool) (m o : Operations) (frames : List Frame) (status : Status) (text : List ℕ) → ((key : List ℕ) → Contains (keys_of frames) key → AreAlikeUnder key m o) → TellsFrames lines m frames status text → TellsFrames lines o frames status text
 frames_told lines m o frames status text alike told = record {

@@ -8,20 +8,20 @@ use Rattle.archive_core.specs.Lookup.{answer_view}
 use Rattle.archive_core.specs.declared.keys.SliceKey.{SliceKey}
 use Rattle.archive_core.proofs.Compare.{length_key_bytes}
 use Rattle.archive_core.proofs.Members.{in_front, in_map, in_rest}
-use Rattle.archive_queries.specs.Frames.{IsFrameAnswered, TellsFrames}
-use Rattle.archive_queries.specs.Symbolicate.{Answered, IsAnswered, TellsAddresses, asked_of}
-use Rattle.archive_queries.proofs.Answered.{told_alike}
-use Rattle.command_ends.specs.Inputs.{IsDeviceFault, IsGiven, Reader}
-use Rattle.command_ends.specs.declared.faults.InputName.{InputName}
-use Rattle.command_ends.specs.declared.faults.Status.{Status}
-use Rattle.command_ends.specs.declared.faults.Why.{Why}
+use Rattle.address_queries.specs.Frames.{IsFrameAnswered, TellsFrames}
+use Rattle.address_queries.specs.Symbolicate.{Answered, IsAnswered, TellsAddresses, asked_of}
+use Rattle.address_queries.proofs.Answered.{told_alike}
+use Rattle.command_core.specs.Inputs.{IsDeviceFault, IsGiven, Reader}
+use Rattle.command_core.specs.declared.faults.InputName.{InputName}
+use Rattle.command_core.specs.declared.faults.Status.{Status}
+use Rattle.command_core.specs.declared.faults.Why.{Why}
 use Rattle.crash_frames.specs.declared.frame.Frame.{Frame}
 use Rattle.table_index.specs.Text.{IsIndexText}
 use Rattle.index_laws.specs.Indexes.{AreIndexes, DigestsTell, IsIndexFile, all_joined}
 use Rattle.index_laws.proofs.Joined.{joined_alone}
 use Rattle.index_laws.proofs.Right as told
 use Rattle.indexed_answers.specs.Among.{EntryAt}
-use Rattle.indexed_queries.specs.Together.{AreReadWith, IsReadWith}
+use Rattle.index_inputs.specs.Together.{AreReadWith, IsReadWith}
 use Rattle.indexed_symbols.specs.Asking.{AreGiven, AreRefusedAsking, AreUntold, IsAnsweredByTables, IsUnreadTable}
 use Rattle.indexed_symbols.specs.Frames.{AreToldAt, IsFrameByTables, TellsFramesBySlices, TellsFramesByTables, keys_of}
 use Rattle.indexed_symbols.specs.Symbolicate.{TellsBySlices, TellsByTables, symbolicate_at}
@@ -41,11 +41,10 @@ pub record AreTextsOf {I : Type 0} (inputs : List (Reader I)) (os : List Operati
 
 pub texts_of : {I : Type 0} (inputs : List (Reader I)) (os : List Operations) → AreIndexesGiven inputs os → AreTextsOf inputs os
 texts_of [] [] are = record { texts = []; given = tt; files = tt }
-texts_of [] (_ ∷ _) are = absurd are
-texts_of (_ ∷ _) [] are = absurd are
 texts_of (input ∷ inputs) (o ∷ os) (first, rest) =
     let more = texts_of inputs os rest in
     record { texts = first.0 ∷ more.texts; given = (first.1, more.given); files = (first.2, more.files) }
+texts_of inputs os are = absurd are
 
 module _ {I P : Type 0} (inputs : List (Reader I)) (archives : List (Reader P)) (all : List (List (List ℕ))) (read : AreReadWith inputs archives all) where
   texts_read : (texts : List (List ℕ)) → AreGiven inputs texts → AllZip IsIndexText texts all
@@ -63,12 +62,11 @@ module _ {I P : Type 0} (inputs : List (Reader I)) (archives : List (Reader P)) 
 
     frames_rows : (lines : Bool) (frames : List Frame) (rows : List Answered) → ((frame : Frame) → Contains frames frame → IsKey frame.key) → AllZip (IsFrameByTables (AreGiven inputs) all lines) frames rows → AllZip (IsFrameAnswered lines (all_joined os)) frames rows
     frames_rows lines [] [] keys zip = tt
-    frames_rows lines [] (_ ∷ _) keys zip = absurd zip
-    frames_rows lines (_ ∷ _) [] keys zip = absurd zip
     frames_rows lines (frame ∷ frames) (row ∷ rows) keys (one, more) = (
       (one.0, row_told frame.key frame.load lines row (keys frame (in_front frame frames)) one.1),
       frames_rows lines frames rows (λ f there. keys f (in_rest frame frames f there)) more,
     )
+    frames_rows lines frames rows keys zip = absurd zip
 
 module _ {I P : Type 0} (inputs : List (Reader I)) (archives : List (Reader P)) (os : List Operations) (are : AreIndexesGiven inputs os) (tell : DigestsTell os) where
   pub told_by_tables : (key : SliceKey) (load : Option ℕ) (lines : Bool) (addresses : List ℕ) (status : Status) (text : List ℕ) → IsKey key → TellsByTables inputs archives key load lines addresses status text → TellsAddresses (all_joined os) key load lines addresses status text
@@ -80,10 +78,10 @@ module _ {I P : Type 0} (inputs : List (Reader I)) (archives : List (Reader P)) 
     text_is = by.tells.text_is;
   }
 
-  pub framed_by_tables : (lines : Bool) (said : List Frame) (status : Status) (text : List ℕ) → ((frame : Frame) → Contains said frame → IsKey frame.key) → TellsFramesByTables lines inputs archives said status text → TellsFrames lines (all_joined os) said status text
-  framed_by_tables lines said status text keys by = record {
+  pub framed_by_tables : (lines : Bool) (listed : List Frame) (status : Status) (text : List ℕ) → ((frame : Frame) → Contains listed frame → IsKey frame.key) → TellsFramesByTables lines inputs archives listed status text → TellsFrames lines (all_joined os) listed status text
+  framed_by_tables lines listed status text keys by = record {
     rows = by.tells.rows;
-    answered = frames_rows inputs archives by.all by.read os (texts_of inputs os are) tell lines said by.tells.rows keys by.tells.answered;
+    answered = frames_rows inputs archives by.all by.read os (texts_of inputs os are) tell lines listed by.tells.rows keys by.tells.answered;
     status_is = by.tells.status_is;
     text_is = by.tells.text_is;
   }
@@ -102,10 +100,10 @@ module _ {I P : Type 0} (input : Reader I) (archive : Reader P) (o : Operations)
       subst (λ (made : Operations). TellsAddresses made key load lines addresses status text) joined_one
       (told_by_tables (input ∷ []) (archive ∷ []) (o ∷ []) (is, tt) tells_alone key load lines addresses status text is_key by)
 
-  pub framed_alone : (lines : Bool) (said : List Frame) (status : Status) (text : List ℕ) → ((frame : Frame) → Contains said frame → IsKey frame.key) → TellsFramesByTables lines (input ∷ []) (archive ∷ []) said status text → TellsFrames lines o said status text
-  framed_alone lines said status text keys by =
-      subst (λ (made : Operations). TellsFrames lines made said status text) joined_one
-      (framed_by_tables (input ∷ []) (archive ∷ []) (o ∷ []) (is, tt) tells_alone lines said status text keys by)
+  pub framed_alone : (lines : Bool) (listed : List Frame) (status : Status) (text : List ℕ) → ((frame : Frame) → Contains listed frame → IsKey frame.key) → TellsFramesByTables lines (input ∷ []) (archive ∷ []) listed status text → TellsFrames lines o listed status text
+  framed_alone lines listed status text keys by =
+      subst (λ (made : Operations). TellsFrames lines made listed status text) joined_one
+      (framed_by_tables (input ∷ []) (archive ∷ []) (o ∷ []) (is, tt) tells_alone lines listed status text keys by)
 
 -- ---- by slices
 
@@ -116,11 +114,11 @@ module _ {I P : Type 0} (inputs : List (Reader I)) (archives : List (Reader P)) 
       told_alike by.makes.content (all_joined os) key load lines addresses status text
       (held_alike (key_bytes key ∷ []) inputs archives os by.makes.content (short, tt) are by.makes.held (key_bytes key) (0, omega arith, refl)) by.makes.tells
 
-  pub framed_by_slices : (lines : Bool) (said : List Frame) (status : Status) (text : List ℕ) → ((key : List ℕ) → Contains (keys_of said) key → length key ≤ 24) → TellsFramesBySlices lines inputs archives said status text
-      → TellsFrames lines (all_joined os) said status text
-  framed_by_slices lines said status text short by =
-      let few = short_keys by.keys (keys_of said) (λ q there. (by.are_keys q).0 there) short in
-      frames_told lines by.makes.content (all_joined os) said status text
+  pub framed_by_slices : (lines : Bool) (listed : List Frame) (status : Status) (text : List ℕ) → ((key : List ℕ) → Contains (keys_of listed) key → length key ≤ 24) → TellsFramesBySlices lines inputs archives listed status text
+      → TellsFrames lines (all_joined os) listed status text
+  framed_by_slices lines listed status text short by =
+      let few = short_keys by.keys (keys_of listed) (λ q there. (by.are_keys q).0 there) short in
+      frames_told lines by.makes.content (all_joined os) listed status text
       (λ key there. held_alike by.keys inputs archives os by.makes.content few are by.makes.held key ((by.are_keys key).1 there)) by.makes.tells
 
   -- ---- either way
@@ -131,9 +129,9 @@ module _ {I P : Type 0} (inputs : List (Reader I)) (archives : List (Reader P)) 
   short_key : (key : SliceKey) → IsKey key → length (key_bytes key) ≤ 24
   short_key key is_key = omega (arith, length_key_bytes key is_key.uuid)
 
-  keys_short : (said : List Frame) → ((frame : Frame) → Contains said frame → IsKey frame.key) → (key : List ℕ) → Contains (keys_of said) key → length key ≤ 24
-  keys_short said keys key there =
-      let found = in_map (λ (frame : Frame). key_bytes frame.key) said key there in
+  keys_short : (listed : List Frame) → ((frame : Frame) → Contains listed frame → IsKey frame.key) → (key : List ℕ) → Contains (keys_of listed) key → length key ≤ 24
+  keys_short listed keys key there =
+      let found = in_map (λ (frame : Frame). key_bytes frame.key) listed key there in
       subst (λ (k : List ℕ). length k ≤ 24) (sym found.2) (short_key found.0.key (keys found.0 found.1))
 
   pub told_either : (key : SliceKey) (load : Option ℕ) (lines : Bool) (addresses : List ℕ) (status : Status) (text : List ℕ) → DigestsTell os → IsKey key → (symbolicate_at inputs archives key load lines addresses).Makes status text
@@ -141,10 +139,10 @@ module _ {I P : Type 0} (inputs : List (Reader I)) (archives : List (Reader P)) 
   told_either key load lines addresses status text tell is_key (inl by) = told_by_tables inputs archives os given_indexes tell key load lines addresses status text is_key by
   told_either key load lines addresses status text tell is_key (inr by) = told_by_slices key load lines addresses status text (short_key key is_key) by
 
-  pub framed_either : (lines : Bool) (said : List Frame) (status : Status) (text : List ℕ) → DigestsTell os → ((frame : Frame) → Contains said frame → IsKey frame.key) → AreToldAt lines inputs archives said status text
-      → TellsFrames lines (all_joined os) said status text
-  framed_either lines said status text tell keys (inl by) = framed_by_tables inputs archives os given_indexes tell lines said status text keys by
-  framed_either lines said status text tell keys (inr by) = framed_by_slices lines said status text (keys_short said keys) by
+  pub framed_either : (lines : Bool) (listed : List Frame) (status : Status) (text : List ℕ) → DigestsTell os → ((frame : Frame) → Contains listed frame → IsKey frame.key) → AreToldAt lines inputs archives listed status text
+      → TellsFrames lines (all_joined os) listed status text
+  framed_either lines listed status text tell keys (inl by) = framed_by_tables inputs archives os given_indexes tell lines listed status text keys by
+  framed_either lines listed status text tell keys (inr by) = framed_by_slices lines listed status text (keys_short listed keys) by
 
 -- ---- what is refused
 

@@ -20,14 +20,14 @@ use Rattle.archive_core.proofs.Records.{length-admission_record}
 use Rattle.archive_records.specs.Kind.{magic}
 use Rattle.archive_records.specs.Text.{end_record, written}
 use Rattle.archive_index.specs.Entry.{offset_in}
-use Rattle.command_ends.specs.Inputs.{IsGiven, Reader}
-use Rattle.command_ends.specs.Outputs.{Writer}
+use Rattle.command_core.specs.Inputs.{IsGiven, Reader}
+use Rattle.command_core.specs.Outputs.{Writer}
 use Rattle.index_laws.specs.Indexes.{AreIndexes, DigestsTell, all_joined}
 use Rattle.index_laws.proofs.Among.{IsOfSlice, admission_if, find, lives_if, slice_of_entry}
 use Rattle.index_laws.proofs.Joined.{joined_alone}
 use Rattle.index_laws.proofs.Right.{IsAnsweringSlice, slices_right}
 use Rattle.indexed_answers.specs.Among.{EntryAt}
-use Rattle.indexed_queries.specs.Together.{AreLater, IsOneOf}
+use Rattle.index_inputs.specs.Together.{AreLater, IsOneOf}
 use Rattle.slice_extraction.specs.Entries.{HoldsSlice, IsChosen, StandFor}
 use Rattle.slice_extraction.specs.Indexed.{MakesEntry, extract_at}
 use Rattle.slice_extraction.specs.Wanted.{IsWanted, slice_line, written_line}
@@ -80,25 +80,19 @@ same_bytes text slice sent rest k behind long stands =
 -- one of the archives, later, has the text of the content at its place
 own_at : {I P : Type 0} (inputs : List (Reader I)) (archives : List (Reader P)) (os : List Operations) (later : List (Reader P)) (n : ℕ) (archive : Reader P) (o : Operations) → AreOwnIndexes inputs archives os → AreLater archives later
     → slice_get later n ≡ Some archive → slice_get os n ≡ Some o → IsGiven archive (written o)
-own_at inputs archives [] later n archive o own are in_later in_os = absurd cc
-own_at inputs archives (w ∷ os) [] n archive o own are in_later in_os = absurd cc
 own_at inputs [] (w ∷ os) (l ∷ later) n archive o own are in_later in_os = absurd are
 own_at [] (a ∷ archives) (w ∷ os) (l ∷ later) n archive o own are in_later in_os = absurd own
 own_at (i ∷ inputs) (a ∷ archives) (w ∷ os) (l ∷ later) zero archive o own are in_later in_os =
     let given : IsGiven l (written w) = still_given a l (written w) are.0 own.0.1 in
     subst (λ (v : Reader _). IsGiven v (written o)) (same_Some l archive in_later) (subst (λ (u : Operations). IsGiven l (written u)) (same_Some w o in_os) given)
 own_at (i ∷ inputs) (a ∷ archives) (w ∷ os) (l ∷ later) (suc n) archive o own are in_later in_os = own_at inputs archives os later n archive o own.1 are.1 in_later in_os
+own_at inputs archives os later n archive o own are in_later in_os = absurd cc
 
 -- the indexes of these very archives are the indexes of their contents
 pub indexed_own : {I P : Type 0} (inputs : List (Reader I)) (archives : List (Reader P)) (os : List Operations) → AreOwnIndexes inputs archives os → AreIndexed inputs archives os
 indexed_own [] [] [] own = tt
-indexed_own [] [] (_ ∷ _) own = absurd own
-indexed_own [] (_ ∷ _) [] own = absurd own
-indexed_own [] (_ ∷ _) (_ ∷ _) own = absurd own
-indexed_own (_ ∷ _) [] [] own = absurd own
-indexed_own (_ ∷ _) [] (_ ∷ _) own = absurd own
-indexed_own (_ ∷ _) (_ ∷ _) [] own = absurd own
 indexed_own (input ∷ inputs) (archive ∷ archives) (o ∷ os) own = ((own.0.0, inl own.0.1), indexed_own inputs archives os own.1)
+indexed_own inputs archives os own = absurd own
 
 -- ---- the slice of an entry
 

@@ -45,8 +45,7 @@ short_number text n short h =
 
 two_numbers : (a b : Option ℕ) (arch : ArchKey) → ((n : ℕ) → a ≡ Some n → n < 2 ^ 32) → ((n : ℕ) → b ≡ Some n → n < 2 ^ 32) → arch_key_of a b ≡ Some arch → IsArch arch
 two_numbers (Some m) (Some n) arch first second h = subst IsArch (same_Some (arch_key m n) arch h) (record { cputype = first m refl; cpusubtype = second n refl })
-two_numbers (Some m) None arch first second h = absurd cc
-two_numbers None b arch first second h = absurd cc
+two_numbers a b arch first second h = absurd cc
 
 eight : (text : List ℕ) → length (take 8 text) ≤ 8
 eight text = omega (arith, length-take 8 text)
@@ -121,28 +120,21 @@ frame_read : (u : Option (List ℕ)) (a : Option ArchKey) (l : Option (Option �
 frame_read (Some u) (Some a) (Some l) (Some d) frame f g h =
     subst (λ (fr : Frame). IsKey fr.key) (same_Some (record { key = record { uuid = u; arch = a }; load = l; address = d }) frame h)
     (record { uuid = f u refl; cputype = (g a refl).cputype; cpusubtype = (g a refl).cpusubtype })
-frame_read (Some u) (Some a) (Some l) None frame f g h = absurd cc
-frame_read (Some u) (Some a) None d frame f g h = absurd cc
-frame_read (Some u) None l d frame f g h = absurd cc
-frame_read None a l d frame f g h = absurd cc
+frame_read u a l d frame f g h = absurd cc
 
 fields_read : (fs : List Field) (frame : Frame) → fields_frame fs ≡ Some frame → IsKey frame.key
-fields_read [] frame h = absurd cc
-fields_read (u ∷ []) frame h = absurd cc
-fields_read (u ∷ a ∷ []) frame h = absurd cc
-fields_read (u ∷ a ∷ l ∷ []) frame h = absurd cc
 fields_read (u ∷ a ∷ l ∷ d ∷ []) frame h = frame_read (parsed u) (arch_of a) _ _ frame (uuid_read u) (arch_read a) h
-fields_read (u ∷ a ∷ l ∷ d ∷ more ∷ rest) frame h = absurd cc
+fields_read fs frame h = absurd cc
 
-frames_read : (lines : List (ℕ × Line)) (said : List Frame) (frame : Frame) → frames_in lines ≡ Ok said → Contains said frame → IsKey frame.key
-frames_read [] said frame h there =
-    let none : [] ≡ said = cc in
+frames_read : (lines : List (ℕ × Line)) (listed : List Frame) (frame : Frame) → frames_in lines ≡ Ok listed → Contains listed frame → IsKey frame.key
+frames_read [] listed frame h there =
+    let none : [] ≡ listed = cc in
     absurd (omega (arith, there.1, ap length none))
-frames_read (line ∷ lines) said frame h there = by (line_frame line.1) (frames_in lines) (fields_read (fields line.1)) (λ rest is fr among. frames_read lines rest fr is among) h
+frames_read (line ∷ lines) listed frame h there = by (line_frame line.1) (frames_in lines) (fields_read (fields line.1)) (λ rest is fr among. frames_read lines rest fr is among) h
   where
-    by : (o : Option Frame) (r : Result (List Frame) ℕ) → ((fr : Frame) → o ≡ Some fr → IsKey fr.key) → ((rest : List Frame) → r ≡ Ok rest → (fr : Frame) → Contains rest fr → IsKey fr.key) → frame_then line.0 o r ≡ Ok said → IsKey frame.key
+    by : (o : Option Frame) (r : Result (List Frame) ℕ) → ((fr : Frame) → o ≡ Some fr → IsKey fr.key) → ((rest : List Frame) → r ≡ Ok rest → (fr : Frame) → Contains rest fr → IsKey fr.key) → frame_then line.0 o r ≡ Ok listed → IsKey frame.key
     by (Some first) (Ok rest) f g is =
-        let same : first ∷ rest ≡ said = cc in
+        let same : first ∷ rest ≡ listed = cc in
         elim (in_cons first rest frame (subst (λ (fs : List Frame). Contains fs frame) (sym same) there)) [
           | inl e ↦ subst (λ (fr : Frame). IsKey fr.key) e (f first refl)
           | inr later ↦ g rest refl frame later
@@ -150,5 +142,5 @@ frames_read (line ∷ lines) said frame h there = by (line_frame line.1) (frames
     by (Some first) (Err n) f g is = absurd cc
     by None r f g is = absurd cc
 
-pub frame_keys : (bytes : List ℕ) (said : List Frame) (frame : Frame) → frames_of bytes ≡ Ok said → Contains said frame → IsKey frame.key
-frame_keys bytes said frame h there = frames_read (counting bytes) said frame h there
+pub frame_keys : (bytes : List ℕ) (listed : List Frame) (frame : Frame) → frames_of bytes ≡ Ok listed → Contains listed frame → IsKey frame.key
+frame_keys bytes listed frame h there = frames_read (counting bytes) listed frame h there

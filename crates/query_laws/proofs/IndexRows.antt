@@ -15,7 +15,6 @@ use Rattle.std.proofs.Math.Seq.{take-append_seam}
 use Rattle.std.proofs.lemmas.Slice.Eq.{bytes_eq-Decides}
 use Rattle.std.proofs.lemmas.List.Elements.{All-cons}
 use Rattle.std.proofs.lemmas.List.Sorted.{list_any-IsPermutation}
-use Rattle.index_laws.proofs.Records.{same_key}
 use Rattle.sha2.specs.Sha256.{sha256}
 use Rattle.sha2.proofs.Facts256.{length-sha256}
 use Rattle.macho_image.specs.Contents.{is_dsym_image}
@@ -41,7 +40,7 @@ use Rattle.archive_core.proofs.Compare.{length_key_bytes}
 use Rattle.archive_core.proofs.Entries.{admission_entry, retirement_entry, slice_of}
 use Rattle.archive_core.proofs.Made.{bytes_same, and_right}
 use Rattle.archive_core.proofs.Picked.{contains_part, finds_alike, part_alike, part_content}
-use Rattle.archive_core.proofs.Records.{length-key_of}
+use Rattle.archive_core.proofs.Records.{length-key_of, one_key as same_key}
 use Rattle.archive_core.proofs.Told.{found_under}
 use Rattle.archive_records.specs.Text.{written}
 use Rattle.archive_records.proofs.Contents.{order, along}
@@ -128,12 +127,11 @@ rows_one r row rs rows one all = record {
 
 rows_of_entries : (es rs : List (List ℕ)) (rows : List FindRow) → AllZip IsEntryOf es rs → AllZip IsEntryRow es rows → AreRowsOf rs rows
 rows_of_entries [] [] [] of told = record { operations = []; are = λ i d lt. absurd (omega arith); keys_are = λ i d lt. absurd (omega arith); records_are = refl; rows_are = refl }
-rows_of_entries [] [] (row ∷ rows) of told = absurd told
 rows_of_entries [] (r ∷ rs) rows of told = absurd of
 rows_of_entries (e ∷ es) [] rows of told = absurd of
-rows_of_entries (e ∷ es) (r ∷ rs) [] of told = absurd told
 rows_of_entries (e ∷ es) (r ∷ rs) (row ∷ rows) of told =
     rows_one r row rs rows (row_of_entry of.0.offset r row of.0.is of.0.keyed (subst (λ (x : List ℕ). IsEntryRow x row) of.0.entry_is told.0)) (rows_of_entries es rs rows of.1 told.1)
+rows_of_entries es rs rows of told = absurd told
 
 module _ (prefix : List ℕ) (short : length prefix ≤ 24) where
   -- those under a prefix
@@ -210,7 +208,7 @@ module _ (prefix : List ℕ) (o : Operations) (short : length prefix ≤ 24) (co
 
   pub rows_of_index : (rows : List FindRow) → AreIndexRows prefix (index o) rows → IsList (part o (is_under prefix)) rows
   rows_of_index rows is =
-      let sorted = ascend_sorted offset_in (entries_under prefix (index o)) is.placed is.moved is.by_place at_most_once in
+      let sorted = ascend_sorted offset_in (entries_under prefix (index o)) is.placed is.moved is.by_offset at_most_once in
       let same : is.placed ≡ placed_under = one_ascent offset_in is.placed placed_under sorted up (λ q.
       sym (list_any-IsPermutation (is_same q) (entries_under prefix (index o)) is.placed is.moved) ∙ members q) in
       let told : AllZip IsEntryRow placed_under is.told = subst (λ (es : List (List ℕ)). AllZip IsEntryRow es is.told) same is.each in

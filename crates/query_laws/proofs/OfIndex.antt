@@ -14,8 +14,8 @@ use Rattle.archive_core.specs.Content.{IsContent, Operations}
 use Rattle.archive_core.specs.Record.{IsRecord}
 use Rattle.archive_core.specs.Summary.{Entries}
 use Rattle.archive_core.proofs.Members.{in_map, in_order, to_map}
+use Rattle.archive_core.proofs.Made.{bytes_same}
 use Rattle.archive_records.proofs.Contents.{along, order}
-use Rattle.archive_records.proofs.Puts.{bytes_same}
 use Rattle.archive_index.specs.Entry.{placed_entry}
 use Rattle.archive_index.specs.Index.{index, placed_entries}
 use Rattle.archive_index.proofs.Kept.{in_made}
@@ -26,10 +26,10 @@ use Rattle.table_index.proofs.Faults.{one_list}
 use Rattle.indexed_tables.specs.Content.{IsTableOf, claim_of, entries_of, table_entries, table_entry}
 use Rattle.indexed_tables.proofs.Accepted.{accepted}
 use Rattle.byte_device.specs.declared.disks.CannotOpen.{CannotOpen}
-use Rattle.command_ends.specs.Inputs.{Gives, IsGiven, Reader, reader}
+use Rattle.command_core.specs.Inputs.{Gives, IsGiven, Reader, reader}
 use Rattle.index_laws.specs.Indexes.{IsIndexFile}
 use Rattle.index_laws.proofs.Records.{is_key_of}
-use Rattle.indexed_queries.specs.Indexes.{HoldsIndex, HoldsTables}
+use Rattle.index_inputs.specs.Indexes.{HoldsIndex, HoldsTables}
 use Rattle.query_laws.specs.Contents.{HaveKeys, IsIndexGiven}
 
 -- ---- bytes that an input has

@@ -4,12 +4,12 @@ use Rattle.archive_core.specs.Content.{Operations}
 use Rattle.archive_records.specs.Text.{written}
 use Rattle.archive_index.specs.Index.{index}
 use Rattle.table_index.specs.Text.{placed_of}
-use Rattle.command_ends.specs.Inputs.{IsDeviceFault, IsGiven, Reader}
-use Rattle.command_ends.specs.declared.faults.InputName.{InputName}
-use Rattle.command_ends.specs.declared.faults.Why.{Why}
+use Rattle.command_core.specs.Inputs.{IsDeviceFault, IsGiven, Reader}
+use Rattle.command_core.specs.declared.faults.InputName.{InputName}
+use Rattle.command_core.specs.declared.faults.Why.{Why}
 use Rattle.index_laws.specs.Indexes.{IsIndexFile}
-use Rattle.indexed_queries.specs.Several.{AreRefusedLater, AreRefusedTogether}
-use Rattle.indexed_queries.specs.Together.{IsFirstRefusedByIndex, IsLater, IsReadWith}
+use Rattle.index_inputs.specs.Several.{AreRefusedLater, AreRefusedTogether}
+use Rattle.index_inputs.specs.Together.{IsFirstRefusedByIndex, IsLater, IsReadWith}
 use Rattle.query_laws.specs.Contents.{AreOwnIndexes, IsOwnIndex}
 use Rattle.query_laws.proofs.Accepted.{at_places, by_device, still_given}
 use Rattle.query_laws.proofs.OfIndex.{held_tables}

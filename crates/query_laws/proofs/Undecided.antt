@@ -13,14 +13,14 @@ use Rattle.archive_core.specs.declared.keys.Digest.{Digest}
 use Rattle.archive_core.specs.declared.keys.SliceKey.{SliceKey}
 use Rattle.archive_core.proofs.Compare.{length_key_bytes}
 use Rattle.archive_core.proofs.Members.{in_front, in_rest}
-use Rattle.archive_core.proofs.Records.{length-key_of}
-use Rattle.command_ends.specs.Inputs.{Reader}
-use Rattle.command_ends.specs.Outputs.{Writer}
+use Rattle.archive_core.proofs.Records.{length-key_of, one_key as same_key}
+use Rattle.command_core.specs.Inputs.{Reader}
+use Rattle.command_core.specs.Outputs.{Writer}
 use Rattle.report_text.specs.Finds.{find_lines}
 use Rattle.index_laws.specs.Indexes.{AreIndexes, DigestsTell, all_joined}
 use Rattle.index_laws.proofs.Among.{entry_if_live, lives_then}
 use Rattle.index_laws.proofs.Joined.{joined_alone}
-use Rattle.index_laws.proofs.Records.{key_in, same_key}
+use Rattle.index_laws.proofs.Records.{key_in}
 use Rattle.index_laws.proofs.Right.{IsAnsweringSlice, slices_right}
 use Rattle.indexed_answers.specs.Among.{EntryAt}
 use Rattle.indexed_answers.specs.Named.{IsRowAt, LivesAmong}
@@ -45,18 +45,17 @@ no_rows (x ∷ xs) rows R none all = cc (none)
 module _ (os : List Operations) (texts : List (List ℕ)) (all : List (List (List ℕ))) (key : SliceKey) where
   row_so : (x : EntryAt) (slice : List ℕ) (row : FindRow) → IsAnsweringSlice os texts all key x slice → IsRowAt x row → IsRowOfSlice slice row
   row_so x slice row is told = record {
-    key_is = told.key_is ∙ key_in x.entry (key_bytes (key_of slice)) (sha256 slice) (length-key_of slice is.of.is.valid) is.of.is.front;
+    key_is = told.key_is ∙ key_in x.entry (key_bytes (key_of slice)) (sha256 slice) (length-key_of slice is.of.is.valid) is.of.is.prefix;
     digest_is = told.digest_is ∙ is.of.is.is.digest_is;
     state_is = told.state_is ∙ ap (λ (b : Bool). if b then Dsym else Image) is.of.is.kind;
   }
 
   rows_so : (xs : List EntryAt) (ss : List (List ℕ)) (rows : List FindRow) → AllZip (IsAnsweringSlice os texts all key) xs ss → AllZip IsRowAt xs rows → AllZip IsRowOfSlice ss rows
   rows_so [] [] [] zip told = tt
-  rows_so [] [] (row ∷ rows) zip told = absurd told
   rows_so [] (s ∷ ss) rows zip told = absurd zip
   rows_so (x ∷ xs) [] rows zip told = absurd zip
-  rows_so (x ∷ xs) (s ∷ ss) [] zip told = absurd told
   rows_so (x ∷ xs) (s ∷ ss) (row ∷ rows) zip told = (row_so x s row zip.0 told.0, rows_so xs ss rows zip.1 told.1)
+  rows_so xs ss rows zip told = absurd told
 
 -- the rows of slices say of them what is so
 rows_of_slices : (ss : List (List ℕ)) → AllZip IsRowOfSlice ss (map slice_row ss)
@@ -142,12 +141,11 @@ row_is slice row is row_key slice_key =
 
 rows_same : (ss : List (List ℕ)) (rows : List FindRow) → AllZip IsRowOfSlice ss rows → ((row : FindRow) → Contains rows row → IsKey row.key) → ((s : List ℕ) → Contains ss s → IsKey (key_of s)) → rows ≡ map slice_row ss
 rows_same [] [] all keyed keys = refl
-rows_same [] (row ∷ rows) all keyed keys = absurd all
-rows_same (s ∷ ss) [] all keyed keys = absurd all
 rows_same (s ∷ ss) (row ∷ rows) all keyed keys =
     let first : row ≡ slice_row s = row_is s row all.0 (keyed row (in_front row rows)) (keys s (in_front s ss)) in
     let more : rows ≡ map slice_row ss = rows_same ss rows all.1 (λ r there. keyed r (in_rest row rows r there)) (λ t there. keys t (in_rest s ss t there)) in
     λ i. first i ∷ more i
+rows_same ss rows all keyed keys = absurd all
 
 -- slices of which none is wanted, and that answer, are under the key
 keys_so : (o : Operations) (key : SliceKey) (digest : Option Digest) (slices : List (List ℕ)) → IsKey key → AreUndecided o key digest slices → (s : List ℕ) → Contains slices s → IsKey (key_of s)

@@ -8,12 +8,12 @@ use Rattle.archive_core.specs.Key.{IsKey}
 use Rattle.archive_core.specs.Record.{admission_record}
 use Rattle.archive_core.specs.Valid.{IsValid, key_of}
 use Rattle.archive_records.specs.Text.{written}
-use Rattle.command_ends.specs.Inputs.{Reader, IsGiven}
-use Rattle.command_ends.specs.declared.faults.Why.{Why}
-use Rattle.command_ends.specs.declared.faults.Why.TheVariants.{NoLines}
+use Rattle.command_core.specs.Inputs.{Reader, IsGiven}
+use Rattle.command_core.specs.declared.faults.Why.{Why}
+use Rattle.command_core.specs.declared.faults.Why.TheVariants.{NoLines}
 use Rattle.slice_tables.specs.SliceTable.{HasNoLines}
 use Rattle.index_laws.specs.Indexes.{AnswersUnder, IsIndexFile}
-use Rattle.indexed_queries.specs.Together.{AllThree}
+use Rattle.index_inputs.specs.Together.{AllThree}
 
 -- each slice of a content is under a key whose parts have their widths, as each slice of bytes is
 abbrev pub HaveKeys : Operations → Type 0

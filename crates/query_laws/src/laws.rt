@@ -14,23 +14,23 @@ ghost use Rattle.archive_core.specs.declared.keys.Digest.{Digest};
 ghost use Rattle.archive_core.specs.declared.keys.SliceKey.{SliceKey};
 ghost use Rattle.archive_records.specs.Text.{summary_text, written};
 ghost use Rattle.archive_index.specs.Index.{index};
-ghost use Rattle.command_ends.specs.Found.{TellsFound, found_status};
-ghost use Rattle.archive_queries.specs.Frames.{TellsFrames};
-ghost use Rattle.archive_queries.specs.Symbolicate.{TellsAddresses};
+ghost use Rattle.command_core.specs.Found.{TellsFound, found_status};
+ghost use Rattle.address_queries.specs.Frames.{TellsFrames};
+ghost use Rattle.address_queries.specs.Symbolicate.{TellsAddresses};
 ghost use Rattle.crash_frames.specs.Frames.{frames_of};
 ghost use Rattle.crash_frames.specs.declared.frame.Frame.{Frame};
-ghost use Rattle.command_ends.specs.Inputs.{IsDeviceFault, IsGiven, Reader};
-ghost use Rattle.command_ends.specs.Outputs.{Writer, summary_report_of};
-ghost use Rattle.command_ends.specs.declared.faults.InputName.{InputName};
-ghost use Rattle.command_ends.specs.declared.faults.Status.{Status};
-ghost use Rattle.command_ends.specs.declared.faults.Why.{Why};
+ghost use Rattle.command_core.specs.Inputs.{IsDeviceFault, IsGiven, Reader};
+ghost use Rattle.command_core.specs.Outputs.{Writer, summary_report_of};
+ghost use Rattle.command_core.specs.declared.faults.InputName.{InputName};
+ghost use Rattle.command_core.specs.declared.faults.Status.{Status};
+ghost use Rattle.command_core.specs.declared.faults.Why.{Why};
 ghost use Rattle.report_text.specs.Finds.{list_lines};
 ghost use Rattle.index_laws.specs.Indexes.{DigestsTell, IsIndexFile, all_joined};
 ghost use Rattle.indexed_queries.specs.Find.{MakesFoundAt};
-ghost use Rattle.indexed_queries.specs.Indexes.{IsRefusedByIndex};
+ghost use Rattle.index_inputs.specs.Indexes.{IsRefusedByIndex};
 ghost use Rattle.indexed_queries.specs.List.{MakesListedAt};
 ghost use Rattle.indexed_queries.specs.Rows.{AreIndexRows};
-ghost use Rattle.indexed_queries.specs.Several.{AreRefusedTogether, HoldTogether, MakesTogether};
+ghost use Rattle.index_inputs.specs.Several.{AreRefusedTogether, HoldTogether, MakesTogether};
 ghost use Rattle.indexed_queries.specs.Summary.{MakesSummaryAt};
 ghost use Rattle.indexed_symbols.specs.Asking.{AreRefusedAsking, AreUntold};
 ghost use Rattle.indexed_symbols.specs.Frames.{AreToldAt, TellsFramesBySlices, TellsFramesByTables, keys_of};
@@ -129,26 +129,26 @@ pub fn answered_by_indexes<I: Placed, P: Placed>()
 /// So does `frames`. The frames that a text says have such keys as this asks.
 pub fn framed_by_indexes<I: Placed, P: Placed>()
     ensures tables { (inputs : List (Reader I)) (archives : List (Reader P)) (os : List Operations) (lines : Bool)
-        (said : List Frame) (status : Status) (text : List ℕ) → AreIndexesGiven inputs os → DigestsTell os
-        → ((frame : Frame) → Contains said frame → IsKey frame.key)
-        → TellsFramesByTables lines inputs archives said status text
-        → TellsFrames lines (all_joined os) said status text }
-    ensures alone { (input : Reader I) (archive : Reader P) (o : Operations) (lines : Bool) (said : List Frame)
+        (listed : List Frame) (status : Status) (text : List ℕ) → AreIndexesGiven inputs os → DigestsTell os
+        → ((frame : Frame) → Contains listed frame → IsKey frame.key)
+        → TellsFramesByTables lines inputs archives listed status text
+        → TellsFrames lines (all_joined os) listed status text }
+    ensures alone { (input : Reader I) (archive : Reader P) (o : Operations) (lines : Bool) (listed : List Frame)
         (status : Status) (text : List ℕ) → IsIndexGiven input o
-        → ((frame : Frame) → Contains said frame → IsKey frame.key)
-        → TellsFramesByTables lines (input ∷ []) (archive ∷ []) said status text
-        → TellsFrames lines o said status text }
+        → ((frame : Frame) → Contains listed frame → IsKey frame.key)
+        → TellsFramesByTables lines (input ∷ []) (archive ∷ []) listed status text
+        → TellsFrames lines o listed status text }
     ensures slices { (inputs : List (Reader I)) (archives : List (Reader P)) (os : List Operations) (lines : Bool)
-        (said : List Frame) (status : Status) (text : List ℕ)
-        → ((key : List ℕ) → Contains (keys_of said) key → length key ≤ 24) → AreIndexed inputs archives os
-        → TellsFramesBySlices lines inputs archives said status text
-        → TellsFrames lines (all_joined os) said status text }
+        (listed : List Frame) (status : Status) (text : List ℕ)
+        → ((key : List ℕ) → Contains (keys_of listed) key → length key ≤ 24) → AreIndexed inputs archives os
+        → TellsFramesBySlices lines inputs archives listed status text
+        → TellsFrames lines (all_joined os) listed status text }
     ensures either { (inputs : List (Reader I)) (archives : List (Reader P)) (os : List Operations) (lines : Bool)
-        (said : List Frame) (status : Status) (text : List ℕ) → AreIndexed inputs archives os → DigestsTell os
-        → ((frame : Frame) → Contains said frame → IsKey frame.key)
-        → AreToldAt lines inputs archives said status text → TellsFrames lines (all_joined os) said status text }
-    ensures keys { (bytes : List ℕ) (said : List Frame) (frame : Frame) → frames_of bytes ≡ Ok said
-        → Contains said frame → IsKey frame.key }
+        (listed : List Frame) (status : Status) (text : List ℕ) → AreIndexed inputs archives os → DigestsTell os
+        → ((frame : Frame) → Contains listed frame → IsKey frame.key)
+        → AreToldAt lines inputs archives listed status text → TellsFrames lines (all_joined os) listed status text }
+    ensures keys { (bytes : List ℕ) (listed : List Frame) (frame : Frame) → frames_of bytes ≡ Ok listed
+        → Contains listed frame → IsKey frame.key }
 {}
 
 /// What `extract` writes by the indexes of these very archives is the wanted slice of the join of the contents, if no

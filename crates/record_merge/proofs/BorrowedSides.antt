@@ -2,17 +2,17 @@
 use Rattle.std.proofs.Common.{◌≡◌, ◌≢◌, ℕ, ◌+◌, ◌^◌, ◌<◌, min, Bool, true, false, List, [], ◌∷◌, ◌++◌, length, take, drop, Option, Some, Result, Ok, Err, MatchResult, refl, sym, ap, ◌∙◌, subst, arith, inl, inr, length-append, length-take, take-append-drop, Ordering, Equal}
 use Rattle.std.proofs.Math.ListN.{drop_of_length-le}
 use Rattle.std.specs.Ordering.{nat_cmp, ordering_then, is_eq}
-use Rattle.std.specs.Cmp.{nat_cmp_is}
-use Rattle.std.specs.Cmp.Lexicographic.{slice_cmp}
+use Rattle.std.specs.Cmp.{Equal-is, tied_itself}
+use Rattle.std.specs.Cmp.Lexicographic.{slice_cmp, nat_list_cmp_total}
 use Rattle.archive_records.proofs.Fills.{cmp_parts}
-use Rattle.archive_records.proofs.Puts.{bytes_same, head_and_slice}
+use Rattle.archive_records.proofs.Puts.{head_and_slice}
 use Rattle.archive_records.proofs.Steps.{HasReadAll-grows, Stopped-with}
 use Rattle.archive_core.specs.Key.{key_bytes}
 use Rattle.archive_core.specs.Valid.{key_of}
-use Rattle.archive_core.specs.Record.{admission_record}
+use Rattle.archive_core.specs.Record.{admission_record, IsRecord}
 use Rattle.std.specs.Int.{w64, to_be_bytes}
 use Rattle.std.proofs.lemmas.List.{append-nil, take_all}
-use Rattle.archive_core.specs.Record.{IsRecord}
+use Rattle.archive_core.proofs.Made.{bytes_same}
 use Rattle.archive_records.specs.declared.fault.RecordFault.{RecordFault}
 use Rattle.archive_records.specs.declared.fault.RecordFaultKind.TheVariants.{Truncated, Device, OutOfMemory, NotAscending}
 use Rattle.archive_records.specs.declared.format.Format.TheVariants.{OldArchive}
@@ -21,7 +21,7 @@ use Rattle.archive_records.specs.Kind.{kind_of, may_follow}
 use Rattle.archive_records.specs.Layout.{framed}
 use Rattle.archive_records.specs.Fault.{next, next_by, tested}
 use Rattle.archive_records.specs.Text.{end_record, last_of}
-use Rattle.archive_records.specs.Reader.{Finishes, HasReadAll, HasWhole, Keeps, Passes, Position, StoppedWith, StopsAt, beside}
+use Rattle.archive_records.specs.Reader.{Finishes, HasReadAll, HasWhole, Position, StoppedWith, StopsAt, beside}
 use Rattle.archive_records.proofs.Forms.{item-framed, item-no_end}
 use Rattle.record_merge.specs.declared.side.Lookahead.{Lookahead}
 use Rattle.record_merge.specs.declared.side.Lookahead.TheVariants.{Unread, Held, Ended}
@@ -127,10 +127,6 @@ module _ (last : List ℕ) (count offset : ℕ) (retired : List (List ℕ)) (dro
       λ _. inl (item, refl),
     )
 
-    -- it is the last one then
-    pub goes_to : may_follow OldArchive last x ≡ true → (long : ℕ) → long ≡ offset + length x → (kept : List (List ℕ)) (drops : Bool) → Keeps retired kept drops x → Passes (Some (x ++ rest)) (Some rest) (stood last count offset retired dropped) (stood x (count + 1) long kept drops)
-    goes_to above long is kept drops keeps = record { taken = refl; item = item; follows = above; file_is = refl; count_is = refl; offset_is = is; few = few; kept = keeps }
-
 -- ---- what a merge is told of it
 
 module _ (a b c : Option (List ℕ)) (done : List (List ℕ)) (low : List ℕ) (shared : List (List ℕ)) (now new : MergeInput) (unread : now.ahead ≡ Unread) (s : Stands a b done low (record { reader = beside (Some shared) now.reader; ahead = now.ahead })) where
@@ -164,15 +160,8 @@ stands_on a b c done low shared now new r unread steps s = stands_on_by a b c do
 
 -- ---- the same record
 
-same_bytes : (xs : List ℕ) → slice_cmp nat_cmp xs xs ≡ Equal
-same_bytes [] = refl
-same_bytes (x ∷ xs) = ap (λ o. ordering_then o (slice_cmp nat_cmp xs xs)) (sym (nat_cmp_is x x Equal refl)) ∙ same_bytes xs
-
-told_equal : (o : Ordering) → is_eq o ≡ true → o ≡ Equal
-told_equal o e = grind arith
-
 pub equal_bytes : (xs ys : List ℕ) → (is_eq (slice_cmp nat_cmp xs ys) ≡ true → xs ≡ ys) × (xs ≡ ys → is_eq (slice_cmp nat_cmp xs ys) ≡ true)
 equal_bytes xs ys = (
-  λ equal. bytes_same xs ys (told_equal (slice_cmp nat_cmp xs ys) equal),
-  λ same. ap is_eq (ap (λ (t : List ℕ). slice_cmp nat_cmp xs t) (sym same) ∙ same_bytes xs),
+  λ equal. bytes_same xs ys ((Equal-is (slice_cmp nat_cmp xs ys)).0 equal),
+  λ same. ap is_eq (ap (λ (t : List ℕ). slice_cmp nat_cmp xs t) (sym same) ∙ tied_itself nat_list_cmp_total xs),
 )

@@ -18,10 +18,11 @@ use Rattle.archive_records.specs.Reader.{HasRead, set_of}
 use Rattle.archive_records.specs.Front.{front_length}
 use Rattle.archive_records.specs.declared.fault.MergeFault.{MergeFault}
 use Rattle.record_merge.specs.MergeSteps.{TellsBy, TellsCovered, Stands, Merging, WriteStopped, IsFull, HasStoppedMerge, IsBeforeTurn, first_by, first_of, IsRefusedMore, after_turn, left_after, memory_behind, next_record, next_record_by, right_after, unread_of, Both}
-use Rattle.archive_records.proofs.Puts.{bytes_same, concat-push}
+use Rattle.archive_records.proofs.Puts.{concat-push}
 use Rattle.archive_records.proofs.Apart.{covered_push, last_of-push}
 use Rattle.archive_records.proofs.Ascending.{below-less, below-greater, last_is_record, last_under}
 use Rattle.archive_core.specs.Content.{is_covered}
+use Rattle.archive_core.proofs.Made.{bytes_same}
 use Rattle.archive_records.proofs.KeptRecords.{kept_push, kept_pass}
 use Rattle.record_merge.proofs.Covered.{dropped_own, by_both, by_other}
 use Rattle.archive_records.proofs.Formats.{in_order_of}

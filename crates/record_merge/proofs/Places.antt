@@ -15,6 +15,8 @@ use Rattle.join_core.proofs.Unions.{union_members}
 use Rattle.join_core.proofs.Retain.{listing_retain}
 use Rattle.archive_core.specs.Record.{IsRecord}
 use Rattle.archive_core.specs.Content.{Operations, is_covered}
+use Rattle.archive_core.proofs.Made.{bytes_same}
+use Rattle.archive_core.proofs.Members.{in_rest, in_front}
 use Rattle.archive_records.specs.declared.fault.RecordFaultKind.TheVariants.{Truncated}
 use Rattle.archive_records.specs.declared.fault.RecordFault.{RecordFault}
 use Rattle.archive_records.specs.declared.format.Format.{Format}
@@ -28,14 +30,13 @@ use Rattle.record_merge.specs.Merging.{HasMagic, IsArchiveText, AreGoodRecords, 
 use Rattle.record_merge.specs.MergeSteps.{Both, Stands, Joins, StopsBeforeRecords, LeftStopped, RightStopped, WriteStopped, IsFull}
 use Rattle.archive_records.proofs.Contents.{listing_is, members_listed, sorted-InOrder, InOrder-set, are_records, content_is, written_text}
 use Rattle.archive_records.specs.Reader.{set_of, Stopped}
-use Rattle.archive_records.proofs.Puts.{bytes_same}
 use Rattle.archive_records.proofs.KeptRecords.{kept_more, behind, behind_above, from_kept}
 use Rattle.archive_records.proofs.Exact.{no_magic_fault}
 use Rattle.archive_records.proofs.Inputs.{magic_stop, grown_magic}
 use Rattle.archive_records.proofs.Apart.{in_set, from_set, is_false}
 use Rattle.record_merge.specs.declared.side.Lookahead.{Lookahead}
 use Rattle.record_merge.specs.declared.side.Lookahead.TheVariants.{Unread}
-use Rattle.archive_records.proofs.Ascending.{below-back, below-trans, below-self, all_above, up_to_last, prefix, here, later}
+use Rattle.archive_records.proofs.Ascending.{below-back, below-trans, below-self, all_above, up_to_last, prefix}
 use Rattle.archive_records.proofs.Ends.{length-end_record}
 use Rattle.archive_records.proofs.Formats.{in_order_of, kind_archive}
 use Rattle.record_merge.proofs.Fronts.{taken_rest, front_of, front_is, stopped_goes, GoesAbove, GoesOn, goes_on, has_magic, ended_text}
@@ -112,11 +113,11 @@ begins out lefts rights xs ys j a b l r =
 -- those up to low
 up_to-all : (low : List ℕ) (xs : List (List ℕ)) → ((z : List ℕ) → Contains xs z → may_follow Archive low z ≡ false) → up_to low xs ≡ xs
 up_to-all low [] h = refl
-up_to-all low (x ∷ xs) h = rw (h x (here x xs)) (ap (λ (t : List (List ℕ)). x ∷ t) (up_to-all low xs (λ z c. h z (later x z xs c))))
+up_to-all low (x ∷ xs) h = rw (h x (in_front x xs)) (ap (λ (t : List (List ℕ)). x ∷ t) (up_to-all low xs (λ z c. h z (in_rest x xs z c))))
 
 pub up_to-none : (low : List ℕ) (xs : List (List ℕ)) → ((z : List ℕ) → Contains xs z → may_follow Archive low z ≡ true) → up_to low xs ≡ []
 up_to-none low [] h = refl
-up_to-none low (x ∷ xs) h = rw (h x (here x xs)) (up_to-none low xs (λ z c. h z (later x z xs c)))
+up_to-none low (x ∷ xs) h = rw (h x (in_front x xs)) (up_to-none low xs (λ z c. h z (in_rest x xs z c)))
 
 up_to_is : (out more us : List (List ℕ)) → us ≡ kept out ++ more → InOrder Archive [] out → IsAbove (last_of [] out) more → up_to (last_of [] out) us ≡ kept out
 up_to_is out more us e b above =

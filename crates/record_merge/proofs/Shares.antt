@@ -9,12 +9,12 @@ use Rattle.std.specs.FinSet as set
 use Rattle.std.specs.FinSet.{contains, from_list_push}
 use Rattle.join_core.proofs.Place.{insert_present}
 use Rattle.archive_core.proofs.Retired.{first_more, second_more}
+use Rattle.archive_core.proofs.Made.{bytes_same}
 use Rattle.archive_records.specs.declared.format.Format.{Format}
 use Rattle.archive_records.specs.declared.format.Format.TheVariants.{Archive, OldArchive, Operations as Operations_file, Summary as Summary_file}
 use Rattle.archive_records.specs.Text.{last_of}
 use Rattle.archive_records.specs.Reader.{set_of, AreRetired, HasRead, HasReadAll, Position, beside, retirement_in}
 use Rattle.archive_records.proofs.Apart.{in_set}
-use Rattle.archive_records.proofs.Puts.{bytes_same}
 use Rattle.record_merge.specs.declared.side.Lookahead.TheVariants.{Held}
 use Rattle.record_merge.specs.declared.side.MergeInput.{MergeInput}
 use Rattle.record_merge.specs.declared.arrivals.Arrival.{Arrival}

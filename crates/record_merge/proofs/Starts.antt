@@ -19,19 +19,16 @@ use Rattle.archive_records.specs.declared.fault.RecordFault.{RecordFault}
 use Rattle.archive_records.proofs.Steps.{HasRead-grows}
 use Rattle.archive_records.proofs.Formats.{follows_of}
 use Rattle.archive_records.proofs.KeptRecords.{kept_none, long_record}
-use Rattle.record_merge.specs.MergeSteps.{Stands, Merging, HasMagicRead, RightStopped, WriteStopped, BlamesBy, BlamesLeft, BlamesRight, BlamesWriter, IsToldOfRight, memory_behind, HasEnded, HasStoppedMerge, StopsMerge as MergeStops, Both}
+use Rattle.record_merge.specs.MergeSteps.{Stands, Merging, HasMagicRead, RightStopped, WriteStopped, BlamesBy, BlamesRight, IsToldOfRight, memory_behind, HasEnded, HasStoppedMerge, StopsMerge as MergeStops, Both}
 use Rattle.record_merge.proofs.MergeSteps.{held_record, before_last}
 use Rattle.archive_records.proofs.Blamed.{blames_behind}
-use Rattle.archive_records.proofs.FaultKinds.{memory_blames}
 use Rattle.archive_records.proofs.Forms.{item-framed, item-no_end}
 use Rattle.archive_records.proofs.Ends.{framed_end, end-is_end}
-use Rattle.archive_records.specs.declared.fault.RecordFaultKind.TheVariants.{OutOfMemory}
 use Rattle.archive_records.specs.Fault.{IsCutAtMost}
 use Rattle.archive_records.specs.Front.{front_length}
 use Rattle.archive_records.specs.Layout.{framed}
 use Rattle.archive_records.specs.Reading.{Blames}
 use Rattle.byte_device.specs.Devices.{FailedIn, Stream, stream}
-use Rattle.record_merge.specs.Merging.{IsUnfailed}
 use Rattle.archive_records.specs.declared.fault.MergeCause.{MergeCause}
 use Rattle.archive_records.specs.declared.fault.MergeCause.TheVariants.{Left, Right, Write}
 use Rattle.archive_records.specs.declared.fault.MergeFault.{MergeFault}
@@ -128,26 +125,6 @@ memory_stopped f a b done rest fault taken ordered apart few is cut = record {
   stops = inl (ap (λ (t : RecordFault). t.offset) is, λ known. absurd (known (ap (λ (t : RecordFault). t.kind) is)));
   undecided = λ _. cut;
 }
-
--- want of memory blames no device
-module _ {R S : Type 0} (left : Stream R) (right : Stream S) where
-  no_device : {D : Type 0} (device : Stream D) (fault : RecordFault) → fault.kind ≡ OutOfMemory → IsUnfailed device → Blames device.bytes device.failures device.old device.new fault.kind
-  no_device device fault memory unfailed = subst (Blames device.bytes device.failures device.old device.new) (sym memory) (memory_blames device.bytes device.failures device.old device.new unfailed)
-
-  pub left_blamed : (w : ℕ) (cause : MergeCause) → BlamesLeft left cause → IsUnfailed right → BlamesBy left right w w cause
-  left_blamed w (Left fault) blames unfailed = (blames, unfailed, refl)
-  left_blamed w (Right fault) blames unfailed = absurd blames
-  left_blamed w Write blames unfailed = absurd blames
-
-  pub right_blamed : (w : ℕ) (cause : MergeCause) → IsUnfailed left → BlamesRight right cause → BlamesBy left right w w cause
-  right_blamed w (Left fault) unfailed blames = (no_device left fault blames.0 unfailed, blames.1, refl)
-  right_blamed w (Right fault) unfailed blames = (unfailed, blames, refl)
-  right_blamed w Write unfailed blames = absurd blames
-
-  pub writer_blamed : (w0 w1 : ℕ) (cause : MergeCause) → IsUnfailed left → IsUnfailed right → BlamesWriter w0 w1 cause → BlamesBy left right w0 w1 cause
-  writer_blamed w0 w1 (Left fault) a b blames = (no_device left fault blames.0 a, b, blames.1)
-  writer_blamed w0 w1 (Right fault) a b blames = (a, no_device right fault blames.0 b, blames.1)
-  writer_blamed w0 w1 Write a b blames = (a, b, blames)
 
 -- who is blamed after no device failed is blamed for all
 pub blamed_later : {R S : Type 0} (a : R → Option (List ℕ)) (f : R → ℕ) (bytes : S → Option (List ℕ)) (h : S → ℕ) (r0 r1 r2 : R) (s0 s1 s2 : S) (w0 w1 w2 : ℕ) (cause : MergeCause) → f r1 ≡ f r0 → h s1 ≡ h s0 → w1 ≡ w0

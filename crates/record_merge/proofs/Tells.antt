@@ -8,6 +8,8 @@ use Rattle.std.specs.FinSet.{contains}
 use Rattle.std.specs.List.{concat, list_any, Contains}
 use Rattle.std.specs.Io.KnownBytes.{Appends, Consumes}
 use Rattle.archive_core.specs.Content.{covering, is_admission, is_covered}
+use Rattle.archive_core.proofs.Made.{bytes_same}
+use Rattle.archive_core.proofs.Members.{in_rest, in_front}
 use Rattle.archive_records.specs.declared.fault.MergeCause.TheVariants.{Right}
 use Rattle.archive_records.specs.declared.fault.MergeFault.{MergeFault}
 use Rattle.archive_records.specs.declared.fault.RecordFault.{RecordFault}
@@ -22,11 +24,10 @@ use Rattle.archive_records.specs.Kind.{magic, magic_of, kind_of, may_follow}
 use Rattle.archive_records.specs.Reader.{set_of, HasRead}
 use Rattle.archive_records.specs.Text.{end_record, kept, last_of}
 use Rattle.archive_records.proofs.Apart.{in_set, from_set, is_false, covering_below, contains-push, covered_push}
-use Rattle.archive_records.proofs.Ascending.{below-greater, below-less, below-trans, up_to_last, here, later}
+use Rattle.archive_records.proofs.Ascending.{below-greater, below-less, below-trans, up_to_last}
 use Rattle.archive_records.proofs.Ends.{length-end_record}
 use Rattle.archive_records.proofs.Framed.{framed-empty}
 use Rattle.archive_records.proofs.KeptRecords.{long_record}
-use Rattle.archive_records.proofs.Puts.{bytes_same}
 use Rattle.archive_records.proofs.Undecided.{cut_off}
 use Rattle.record_merge.specs.Sides.{Sides}
 use Rattle.record_merge.specs.declared.side.Lookahead.TheVariants.{Unread}
@@ -43,11 +44,11 @@ use Rattle.record_merge.proofs.Starts.{left_read, right_read, memory_stopped, me
 
 pub same_answers : {A : Type 0} (f g : List ℕ → A) (xs : List (List ℕ)) → ((r : List ℕ) → Contains xs r → f r ≡ g r) → map f xs ≡ map g xs
 same_answers f g [] same = refl
-same_answers f g (x ∷ xs) same = cc (same x (here x xs), same_answers f g xs (λ r c. same r (later x r xs c)))
+same_answers f g (x ∷ xs) same = cc (same x (in_front x xs), same_answers f g xs (λ r c. same r (in_rest x xs r c)))
 
 same_tests : (f g : List ℕ → Bool) (xs : List (List ℕ)) → ((r : List ℕ) → Contains xs r → f r ≡ g r) → list_any f xs ≡ list_any g xs
 same_tests f g [] same = refl
-same_tests f g (x ∷ xs) same = cc (same x (here x xs), same_tests f g xs (λ r c. same r (later x r xs c)))
+same_tests f g (x ∷ xs) same = cc (same x (in_front x xs), same_tests f g xs (λ r c. same r (in_rest x xs r c)))
 
 -- ---- one record more, x, above all that had their turn
 

@@ -3,7 +3,7 @@ use Rattle.std.specs.Prelude.{◌≡◌, ◌≢◌, ℕ, ◌+◌, List, [], ◌+
 use Rattle.std.specs.List.{concat}
 use Rattle.std.specs.Io.KnownBytes.{IsAtEnd}
 use Rattle.archive_core.specs.declared.operations.Record.{Record}
-use Rattle.archive_core.specs.Record.{lent_bytes, record_bytes}
+use Rattle.archive_core.specs.Record.{borrowed_bytes, record_bytes}
 use Rattle.archive_records.specs.declared.fault.RecordFault.{RecordFault}
 use Rattle.archive_records.specs.declared.fault.RecordFaultKind.TheVariants.{Device, OutOfMemory, Truncated}
 use Rattle.archive_records.specs.declared.format.Format.TheVariants.{OldArchive}
@@ -32,7 +32,7 @@ left_of text = left_by text.taken
 -- the last record, if there is one
 abbrev pub last_bytes : Option Record → List ℕ
 last_bytes None = []
-last_bytes (Some item) = lent_bytes item
+last_bytes (Some item) = borrowed_bytes item
 
 -- where a side stands, as one that reads the text
 abbrev pub seen_of : BorrowedSide → MergeInput

@@ -1,13 +1,11 @@
 //! Operations that stand in memory, read as the text that they would be.
 
 ghost use Rattle.std.specs.Prelude.{◌≡◌, ◌+◌, ◌<◌, ◌^◌, ◌++◌, ℕ, List, [], length, map, true, false};
-ghost use Rattle.std.specs.Prelude.{Option, Some, None, IfOk, IfSome};
+ghost use Rattle.std.specs.Prelude.{Some, None, IfOk, IfSome};
 ghost use Rattle.std.specs.Ordering.{nat_cmp};
 ghost use Rattle.std.specs.Cmp.Lexicographic.{slice_cmp};
 ghost use Rattle.archive_core.specs.Content.{is_covered};
-ghost use Rattle.archive_core.specs.Key.{IsKey};
-ghost use Rattle.archive_core.specs.Valid.{IsCheckedOf};
-ghost use Rattle.archive_core.specs.Record.{IsOperation, admission_record, lent_bytes, operation_lent, record_bytes};
+ghost use Rattle.archive_core.specs.Record.{IsOperation, admission_record, borrowed_bytes, operation_borrowed, record_bytes};
 ghost use Rattle.archive_records.specs.declared.format.Format.TheVariants.{OldArchive};
 ghost use Rattle.archive_records.specs.Kind.{may_follow, old_magic};
 ghost use Rattle.archive_records.specs.Reader.{Keeps, beside, set_of};
@@ -15,7 +13,7 @@ ghost use Rattle.archive_records.specs.Text.{end_record, text_of};
 ghost use Rattle.record_merge.specs.Borrowed.{AdvancesTo, last_bytes, left_of, seen_of};
 
 use crate::side::{Lookahead, MergeInput, ReadFrom, Side};
-use archive_core::{CheckedSlice, Digest, Operation, Record, Retirements, SliceFacts, SliceKey};
+use archive_core::{CheckedSlice, Operation, Record, Retirements, retirement};
 use archive_records::{
     MAGIC_LEN, MOST, RecordFault, RecordFaultKind, admission_head, put_record, retirement_bytes,
 };
@@ -80,7 +78,7 @@ impl<'a> BorrowedText<'a> {
     fn take_next(&mut self) -> Option<Record<'a>>
         requires taken { self.old.taken ≡ Part.Records }
         requires few { self.old.count < 2 ^ 63 }
-        ensures some { IfSome result (λ item. left_of self.old ≡ lent_bytes item ++ left_of self.new) }
+        ensures some { IfSome result (λ item. left_of self.old ≡ borrowed_bytes item ++ left_of self.new) }
         ensures none { result ≡ None → left_of self.old ≡ end_record self.old.count }
         ensures all { result ≡ None → left_of self.new ≡ [] }
     {
@@ -98,30 +96,23 @@ impl<'a> BorrowedText<'a> {
     }
 }
 
-/// Shows of what widths the parts of a retirement are.
-fn show_parts(key: SliceKey, digest: Digest)
-    ensures key { IsKey key }
-    ensures digest { length digest.0 ≡ 32 }
-{
-    let _key = key;
-    let _digest = digest;
-}
-
-/// Shows that an operation that is lent is one.
+/// Shows that an operation that is borrowed is one.
 fn show_operation(item: &Record<'_>)
-    ensures { IsOperation (operation_lent item.now) }
+    ensures { IsOperation (operation_borrowed item.now) }
 {
     match item {
         Record::Admit(slice) => {
             let _bytes = slice.bytes();
         }
-        Record::Retire(key, digest) => show_parts(*key, *digest),
+        Record::Retire(key, digest) => {
+            let _retirement = retirement(*key, *digest);
+        }
     }
 }
 
 /// How many bytes the record of an operation has.
 fn length_of(item: &Record<'_>) -> u64
-    ensures { result ≡ length (lent_bytes item.now) }
+    ensures { result ≡ length (borrowed_bytes item.now) }
 {
     match item {
         Record::Admit(slice) => admission_head(slice).len() as u64 + slice.bytes().len() as u64,
@@ -142,7 +133,7 @@ fn compare_parts(item: &[u8], front: &[u8], rest: &[u8]) -> Ordering
 
 /// Compares a record with that of an operation.
 fn compare_record(item: &[u8], last: &Record<'_>) -> Ordering
-    ensures { result ≡ slice_cmp nat_cmp item.now (lent_bytes last.now) }
+    ensures { result ≡ slice_cmp nat_cmp item.now (borrowed_bytes last.now) }
 {
     match last {
         Record::Admit(slice) => compare_parts(item, &admission_head(slice), slice.bytes()),
@@ -153,7 +144,7 @@ fn compare_record(item: &[u8], last: &Record<'_>) -> Ordering
 /// Whether a record may stand behind the last one, if there is one.
 #[tactic(auto, unfolding(archive_records::specs::Kind::may_follow, archive_records::specs::Kind::allows))]
 fn may_follow(last: &Option<Record<'_>>, next: &Record<'_>) -> bool
-    ensures { result ≡ may_follow OldArchive (last_bytes last.now) (lent_bytes next.now) }
+    ensures { result ≡ may_follow OldArchive (last_bytes last.now) (borrowed_bytes next.now) }
 {
     match last {
         Some(last) => last.compare(next) == Ordering::Less,
@@ -161,50 +152,22 @@ fn may_follow(last: &Option<Record<'_>>, next: &Record<'_>) -> bool
     }
 }
 
-/// Whether one of these retirements covers the slice of these bytes, by what was found out of it. A digest that is
-/// asked for is found out for whoever asks next.
-fn covers_slice(retirements: &Retirements, bytes: &[u8], found: &mut SliceFacts) -> bool
-    requires { IsCheckedOf bytes.now found.old }
-    ensures covered { result ≡ is_covered (set_of retirements.now) (admission_record bytes.now) }
-    ensures found { IsCheckedOf bytes.now found.new }
+/// Whether one of these retirements covers the slice. A digest that is asked for is kept for whoever asks next.
+fn covers_slice(retirements: &Retirements, slice: &mut CheckedSlice<'_>) -> bool
+    ensures covered { result ≡ is_covered (set_of retirements.now) (admission_record slice.old) }
+    ensures same { slice.new ≡ slice.old }
 {
-    let mut slice = CheckedSlice::of_checked(bytes, *found);
     let _bytes = slice.bytes();
-    let covered = retirements.covers(&mut slice);
-    *found = slice.facts();
-    covered
-}
-
-/// The same of either of two.
-fn either_covers(
-    shared: &Retirements,
-    retired: &Retirements,
-    bytes: &[u8],
-    found: &mut SliceFacts,
-) -> bool
-    requires { IsCheckedOf bytes.now found.old }
-    ensures covered { result ≡ is_covered (set_of (shared.now ++ retired.now)) (admission_record bytes.now) }
-    ensures found { IsCheckedOf bytes.now found.new }
-{
-    if covers_slice(retired, bytes, found) {
-        return true;
-    }
-    covers_slice(shared, bytes, found)
+    retirements.covers(slice)
 }
 
 /// Whether one of these retirements covers the record.
 fn covers(shared: &Retirements, retired: &Retirements, item: &mut Record<'_>) -> bool
-    ensures covered { result ≡ is_covered (set_of (shared.now ++ retired.now)) (lent_bytes item.old) }
+    ensures covered { result ≡ is_covered (set_of (shared.now ++ retired.now)) (borrowed_bytes item.old) }
     ensures same { item.new ≡ item.old }
 {
     match item {
-        Record::Admit(slice) => {
-            let bytes = slice.bytes();
-            let mut found = slice.facts();
-            let covered = either_covers(shared, retired, bytes, &mut found);
-            *slice = CheckedSlice::of_checked(bytes, found);
-            covered
-        }
+        Record::Admit(slice) => covers_slice(retired, slice) || covers_slice(shared, slice),
         Record::Retire(_, _) => false,
     }
 }
@@ -216,7 +179,7 @@ fn keep(
     next: &mut Record<'_>,
 ) -> Result<bool, NoMemory>
     ensures kept { IfOk result (λ dropped. Keeps (shared.now ++ retired.old) (shared.now ++ retired.new) dropped
-        (lent_bytes next.old)) }
+        (borrowed_bytes next.old)) }
     ensures same { next.new ≡ next.old }
 {
     if let Record::Retire(key, digest) = next {
@@ -249,7 +212,7 @@ impl<'a> BorrowedSide<'a> {
     /// Takes the next record over the last one.
     fn take(&mut self, next: Record<'a>, shared: &Retirements) -> Result<(), RecordFault>
         requires few { self.old.count + 1 < 2 ^ 63 }
-        ensures { (rest : List ℕ) → AdvancesTo (Some (lent_bytes next.entry ++ rest)) (Some rest)
+        ensures { (rest : List ℕ) → AdvancesTo (Some (borrowed_bytes next.entry ++ rest)) (Some rest)
             (beside (Some shared.now) (seen_of self.old).reader) (beside (Some shared.now) (seen_of self.new).reader)
             self.new.ahead result }
     {

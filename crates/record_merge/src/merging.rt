@@ -54,7 +54,7 @@ impl<B: Side> Merge<B> {
         }
         let cause = match next {
             Ordering::Greater => MergeCause::Right(self.right.wanted()),
-            Ordering::Less | Ordering::Equal => MergeCause::Left(self.left.out_of_memory()),
+            Ordering::Less | Ordering::Equal => MergeCause::Left(self.left.wanted()),
         };
         Err(self.stopped_by(cause))
     }
@@ -72,7 +72,7 @@ impl<B: Side> Merge<B> {
         ensures { IsToldOfRight (sides_of B.seen self.now) fault result }
     {
         if fault.kind == RecordFaultKind::OutOfMemory && self.is_last_of_both() {
-            return self.stopped_by(MergeCause::Left(self.left.out_of_memory()));
+            return self.stopped_by(MergeCause::Left(self.left.wanted()));
         }
         self.stopped_by(MergeCause::Right(fault))
     }
@@ -277,7 +277,7 @@ pub fn read_left<R: Source, B: Side>(r1: &mut R, m: &mut Merge<B>) -> Result<(),
     ensures unfailed { OnOk result (R.failures r1.new ≡ R.failures r1.old) }
     ensures blames { IfErr result (λ e. BlamesLeft (stream R.left R.failures r1.old r1.new) e.cause) }
 {
-    match m.left.read_text_on(r1, &m.shared) {
+    match m.left.read_on(r1, &m.shared) {
         Ok(()) => Ok(()),
         Err(fault) => Err(m.stopped_by(MergeCause::Left(fault))),
     }

@@ -1,8 +1,6 @@
 //! A writer that keeps nothing.
 
-ghost use Rattle.std.specs.Prelude.{◌≡◌, ◌<◌, ◌≤◌, length, IfOk, None};
-ghost use Rattle.std.specs.Io.KnownBytes.{WriteAppends};
-ghost use Rattle.byte_device.specs.Devices.{CountsFailure};
+ghost use Rattle.std.specs.Prelude.{◌<◌, None};
 
 use byte_device::{Failed, Sink};
 

@@ -8,10 +8,9 @@ ghost use Rattle.std.specs.Cmp.Lexicographic.{slice_cmp};
 ghost use Rattle.archive_records.specs.declared.kind.TextKind.TheVariants.{Archive};
 ghost use Rattle.archive_records.specs.Kind.{kind_of};
 ghost use Rattle.archive_records.specs.Text.{last_of};
-ghost use Rattle.archive_records.specs.Reader.{FaultBlamesReader, HasRead, StoppedWith};
+ghost use Rattle.archive_records.specs.Reader.{FaultBlamesReader, HasRead, StoppedWith, set_of};
 ghost use Rattle.archive_core.specs.Content.{is_covered};
 ghost use Rattle.archive_core.specs.Record.{IsRecord};
-ghost use Rattle.archive_records.specs.Reader.{set_of};
 ghost use Rattle.byte_device.specs.Writes.{Puts};
 ghost use Rattle.record_merge.specs.Sides.{side_with};
 ghost use Rattle.record_merge.specs.MergeSteps.{Stands, StopsBeforeRecords, memory_for, unread_of, weight};
@@ -41,31 +40,6 @@ pub struct MergeInput {
 }
 
 impl MergeInput {
-    /// Reads the magic.
-    pub fn begin_text<R: Source>(heap: &Heap, r: &mut R) -> Result<MergeInput, RecordFault>
-        ensures read { IfOk result (λ side. HasRead side.reader.file (R.left r.old) (R.left r.new) [] side.reader) }
-        ensures archive { IfOk result (λ side. kind_of side.reader.file ≡ Archive) }
-        ensures unread { IfOk result (λ side. side.ahead ≡ Lookahead.Unread) }
-        ensures stops { IfErr result (StopsBeforeRecords (R.left r.old) (R.left r.new)) }
-        ensures reader { FaultBlamesReader R.left R.failures r.old r.new result }
-    {
-        let Ok(buffers) = heap.clone() else {
-            return Err(RecordFault::out_of_memory(0));
-        };
-        let reader = RecordReader::begin(buffers, TextKind::Archive, r)?;
-        Ok(MergeInput {
-            reader,
-            ahead: Lookahead::Unread,
-        })
-    }
-
-    /// What is told where memory is wanted for the record that the side holds.
-    pub fn out_of_memory(&self) -> RecordFault
-        ensures { result ≡ memory_for self.now }
-    {
-        RecordFault::out_of_memory(self.reader.before_last())
-    }
-
     /// Reads the next record over the last, or else the end record, behind which the input ends. What
     /// it shares with the other side counts as its own.
     fn advance<R: Source>(&mut self, r: &mut R, shared: &Retirements) -> Result<(), RecordFault>
@@ -92,33 +66,6 @@ impl MergeInput {
         }
         Ok(())
     }
-
-    /// Reads on, where the last record had its turn.
-    pub fn read_text_on<R: Source>(
-        &mut self,
-        r: &mut R,
-        shared: &Retirements,
-    ) -> Result<(), RecordFault>
-        requires archive { kind_of self.old.reader.file ≡ Archive }
-        requires few { self.old.reader.count < 2 ^ 63 }
-        ensures stands { (a : Option (List ℕ)) (done : List (List ℕ)) (low : List ℕ)
-            → Stands a (R.left r.old) done low (side_with shared.now self.old)
-            → MatchResult result
-            (λ _. Stands a (R.left r.new) done low (side_with shared.now self.new))
-            (λ fault. StoppedWith self.old.reader.file a (R.left r.new) done fault self.new.reader.last
-            × (last_of [] done ≡ low)) }
-        ensures unread { OnErr result (self.old.ahead ≡ Lookahead.Unread) }
-        ensures archive { OnOk result (self.new.reader.file ≡ self.old.reader.file) }
-        ensures read { OnOk result (self.new.ahead ≢ Lookahead.Unread) }
-        ensures few { OnOk result (self.new.reader.count < 2 ^ 63) }
-        ensures less { OnOk result (weight self.new ≤ weight self.old) }
-        ensures reader { FaultBlamesReader R.left R.failures r.old r.new result }
-    {
-        match self.ahead {
-            Lookahead::Unread => self.advance(r, shared),
-            Lookahead::Held | Lookahead::Ended => Ok(()),
-        }
-    }
 }
 
 /// The right side of a merge: records that are read one after another, of a text or of operations that are held.
@@ -137,10 +84,6 @@ pub trait Side: Sized + Drop {
         ensures { result ≡ slice_cmp nat_cmp item.now (seen self.now).reader.last };
 
     /// Writes the last record behind the first `done` bytes of a text, and says how many there are then.
-    ///
-    /// # Errors
-    ///
-    /// The writer failed; it has gained the first bytes of the record, and `written` counts the `done` bytes, too.
     fn put_last<W: Sink>(&self, w: &mut W, done: u128) -> Result<u128, WriteFault>
         requires { done + 2 ^ 64 < 2 ^ 128 }
         ensures puts { Puts W.held W.failures (λ n. n) w.old w.new done (seen self.now).reader.last result }
@@ -245,7 +188,7 @@ impl Side for MergeInput {
     }
 
     fn wanted(&self) -> RecordFault {
-        self.out_of_memory()
+        RecordFault::out_of_memory(self.reader.before_last())
     }
 
     fn retired(&self) -> &Retirements {
@@ -267,10 +210,20 @@ impl<S: Source> ReadFrom<S> for MergeInput {
     ghost failures = { λ s. S.failures s };
 
     fn begin(heap: &Heap, text: &mut S) -> Result<MergeInput, RecordFault> {
-        MergeInput::begin_text(heap, text)
+        let Ok(buffers) = heap.clone() else {
+            return Err(RecordFault::out_of_memory(0));
+        };
+        let reader = RecordReader::begin(buffers, TextKind::Archive, text)?;
+        Ok(MergeInput {
+            reader,
+            ahead: Lookahead::Unread,
+        })
     }
 
     fn read_on(&mut self, text: &mut S, shared: &Retirements) -> Result<(), RecordFault> {
-        self.read_text_on(text, shared)
+        match self.ahead {
+            Lookahead::Unread => self.advance(text, shared),
+            Lookahead::Held | Lookahead::Ended => Ok(()),
+        }
     }
 }

@@ -1,10 +1,9 @@
 //! Two archives that are merged as they come.
 
 ghost use Rattle.std.specs.Prelude.{◌≡◌, ℕ, Bool, false, List, [], Option, OnOk, IfOk, IfErr, MatchResult};
-ghost use Rattle.byte_device.specs.Devices.{FailedIn};
+ghost use Rattle.byte_device.specs.Devices.{FailedIn, stream};
 ghost use Rattle.archive_records.specs.declared.fault.MergeCause.TheVariants.{Write};
 ghost use Rattle.record_merge.specs.Merging.{GainsCount, Merges};
-ghost use Rattle.byte_device.specs.Devices.{stream};
 ghost use Rattle.record_merge.specs.MergeSteps.{BlamesDevices, Fits, HasEnded, Leaves, Merging, StopsMerge};
 ghost use Rattle.record_merge.specs.Sides.{sides_of};
 ghost use Rattle.record_merge.specs.declared.arrivals.Arrival.{Arrival};
@@ -43,7 +42,7 @@ pub fn begin_both<R: Source, F, B: ReadFrom<F>, W: Sink>(
     let Ok(shared) = Retirements::none(heap) else {
         return Err(before_the_magic(MergeCause::Left(RecordFault::out_of_memory(0))));
     };
-    let left = match MergeInput::begin_text(heap, r1) {
+    let left = match MergeInput::begin(heap, r1) {
         Ok(side) => side,
         Err(fault) => return Err(before_the_magic(MergeCause::Left(fault))),
     };

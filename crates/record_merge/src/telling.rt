@@ -1,8 +1,7 @@
 //! A merge that tells what each record of its right side is to the left one, and whether the right one retires what is
 //! there.
 
-ghost use Rattle.std.specs.Prelude.{◌≡◌, ◌≢◌, ◌<◌, ℕ, List, [], Option, OnOk, IfOk, IfErr, IsSome};
-ghost use Rattle.std.specs.Prelude.{IfSome, map, false};
+ghost use Rattle.std.specs.Prelude.{◌≡◌, ◌≢◌, ◌<◌, ℕ, List, [], Option, OnOk, IfOk, IfErr, IsSome, IfSome, map, false};
 ghost use Rattle.std.specs.List.{list_any};
 ghost use Rattle.std.specs.Result.{result_map_both};
 ghost use Rattle.std.specs.declared.cmp.Ordering.TheVariants.{Less};

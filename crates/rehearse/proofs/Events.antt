@@ -4,7 +4,7 @@ use Rattle.std.proofs.lemmas.List.{append-nil, length-take}
 use Rattle.std.proofs.Math.Seq.{take-suc}
 use Rattle.std.specs.Fmt.{decimal}
 use Rattle.archive_exchange.specs.declared.outcome.Outcome.{Outcome}
-use Rattle.rehearse.specs.Rehearsal.{event_lines, outcome_text}
+use Rattle.rehearse.specs.EventLines.{event_lines, outcome_text}
 use Rattle.report_text.specs.Report.{line}
 
 abbrev one_line : List (List ℕ) → ℕ → Outcome → List ℕ

@@ -11,14 +11,14 @@ use Rattle.exchange_model.specs.World.{World, Event, Take, Full, Ask, Reply, Mes
 use Rattle.exchange_model.specs.World as model
 use Rattle.archive_core.specs.Content.{Operations}
 use Rattle.archive_exchange.specs.SiteState.{SiteState}
-use Rattle.archive_exchange.specs.Rehearsal.{Represents, message_text}
+use Rattle.archive_exchange.specs.WorldState.{Represents, message_text}
 use Rattle.archive_exchange.specs.ModelEvent.{ModelEvent, AreSeen, OutcomeIs}
-use Rattle.rehearsal.specs.declared.event.Event.{Event as Event_given}
+use Rattle.exchange_script.specs.declared.event.Event.{Event as Event_given}
 use Rattle.admission.specs.declared.fault.TakeFault.{TakeFault}
 use Rattle.archive_exchange.specs.declared.outcome.Outcome.{Outcome}
 use Rattle.archive_exchange.specs.declared.outcome.Outcome.TheVariants.{Sent}
-use Rattle.command_ends.proofs.Readers.{all_more}
-use Rattle.rehearse.specs.Rehearsal.{IsSentAmong, event_lines}
+use Rattle.command_core.proofs.Readers.{all_more}
+use Rattle.rehearse.specs.EventLines.{IsSentAmong, event_lines}
 use Rattle.rehearse.specs.Rehearse.{TellsEvents, held_line, site_lines}
 
 -- the message that an answer tells is there, among so many

@@ -1,2 +1,2 @@
-pub mod Rehearsal
+pub mod EventLines
 pub mod Rehearse

@@ -5,17 +5,17 @@ use Rattle.sha2.specs.Sha256.{sha256}
 use Rattle.archive_core.specs.Content.{Operations}
 use Rattle.archive_records.specs.Text.{written}
 use Rattle.exchange_model.specs.World.{World, state, outcomes}
-use Rattle.archive_exchange.specs.Rehearsal.{message_text}
+use Rattle.archive_exchange.specs.WorldState.{message_text}
 use Rattle.archive_exchange.specs.ModelEvent.{ModelEvent, AreSeen, OutcomeIs}
-use Rattle.rehearsal.specs.declared.event.Event.{Event}
+use Rattle.exchange_script.specs.declared.event.Event.{Event}
 use Rattle.archive_exchange.specs.declared.outcome.Outcome.{Outcome}
-use Rattle.rehearsal.specs.Script.{acts, script_of}
-use Rattle.rehearse.specs.Rehearsal.{event_lines, site_line}
-use Rattle.command_ends.specs.declared.faults.Status.{Status}
-use Rattle.command_ends.specs.declared.faults.Status.TheVariants.{Done}
-use Rattle.command_ends.specs.Ends.{Query}
-use Rattle.command_ends.specs.Inputs.{Reader, Gives, Unfailed, IsRefusedScript}
-use Rattle.command_ends.specs.Outputs.{sizes_of}
+use Rattle.exchange_script.specs.Script.{acts, script_of}
+use Rattle.rehearse.specs.EventLines.{event_lines, site_line}
+use Rattle.command_core.specs.declared.faults.Status.{Status}
+use Rattle.command_core.specs.declared.faults.Status.TheVariants.{Done}
+use Rattle.command_core.specs.Ends.{Query}
+use Rattle.command_core.specs.Inputs.{Reader, Gives, Unfailed, IsRefusedScript}
+use Rattle.command_core.specs.Outputs.{sizes_of}
 
 -- the line of a site that holds this content
 abbrev pub held_line : ℕ → Operations → List ℕ

@@ -1,11 +1,11 @@
 //! The command `rehearse`: what is given at sites is carried out, and each event answered by a line.
 //!
-//! - `rehearsals`: the lines of `rehearse`;
+//! - `lines`: the lines of `rehearse`;
 //! - `rehearse`: the command.
 #![tactic(auto)]
 
-mod rehearsals;
+mod lines;
 mod rehearse;
 
-pub use rehearsals::{push_events, push_site};
+pub use lines::{push_events, push_site};
 pub use rehearse::run_rehearse;

@@ -1,10 +1,10 @@
 //! `rehearse SCRIPT`.
 ghost use Rattle.std.specs.Prelude.{◌≡◌, ◌++◌, IfOk, OnOk, length, string_bytes};
 ghost use Rattle.exchange_model.specs.World.{World as WorldModel};
-ghost use Rattle.archive_exchange.specs.Rehearsal.{Represents};
-ghost use Rattle.command_ends.specs.Ends.{EndsReport};
-ghost use Rattle.command_ends.specs.Inputs.{reader};
-ghost use Rattle.command_ends.specs.Outputs.{writer};
+ghost use Rattle.archive_exchange.specs.WorldState.{Represents};
+ghost use Rattle.command_core.specs.Ends.{EndsReport};
+ghost use Rattle.command_core.specs.Inputs.{reader};
+ghost use Rattle.command_core.specs.Outputs.{writer};
 ghost use Rattle.rehearse.specs.Rehearse.{TellsEvents, held_line, rehearse, site_lines};
 
 use crate::{push_events, push_site};
@@ -13,9 +13,10 @@ use archive_exchange::laws::one_meaning;
 use archive_exchange::{Site, World, run};
 use archive_records::Sizes;
 use byte_device::{CannotOpen, Sink, Source};
-use command_ends::{CommandFault, Status, publish_report, read_events};
+use command_core::{CommandFault, Status, publish_report};
+use command_inputs::read_events;
+use exchange_script::Script;
 use memory::{Heap, NoMemory};
-use rehearsal::Script;
 use sha2::{Digest as _, Sha256};
 
 /// Adds the line of a site, of which the archive's text is made for its sizes and its SHA-256.
@@ -35,7 +36,6 @@ fn push_held<A: Archive + Drop>(
     push_site(text, number, sizes, digest)
 }
 
-/// Adds a line a site.
 fn push_sites<A: Archive + Drop>(text: &mut String<Heap>, world: &World<A>) -> Result<(), NoMemory>
     ensures { OnOk result ((w : WorldModel)
         → Represents world.now.sites world.now.messages w
@@ -47,7 +47,6 @@ fn push_sites<A: Archive + Drop>(text: &mut String<Heap>, world: &World<A>) -> R
     Ok(())
 }
 
-/// Carries out the events of a script, and makes their lines.
 fn lines_of<A: Archive + Drop>(heap: Heap, script: &Script) -> Result<String<Heap>, NoMemory>
     ensures { IfOk result (λ text. TellsEvents script.now.sites script.now.events.items (string_bytes text)) }
 {

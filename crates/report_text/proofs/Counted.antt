@@ -17,8 +17,7 @@ use Rattle.std.proofs.lemmas.List.Sums.{length-filter}
 use Rattle.std.proofs.lemmas.Map.Keys.{sorted_head, sorted_tail}
 use Rattle.archive_core.specs.Content.{Operations}
 use Rattle.archive_core.specs.Record.{record_bytes}
-use Rattle.archive_core.specs.Find.{is_arch, is_dsym, is_image, answering_count, arch_cmp, find_cmp, key_in, row_of, IsFinds}
-use Rattle.archive_core.specs.Find.{is_key}
+use Rattle.archive_core.specs.Find.{is_arch, is_dsym, is_image, answering_count, arch_cmp, find_cmp, key_in, row_of, IsFinds, is_key}
 use Rattle.archive_core.specs.Lists.{list_cmp, IsList, rows_under}
 use Rattle.archive_core.specs.Names.{key_cmp}
 use Rattle.archive_core.specs.declared.keys.ArchKey.{ArchKey}
@@ -27,8 +26,9 @@ use Rattle.archive_core.specs.declared.find.FindRow.{FindRow}
 use Rattle.archive_core.specs.declared.operations.Operation.{Operation}
 use Rattle.archive_core.proofs.Told.{found_under}
 use Rattle.archive_core.proofs.Members.{in_front, in_rest}
+use Rattle.archive_core.proofs.Answering.{one_key}
 use Rattle.report_text.specs.Finds.{Group, with_row, groups}
-use Rattle.report_text.proofs.Grouped.{same_key, key_is_same}
+use Rattle.report_text.proofs.Grouped.{key_is_same}
 
 arch_total : IsTotalOrder arch_cmp
 arch_total = then_total (on_total (λ arch. arch.cputype) nat_cmp_total) (on_total (λ arch. arch.cpusubtype) nat_cmp_total)
@@ -61,7 +61,7 @@ put_before : (P : List Group → Type 0) (row : FindRow) (group : Group) (after 
     → (is_key group.key row.key ≡ false → P (record { key = row.key; rows = row ∷ [] } ∷ (group ∷ after)))
     → P (with_row row (group ∷ after))
 put_before P row group after leads apart =
-    cond_both (is_key group.key row.key) _ _ P (λ e. leads (same_key group.key row.key e)) apart
+    cond_both (is_key group.key row.key) _ _ P (λ e. leads (one_key group.key row.key e)) apart
 
 -- what holds of each holds of each in what follows from it
 weaker : {X : Type 0} (P Q : X → Type 0) → ((x : X) → P x → Q x) → (xs : List X) → AllByRecursion P xs

@@ -1,19 +1,15 @@
 -- The groups of rows, one cut off after another.
 use Rattle.std.proofs.Common.{◌≡◌, ◌∙◌, ℕ, suc, ◌+◌, ◌<◌, Some, None, List, [], ◌∷◌, ◌++◌, Bool, true, false, if◌then◌else◌, refl, sym, ap, subst, take, drop, arith, append_assoc, append-nil, length, length-drop}
 use Rattle.std.specs.List.{prefix_len, flat_map, slice_get}
-use Rattle.std.proofs.lemmas.Bool.Decides.{nat_tests}
 use Rattle.std.proofs.lemmas.Bool.{eq-eqb}
 use Rattle.archive_core.specs.declared.keys.SliceKey.{SliceKey}
-use Rattle.archive_core.specs.Find.{is_key}
+use Rattle.archive_core.specs.Find.{is_key, answering_count}
 use Rattle.std.proofs.lemmas.Slice.Eq.{bytes_eq-Decides}
 use Rattle.report_text.specs.declared.finds.KeyForm.{KeyForm}
 use Rattle.archive_core.specs.declared.find.FindRow.{FindRow}
-use Rattle.archive_core.specs.Find.{answering_count}
+use Rattle.archive_core.proofs.Answering.{one_key}
 use Rattle.report_text.specs.Finds.{Group, with_row, groups, group_lines, groups_lines, find_row_text, conflict_line}
 use Rattle.report_text.specs.Report.{line}
-
-pub same_key : (a b : SliceKey) → is_key a b ≡ true → a ≡ b
-same_key a b e = grind (arith, nat_tests, (bytes_eq-Decides a.uuid b.uuid).0)
 
 -- how many rows behind one of this key are of it
 abbrev pub len_behind : SliceKey → List FindRow → ℕ
@@ -34,7 +30,7 @@ len_behind-cons key next rows false e = rw e refl
 
 step : (row next : FindRow) (rows : List FindRow) (b : Bool) → is_key next.key row.key ≡ b → groups (next ∷ rows) ≡ cut next rows → with_row row (cut next rows) ≡ cut row (next ∷ rows)
 step row next rows true e before =
-    let same = same_key next.key row.key e in
+    let same = one_key next.key row.key e in
     let one : 1 + len_behind row.key rows ≡ suc (len_behind row.key rows) = omega arith in
     rw (e, one, same) refl
 step row next rows false e before = rw (e, before) refl

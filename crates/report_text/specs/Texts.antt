@@ -22,8 +22,8 @@ use Rattle.fat_slices.specs.declared.fault.FatFault.{FatFault}
 use Rattle.fat_slices.specs.declared.fault.FatFault.TheVariants.{NotUniversal, HeaderTruncated as FatHeaderTruncated}
 use Rattle.fat_slices.specs.declared.fault.FatFault.TheVariants.{TooManyArches, TableTruncated, SliceOutside}
 use Rattle.fat_slices.specs.declared.fault.FatFault.TheVariants.{TooLarge as FatTooLarge}
-use Rattle.rehearsal.specs.declared.script.ScriptFault.{ScriptFault}
-use Rattle.rehearsal.specs.declared.script.ScriptFault.TheVariants.{NoSites, BadEvent, TooManyEvents}
+use Rattle.exchange_script.specs.declared.script.ScriptFault.{ScriptFault}
+use Rattle.exchange_script.specs.declared.script.ScriptFault.TheVariants.{NoSites, BadEvent, TooManyEvents}
 
 -- a fault's name, and what it holds in parentheses
 abbrev pub called : List ℕ → List ℕ → List ℕ

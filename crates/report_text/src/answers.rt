@@ -23,14 +23,12 @@ pub struct Escaped<'a>(pub &'a [u8]);
 #[derive(Clone, Copy)]
 pub(crate) struct EscapedByte(pub(crate) u8);
 
-// Whether a byte of a name is not printed as itself.
 fn is_escaped(byte: u8) -> bool
     ensures { result ≡ is_escaped byte }
 {
     byte < 0x20 || byte > 0x7e || byte == b'\\'
 }
 
-// Whether a name has a byte that is not printed as itself.
 fn has_escaped(name: &[u8]) -> bool
     ensures { result ≡ list_any is_escaped name.now }
 {
@@ -48,7 +46,7 @@ fn plain(name: &[u8]) -> Option<&str>
     str::from_utf8(name).ok()
 }
 
-#[tactic(auto, using(crate::proofs::Escapes::two_digits), unfolding(crate::specs::Escapes::escaped_byte))]
+#[tactic(auto, using(archive_words::proofs::Digits::padded_hex2), unfolding(crate::specs::Escapes::escaped_byte))]
 impl fmt::Display for EscapedByte {
     ghost use Rattle.std.specs.Prelude.{Some};
     ghost use Rattle.report_text.specs.Escapes.{escaped_byte};
@@ -117,7 +115,6 @@ impl<'a> fmt::Display for Text<Own<'a>> {
     }
 }
 
-// Writes what one slice of several answers.
 #[tactic(auto, unfolding(crate::specs::Answers::own_line))]
 fn push_own(text: &mut String<Heap>, own: &(Digest, Own<'_>)) -> Result<(), NoMemory>
     ensures { OnOk result (string_bytes text.new ≡ string_bytes text.old ++ own_line own.now) }
@@ -127,7 +124,6 @@ fn push_own(text: &mut String<Heap>, own: &(Digest, Own<'_>)) -> Result<(), NoMe
     writeln!(text, "  {digest} {own}")
 }
 
-// Writes what each of several slices answers, and the lines of its frames.
 fn push_owns(
     heap: &Heap,
     text: &mut String<Heap>,

@@ -109,7 +109,7 @@ fn answering_count(rows: &[FindRow], arch: ArchKey) -> usize
     }
 }
 
-// How many rows of a key stand at the front.
+// How many of the first rows are of a key.
 fn group_len(rows: &[FindRow], key: &SliceKey) -> usize
     ensures len { result ≡ prefix_len (λ row. is_key row.key key.now) rows.now }
     ensures within { result ≤ length rows.now }
@@ -117,7 +117,6 @@ fn group_len(rows: &[FindRow], key: &SliceKey) -> usize
     rows.iter().take_while(|row| is_key(&row.key, key)).count()
 }
 
-// Writes a line a row.
 fn push_rows(text: &mut String<Heap>, form: KeyForm, rows: &[FindRow]) -> Result<(), NoMemory>
     ensures { OnOk result (string_bytes text.new
         ≡ string_bytes text.old ++ flat_map (λ row. line (find_row_text form row)) rows.now) }
@@ -170,7 +169,7 @@ pub fn find_lines(heap: Heap, rows: &[FindRow]) -> Result<String<Heap>, NoMemory
     groups_lines(heap, KeyForm::Arch, rows)
 }
 
-/// The lines of `list`: those of `find` for each UUID, with the UUID in front of each.
+/// The lines of `list`: those of `find` for each UUID, with the UUID before each.
 pub fn list_lines(heap: Heap, rows: &[FindRow]) -> Result<String<Heap>, NoMemory>
     ensures { IfOk result (λ text. string_bytes text ≡ list_lines rows.now) }
 {

@@ -38,7 +38,6 @@ fn push_byte(text: &mut String<Heap>, byte: u8, after: &[u8]) -> Result<(), NoMe
     }
 }
 
-// Writes the name of a function.
 fn push_name(text: &mut String<Heap>, name: &[u8]) -> Result<(), NoMemory>
     ensures { OnOk result (string_bytes text.new ≡ string_bytes text.old ++ function_text name.now) }
 {
@@ -50,7 +49,6 @@ fn push_name(text: &mut String<Heap>, name: &[u8]) -> Result<(), NoMemory>
     Ok(())
 }
 
-// Writes the name of a function, or `?`.
 fn push_function(text: &mut String<Heap>, name: Option<&[u8]>) -> Result<(), NoMemory>
     ensures { OnOk result (string_bytes text.new ≡ string_bytes text.old
         ++ function_or_unknown (option_map (λ n. n.now) name.entry)) }
@@ -61,7 +59,6 @@ fn push_function(text: &mut String<Heap>, name: Option<&[u8]>) -> Result<(), NoM
     }
 }
 
-// Writes the path of a file, or `?`.
 fn push_path(
     heap: &Heap,
     text: &mut String<Heap>,
@@ -80,7 +77,6 @@ fn push_path(
     }
 }
 
-// Writes a frame.
 #[tactic(auto, unfolding(crate::specs::Frames::frame_text))]
 fn push_frame(heap: &Heap, text: &mut String<Heap>, frame: &Frame<'_>) -> Result<(), NoMemory>
     ensures { OnOk result (string_bytes text.new ≡ string_bytes text.old ++ frame_line (frame_view frame.now)) }
@@ -94,7 +90,6 @@ fn push_frame(heap: &Heap, text: &mut String<Heap>, frame: &Frame<'_>) -> Result
     writeln!(text, ":{line}:{column}")
 }
 
-/// Writes a line for each frame, in their order.
 #[tactic(auto, unfolding(crate::specs::Frames::frame_lines))]
 pub(crate) fn push_frames(
     heap: &Heap,
@@ -110,7 +105,6 @@ pub(crate) fn push_frames(
     Ok(())
 }
 
-/// Writes the lines of the frames of each list.
 pub(crate) fn push_each(
     heap: &Heap,
     text: &mut String<Heap>,

@@ -33,8 +33,8 @@ pub fn name_lines(heap: Heap, rows: &[OwnedNameRow]) -> Result<String<Heap>, NoM
 {
     let mut text = String::new(heap);
     'rows: for row in rows {
-        let lent = row.lend();
-        let line = Text(&lent);
+        let borrowed = row.lend();
+        let line = Text(&borrowed);
         writeln!(text, "{line}")?;
     }
     Ok(text)

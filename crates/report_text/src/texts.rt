@@ -3,10 +3,10 @@
 use admission::TakeFault;
 use archive_core::SliceFault;
 use archive_records::{RecordFault, RecordFaultKind};
+use exchange_script::ScriptFault;
 use fat_slices::FatFault;
 use macho_image::ImageFault;
 use macho_symbols::SymbolFault;
-use rehearsal::ScriptFault;
 use std::fmt::{self, Display};
 
 /// A value of another crate, shown as this program prints it.

@@ -1,9 +1,8 @@
 -- The rows that cover starts, and the addresses after them.
-use Rattle.std.proofs.Common.{◌≡◌, ◌≢◌, ℕ, zero, suc, ◌+◌, ◌<◌, ◌≤◌, ◌⊎◌, Bool, true, false, cond, nat_lt, List, [], ◌∷◌, length, map, get_or, slice_get, Option, Some, None, refl, sym, ap, subst, ◌∙◌, inl, inr, arith}
+use Rattle.std.proofs.Common.{◌≡◌, ℕ, zero, suc, ◌+◌, ◌<◌, ◌≤◌, ◌⊎◌, true, false, nat_lt, List, [], ◌∷◌, length, map, get_or, slice_get, Option, Some, None, refl, sym, ap, subst, ◌∙◌, inl, inr, arith}
 use Rattle.std.specs.Prelude.{◌↔◌}
 use Rattle.std.specs.List.{Contains}
 use Rattle.std.proofs.lemmas.Bool.{cases_Bool, cases_eq, cases_lt, ltb-true, ltb-false}
-use Rattle.std.proofs.lemmas.Bool.Decides.{nat_tests}
 use Rattle.std.proofs.lemmas.Grind.{get_or_default_zero}
 use Rattle.std.proofs.lemmas.Option.{none-some, same_Some, slice_get-get_or}
 use Rattle.line_programs.specs.Covering.{CoversAt, IsCovering}
@@ -11,16 +10,10 @@ use Rattle.line_programs.specs.Inner.{covers, covered, covering_with}
 use Rattle.line_programs.specs.declared.registers.Row.{Row}
 use Rattle.row_steps.specs.AddressSteps.{at_step}
 use Rattle.row_steps.specs.RowCover.{AreKnown, Covers}
-use Rattle.waiting_indexes.specs.Rising.{IsCountBelow}
+use Rattle.waiting_indexes.specs.Rising.{IsCountBelow, AreRising}
 use Rattle.row_steps.specs.RowSteps.{AreRowSteps}
-use Rattle.waiting_indexes.specs.Rising.{AreRising}
-use Rattle.line_programs.proofs.CoveringLemmas.{IsCovered, covering_with-is, step_end, step_none, step_some}
-
-test_true : (a : ℕ) (last row : Row) → covers a last row ≡ true → IsCovered a last row
-test_true a last row h = record { inside = grind (arith, nat_tests); above = grind (arith, nat_tests); below = grind (arith, nat_tests) }
-
-test_false : (a : ℕ) (last row : Row) → covers a last row ≡ false → IsCovered a last row → ⊥
-test_false a last row h k = let x = k.inside in let y = k.above in let z = k.below in grind (arith, nat_tests)
+use Rattle.line_programs.proofs.CoveringLemmas.{IsCovered, covering_with-is, step_end, step_none, step_some, test_false, test_true}
+use Rattle.waiting_indexes.proofs.RisingLists.{rising_rest}
 
 covered_none : (a : ℕ) (last row : Row) → (IsCovered a last row → ⊥) → covered a (Some last) row ≡ None
 covered_none a last row not = elim (cases_Bool (covers a last row)) [
@@ -45,9 +38,6 @@ known_same starts next rows before row left all none known =
       waits = λ i h w. sym (step_none (get_or starts i 0) before row left (none i h)) ∙ known.waits i h w;
       found = known.found;
     }
-
-pub none_first : (starts : List ℕ) (row : Row) → (i : ℕ) → i < length starts → covered (get_or starts i 0) None row ≡ None
-none_first starts row i h = refl
 
 pub none_ended : (starts : List ℕ) (last row : Row) → last.end_sequence ≡ true → (i : ℕ) → i < length starts → covered (get_or starts i 0) (Some last) row ≡ None
 none_ended starts last row ends i h = covered_none (get_or starts i 0) last row (λ is. cc (sym ends ∙ is.inside))
@@ -134,16 +124,13 @@ known_step starts now old new rows after last row left all first end e low high 
 
 -- ---- all addresses
 
-above_first : (a start : ℕ) (starts : List ℕ) → AreRising (start ∷ starts) → a < start → (i : ℕ) → i < length (start ∷ starts) → a < get_or (start ∷ starts) i 0
+pub above_first : (a start : ℕ) (starts : List ℕ) → AreRising (start ∷ starts) → a < start → (i : ℕ) → i < length (start ∷ starts) → a < get_or (start ∷ starts) i 0
 above_first a start starts rising less zero h = less
 above_first a start starts rising less (suc i) h = let r : start < get_or starts i 0 = rising 0 (suc i) 0 (omega arith) h in omega (arith, r, less)
 
 later_above : (a start : ℕ) (starts : List ℕ) (n : ℕ) → ((j : ℕ) → n ≤ j → j < length starts → a < get_or starts j 0) → (j : ℕ) → n < j → j < length (start ∷ starts) → a < get_or (start ∷ starts) j 0
 later_above a start starts n all zero less within = absurd (omega (arith, less))
 later_above a start starts n all (suc j) less within = all j (omega (arith, less)) (omega (arith, within))
-
-rising_rest : (start : ℕ) (starts : List ℕ) → AreRising (start ∷ starts) → AreRising starts
-rising_rest start starts rising = λ i j d less within. rising (suc i) (suc j) d (omega (arith, less)) (omega (arith, within))
 
 -- what is found at the last start that is not above an address
 abbrev pub FoundAtStep : {A : Type 0} → (ℕ → A) → List ℕ → ℕ → A → Type 0

@@ -1,6 +1,5 @@
 -- Starts that rows cover, one row after another: the words of inner functions. No contract of a public one has them.
-use Rattle.std.specs.Prelude.{ℕ, List, ◌≡◌, ◌≢◌, ◌+◌, ◌<◌, ◌≤◌, length, slice_index, slice_index_or}
-use Rattle.std.specs.Prelude.{Option, Some, None}
+use Rattle.std.specs.Prelude.{ℕ, List, ◌≡◌, ◌≢◌, ◌+◌, ◌<◌, ◌≤◌, length, slice_index, slice_index_or, Option, Some, None}
 use Rattle.line_programs.specs.Inner.{covering_with}
 use Rattle.line_programs.specs.declared.registers.Row.{Row}
 use Rattle.waiting_indexes.specs.Waiting.{Waits}

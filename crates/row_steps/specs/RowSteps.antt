@@ -1,5 +1,5 @@
 -- The rows that cover each address, step by step.
-use Rattle.std.specs.Prelude.{ℕ, List, ◌≡◌, ◌<◌, ◌↔◌, length, map, slice_index_or, Option, None}
+use Rattle.std.specs.Prelude.{ℕ, List, ◌≡◌, ◌↔◌, length, map, Option, None}
 use Rattle.std.specs.List.{Contains}
 use Rattle.line_programs.specs.Covering.{IsCovering}
 use Rattle.line_programs.specs.declared.registers.Row.{Row}

@@ -6,9 +6,8 @@ ghost use Rattle.source_frames.specs.AddressFrames.{rows_of};
 ghost use Rattle.source_frames.specs.FrameViews.{lines_view};
 ghost use Rattle.line_programs.specs.declared.registers.Row.{Row};
 ghost use Rattle.row_steps.specs.RowCover.{AreKnown, Covers};
-ghost use Rattle.waiting_indexes.specs.Rising.{IsCountBelow};
+ghost use Rattle.waiting_indexes.specs.Rising.{IsCountBelow, AreRising};
 ghost use Rattle.row_steps.specs.RowSteps.{AreRowSteps};
-ghost use Rattle.waiting_indexes.specs.Rising.{AreRising};
 
 use line_programs::{Row, Rows};
 use memory::{Heap, NoMemory};

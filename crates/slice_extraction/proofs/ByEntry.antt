@@ -10,28 +10,27 @@ use Rattle.archive_core.specs.declared.find.FindRow.{FindRow}
 use Rattle.archive_core.specs.declared.keys.Digest.{Digest}
 use Rattle.archive_core.specs.declared.keys.SliceKey.{SliceKey}
 use Rattle.report_text.specs.Finds.{find_lines}
-use Rattle.command_ends.specs.Ends.{IsStopped}
-use Rattle.command_ends.specs.Inputs.{EachUnfailed, IsRefusal, Reader, Unfailed, reader, readers}
-use Rattle.command_ends.specs.Outputs.{Outs, PlacesNothing, Takes, Writer, out_of}
-use Rattle.command_ends.specs.declared.faults.CommandFault.{CommandFault}
-use Rattle.command_ends.specs.declared.faults.CommandFault.TheVariants.{Input, Output, Report, OutOfMemory}
-use Rattle.command_ends.specs.declared.faults.InputName.{InputName}
-use Rattle.command_ends.specs.declared.faults.Status.{Status}
-use Rattle.command_ends.specs.declared.faults.Why.{Why}
-use Rattle.command_ends.specs.declared.outputs.Output.{Output as Out_value}
-use Rattle.command_ends.proofs.Readers.{none_failed, readers_long, unfailed_more}
+use Rattle.command_core.specs.Ends.{IsStopped}
+use Rattle.command_core.specs.Inputs.{EachUnfailed, IsRefusal, Reader, Unfailed, reader, readers}
+use Rattle.command_core.specs.Outputs.{Outs, PublishesNothing, Takes, Writer, out_of}
+use Rattle.command_core.specs.declared.faults.CommandFault.{CommandFault}
+use Rattle.command_core.specs.declared.faults.CommandFault.TheVariants.{Input, Output, Report, OutOfMemory}
+use Rattle.command_core.specs.declared.faults.InputName.{InputName}
+use Rattle.command_core.specs.declared.faults.Status.{Status}
+use Rattle.command_core.specs.declared.faults.Why.{Why}
+use Rattle.command_core.specs.declared.outputs.Output.{Output as Out_value}
+use Rattle.command_core.proofs.Readers.{none_failed, readers_long, unfailed_more}
 use Rattle.indexed_answers.specs.Among.{AreTied, EntryAt, IsAmong}
 use Rattle.indexed_answers.specs.Named.{IsRowAt}
-use Rattle.indexed_queries.specs.Several.{AreRefusedLater, AreUnfailedTogether, HoldTogether}
-use Rattle.indexed_queries.specs.Together.{AreAllKept, AreLater, AreReadWith, HoldNamed, IsFirstRefusedAtPlaces, IsFirstRefusedByIndex, IsOneOf, IsReadWith}
-use Rattle.indexed_queries.proofs.Groups.{later_readers, one_of, read_earlier, three_long, unfailed_through}
+use Rattle.index_inputs.specs.Several.{AreRefusedLater, AreUnfailedTogether, HoldTogether}
+use Rattle.index_inputs.specs.Together.{AreAllKept, AreLater, AreReadWith, HoldNamed, IsFirstRefusedAtPlaces, IsFirstRefusedByIndex, IsOneOf, IsReadWith}
+use Rattle.index_inputs.proofs.Groups.{later_readers, one_of, read_earlier, three_long, unfailed_through}
 use Rattle.slice_extraction.specs.Entries.{AreUnchosen, IsChosen, StopsSlice}
 use Rattle.slice_extraction.specs.Extract.{Extraction, Extracts}
 use Rattle.slice_extraction.specs.Indexed.{HoldTied, IsChosenFrom, LacksEntry, MakesEntry, StopsEntry, extract_at}
 use Rattle.slice_extraction.specs.InnerChoice.{PublishesRows, PublishesWanted}
 use Rattle.slice_extraction.specs.InnerEntries.{PublishesSlice, PublishesTied}
-use Rattle.slice_extraction.specs.Wanted.{AreUndecided, IsWanted, slice_line, slices_text}
-use Rattle.slice_extraction.specs.Wanted.{written_line}
+use Rattle.slice_extraction.specs.Wanted.{AreUndecided, IsWanted, slice_line, slices_text, written_line}
 use Rattle.slice_extraction.proofs.Extracted.{published_so, took_nothing}
 
 -- the entry that is chosen stands among all
@@ -51,7 +50,7 @@ as_many indexes whole failures before seen all long read = three_long IsReadWith
 
 module _ {D T : Type 0} (command : Extraction) (out : Outs D T) (report : Writer) where
   stopped : (fault : CommandFault) (bytes : List ℕ) → command.writes.Stops fault → Appends (out_of out).draft.old (out_of out).draft.new bytes → ((n : ℕ) → fault ≡ Output n → n ≡ length bytes)
-      → PlacesNothing (out_of out) → Takes report [] → IsStopped command.writes (out_of out) report fault
+      → PublishesNothing (out_of out) → Takes report [] → IsStopped command.writes (out_of out) report fault
   stopped fault bytes stops took count nothing unreported = record {
     stops = stops;
     bytes = bytes;
@@ -66,13 +65,12 @@ module _ {D T : Type 0} (command : Extraction) (out : Outs D T) (report : Writer
       → Extracts command out report (Err fault)
   stopped_before (Input at why) Refuses NoneFailed r stops same unreported =
       inl (stopped (Input at why) [] stops (took_nothing out same).0 (λ n h. absurd (cc h)) (ap (λ (o : Out_value D T). out.published o.target) same, ap (λ (o : Out_value D T). out.failures o.target) same) unreported)
-  stopped_before (Output n) Refuses NoneFailed r stops same unreported = absurd r
-  stopped_before (Report n) Refuses NoneFailed r stops same unreported = absurd r
   stopped_before OutOfMemory Refuses NoneFailed r stops same unreported =
       inl (inl (stopped OutOfMemory [] stops (took_nothing out same).0 (λ n h. absurd (cc h)) (ap (λ (o : Out_value D T). out.published o.target) same, ap (λ (o : Out_value D T). out.failures o.target) same) unreported))
+  stopped_before fault Refuses NoneFailed r stops same unreported = absurd r
 
   -- while a slice was sent
-  pub stopped_amidst : {P : Type 0} (archive : Reader P) (x : EntryAt) (fault : CommandFault) → StopsSlice archive x (out_of out).draft fault → command.writes.Stops fault → PlacesNothing (out_of out) → Takes report []
+  pub stopped_amidst : {P : Type 0} (archive : Reader P) (x : EntryAt) (fault : CommandFault) → StopsSlice archive x (out_of out).draft fault → command.writes.Stops fault → PublishesNothing (out_of out) → Takes report []
       → Extracts command out report (Err fault)
   stopped_amidst archive x (Input at why) s stops nothing unreported = inl (stopped (Input at why) s.bytes stops s.took (λ n h. absurd (cc h)) nothing unreported)
   stopped_amidst archive x (Output n) s stops nothing unreported = inl (inl (stopped (Output n) s.bytes stops s.took (λ m h. same_count n m (cc h) ∙ s.hinders.0) nothing unreported))
@@ -146,9 +144,8 @@ module _ {I P D T : Type 0} (indexes : List (Reader I)) (whole : P → Option (L
         let told : AreRefusedLater (key_bytes key ∷ []) indexes known at why = record { all = all; read = read_all; unfailed = unfailed.0; later = later; are_later = are_later; refused = r } in
         let stops : command.writes.Stops (Input at why) = inl (inr (told, tied), took_nothing out same) in
         stopped_before command out report (Input at why) (λ place reason. Unit {0}) ⊥ tt stops same unreported
-    refused_tied (Output n) r same unreported = absurd r
-    refused_tied (Report n) r same unreported = absurd r
     refused_tied OutOfMemory r same unreported = wanting r same unreported
+    refused_tied fault r same unreported = absurd r
 
     pub tied_so : (result : Result Status CommandFault) → PublishesTied key all later out report result → Extracts command out report result
     tied_so result (inl (p, named, each, wanted)) = wanted_tied result p named each wanted
@@ -200,7 +197,6 @@ pub refused_first : {I P D T : Type 0} (indexes : List (Reader I)) (archives : L
     → IsRefusal (IsFirstRefusedByIndex indexes archives) (EachUnfailed indexes × EachUnfailed archives) fault → out.new ≡ out.old → Takes report [] → Extracts (extract_at indexes archives key digest (out_of out).draft) out report (Err fault)
 refused_first indexes archives key digest out report (Input at why) r same unreported =
     stopped_before (extract_at indexes archives key digest (out_of out).draft) out report (Input at why) (λ place reason. Unit {0}) ⊥ tt (inl (inl r, took_nothing out same)) same unreported
-refused_first indexes archives key digest out report (Output n) r same unreported = absurd r
-refused_first indexes archives key digest out report (Report n) r same unreported = absurd r
 refused_first indexes archives key digest out report OutOfMemory r same unreported =
     stopped_before (extract_at indexes archives key digest (out_of out).draft) out report OutOfMemory (λ place reason. ⊥) (AreUnfailedTogether indexes archives) r (inl (r, took_nothing out same)) same unreported
+refused_first indexes archives key digest out report fault r same unreported = absurd r

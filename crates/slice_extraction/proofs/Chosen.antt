@@ -12,9 +12,8 @@ use Rattle.slice_extraction.specs.Entries.{AreUnchosen, IsChosen}
 
 zip_rows : (xs : List EntryAt) (named : List NamedSlice) → AllZip Names xs named → AllZip IsRowAt xs (map (λ one. one.row) named)
 zip_rows [] [] zip = tt
-zip_rows [] (_ ∷ _) zip = absurd zip
-zip_rows (_ ∷ _) [] zip = absurd zip
 zip_rows (x ∷ xs) (one ∷ named) zip = (zip.0.row, zip_rows xs named zip.1)
+zip_rows xs named zip = absurd zip
 
 -- no digest is given
 pub none_given : (digest : Option Digest) → ((given : Digest) → digest ≡ Some given → ⊥) → digest ≡ None

@@ -1,5 +1,5 @@
 -- How `extract` ends, from what its parts did.
-use Rattle.std.proofs.Common.{◌≡◌, ℕ, List, [], ◌∷◌, Option, Some, None, Result, Ok, Err, refl, sym, ap, subst, inl, inr}
+use Rattle.std.proofs.Common.{◌≡◌, ℕ, List, [], ◌∷◌, Option, Some, None, Result, Err, refl, sym, ap, subst, inl, inr}
 use Rattle.std.proofs.KnownBytes.{Appends-nil}
 use Rattle.std.specs.Io.KnownBytes.{Appends}
 use Rattle.archive_core.specs.Content.{Operations}
@@ -8,16 +8,16 @@ use Rattle.archive_core.specs.Part.{AreAlikeUnder}
 use Rattle.archive_core.specs.declared.keys.Digest.{Digest}
 use Rattle.archive_core.specs.declared.keys.SliceKey.{SliceKey}
 use Rattle.archive_core.proofs.Picked.{alike_back}
-use Rattle.archive_queries.proofs.Sourced.{answers_alike}
-use Rattle.command_ends.specs.Ends.{IsStopped}
-use Rattle.command_ends.specs.Inputs.{IsRefusal}
-use Rattle.command_ends.specs.Outputs.{Outs, Publishes, Takes, Writer, out_of}
-use Rattle.command_ends.specs.declared.faults.CommandFault.{CommandFault}
-use Rattle.command_ends.specs.declared.faults.CommandFault.TheVariants.{Input, Output, Report, OutOfMemory}
-use Rattle.command_ends.specs.declared.faults.InputName.{InputName}
-use Rattle.command_ends.specs.declared.outputs.Output.{Output as Out_value}
-use Rattle.command_ends.specs.declared.faults.Status.{Status}
-use Rattle.command_ends.specs.declared.faults.Why.{Why}
+use Rattle.command_inputs.proofs.Alike.{answers_alike}
+use Rattle.command_core.specs.Ends.{IsStopped}
+use Rattle.command_core.specs.Inputs.{IsRefusal}
+use Rattle.command_core.specs.Outputs.{Outs, Publishes, Takes, Writer, out_of}
+use Rattle.command_core.specs.declared.faults.CommandFault.{CommandFault}
+use Rattle.command_core.specs.declared.faults.CommandFault.TheVariants.{Input, Output, OutOfMemory}
+use Rattle.command_core.specs.declared.faults.InputName.{InputName}
+use Rattle.command_core.specs.declared.outputs.Output.{Output as Out_value}
+use Rattle.command_core.specs.declared.faults.Status.{Status}
+use Rattle.command_core.specs.declared.faults.Why.{Why}
 use Rattle.slice_extraction.proofs.Held.{live_alike}
 use Rattle.slice_extraction.specs.Extract.{Extraction, Extracts, Held, extraction}
 use Rattle.slice_extraction.specs.InnerChoice.{PublishesWanted}
@@ -42,11 +42,10 @@ module _ {D T : Type 0} (command : Extraction) (out : Outs D T) (report : Writer
   -- a text is published
   pub published_so : (result : Result Status CommandFault) (text told : List ℕ) → command.writes.Unfailed
       → command.writes.Makes text told → Publishes (out_of out) report text told result → Extracts command out report result
-  published_so (Ok status) text told u makes p = inl (u, record { text = text; told = told; makes = makes; published = p })
   published_so (Err (Input place why)) text told u makes p = absurd p
   published_so (Err (Output n)) text told u makes p = inl (inr (u, record { text = text; told = told; makes = makes; published = p }))
-  published_so (Err (Report n)) text told u makes p = inl (u, record { text = text; told = told; makes = makes; published = p })
   published_so (Err OutOfMemory) text told u makes p = inl (inr (u, record { text = text; told = told; makes = makes; published = p }))
+  published_so result text told u makes p = inl (u, record { text = text; told = told; makes = makes; published = p })
 
 -- nothing is written where OUT is as it was
 pub took_nothing : {D T : Type 0} (out : Outs D T) → out.new ≡ out.old → Takes (out_of out).draft []
@@ -74,9 +73,8 @@ module _ {D T : Type 0} (Holds : Held) (Refuses : InputName → Why → Type 0) 
   pub refused_so : (fault : CommandFault) → IsRefusal Refuses Unfailed fault → out.new ≡ out.old → Takes report []
       → Extracts command out report (Err fault)
   refused_so (Input place why) r same t = inl (stopped (Input place why) r same t (λ n h. cc))
-  refused_so (Output n) r same t = absurd r
-  refused_so (Report n) r same t = absurd r
   refused_so OutOfMemory r same t = inl (inl (stopped OutOfMemory r same t (λ n h. cc)))
+  refused_so fault r same t = absurd r
 
   -- the archives are read, and what is wanted of what is kept of them is published
   pub wanted_so : (result : Result Status CommandFault) (kept : Operations) → Unfailed

@@ -1,17 +1,14 @@
 -- Slices that are held under a key.
-use Rattle.std.proofs.Common.{◌≡◌, ℕ, ◌+◌, ◌<◌, true, List, [], ◌++◌, length, take, drop, get_or, refl, sym, ap, subst, ◌∙◌, arith, append_assoc, length-append, inl, inr}
+use Rattle.std.proofs.Common.{◌≡◌, ℕ, ◌+◌, ◌<◌, true, List, [], ◌++◌, length, take, drop, get_or, sym, ap, subst, ◌∙◌, arith, append_assoc, length-append, inl, inr}
 use Rattle.std.specs.List.{Contains}
 use Rattle.std.specs.Int.{w64, to_be_bytes}
 use Rattle.std.specs.Cmp.Lexicographic.{nat_list_cmp_total}
 use Rattle.std.specs.FinSet.{contains}
-use Rattle.std.proofs.lemmas.Bool.Decides.{nat_tests}
-use Rattle.std.proofs.lemmas.Slice.Eq.{bytes_eq-Decides}
 use Rattle.std.proofs.lemmas.List.{append-nil, drop_at, take_more}
 use Rattle.std.proofs.lemmas.List.Elements.{Contains-get_or, Contains-push_cases}
 use Rattle.sha2.specs.Sha256.{sha256}
 use Rattle.join_core.specs.Listing.{listing}
 use Rattle.archive_core.specs.Content.{Operations, IsContent, IsLive}
-use Rattle.archive_core.specs.Find.{is_key}
 use Rattle.archive_core.specs.Key.{key_bytes}
 use Rattle.archive_core.specs.Part.{AreAlikeUnder}
 use Rattle.archive_core.specs.Record.{admission, admission_record, retirement_record}
@@ -26,9 +23,9 @@ use Rattle.archive_core.proofs.Picked.{admission_under, retirement_under}
 slice_in : (slice : List ℕ) → length (key_bytes (key_of slice)) ≡ 24 → drop 33 (admission_record slice) ≡ slice
 unfolding admission
 slice_in slice long =
-    let front : List ℕ = key_bytes (key_of slice) ++ to_be_bytes w64 (length slice) in
+    let prefix : List ℕ = key_bytes (key_of slice) ++ to_be_bytes w64 (length slice) in
     ap (drop 32) (sym (append_assoc (key_bytes (key_of slice)) (to_be_bytes w64 (length slice)) slice))
-    ∙ drop_at front slice 32 (omega (arith, length-append (key_bytes (key_of slice)) (to_be_bytes w64 (length slice)), long))
+    ∙ drop_at prefix slice 32 (omega (arith, length-append (key_bytes (key_of slice)) (to_be_bytes w64 (length slice)), long))
 
 -- one record is of one slice
 pub same_slice : (a b : List ℕ) → length (key_bytes (key_of a)) ≡ 24 → length (key_bytes (key_of b)) ≡ 24
@@ -76,9 +73,3 @@ live_alike o p key same slice live =
       under = live.under;
       kept = sym (same (retirement_record key (sha256 slice)) (retirement_under (key_bytes key) [] key (sha256 slice) whole)) ∙ live.kept;
     }
-
--- a key is itself
-pub key_itself : (a b : SliceKey) → a ≡ b → is_key a b ≡ true
-key_itself a b same =
-    subst (λ (k : SliceKey). is_key a k ≡ true) same
-    (grind (arith, nat_tests, (bytes_eq-Decides a.uuid a.uuid).1 refl))

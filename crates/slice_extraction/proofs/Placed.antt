@@ -1,15 +1,15 @@
--- A slice that was sent, put in place and told.
+-- A slice that was sent, published and told.
 use Rattle.std.proofs.Common.{◌≡◌, ℕ, List, [], length, Option, Some, Result, Ok, Err, refl, sym, ap, ◌∙◌, subst, inr}
 use Rattle.std.specs.Io.KnownBytes.{Appends}
 use Rattle.sha2.specs.Sha256.{sha256}
 use Rattle.byte_device.specs.Devices.{FailedIn}
 use Rattle.archive_core.specs.declared.keys.SliceKey.{SliceKey}
-use Rattle.command_ends.specs.Inputs.{Reader}
-use Rattle.command_ends.specs.Outputs.{Outs, Places, PlacesNothing, Publishes, Reports, Takes, Writer, out_of, writer}
-use Rattle.command_ends.specs.declared.faults.CommandFault.{CommandFault}
-use Rattle.command_ends.specs.declared.faults.CommandFault.TheVariants.{Input, Output, Report, OutOfMemory}
-use Rattle.command_ends.specs.declared.faults.Status.{Status}
-use Rattle.command_ends.specs.declared.faults.Status.TheVariants.{Done}
+use Rattle.command_core.specs.Inputs.{Reader}
+use Rattle.command_core.specs.Outputs.{Outs, IsPublished, PublishesNothing, Publishes, Reports, Takes, Writer, out_of, writer}
+use Rattle.command_core.specs.declared.faults.CommandFault.{CommandFault}
+use Rattle.command_core.specs.declared.faults.CommandFault.TheVariants.{Output, Report}
+use Rattle.command_core.specs.declared.faults.Status.{Status}
+use Rattle.command_core.specs.declared.faults.Status.TheVariants.{Done}
 use Rattle.indexed_answers.specs.Among.{EntryAt}
 use Rattle.indexed_answers.specs.Named.{Names}
 use Rattle.indexed_answers.specs.declared.named.NamedSlice.{NamedSlice}
@@ -25,7 +25,7 @@ same_line key named x slice names of =
 
 module _ {D T : Type 0} (out : Outs D T) (report : Writer) where
   -- the slice was not sent
-  pub unsent_so : {P : Type 0} (archive : Reader P) (key : SliceKey) (x : EntryAt) (fault : CommandFault) → StopsSlice archive x (out_of out).draft fault → PlacesNothing (out_of out) → Takes report []
+  pub unsent_so : {P : Type 0} (archive : Reader P) (key : SliceKey) (x : EntryAt) (fault : CommandFault) → StopsSlice archive x (out_of out).draft fault → PublishesNothing (out_of out) → Takes report []
       → PublishesSlice archive key x out report (Err fault)
   unsent_so archive key x fault stops nothing unreported = inr (fault, refl, stops, nothing, unreported)
 
@@ -47,7 +47,7 @@ module _ {D T : Type 0} (out : Outs D T) (report : Writer) where
         )
 
     module _ (placed : out.published out.new.target ≡ out.held mid) (emptied : out.held out.new.draft ≡ Some []) (unfailed : out.draft_failures out.new.draft ≡ out.draft_failures mid) (well : out.failures out.new.target ≡ out.failures out.old.target) where
-      places : Places (out_of out) slice
+      places : IsPublished (out_of out) slice
       places = record {
         published = subst (λ (o : Option (List ℕ)). Appends (out.held out.old.draft) o slice) (sym placed) took.0;
         emptied = emptied;
@@ -57,10 +57,8 @@ module _ {D T : Type 0} (out : Outs D T) (report : Writer) where
 
       told_so : (told : List ℕ) (result : Result Status CommandFault) → Reports report Done told result → Publishes (out_of out) report slice told result
       told_so told (Ok ended) reported = (reported.0, places, reported.1)
-      told_so told (Err (Input at why)) reported = absurd reported
-      told_so told (Err (Output n)) reported = absurd reported
       told_so told (Err (Report n)) reported = (places, reported)
-      told_so told (Err OutOfMemory) reported = absurd reported
+      told_so told result reported = absurd reported
 
       pub placed_so : (text told : List ℕ) (result : Result Status CommandFault) → text ≡ told → Reports report Done text result → Publishes (out_of out) report slice told result
       placed_so text told result is reported = told_so told result (subst (λ (t : List ℕ). Reports report Done t result) is reported)

@@ -5,16 +5,15 @@ use Rattle.byte_device.specs.Devices.{stream}
 use Rattle.byte_device.specs.declared.disks.CannotOpen.{CannotOpen}
 use Rattle.byte_device.specs.Places.{Stands}
 use Rattle.placed_passes.specs.Copies.{IsCopied}
-use Rattle.placed_passes.specs.Sending.{HaveOther, HaveSome, StopsSending}
-use Rattle.placed_passes.specs.Sending.{Hinders as HindersSending}
+use Rattle.placed_passes.specs.Sending.{HaveOther, HaveSome, StopsSending, Hinders as HindersSending}
 use Rattle.placed_passes.specs.declared.sending.SendFault.{SendFault}
 use Rattle.placed_passes.specs.declared.sending.SendFault.TheVariants.{Other, Device, Sink}
-use Rattle.command_ends.specs.Inputs.{Gives, Reader, Unfailed, reader}
-use Rattle.command_ends.specs.Outputs.{Takes, Writer, writer}
-use Rattle.command_ends.specs.declared.faults.CommandFault.{CommandFault}
-use Rattle.command_ends.specs.declared.faults.CommandFault.TheVariants.{Input}
-use Rattle.command_ends.specs.declared.faults.InputName.TheVariants.{Archive, Index}
-use Rattle.command_ends.specs.declared.faults.Why.TheVariants.{CannotOpen as NotOpened, Stale}
+use Rattle.command_core.specs.Inputs.{Gives, Reader, Unfailed, reader}
+use Rattle.command_core.specs.Outputs.{Takes, Writer, writer}
+use Rattle.command_core.specs.declared.faults.CommandFault.{CommandFault}
+use Rattle.command_core.specs.declared.faults.CommandFault.TheVariants.{Input}
+use Rattle.command_core.specs.declared.faults.InputName.TheVariants.{Archive, Index}
+use Rattle.command_core.specs.declared.faults.Why.TheVariants.{CannotOpen as NotOpened, Stale}
 use Rattle.indexed_answers.specs.Among.{EntryAt}
 use Rattle.archive_index.specs.Entry.{offset_in}
 use Rattle.indexed_answers.specs.Named.{Names}

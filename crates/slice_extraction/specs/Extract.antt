@@ -3,15 +3,15 @@ use Rattle.std.specs.Prelude.{◌≡◌, ℕ, List, [], Option, Result, ◌⊎�
 use Rattle.archive_core.specs.Content.{Operations}
 use Rattle.archive_core.specs.declared.keys.Digest.{Digest}
 use Rattle.archive_core.specs.declared.keys.SliceKey.{SliceKey}
-use Rattle.command_ends.specs.declared.faults.CommandFault.{CommandFault}
-use Rattle.command_ends.specs.declared.faults.InputName.{InputName}
-use Rattle.command_ends.specs.declared.faults.Status.{Status}
-use Rattle.command_ends.specs.declared.faults.Status.TheVariants.{Partial}
-use Rattle.command_ends.specs.declared.faults.Why.{Why}
-use Rattle.command_ends.specs.Archives.{AreRefused, AreUnfailed, HoldTogether}
-use Rattle.command_ends.specs.Ends.{EndsStreamed, Streamed}
-use Rattle.command_ends.specs.Inputs.{IsRefusal, Reader}
-use Rattle.command_ends.specs.Outputs.{Outs, Reports, Takes, Writer, out_of}
+use Rattle.command_core.specs.declared.faults.CommandFault.{CommandFault}
+use Rattle.command_core.specs.declared.faults.InputName.{InputName}
+use Rattle.command_core.specs.declared.faults.Status.{Status}
+use Rattle.command_core.specs.declared.faults.Status.TheVariants.{Partial}
+use Rattle.command_core.specs.declared.faults.Why.{Why}
+use Rattle.command_core.specs.Archives.{AreRefused, AreUnfailed, HoldTogether}
+use Rattle.command_core.specs.Ends.{EndsStreamed, Streamed}
+use Rattle.command_core.specs.Inputs.{IsRefusal, Reader}
+use Rattle.command_core.specs.Outputs.{Outs, Reports, Takes, Writer, out_of}
 use Rattle.slice_extraction.specs.Wanted.{AreUndecided, IsWanted, slice_line, slices_text}
 
 -- A command that writes a slice to OUT, if its inputs have the wanted one: how it writes it, and the report that

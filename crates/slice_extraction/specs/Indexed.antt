@@ -7,15 +7,15 @@ use Rattle.archive_core.specs.declared.find.FindRow.{FindRow}
 use Rattle.archive_core.specs.declared.keys.Digest.{Digest}
 use Rattle.archive_core.specs.declared.keys.SliceKey.{SliceKey}
 use Rattle.report_text.specs.Finds.{find_lines}
-use Rattle.command_ends.specs.Inputs.{EachUnfailed, IsRefusal, Reader}
-use Rattle.command_ends.specs.Outputs.{Takes, Writer}
-use Rattle.command_ends.specs.declared.faults.CommandFault.{CommandFault}
-use Rattle.command_ends.specs.declared.faults.InputName.{InputName}
-use Rattle.command_ends.specs.declared.faults.Why.{Why}
+use Rattle.command_core.specs.Inputs.{EachUnfailed, IsRefusal, Reader}
+use Rattle.command_core.specs.Outputs.{Takes, Writer}
+use Rattle.command_core.specs.declared.faults.CommandFault.{CommandFault}
+use Rattle.command_core.specs.declared.faults.InputName.{InputName}
+use Rattle.command_core.specs.declared.faults.Why.{Why}
 use Rattle.indexed_answers.specs.Among.{AreTied, EntryAt}
 use Rattle.indexed_answers.specs.Named.{IsRowAt}
-use Rattle.indexed_queries.specs.Several.{AreRefusedLater, AreUnfailedTogether, HoldTogether}
-use Rattle.indexed_queries.specs.Together.{AreLater, AreReadWith, IsFirstRefusedByIndex, IsOneOf}
+use Rattle.index_inputs.specs.Several.{AreRefusedLater, AreUnfailedTogether, HoldTogether}
+use Rattle.index_inputs.specs.Together.{AreLater, AreReadWith, IsFirstRefusedByIndex, IsOneOf}
 use Rattle.slice_extraction.specs.Entries.{AreUnchosen, HoldsSlice, IsChosen, StopsSlice}
 use Rattle.slice_extraction.specs.Extract.{Extraction, Held, MakesNone, MakesSlice}
 use Rattle.slice_extraction.specs.Wanted.{written_line}

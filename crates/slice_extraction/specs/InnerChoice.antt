@@ -5,11 +5,11 @@ use Rattle.archive_core.specs.Content.{Operations}
 use Rattle.archive_core.specs.declared.find.FindRow.{FindRow}
 use Rattle.archive_core.specs.declared.keys.Digest.{Digest}
 use Rattle.archive_core.specs.declared.keys.SliceKey.{SliceKey}
-use Rattle.command_ends.specs.declared.faults.CommandFault.{CommandFault}
-use Rattle.command_ends.specs.declared.faults.CommandFault.TheVariants.{OutOfMemory}
-use Rattle.command_ends.specs.declared.faults.Status.{Status}
-use Rattle.command_ends.specs.declared.faults.Status.TheVariants.{Partial}
-use Rattle.command_ends.specs.Outputs.{Outs, Publishes, Reports, Takes, Writer, out_of}
+use Rattle.command_core.specs.declared.faults.CommandFault.{CommandFault}
+use Rattle.command_core.specs.declared.faults.CommandFault.TheVariants.{OutOfMemory}
+use Rattle.command_core.specs.declared.faults.Status.{Status}
+use Rattle.command_core.specs.declared.faults.Status.TheVariants.{Partial}
+use Rattle.command_core.specs.Outputs.{Outs, Publishes, Reports, Takes, Writer, out_of}
 use Rattle.report_text.specs.Finds.{find_lines}
 use Rattle.slice_extraction.specs.Wanted.{AreUndecided, IsWanted, slice_line, slice_row, slices_text}
 use Rattle.slice_extraction.specs.declared.choosing.Choice.{Choice}

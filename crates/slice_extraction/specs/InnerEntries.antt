@@ -8,19 +8,19 @@ use Rattle.archive_core.specs.declared.keys.Digest.{Digest}
 use Rattle.archive_core.specs.declared.keys.SliceKey.{SliceKey}
 use Rattle.archive_records.specs.declared.fault.RecordFaultKind.TheVariants.{Device as DeviceFailed}
 use Rattle.byte_device.specs.declared.disks.CannotOpen.{CannotOpen}
-use Rattle.command_ends.specs.Inputs.{EachUnfailed, IsRefusal, Reader, Unfailed, reader}
-use Rattle.command_ends.specs.Outputs.{Outs, PlacesNothing, Publishes, Takes, Writer, out_of}
-use Rattle.command_ends.specs.declared.faults.CommandFault.{CommandFault}
-use Rattle.command_ends.specs.declared.faults.CommandFault.TheVariants.{Input, Output}
-use Rattle.command_ends.specs.declared.faults.InputName.TheVariants as place
-use Rattle.command_ends.specs.declared.faults.Status.{Status}
-use Rattle.command_ends.specs.declared.faults.Why.{Why}
-use Rattle.command_ends.specs.declared.faults.Why.TheVariants as why
+use Rattle.command_core.specs.Inputs.{EachUnfailed, IsRefusal, Reader, Unfailed, reader}
+use Rattle.command_core.specs.Outputs.{Outs, PublishesNothing, Publishes, Takes, Writer, out_of}
+use Rattle.command_core.specs.declared.faults.CommandFault.{CommandFault}
+use Rattle.command_core.specs.declared.faults.CommandFault.TheVariants.{Input, Output}
+use Rattle.command_core.specs.declared.faults.InputName.TheVariants as inputs
+use Rattle.command_core.specs.declared.faults.Status.{Status}
+use Rattle.command_core.specs.declared.faults.Why.{Why}
+use Rattle.command_core.specs.declared.faults.Why.TheVariants as why
 use Rattle.placed_passes.specs.declared.sending.SendFault.{SendFault}
 use Rattle.placed_passes.specs.declared.sending.SendFault.TheVariants.{Other, Device, Sink}
 use Rattle.indexed_answers.specs.Among.{AreTied, EntryAt}
 use Rattle.indexed_answers.specs.Named.{IsRowAt, Names}
-use Rattle.indexed_queries.specs.Together.{HoldNamed, IsFirstRefusedAtPlaces}
+use Rattle.index_inputs.specs.Together.{HoldNamed, IsFirstRefusedAtPlaces}
 use Rattle.slice_extraction.specs.Entries.{AreUnchosen, HoldsSlice, IsChosen, StopsSlice}
 use Rattle.slice_extraction.specs.InnerChoice.{PublishesWanted}
 use Rattle.slice_extraction.specs.Wanted.{written_line}
@@ -41,8 +41,8 @@ unread_record offset = why.Record (record { kind = DeviceFailed; offset = offset
 
 -- how a command tells why the bytes of a record were not sent, which begins at this offset
 abbrev pub told_fault : ℕ → ℕ → ℕ → SendFault → CommandFault
-told_fault input number offset Other = Input (place.Index input) (why.Stale (Some number))
-told_fault input number offset Device = Input (place.Archive input) (unread_record offset)
+told_fault input number offset Other = Input (inputs.Index input) (why.Stale (Some number))
+told_fault input number offset Device = Input (inputs.Archive input) (unread_record offset)
 told_fault input number offset (Sink written) = Output written
 
 -- what came of sending the slice of an entry: the draft took it, or why it did not
@@ -51,14 +51,14 @@ SendsSlice archive x draft (Ok _) =
     (slice : List ℕ) × HoldsSlice archive x slice × Takes draft slice × Unfailed archive
 SendsSlice archive x draft (Err fault) = StopsSlice archive x draft fault
 
--- The slice was sent, and is published; or it was not, nothing is in place, and nothing was reported.
+-- The slice was sent, and is published; or it was not, nothing is published, and nothing was reported.
 abbrev pub PublishesSlice : {P D T : Type 0} → Reader P → SliceKey → EntryAt → Outs D T → Writer
     → Result Status CommandFault → Type 0
 PublishesSlice archive key x out report result =
     ((slice : List ℕ) × HoldsSlice archive x slice × Unfailed archive
     × Publishes (out_of out) report slice (written_line key slice) result)
     ⊎ ((fault : CommandFault) × (result ≡ Err fault) × StopsSlice archive x (out_of out).draft fault
-    × PlacesNothing (out_of out) × Takes report [])
+    × PublishesNothing (out_of out) × Takes report [])
 
 -- The same from its archive among several, of which no other is touched.
 abbrev pub PublishesFrom : {P D T : Type 0} → (P → Option (List ℕ)) → (P → ℕ) → List (Result P CannotOpen)

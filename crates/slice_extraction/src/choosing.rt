@@ -4,7 +4,7 @@ ghost use Rattle.std.specs.Prelude.{◌≡◌, ◌≢◌, ◌∷◌, [], ℕ, Li
 ghost use Rattle.sha2.specs.Sha256.{sha256};
 ghost use Rattle.archive_core.specs.Content.{IsLive};
 ghost use Rattle.archive_core.specs.Key.{key_bytes};
-ghost use Rattle.archive_core.specs.Record.{admission_record, lent_bytes};
+ghost use Rattle.archive_core.specs.Record.{admission_record, borrowed_bytes};
 ghost use Rattle.archive_core.specs.Valid.{IsValid, key_of};
 ghost use Rattle.slice_extraction.specs.InnerChoice.{IsChoice};
 ghost use Rattle.slice_extraction.specs.Wanted.{slice_row};
@@ -69,9 +69,9 @@ fn answering<'a, A: Archive>(
 /// The slice that a record admits, if it is one under the key that has the digest.
 fn slice_in<'a>(held: Record<'a>, key: &SliceKey, digest: &Digest) -> Option<CheckedSlice<'a>>
     requires { length (key_bytes key.now) ≡ 24 }
-    ensures found { IfSome result (λ slice. (lent_bytes held.entry ≡ admission_record slice) × IsValid slice
+    ensures found { IfSome result (λ slice. (borrowed_bytes held.entry ≡ admission_record slice) × IsValid slice
         × (key_of slice ≡ key.now) × (sha256 slice ≡ digest.now.0)) }
-    ensures none { IfNone result ((slice : List ℕ) → lent_bytes held.entry ≡ admission_record slice
+    ensures none { IfNone result ((slice : List ℕ) → borrowed_bytes held.entry ≡ admission_record slice
         → key_of slice ≡ key.now → sha256 slice ≡ digest.now.0 → ⊥) }
 {
     let Record::Admit(slice) = held else {

@@ -1,7 +1,6 @@
 //! Which slice is wanted under a key, by the entries of indexes alone.
 
 ghost use Rattle.std.specs.Prelude.{◌≡◌, ◌∷◌, ◌≢◌, [], IfOk, IfSome, IfNone, length, map};
-ghost use Rattle.archive_core.specs.Key.{key_bytes};
 ghost use Rattle.slice_extraction.specs.InnerEntries.{IsEntryChoice};
 
 use archive_core::{Digest, FindRow, SliceKey};

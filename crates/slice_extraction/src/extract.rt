@@ -1,27 +1,16 @@
 //! `extract ARCHIVE UUID ARCH OUT [--digest DIGEST]`, over one archive or several.
 
-ghost use Rattle.std.specs.Prelude.{◌≡◌, length};
-ghost use Rattle.archive_core.specs.Key.{key_bytes};
-ghost use Rattle.command_ends.specs.Inputs.{reader, readers};
-ghost use Rattle.command_ends.specs.Outputs.{out_of, outs, writer};
+ghost use Rattle.command_core.specs.Inputs.{reader, readers};
+ghost use Rattle.command_core.specs.Outputs.{out_of, outs, writer};
 ghost use Rattle.slice_extraction.specs.Extract.{Extracts, extract};
 
 use crate::publishing::publish_wanted;
 use archive_core::{Archive, Digest, SliceKey};
-use archive_queries::read_parts;
 use archive_reading::Under;
-use archive_records::key_front;
 use byte_device::{CannotOpen, Sink, Source};
-use command_ends::{CommandFault, Output, Status, Target};
+use command_core::{CommandFault, Output, Status, Target};
+use command_inputs::{bytes_of, read_parts};
 use memory::Heap;
-
-/// The bytes of a key.
-pub(crate) fn bytes_of(key: &SliceKey) -> [u8; 24]
-    ensures bytes { result ≡ key_bytes key.now }
-    ensures long { length (key_bytes key.now) ≡ 24 }
-{
-    key_front(key)
-}
 
 /// Writes the bytes of the one slice that answers under the key in the join of the archives to OUT, or of a held one
 /// with the digest, and its line to the report. The archives are read one after another, each to its end, before OUT is
@@ -46,7 +35,7 @@ pub fn run_extract<A: Archive + Drop, R: Source, T: Target, P: Sink>(
         (readers R.left R.failures others.old others.new) key.now digest.now (out_of known).draft) known
         (writer P.held P.failures report.old report.new) result }
 {
-    let front = bytes_of(key);
-    let kept: A = read_parts(heap.clone()?, &Under(&front), archive, others)?;
+    let prefix = bytes_of(key);
+    let kept: A = read_parts(heap.clone()?, &Under(&prefix), archive, others)?;
     publish_wanted(&heap, &kept, key, digest, out, report)
 }

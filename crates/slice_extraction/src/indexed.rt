@@ -1,8 +1,8 @@
 //! `extract ARCHIVE UUID ARCH OUT [--digest DIGEST] --index INDEX`, over one archive or several.
 
 ghost use Rattle.std.specs.Prelude.{◌≡◌, ◌<◌, length};
-ghost use Rattle.command_ends.specs.Inputs.{readers};
-ghost use Rattle.command_ends.specs.Outputs.{out_of, outs, writer};
+ghost use Rattle.command_core.specs.Inputs.{readers};
+ghost use Rattle.command_core.specs.Outputs.{out_of, outs, writer};
 ghost use Rattle.indexed_answers.specs.Among.{EntryAt};
 ghost use Rattle.indexed_answers.specs.Named.{Names};
 ghost use Rattle.slice_extraction.specs.Extract.{Extracts};
@@ -10,20 +10,20 @@ ghost use Rattle.slice_extraction.specs.Indexed.{extract_at};
 ghost use Rattle.slice_extraction.specs.InnerEntries.{PublishesFrom, PublishesTied};
 
 use crate::entries::{EntryChoice, choose_entry};
-use crate::extract::bytes_of;
 use crate::publishing::{publish_rows, publish_wanted};
 use crate::sending::publish_named;
 use archive_core::{Archive, Digest, SliceKey};
 use byte_device::{CannotOpen, Placed, Sink};
-use command_ends::{CommandFault, Output, Status, Target};
+use command_core::{CommandFault, Output, Status, Target};
+use command_inputs::bytes_of;
+use index_inputs::{KeyPrefix, read_indexes, read_prefixes};
 use indexed_answers::NamedSlice;
-use indexed_queries::{KeyPrefix, read_indexes, read_prefixes};
 use memory::Heap;
 use table_index::TableIndex;
 
 /// Writes the bytes of the wanted slice to OUT, as [`run_extract`](crate::run_extract) does. The indexes are read, and
 /// their entries say which slice is wanted. It is gone through at its place, piece by piece: once to compare its SHA-256,
-/// before OUT is begun, and once as it goes out, before OUT is put in place. No other slice is read, unless two that
+/// before OUT is begun, and once as it goes out, before OUT is published. No other slice is read, unless two that
 /// answer have one length and stand in two archives.
 ///
 /// # Errors

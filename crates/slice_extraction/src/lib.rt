@@ -7,13 +7,13 @@
 //!
 //! # What is proved
 //!
-//! - [`run_extract`] puts in place at OUT, where it ends `Done`, the bytes of the one slice that answers under the key in
+//! - [`run_extract`] publishes at OUT, where it ends `Done`, the bytes of the one slice that answers under the key in
 //!   the join of the archives, or of a held one with the digest of the words; and then its line is in the report. Where
 //!   there is no such slice, or several answer, OUT is as it was, and the report has a line for each that answers
 //!   (`Extracts`). An archive is refused before OUT is begun, the first of them in the order of the words.
-//! - [`run_extract_at`] does it by the entries of the indexes, which are read first. What it puts in place stands where
+//! - [`run_extract_at`] does it by the entries of the indexes, which are read first. What it publishes stands where
 //!   the entry says, has its length and its SHA-256, and so had what was read there before OUT was begun; otherwise the
-//!   index is `Stale` at that entry, and nothing is in place.
+//!   index is `Stale` at that entry, and nothing is published.
 //!
 //! # Why it is so
 //!

@@ -2,7 +2,7 @@
 
 ghost use Rattle.std.specs.Prelude.{◌≡◌, IfOk, length, string_bytes};
 ghost use Rattle.archive_core.specs.Key.{key_bytes};
-ghost use Rattle.command_ends.specs.Outputs.{Publishes, out_of, outs, writer};
+ghost use Rattle.command_core.specs.Outputs.{Publishes, out_of, outs, writer};
 ghost use Rattle.slice_extraction.specs.InnerChoice.{PublishesRows, PublishesWanted};
 ghost use Rattle.slice_extraction.specs.Wanted.{slice_line};
 
@@ -10,7 +10,7 @@ use crate::choosing::{Choice, choose};
 use crate::sending::line_of;
 use archive_core::{Archive, CheckedSlice, Digest, FindRow, SliceKey};
 use byte_device::{Sink, push_all};
-use command_ends::{CommandFault, Output, Status, Target, publish_report, put_in_place};
+use command_core::{CommandFault, Output, Status, Target, publish_output, publish_report};
 use memory::{Heap, NoMemory};
 use report_text::find_lines;
 
@@ -26,7 +26,7 @@ fn slice_line(heap: Heap, slice: &CheckedSlice<'_>) -> Result<String<Heap>, NoMe
     )
 }
 
-/// Writes the bytes of a slice to OUT, puts it in place, and then writes its line to the report.
+/// Writes the bytes of a slice to OUT, publishes it, and then writes its line to the report.
 fn publish_slice<T: Target, P: Sink>(
     heap: Heap,
     slice: &CheckedSlice<'_>,
@@ -41,7 +41,7 @@ fn publish_slice<T: Target, P: Sink>(
     if let Err(fault) = push_all(&mut out.draft, bytes) {
         return Err(CommandFault::Output(fault.written));
     }
-    put_in_place(out, bytes.len() as u128)?;
+    publish_output(out, bytes.len() as u128)?;
     publish_report(Status::Done, &text, report)
 }
 

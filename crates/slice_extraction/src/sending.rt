@@ -3,8 +3,8 @@
 ghost use Rattle.std.specs.Prelude.{◌≡◌, ◌+◌, ◌<◌, IfOk, length, string_bytes};
 ghost use Rattle.byte_device.specs.Devices.{stream};
 ghost use Rattle.placed_passes.specs.Sending.{SendsAt};
-ghost use Rattle.command_ends.specs.Inputs.{reader};
-ghost use Rattle.command_ends.specs.Outputs.{outs, writer};
+ghost use Rattle.command_core.specs.Inputs.{reader};
+ghost use Rattle.command_core.specs.Outputs.{outs, writer};
 ghost use Rattle.indexed_answers.specs.Among.{EntryAt};
 ghost use Rattle.indexed_answers.specs.Named.{Names};
 ghost use Rattle.slice_extraction.specs.InnerEntries.{PublishesSlice, SendsSlice, told_fault, unread_record};
@@ -14,9 +14,10 @@ use archive_core::{Digest, SliceKey};
 use archive_records::{RecordFault, RecordFaultKind};
 use archive_words::Spelled;
 use byte_device::{CannotOpen, Placed, Sink};
-use command_ends::{
-    CommandFault, InputName, Output, Status, Target, Why, opened, publish_report, put_in_place,
+use command_core::{
+    CommandFault, InputName, Output, Status, Target, Why, publish_output, publish_report,
 };
+use command_inputs::opened;
 use indexed_answers::NamedSlice;
 use memory::{Heap, NoMemory};
 use placed_passes::{SendFault, send_at};
@@ -123,7 +124,7 @@ fn send_named<P: Placed, W: Sink>(
     }
 }
 
-/// Sends the slice that an entry names under a key from its archive to OUT, puts it in place, and then writes its line to
+/// Sends the slice that an entry names under a key from its archive to OUT, publishes it, and then writes its line to
 /// the report.
 pub(crate) fn publish_named<P: Placed, T: Target, W: Sink>(
     heap: &Heap,
@@ -140,6 +141,6 @@ pub(crate) fn publish_named<P: Placed, T: Target, W: Sink>(
 {
     let text = line_of(heap.clone()?, *key, named.row.digest, named.size)?;
     send_named(heap.clone()?, named, archive, &mut out.draft)?;
-    put_in_place(out, named.size as u128)?;
+    publish_output(out, named.size as u128)?;
     publish_report(Status::Done, &text, report)
 }

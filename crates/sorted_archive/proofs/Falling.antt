@@ -1,6 +1,5 @@
 -- Lists that a test parts, and what holds along a list.
-use Rattle.std.proofs.Common.{◌≡◌, ℕ, ◌+◌, ◌-◌, ◌<◌, ◌≤◌, ◌==◌, Bool, true, false, cond, get_or, List, [], ◌∷◌, ◌++◌, length, take, drop, filter, refl, sym, ap, ◌∙◌, arith}
-use Rattle.std.proofs.lemmas.Bool.Decides.{Decides-eqb}
+use Rattle.std.proofs.Common.{◌≡◌, ℕ, ◌+◌, ◌-◌, ◌<◌, ◌≤◌, Bool, true, false, cond, get_or, List, [], ◌∷◌, ◌++◌, length, take, drop, filter, refl, sym, ap, ◌∙◌, arith}
 use Rattle.std.specs.declared.cmp.Ordering.{Ordering}
 use Rattle.std.specs.Ordering.{is_lt, is_le, is_eq}
 use Rattle.std.specs.List.{AllByRecursion, AllWithin}
@@ -8,21 +7,9 @@ use Rattle.std.specs.List.Sorted.{IsPartitionedBy}
 use Rattle.std.proofs.lemmas.List.{append-nil, append_assoc, nil_from_length, drop_all, drop_at, drop_more, take_all, take_at, take_more, take-append-drop, get_or_append_left, get_or-take, get_or-drop, length-append, length-drop, length-take-le}
 use Rattle.std.proofs.lemmas.List.Elements.{filter-append, filter_passes, All-from_recursion, recursion_from_All}
 use Rattle.join_core.proofs.Place.{along_take, along_drop}
-
-eq_of_lt : (r : Ordering) → is_lt r ≡ true → is_eq r ≡ false
-eq_of_lt r h = grind arith
-
-eq_of_gt : (r : Ordering) → is_le r ≡ false → is_eq r ≡ false
-eq_of_gt r h = grind arith
-
-eq_of_both : (r : Ordering) → is_lt r ≡ false → is_le r ≡ true → is_eq r ≡ true
-eq_of_both r h g = grind arith
+use Rattle.join_core.proofs.Search.{eq_of_lt, eq_of_gt, eq_of_both}
 
 module _ {X : Type 0} where
-  -- a list of no elements is empty
-  pub empty_of : (xs : List X) → (length xs == 0) ≡ true → xs ≡ []
-  empty_of xs h = nil_from_length xs ((Decides-eqb (length xs) 0).0 h)
-
   -- what is written back to the front of a list, as it was there, leaves it as it was
   pub written_back : (old new : List X) (n : ℕ) → new ≡ old → length old ≤ n → take n (new ++ drop (length new) old) ≡ old
   written_back old new n same long = rw same (ap (λ rest. take n (old ++ rest)) (drop_all (length old) old (omega arith)) ∙ ap (take n) (append-nil old) ∙ take_all n old long)

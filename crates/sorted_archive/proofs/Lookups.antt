@@ -6,9 +6,7 @@ use Rattle.std.specs.Cmp.Lexicographic.{slice_cmp}
 use Rattle.std.specs.List.{AllByRecursion, Contains, AllZip, cons_option}
 use Rattle.std.specs.List.Sorted.{IsStrictlySortedBy}
 use Rattle.std.specs.FinSet.{from_list, contains}
-use Rattle.std.specs.Str.{bytes_eq}
 use Rattle.std.proofs.lemmas.Bool.{false_from_ne_true}
-use Rattle.std.proofs.lemmas.Slice.Eq.{bytes_eq-Decides}
 use Rattle.std.proofs.lemmas.List.Elements.{filter_map-append, All-contains, All-from_recursion}
 use Rattle.std.proofs.lemmas.List.{append-nil, map-append}
 use Rattle.macho_image.specs.Contents.{is_dsym_image}
@@ -29,41 +27,23 @@ use Rattle.archive_core.specs.declared.lookup.Own.{Own}
 use Rattle.archive_core.specs.declared.operations.Operation.{Operation}
 use Rattle.archive_core.specs.declared.operations.Operation.TheVariants.{Admit, Retire}
 use Rattle.sorted_archive.proofs.Held.{content_of_held}
-use Rattle.sorted_archive.proofs.Scanned.{front}
+use Rattle.sorted_archive.proofs.Scanned.{take_one_more}
 use Rattle.archive_core.proofs.Words.{live_in_content}
-use Rattle.archive_core.proofs.Members.{in_cons, in_front, in_rest, ascending_by}
+use Rattle.archive_core.proofs.Members.{in_cons, in_front, in_rest, ascending_by, pairs_more}
 use Rattle.archive_core.proofs.Told.{record_there, operation_there}
-use Rattle.archive_core.proofs.Answering.{one_arch, is_arch_of, both, live_is_valid}
+use Rattle.archive_core.proofs.Answering.{both, live_is_valid, one_key, is_key_of}
 
 -- the live slices among the first operations, and what one more brings
 module _ (key : SliceKey) (dsym : Bool) (operations : List Operation) (i : ℕ) (a : Operation) (lt : i < length operations) (is : a ≡ slice_index_or operations i a) where
   more : held_among key dsym (take (i + 1) operations) ≡ held_among key dsym (take i operations) ++ cons_option (held_in key dsym a) []
   unfolding held_among
-  more = ap (held_among key dsym) (front operations i a lt is) ∙ filter_map-append (held_in key dsym) (take i operations) (a ∷ [])
+  more = ap (held_among key dsym) (take_one_more operations i a lt is) ∙ filter_map-append (held_in key dsym) (take i operations) (a ∷ [])
 
   pub one_more : (found : Option (List ℕ)) (slice : List ℕ) → found ≡ held_in key dsym a → found ≡ Some slice → held_among key dsym (take (i + 1) operations) ≡ held_among key dsym (take i operations) ++ slice ∷ []
   one_more found slice live some = rw (more, ← live, some) refl
 
   pub none_more : (found : Option (List ℕ)) → found ≡ held_in key dsym a → found ≡ None → held_among key dsym (take (i + 1) operations) ≡ held_among key dsym (take i operations)
   none_more found live none = rw (more, ← live, none) (append-nil (held_among key dsym (take i operations)))
-
--- relations hold along lists with one more element each
-pub zip_more : {A B : Type 0} (R : A → B → Type 0) (xs : List A) (ys : List B) (x : A) (y : B) → AllZip R xs ys → R x y → AllZip R (xs ++ x ∷ []) (ys ++ y ∷ [])
-zip_more R [] [] x y all one = (one, tt)
-zip_more R [] (b ∷ ys) x y all one = absurd all
-zip_more R (a ∷ xs) [] x y all one = absurd all
-zip_more R (a ∷ xs) (b ∷ ys) x y all one = (all.0, zip_more R xs ys x y all.1 one)
-
--- the test of keys decides whether they are one
-pub one_key : (a b : SliceKey) → is_key a b ≡ true → a ≡ b
-one_key a b h =
-    let parts = both (bytes_eq a.uuid b.uuid) _ h in
-    let uuid = (bytes_eq-Decides a.uuid b.uuid).0 parts.0 in
-    let arch = one_arch a.arch b.arch parts.1 in
-    λ i. record { uuid = uuid i; arch = arch i }
-
-pub is_key_of : (a b : SliceKey) → a ≡ b → is_key a b ≡ true
-is_key_of a b e = λ i. (bytes_eq-Decides a.uuid b.uuid).1 (ap (λ k. k.uuid) e) i && is_arch_of a.arch b.arch (ap (λ k. k.arch) e) i
 
 -- what passes the test is live where it is held, and of the kind
 live_by_test : (o : Operations) (key : SliceKey) (dsym : Bool) (slice : List ℕ) → IsContent o → IsValid slice → contains o (admission_record slice) ≡ true → is_held_kind key dsym slice ≡ true → IsLive o key slice × (is_kind dsym slice ≡ true)
@@ -182,7 +162,7 @@ module _ (o : Operations) (key : SliceKey) (operations : List Operation) (held :
 pub rows_more : (asked : Where) (slices : List (List ℕ)) (old new : List (Digest × Own)) (slice : List ℕ) (row : Digest × Own)
     → AllZip (IsOwnRow asked) slices (map own_row old) → IsOwnRow asked slice (own_row row) → new ≡ old ++ row ∷ [] → AllZip (IsOwnRow asked) (slices ++ slice ∷ []) (map own_row new)
 rows_more asked slices old new slice row all one is =
-    rw (is, map-append own_row old (row ∷ [])) (zip_more (IsOwnRow asked) slices (map own_row old) slice (own_row row) all one)
+    rw (is, map-append own_row old (row ∷ [])) (pairs_more (IsOwnRow asked) slices (map own_row old) slice (own_row row) all one)
 
 -- where not nothing is kept of slices, there are some
 pub some_of_answering : (answering : Answering) (slices : List (List ℕ)) → IsAnsweringOf answering slices → (answering ≡ Nothing → ⊥) → slices ≡ [] → ⊥

@@ -26,7 +26,7 @@ use Rattle.archive_core.specs.declared.operations.Operation.TheVariants.{Admit, 
 use Rattle.sorted_archive.proofs.Held.{content_of_held}
 use Rattle.archive_core.proofs.Words.{live_in_content}
 use Rattle.sorted_archive.proofs.Listed.{held_of}
-use Rattle.sorted_archive.proofs.Scanned.{front}
+use Rattle.sorted_archive.proofs.Scanned.{take_one_more}
 use Rattle.archive_core.proofs.Members.{in_order, one_with_members, in_map, to_map, in_flat_map, to_flat_map, ascending_map}
 use Rattle.archive_core.proofs.Told.{record_there, operation_there}
 use Rattle.archive_core.proofs.NameOrder.{name_total, rows_same}
@@ -66,7 +66,7 @@ ordered old sorted permuted up = record {
 pub names_more : (name : List ℕ) (operations : List Operation) (i : ℕ) (a : Operation) → i < length operations → a ≡ slice_index_or operations i a
     → names_among name (take (i + 1) operations) ≡ names_among name (take i operations) ++ names_of name a
 unfolding names_among
-names_more name operations i a lt is = rw (front operations i a lt is, flat_map-append (names_of name) (take i operations) (a ∷ []), append-nil (names_of name a)) refl
+names_more name operations i a lt is = rw (take_one_more operations i a lt is, flat_map-append (names_of name) (take i operations) (a ∷ []), append-nil (names_of name a)) refl
 
 -- what a scan finds are the rows of the name
 pub names_scanned : (o : Operations) (name : List ℕ) (operations : List Operation) → IsHeld operations → from_list (map record_bytes operations) ≡ o

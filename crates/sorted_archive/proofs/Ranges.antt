@@ -33,14 +33,13 @@ use Rattle.archive_core.proofs.Records.{length-key_of}
 use Rattle.sorted_archive.proofs.Held.{bytes_same}
 use Rattle.archive_core.proofs.Told.{operation_there}
 use Rattle.archive_core.proofs.Members.{to_filter}
-use Rattle.archive_core.proofs.Answering.{both}
-use Rattle.sorted_archive.specs.InnerRange.{front, front_of, is_within, is_under_key, is_under_uuid}
+use Rattle.archive_core.proofs.Answering.{both, one_key}
+use Rattle.sorted_archive.specs.InnerRange.{scope_prefix, prefix_of, is_within, is_under_key, is_under_uuid}
 use Rattle.sorted_archive.specs.declared.range.RecordKind.{RecordKind}
 use Rattle.sorted_archive.specs.declared.range.RecordKind.TheVariants.{Retirement, Admission}
 use Rattle.sorted_archive.specs.declared.range.Scope.{Scope}
 use Rattle.sorted_archive.specs.declared.range.Scope.TheVariants.{OfKey, OfUuid}
 use Rattle.sorted_archive.proofs.Falling.{middle}
-use Rattle.sorted_archive.proofs.Lookups.{one_key}
 
 -- the bytes of a key behind its UUID
 arch_bytes : SliceKey → List ℕ
@@ -53,7 +52,7 @@ behind (OfKey _) (Retire key digest) = digest.0
 behind (OfUuid _) (Admit slice) = arch_bytes (key_of slice) ++ (to_be_bytes w64 (length slice) ++ slice)
 behind (OfUuid _) (Retire key digest) = arch_bytes key ++ digest.0
 
-record_parts : (scope : Scope) (a : Operation) → record_bytes a ≡ front_of scope a ++ behind scope a
+record_parts : (scope : Scope) (a : Operation) → record_bytes a ≡ prefix_of scope a ++ behind scope a
 unfolding admission key_bytes arch_bytes behind
 record_parts (OfKey _) (Admit slice) = refl
 record_parts (OfKey _) (Retire key digest) = refl
@@ -65,7 +64,7 @@ front_length : Scope → ℕ
 front_length (OfKey _) = 25
 front_length (OfUuid _) = 17
 
-length_front : (scope : Scope) (a : Operation) → IsOperation a → length (front_of scope a) ≡ front_length scope
+length_front : (scope : Scope) (a : Operation) → IsOperation a → length (prefix_of scope a) ≡ front_length scope
 unfolding key_of front_length
 length_front (OfKey _) (Admit slice) valid = omega (arith, length-key_of slice valid)
 length_front (OfKey _) (Retire key digest) is = omega (arith, length_key_bytes key is.0.uuid)
@@ -81,14 +80,14 @@ module _ (test : Ordering → Bool) (less : test Less ≡ true) (greater : test 
   passes x y w Equal s e f t h g = let same = bytes_same x y e in rw (same, f) g
   passes x y w Greater s e f t h g = cc
 
-  rises : (scope : Scope) (w : List ℕ) (a b : Operation) → IsOperation a → IsOperation b → slice_cmp nat_cmp (record_bytes a) (record_bytes b) ≡ Less → test (slice_cmp nat_cmp (front_of scope b) w) ≡ true → test (slice_cmp nat_cmp (front_of scope a) w) ≡ true
+  rises : (scope : Scope) (w : List ℕ) (a b : Operation) → IsOperation a → IsOperation b → slice_cmp nat_cmp (record_bytes a) (record_bytes b) ≡ Less → test (slice_cmp nat_cmp (prefix_of scope b) w) ≡ true → test (slice_cmp nat_cmp (prefix_of scope a) w) ≡ true
   rises scope w a b is_a is_b h g =
-      passes (front_of scope a) (front_of scope b) w _ _ refl refl (slice_cmp nat_cmp (behind scope a) (behind scope b))
-      (sym (slice_cmp-append (front_of scope a) (front_of scope b) (behind scope a) (behind scope b) (length_front scope a is_a ∙ sym (length_front scope b is_b))) ∙ (λ i. slice_cmp nat_cmp (sym (record_parts scope a) i) (sym (record_parts scope b) i)) ∙ h)
+      passes (prefix_of scope a) (prefix_of scope b) w _ _ refl refl (slice_cmp nat_cmp (behind scope a) (behind scope b))
+      (sym (slice_cmp-append (prefix_of scope a) (prefix_of scope b) (behind scope a) (behind scope b) (length_front scope a is_a ∙ sym (length_front scope b is_b))) ∙ (λ i. slice_cmp nat_cmp (sym (record_parts scope a) i) (sym (record_parts scope b) i)) ∙ h)
       g
 
   -- so the test of how their records begin parts operations that ascend
-  pub parted : (scope : Scope) (w : List ℕ) (xs : List Operation) → IsStrictlySortedBy (slice_cmp nat_cmp) (map record_bytes xs) → AllByRecursion IsOperation xs → IsPartitionedBy (λ a. test (slice_cmp nat_cmp (front_of scope a) w)) xs
+  pub parted : (scope : Scope) (w : List ℕ) (xs : List Operation) → IsStrictlySortedBy (slice_cmp nat_cmp) (map record_bytes xs) → AllByRecursion IsOperation xs → IsPartitionedBy (λ a. test (slice_cmp nat_cmp (prefix_of scope a) w)) xs
   parted scope w xs up known i j d le lt t = elim (cases_lt i j) [
     | inl before ↦
         let records = Less-from_sorted (slice_cmp nat_cmp) (map record_bytes xs) i j (record_bytes d) up before (rw (length-map xs record_bytes) lt) in
@@ -105,26 +104,26 @@ lt_of_le r h = grind arith
 
 module _ (kind : RecordKind) (scope : Scope) (xs : List Operation) (up : IsStrictlySortedBy (slice_cmp nat_cmp) (map record_bytes xs)) (are : AllByRecursion IsOperation xs) (i : ℕ) (within : i ≤ length xs) where
   -- where one operation is below those of a kind within a scope, those before it are
-  pub below_place : (x : Operation) → 0 < i → x ≡ get_or xs (i - 1) x → is_lt (slice_cmp nat_cmp (front_of scope x) (front kind scope)) ≡ true
-      → AllWithin (λ a. is_lt (slice_cmp nat_cmp (front_of scope a) (front kind scope)) ≡ true) xs 0 i
+  pub below_place : (x : Operation) → 0 < i → x ≡ get_or xs (i - 1) x → is_lt (slice_cmp nat_cmp (prefix_of scope x) (scope_prefix kind scope)) ≡ true
+      → AllWithin (λ a. is_lt (slice_cmp nat_cmp (prefix_of scope a) (scope_prefix kind scope)) ≡ true) xs 0 i
   below_place x some is lt k d low high =
-      let before = λ (a : Operation). is_lt (slice_cmp nat_cmp (front_of scope a) (front kind scope)) in
-      parted is_lt refl refl scope (front kind scope) xs up are k (i - 1) d (omega arith) (omega arith)
+      let before = λ (a : Operation). is_lt (slice_cmp nat_cmp (prefix_of scope a) (scope_prefix kind scope)) in
+      parted is_lt refl refl scope (scope_prefix kind scope) xs up are k (i - 1) d (omega arith) (omega arith)
       (ap before (get_or_default xs (i - 1) d x (omega arith) ∙ sym is) ∙ lt)
 
   -- and where one is above them, those behind it are
-  pub above_place : (x : Operation) → i < length xs → x ≡ get_or xs i x → is_gt (slice_cmp nat_cmp (front_of scope x) (front kind scope)) ≡ true
-      → AllWithin (λ a. is_le (slice_cmp nat_cmp (front_of scope a) (front kind scope)) ≡ false) xs i (length xs)
+  pub above_place : (x : Operation) → i < length xs → x ≡ get_or xs i x → is_gt (slice_cmp nat_cmp (prefix_of scope x) (scope_prefix kind scope)) ≡ true
+      → AllWithin (λ a. is_le (slice_cmp nat_cmp (prefix_of scope a) (scope_prefix kind scope)) ≡ false) xs i (length xs)
   above_place x some is gt k d low high =
-      let upto = λ (a : Operation). is_le (slice_cmp nat_cmp (front_of scope a) (front kind scope)) in
+      let upto = λ (a : Operation). is_le (slice_cmp nat_cmp (prefix_of scope a) (scope_prefix kind scope)) in
       let first : get_or xs i d ≡ x = get_or_default xs i d x some ∙ sym is in
-      gt_of_le _ (upto (get_or xs k d)) gt (λ t. ap upto (sym first) ∙ parted is_le refl refl scope (front kind scope) xs up are i k d low high t)
+      gt_of_le _ (upto (get_or xs k d)) gt (λ t. ap upto (sym first) ∙ parted is_le refl refl scope (scope_prefix kind scope) xs up are i k d low high t)
 
   -- so none of them is there
-  pub none_at : AllWithin (λ a. is_lt (slice_cmp nat_cmp (front_of scope a) (front kind scope)) ≡ true) xs 0 i
-      → AllWithin (λ a. is_le (slice_cmp nat_cmp (front_of scope a) (front kind scope)) ≡ false) xs i (length xs) → filter (is_within kind scope) xs ≡ []
+  pub none_at : AllWithin (λ a. is_lt (slice_cmp nat_cmp (prefix_of scope a) (scope_prefix kind scope)) ≡ true) xs 0 i
+      → AllWithin (λ a. is_le (slice_cmp nat_cmp (prefix_of scope a) (scope_prefix kind scope)) ≡ false) xs i (length xs) → filter (is_within kind scope) xs ≡ []
   none_at below above =
-      sym (middle (λ a. slice_cmp nat_cmp (front_of scope a) (front kind scope)) xs i 0
+      sym (middle (λ a. slice_cmp nat_cmp (prefix_of scope a) (scope_prefix kind scope)) xs i 0
       below (λ k d low high. lt_of_le _ (above k d low high)) (λ k d low high. absurd (omega arith))
       (λ k d low high. rw (get_or-drop i xs k d) (above (i + k) d (omega arith) (omega (arith, length-drop i xs)))))
 
@@ -138,7 +137,7 @@ pub none_retired : (operations : List Operation) (key : SliceKey) (slice : List 
 none_retired operations key slice held is_key none = false_from_ne_true _ (λ h.
     let one : Operation = Retire key (record { 0 = sha256 slice }) in
     let there = operation_there operations one held.are (is_key, length-sha256 slice) h in
-    let nowhere = rw none at (to_filter (is_under_key Retirement key) operations one there (itself (front Retirement (OfKey key)))) in
+    let nowhere = rw none at (to_filter (is_under_key Retirement key) operations one there (itself (scope_prefix Retirement (OfKey key)))) in
     absurd (omega (arith, nowhere.1)))
 
 -- what is live under a key is admitted under it
@@ -146,7 +145,7 @@ under_of_live : (key : SliceKey) (dsym : Bool) (slice : List ℕ) → is_held_ki
 unfolding is_held_kind
 under_of_live key dsym slice h =
     let same : key_of slice ≡ key = one_key (key_of slice) key (both (is_key (key_of slice) key) _ h).0 in
-    ap (λ k. is_eq (slice_cmp nat_cmp (front Admission (OfKey k)) (front Admission (OfKey key)))) same ∙ itself (front Admission (OfKey key))
+    ap (λ k. is_eq (slice_cmp nat_cmp (scope_prefix Admission (OfKey k)) (scope_prefix Admission (OfKey key)))) same ∙ itself (scope_prefix Admission (OfKey key))
 
 -- so the live slices of a key are among the admissions under it
 pub live_under : (key : SliceKey) (dsym : Bool) (xs : List Operation) → held_among key dsym (filter (is_under_key Admission key) xs) ≡ held_among key dsym xs

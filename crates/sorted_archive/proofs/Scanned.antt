@@ -20,16 +20,16 @@ use Rattle.archive_core.proofs.Members.{one_with_members}
 use Rattle.archive_core.proofs.Told.{find_total, untied_records, told_sorted}
 
 -- the first ones, and one more
-pub front : (operations : List Operation) (i : ℕ) (a : Operation) → i < length operations → a ≡ slice_index_or operations i a → take (i + 1) operations ≡ take i operations ++ a ∷ []
-front operations i a lt is = take_more operations i a lt ∙ ap (λ (x : Operation). take i operations ++ x ∷ []) (sym is)
+pub take_one_more : (operations : List Operation) (i : ℕ) (a : Operation) → i < length operations → a ≡ slice_index_or operations i a → take (i + 1) operations ≡ take i operations ++ a ∷ []
+take_one_more operations i a lt is = take_more operations i a lt ∙ ap (λ (x : Operation). take i operations ++ x ∷ []) (sym is)
 
 -- the first ones that pass a test, and one more
 module _ (test : Operation → Bool) (operations : List Operation) (i : ℕ) (a : Operation) (lt : i < length operations) (is : a ≡ slice_index_or operations i a) where
   pub one_kept : (old new : List Operation) (copy : Operation) → test a ≡ true → old ≡ filter test (take i operations) → copy ≡ a → new ≡ old ++ copy ∷ [] → new ≡ filter test (take (i + 1) operations)
-  one_kept old new copy h old_is copy_is new_is = rw (new_is, old_is, copy_is, front operations i a lt is, filter-append test (take i operations) (a ∷ []), h) refl
+  one_kept old new copy h old_is copy_is new_is = rw (new_is, old_is, copy_is, take_one_more operations i a lt is, filter-append test (take i operations) (a ∷ []), h) refl
 
   pub one_left_out : (old new : List Operation) → test a ≡ false → old ≡ filter test (take i operations) → new ≡ old → new ≡ filter test (take (i + 1) operations)
-  one_left_out old new h old_is new_is = rw (new_is, old_is, front operations i a lt is, filter-append test (take i operations) (a ∷ []), h) (sym (append-nil (filter test (take i operations))))
+  one_left_out old new h old_is new_is = rw (new_is, old_is, take_one_more operations i a lt is, filter-append test (take i operations) (a ∷ []), h) (sym (append-nil (filter test (take i operations))))
 
 -- what is held under the UUID is what a search tells
 found_by_test : (o : Operations) (uuid : List ℕ) (a : Operation) → IsContent o → IsOperation a → contains o (record_bytes a) ≡ true → is_found_under uuid a ≡ true → IsFoundUnder o uuid a

@@ -23,18 +23,18 @@ bytes_within (OfKey _) key = key_bytes key
 bytes_within (OfUuid _) key = key.uuid
 
 -- how the records of a kind within a scope begin: the tag, the key or its UUID
-abbrev pub front : RecordKind → Scope → List ℕ
-front Retirement scope = 1 ∷ scope_bytes scope
-front Admission scope = 2 ∷ scope_bytes scope
+abbrev pub scope_prefix : RecordKind → Scope → List ℕ
+scope_prefix Retirement scope = 1 ∷ scope_bytes scope
+scope_prefix Admission scope = 2 ∷ scope_bytes scope
 
 -- how the record of an operation begins, as far as a scope has it
-abbrev pub front_of : Scope → Operation → List ℕ
-front_of scope (Admit slice) = 2 ∷ bytes_within scope (key_of slice)
-front_of scope (Retire key digest) = 1 ∷ bytes_within scope key
+abbrev pub prefix_of : Scope → Operation → List ℕ
+prefix_of scope (Admit slice) = 2 ∷ bytes_within scope (key_of slice)
+prefix_of scope (Retire key digest) = 1 ∷ bytes_within scope key
 
 -- whether an operation is of a kind and within a scope
 abbrev pub is_within : RecordKind → Scope → Operation → Bool
-is_within kind scope operation = is_eq (slice_cmp nat_cmp (front_of scope operation) (front kind scope))
+is_within kind scope operation = is_eq (slice_cmp nat_cmp (prefix_of scope operation) (scope_prefix kind scope))
 
 -- whether an operation is of a kind and under a key
 abbrev pub is_under_key : RecordKind → SliceKey → Operation → Bool

@@ -4,5 +4,5 @@ pub mod InnerScan
 pub mod InnerNames
 pub mod InnerOrder
 pub mod InTurn
-pub mod Places
+pub mod PutAt
 pub mod Taking

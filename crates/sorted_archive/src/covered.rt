@@ -16,11 +16,11 @@ ghost use Rattle.archive_core.specs.declared.operations.Operation.TheVariants.{R
 
 use crate::plain::search;
 use crate::range::{RecordKind, Scope, has_retirement, keep_digests_under, range_of};
-use archive_core::{Digest, Operation, Slice, SliceKey};
+use archive_core::{Digest, Operation, Slice, SliceKey, retirement};
 use memory::Heap;
 use std::marker::Model;
 
-// The operations of an archive, lent. A contract sees them as the content that they make.
+// The operations of an archive, borrowed. A contract sees them as the content that they make.
 #[derive(Drop)]
 pub(crate) struct BorrowedOperations<'a> {
     operations: &'a [Operation],
@@ -39,9 +39,9 @@ impl<'a> Model for BorrowedOperations<'a> {
 
     ghost coded = { set.code (coded_list coded_ℕ) };
 
-    ghost view = { λ lent. set.from_list (map record_bytes lent.operations.now) };
+    ghost view = { λ borrowed. set.from_list (map record_bytes borrowed.operations.now) };
 
-    ghost invariant = { λ lent. IsHeld lent.operations.now };
+    ghost invariant = { λ borrowed. IsHeld borrowed.operations.now };
 }
 
 // Whether one of the operations retires a slice. Its digest is asked for only where a retirement of its key stands.
@@ -139,7 +139,7 @@ fn keep_digests(operations: &mut [Operation], by: &BorrowedOperations<'_>)
     }
 }
 
-// Drops the operations that are covered. Where no retirement is lent, none is asked for.
+// Drops the operations that are covered. Where no retirement is borrowed, none is asked for.
 pub(crate) fn drop_covered(operations: &mut Vec<Operation, Heap>, by: &BorrowedOperations<'_>)
     ensures items { operations.new.items
         ≡ filter (λ operation. not (is_covered by.now (record_bytes operation))) operations.old.items }
@@ -154,15 +154,7 @@ pub(crate) fn drop_covered(operations: &mut Vec<Operation, Heap>, by: &BorrowedO
     operations.retain(|operation| !by.retires_operation(operation, &mut near));
 }
 
-// The retirement of a key and a digest.
-pub(crate) fn retirement(key: SliceKey, digest: Digest) -> Operation
-    ensures retirement { result ≡ Retire key digest }
-    ensures operation { IsOperation (Retire key digest) }
-{
-    Operation::Retire(key, digest)
-}
-
-// Drops the operation at a place.
+// Drops the operation at an index.
 fn drop_at(operations: &mut Vec<Operation, Heap>, index: usize)
     requires { index < length operations.old.items }
     ensures { operations.new.items ≡ take index operations.old.items ++ drop (index + 1) operations.old.items }

@@ -1,7 +1,7 @@
 //! An operation beside the row that a search tells of it.
 ghost use Rattle.std.specs.Prelude.{◌≡◌, map, IfOk};
 ghost use Rattle.archive_core.specs.Find.{find_cmp, row_of};
-ghost use Rattle.archive_core.specs.Record.{IsOperation, operation_lent};
+ghost use Rattle.archive_core.specs.Record.{IsOperation, operation_borrowed};
 
 use archive_core::{FindRow, Record};
 use memory::{Heap, NoMemory};
@@ -19,21 +19,21 @@ pub struct HashedRecord<'a> {
 impl<'a> Model for HashedRecord<'a> {
     ghost use Rattle.std.specs.Prelude.{◌≡◌};
     ghost use Rattle.archive_core.specs.Find.{row_of};
-    ghost use Rattle.archive_core.specs.Record.{operation_lent};
+    ghost use Rattle.archive_core.specs.Record.{operation_borrowed};
     ghost use Rattle.archive_core.specs.declared.operations.Operation.{Operation};
 
     ghost Value = { Operation };
 
-    ghost view = { λ hashed. operation_lent hashed.operation };
+    ghost view = { λ hashed. operation_borrowed hashed.operation };
 
-    ghost invariant = { λ hashed. hashed.row ≡ row_of (operation_lent hashed.operation) };
+    ghost invariant = { λ hashed. hashed.row ≡ row_of (operation_borrowed hashed.operation) };
 }
 
 impl<'a> HashedRecord<'a> {
     /// The operation with its row.
     pub fn of(operation: Record<'a>) -> HashedRecord<'a>
-        ensures seen_as { result ≡ operation_lent operation.entry }
-        ensures operation { IsOperation (operation_lent operation.entry) }
+        ensures seen_as { result ≡ operation_borrowed operation.entry }
+        ensures operation { IsOperation (operation_borrowed operation.entry) }
     {
         HashedRecord {
             row: FindRow::of(&operation),

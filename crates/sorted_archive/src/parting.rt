@@ -5,8 +5,7 @@ ghost use Rattle.archive_core.specs.Content.{IsMade, Operations};
 ghost use Rattle.sorted_archive.specs.InnerTaking.{IsPut, IsParted};
 ghost use Rattle.archive_core.specs.declared.operations.Operation.TheVariants.{Admit, Retire};
 
-use crate::covered::retirement;
-use archive_core::{Digest, Operation, Retirements, Slice, SliceKey, retirement_bytes};
+use archive_core::{Digest, Operation, Retirements, Slice, SliceKey, retirement, retirement_bytes};
 use memory::{Heap, NoMemory};
 
 // The admissions of a list and its retirements, without those that are new nowhere where they come: a slice behind its
@@ -36,9 +35,9 @@ impl Parts {
             self.new.admissions.items self.new.retirements.items (set.from_list seen.now)) }
     {
         let _bytes = slice.bytes();
-        let mut lent = slice.lend();
-        let covered = seen.covers(&mut lent);
-        let facts = lent.facts();
+        let mut borrowed = slice.lend();
+        let covered = seen.covers(&mut borrowed);
+        let facts = borrowed.facts();
         if covered {
             return Ok(());
         }

@@ -1,6 +1,5 @@
 //! An archive as a sorted list of operations.
-ghost use Rattle.std.specs.Prelude.{◌≡◌, ◌≤◌, ◌++◌, ◌||◌, true, not, length, map, filter, IfOk, OnOk};
-ghost use Rattle.std.specs.Prelude.{OnErr};
+ghost use Rattle.std.specs.Prelude.{◌≡◌, ◌≤◌, ◌++◌, ◌||◌, true, not, length, map, filter, IfOk, OnOk, OnErr};
 ghost use Rattle.std.specs.FinSet as set;
 ghost use Rattle.std.specs.Ordering.{nat_cmp, is_lt};
 ghost use Rattle.std.specs.Cmp.Lexicographic.{slice_cmp};
@@ -14,7 +13,7 @@ ghost use Rattle.archive_core.specs.Content.{IsContent, is_covered, changes, wit
 ghost use Rattle.archive_core.specs.InnerHeld.{IsHeld};
 ghost use Rattle.sorted_archive.specs.InnerOrder.{IsOrderOf};
 ghost use Rattle.sorted_archive.specs.InnerScan.{held_in, held_among, IsAnsweringOf};
-ghost use Rattle.sorted_archive.specs.Places.{IsPutAt};
+ghost use Rattle.sorted_archive.specs.PutAt.{IsPutAt};
 ghost use Rattle.sorted_archive.specs.Taking.{Takes};
 ghost use Rattle.archive_core.specs.declared.operations.Operation.TheVariants.{Admit, Retire};
 ghost use Rattle.archive_core.specs.Lookup.{IsOwnRow, IsAnswerOf, own_row, answer_view};
@@ -22,7 +21,7 @@ ghost use Rattle.archive_core.specs.Names.{name_view};
 ghost use Rattle.sorted_archive.specs.InnerNames.{names_of, names_among};
 
 use crate::asked::{Answering, AskedSlice, answer_of_one, is_kind};
-use crate::covered::{BorrowedOperations, drop_covered, drop_retired, retirement};
+use crate::covered::{BorrowedOperations, drop_covered, drop_retired};
 use crate::hashed::{HashedRecord, rows_of};
 use crate::name_rows::{put_in_order, rows_in};
 use crate::range::{
@@ -30,7 +29,7 @@ use crate::range::{
 };
 use archive_core::{
     Answer, Archive, Contents, Digest, FindRow, NameRow, Operation, Own, Record, Slice, SliceKey,
-    Where, is_key,
+    Where, is_key, retirement,
 };
 use join_core::Join;
 use memory::{Heap, NoMemory};
@@ -130,9 +129,21 @@ impl PlainArchive {
         keep_each_table(&mut self.operations, &heap)
     }
 
-    /// Whether a lookup of the key may tell digests: where two of its slices are of one kind.
+    /// Whether a lookup of the key may tell digests: where two of its slices are of one kind, as of three some two are.
     pub fn tells_digests(&self, key: &SliceKey) -> bool {
-        self.has_several(key)
+        let count = self.operations.len();
+        if count > 1
+            && is_key(&self.operations[count - 1].key(), key)
+            && !is_key(&self.operations[count - 2].key(), key)
+        {
+            return false;
+        }
+        let slices = under(&self.operations, RecordKind::Admission, *key);
+        match slices.len() {
+            0 | 1 => false,
+            2 => is_companion(&slices[0]) == is_companion(&slices[1]),
+            _ => true,
+        }
     }
 
     /// Keeps the digests of the slices under a key, where a lookup of the key may tell them.
@@ -165,24 +176,6 @@ impl PlainArchive {
         Ok(keys)
     }
 
-    // Whether two slices of the key are of one kind, as of three some two are. What came in ascending order stands
-    // last. No answer depends on it.
-    fn has_several(&self, key: &SliceKey) -> bool {
-        let count = self.operations.len();
-        if count > 1
-            && is_key(&self.operations[count - 1].key(), key)
-            && !is_key(&self.operations[count - 2].key(), key)
-        {
-            return false;
-        }
-        let slices = under(&self.operations, RecordKind::Admission, *key);
-        match slices.len() {
-            0 | 1 => false,
-            2 => is_companion(&slices[0]) == is_companion(&slices[1]),
-            _ => true,
-        }
-    }
-
     /// Keeps the digest of the slice that an operation admits, where a retirement of its key stands: taking it asks for
     /// that.
     pub fn keep_asked(&self, operation: &mut Operation)
@@ -191,9 +184,9 @@ impl PlainArchive {
         self.lend().keep_digest_of(operation, &mut 0);
     }
 
-    // The operations, lent.
+    // The operations, borrowed.
     fn lend(&self) -> BorrowedOperations<'_>
-        ensures lent { result ≡ self.now }
+        ensures borrowed { result ≡ self.now }
         ensures content { IsContent self.now }
     {
         BorrowedOperations::of(&self.operations)
@@ -216,10 +209,10 @@ impl PlainArchive {
             operations.now }
         ensures content { IsContent self.now }
     {
-        let lent = self.lend();
+        let borrowed = self.lend();
         operations
             .iter()
-            .all(|operation| lent.knows(operation, &mut 0))
+            .all(|operation| borrowed.knows(operation, &mut 0))
     }
 
     /// The operations, in the order of their records.
@@ -231,16 +224,16 @@ impl PlainArchive {
         &self.operations
     }
 
-    /// Takes an admission, and gives its place among the operations, or none where it changes nothing.
+    /// Takes an admission, and gives its index among the operations, or none where it changes nothing.
     pub fn admit_at(&mut self, mut slice: Slice) -> Result<Option<usize>, NoMemory>
         ensures taken { OnOk result (self.new ≡ with_record self.old (admission_record slice)) }
-        ensures place { IfOk result (λ place. IsPutAt self.old self.new (admission_record slice) place) }
+        ensures place { IfOk result (λ index. IsPutAt self.old self.new (admission_record slice) index) }
         ensures valid { IsValid slice }
         ensures refused { OnErr result (self.new ≡ self.old) }
     {
-        let lent = BorrowedOperations::of(&self.operations);
-        lent.keep_digest(&mut slice, &mut self.near);
-        if lent.retires(&slice, &mut self.near) {
+        let borrowed = BorrowedOperations::of(&self.operations);
+        borrowed.keep_digest(&mut slice, &mut self.near);
+        if borrowed.retires(&slice, &mut self.near) {
             return Ok(None);
         }
         let admission = Operation::Admit(slice);
@@ -422,10 +415,10 @@ impl PlainArchive {
     {
         let heap = self.operations.allocator();
         let mut missing = Vec::new(heap.clone()?);
-        let lent = self.lend();
+        let borrowed = self.lend();
         let mut near = 0;
         'operations: for operation in operations {
-            if !lent.knows(operation, &mut near) {
+            if !borrowed.knows(operation, &mut near) {
                 let copy = operation.copy(heap.clone()?)?;
                 missing.push(copy)?;
             }

@@ -7,7 +7,7 @@ ghost use Rattle.std.specs.List.Sorted.{IsStrictlySortedBy};
 ghost use Rattle.archive_core.specs.Key.{IsKey};
 ghost use Rattle.archive_core.specs.Record.{record_bytes, IsOperation};
 ghost use Rattle.archive_core.specs.InnerHeld.{IsHeld};
-ghost use Rattle.sorted_archive.specs.InnerRange.{front, front_of, scope_bytes, bytes_within};
+ghost use Rattle.sorted_archive.specs.InnerRange.{scope_prefix, prefix_of, scope_bytes, bytes_within};
 ghost use Rattle.sorted_archive.specs.InnerRange.{is_within, is_under_key, is_under_uuid};
 ghost use Rattle.sorted_archive.specs.declared.range.RecordKind.TheVariants.{Retirement};
 
@@ -167,7 +167,7 @@ pub(crate) fn is_companion(operation: &Operation) -> bool {
 
 // Compares the kind and the key of an operation with a kind and a scope.
 fn compare(operation: &Operation, kind: RecordKind, scope: &Scope) -> Ordering
-    ensures { result ≡ slice_cmp nat_cmp (front_of scope.now operation.now) (front kind scope.now) }
+    ensures { result ≡ slice_cmp nat_cmp (prefix_of scope.now operation.now) (scope_prefix kind scope.now) }
 {
     match (operation, kind) {
         (Operation::Retire(key, _), RecordKind::Retirement) => compare_key(key, scope),

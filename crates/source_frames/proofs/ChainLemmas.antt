@@ -7,31 +7,31 @@ use Rattle.debug_entries.specs.declared.entry.Entry.{Entry}
 use Rattle.source_frames.specs.DebugSections.{DebugSectionsRecord}
 use Rattle.source_frames.specs.DebugUnits.{UnitRecord}
 use Rattle.source_frames.specs.UnitLines.{LinesRecord}
-use Rattle.source_frames.specs.Frames.{FrameRecord, IsFrame, AreFramesFrom, place_of_call}
-use Rattle.source_frames.specs.declared.frame.Place.{Place}
+use Rattle.source_frames.specs.Frames.{FrameRecord, IsFrame, AreFramesFrom, location_of_call}
+use Rattle.source_frames.specs.declared.frame.SourceLocation.{SourceLocation}
 
 -- whatever completes the frames of the rest completes those of the whole
-pub record Completes (s : DebugSectionsRecord) (lines : LinesRecord) (unit : UnitRecord) (place innermost : Place) (rest all : List EntryRecord) (found : List FrameRecord) : Type 0 where
-  pub with : (frames : List FrameRecord) → AreFramesFrom s lines unit place rest frames → AreFramesFrom s lines unit innermost all (found ++ frames)
+pub record Completes (s : DebugSectionsRecord) (lines : LinesRecord) (unit : UnitRecord) (location innermost : SourceLocation) (rest all : List EntryRecord) (found : List FrameRecord) : Type 0 where
+  pub with : (frames : List FrameRecord) → AreFramesFrom s lines unit location rest frames → AreFramesFrom s lines unit innermost all (found ++ frames)
 
-pub completes_none : (s : DebugSectionsRecord) (lines : LinesRecord) (unit : UnitRecord) (innermost : Place) (all : List EntryRecord) (found : List FrameRecord) → found ≡ [] → Completes s lines unit innermost innermost all all found
+pub completes_none : (s : DebugSectionsRecord) (lines : LinesRecord) (unit : UnitRecord) (innermost : SourceLocation) (all : List EntryRecord) (found : List FrameRecord) → found ≡ [] → Completes s lines unit innermost innermost all all found
 completes_none s lines unit innermost all found none = record {
   with = λ frames h. subst (λ (fs : List FrameRecord). AreFramesFrom s lines unit innermost all (fs ++ frames)) (sym none) h;
 }
 
-pub completes_more : (s : DebugSectionsRecord) (lines : LinesRecord) (unit : UnitRecord) (place innermost after : Place) (e : EntryRecord) (rest all : List EntryRecord) (found next : List FrameRecord) (frame : FrameRecord) → after ≡ place_of_call e
-    → Completes s lines unit place innermost (e ∷ rest) all found → IsFrame s lines (record { unit = unit; entry = e }) place frame → next ≡ found ++ frame ∷ []
+pub completes_more : (s : DebugSectionsRecord) (lines : LinesRecord) (unit : UnitRecord) (location innermost after : SourceLocation) (e : EntryRecord) (rest all : List EntryRecord) (found next : List FrameRecord) (frame : FrameRecord) → after ≡ location_of_call e
+    → Completes s lines unit location innermost (e ∷ rest) all found → IsFrame s lines (record { unit = unit; entry = e }) location frame → next ≡ found ++ frame ∷ []
     → Completes s lines unit after innermost rest all next
-completes_more s lines unit place innermost after e rest all found next frame moved before is added = record {
+completes_more s lines unit location innermost after e rest all found next frame moved before is added = record {
   with = λ frames h.
-      let whole = before.with (frame ∷ frames) (is, subst (λ (p : Place). AreFramesFrom s lines unit p rest frames) moved h) in
+      let whole = before.with (frame ∷ frames) (is, subst (λ (p : SourceLocation). AreFramesFrom s lines unit p rest frames) moved h) in
       let same : found ++ (frame ∷ frames) ≡ next ++ frames = sym (ap (λ (xs : List FrameRecord). xs ++ frames) added ∙ append_assoc found (frame ∷ []) frames) in
       subst (λ (fs : List FrameRecord). AreFramesFrom s lines unit innermost all fs) same whole;
 }
 
-pub completes_all : (s : DebugSectionsRecord) (lines : LinesRecord) (unit : UnitRecord) (place innermost : Place) (all : List EntryRecord) (found : List FrameRecord)
-    → Completes s lines unit place innermost [] all found → AreFramesFrom s lines unit innermost all found
-completes_all s lines unit place innermost all found before =
+pub completes_all : (s : DebugSectionsRecord) (lines : LinesRecord) (unit : UnitRecord) (location innermost : SourceLocation) (all : List EntryRecord) (found : List FrameRecord)
+    → Completes s lines unit location innermost [] all found → AreFramesFrom s lines unit innermost all found
+completes_all s lines unit location innermost all found before =
     subst (λ (fs : List FrameRecord). AreFramesFrom s lines unit innermost all fs) (append-nil found) (before.with [] refl)
 
 -- the entries that are left, one after another

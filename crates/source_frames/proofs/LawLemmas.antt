@@ -9,17 +9,17 @@ use Rattle.dwarf_numbers.specs.Units.{unit_of, IsUnitWith}
 use Rattle.debug_entries.specs.Entries.{EntryRecord}
 use Rattle.line_programs.specs.Paths.{PathRecord}
 use Rattle.line_programs.specs.declared.registers.Row.{Row}
-use Rattle.line_programs.specs.Covering.{IsCovering}
 use Rattle.source_frames.specs.AddressFrames.{rows_of, AreFramesInUnit, AreFramesIn, AreFramesBy}
 use Rattle.source_frames.specs.DebugSections.{DebugSectionsRecord}
 use Rattle.source_frames.specs.DebugUnits.{UnitRecord, UnitEntryRecord, unit_of_bytes, entry_with, IsEntryAt}
-use Rattle.source_frames.specs.Frames.{FrameRecord, IsFrame, AreFramesFrom, AreFramesOfChain, place_of_row, place_of_call}
+use Rattle.source_frames.specs.Frames.{FrameRecord, IsFrame, AreFramesFrom, AreFramesOfChain, location_of_row, location_of_call}
 use Rattle.source_frames.specs.Names.{linkage_name, origin_place, text_in, IsOrigin, IsNameWithin}
 use Rattle.source_frames.specs.Scopes.{ScopeRecord, IsFirst, IsChainWithin, scopes_of}
 use Rattle.source_frames.specs.UnitAddresses.{read_unit}
 use Rattle.source_frames.specs.UnitLines.{LinesRecord, lines_of}
-use Rattle.source_frames.specs.declared.frame.Place.{Place}
+use Rattle.source_frames.specs.declared.frame.SourceLocation.{SourceLocation}
 use Rattle.source_frames.proofs.UnitAddressLemmas.{one_place}
+use Rattle.line_programs.proofs.RunLemmas.{one_covering}
 
 -- of two places one is first, or they are one
 order : (a b : ℕ) → (a < b) ⊎ ((b < a) ⊎ (a ≡ b))
@@ -28,19 +28,6 @@ order a b = elim (cases_Bool (nat_lt a b)) [
   | inr f ↦ elim (cases_Bool (nat_lt b a)) [
     | inl t ↦ inr (inl (ltb-true b a t))
     | inr g ↦ inr (inr (omega (arith, ltb-false a b f, ltb-false b a g)))
-  ]
-]
-
--- one row
-one_covering : (rows : List Row) (a : ℕ) (one other : Option Row) → IsCovering rows a one → IsCovering rows a other → one ≡ other
-one_covering rows a None None p q = refl
-one_covering rows a None (Some row) p q = absurd (p q.0 row q.1)
-one_covering rows a (Some row) None p q = absurd (q p.0 row p.1)
-one_covering rows a (Some row) (Some other) p q = elim (order p.0 q.0) [
-  | inl less ↦ absurd (q.2 p.0 row less p.1)
-  | inr more ↦ elim more [
-    | inl less ↦ absurd (p.2 q.0 other less q.1)
-    | inr same ↦ sym p.1.stands ∙ ap (slice_get rows) same ∙ q.1.stands
   ]
 ]
 
@@ -125,7 +112,7 @@ one_name (suc count) s e before one other p q =
     one_name_of count s e name (linkage_name s e) one other (λ o h k. one_name count s o name one other h k) p q
 
 -- one frame
-one_frame : (s : DebugSectionsRecord) (lines : LinesRecord) (e : UnitEntryRecord) (place : Place) (one other : FrameRecord) → IsFrame s lines e place one → IsFrame s lines e place other → one ≡ other
+one_frame : (s : DebugSectionsRecord) (lines : LinesRecord) (e : UnitEntryRecord) (place : SourceLocation) (one other : FrameRecord) → IsFrame s lines e place one → IsFrame s lines e place other → one ≡ other
 one_frame s lines e place one other p q =
     let name : one.name ≡ other.name = one_name 16 s e None one.name other.name p.name q.name in
     let path : one.path ≡ other.path = p.path ∙ sym q.path in
@@ -137,21 +124,21 @@ one_frame s lines e place one other p q =
     let with_column : ℕ → FrameRecord = λ x. record { name = other.name; path = other.path; line = other.line; column = x } in
     ap with_name name ∙ ap with_path path ∙ ap with_line line ∙ ap with_column column
 
-one_frames_from : (s : DebugSectionsRecord) (lines : LinesRecord) (unit : UnitRecord) (place : Place) (chain : List EntryRecord) (one other : List FrameRecord)
+one_frames_from : (s : DebugSectionsRecord) (lines : LinesRecord) (unit : UnitRecord) (place : SourceLocation) (chain : List EntryRecord) (one other : List FrameRecord)
     → AreFramesFrom s lines unit place chain one → AreFramesFrom s lines unit place chain other → one ≡ other
 one_frames_from s lines unit place [] one other p q = p ∙ sym q
 one_frames_from s lines unit place (e ∷ es) [] other p q = absurd p
 one_frames_from s lines unit place (e ∷ es) (f ∷ fs) [] p q = absurd q
 one_frames_from s lines unit place (e ∷ es) (f ∷ fs) (g ∷ gs) p q =
     let here : f ≡ g = one_frame s lines (record { unit = unit; entry = e }) place f g p.0 q.0 in
-    let rest : fs ≡ gs = one_frames_from s lines unit (place_of_call e) es fs gs p.1 q.1 in
+    let rest : fs ≡ gs = one_frames_from s lines unit (location_of_call e) es fs gs p.1 q.1 in
     ap (λ (x : FrameRecord). x ∷ fs) here ∙ ap (λ (xs : List FrameRecord). g ∷ xs) rest
 
 one_frames_of_chain : (s : DebugSectionsRecord) (lines : LinesRecord) (unit : UnitRecord) (chain : List EntryRecord) (row : Option Row) (one other : List FrameRecord)
     → AreFramesOfChain s lines unit chain row one → AreFramesOfChain s lines unit chain row other → one ≡ other
 one_frames_of_chain s lines unit [] None one other p q = p ∙ sym q
 one_frames_of_chain s lines unit [] (Some row) one other p q = p ∙ sym q
-one_frames_of_chain s lines unit (e ∷ es) row one other p q = one_frames_from s lines unit (place_of_row row) (e ∷ es) one other p q
+one_frames_of_chain s lines unit (e ∷ es) row one other p q = one_frames_from s lines unit (location_of_row row) (e ∷ es) one other p q
 
 -- one list of frames
 one_in_unit : (s : DebugSectionsRecord) (unit : UnitRecord) (a : ℕ) (one other : List FrameRecord) → AreFramesInUnit s unit a one → AreFramesInUnit s unit a other → one ≡ other

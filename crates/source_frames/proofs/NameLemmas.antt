@@ -10,23 +10,6 @@ pub mapped_or : {A B : Type 0} (f : A → B) (a b : Option A) → option_map f (
 mapped_or f None b = refl
 mapped_or f (Some x) b = refl
 
--- none is left
-pub name_zero : (count : ℕ) (s : DebugSectionsRecord) (e : UnitEntryRecord) (before name : Option (List ℕ)) → count ≡ 0 → name ≡ before → IsNameWithin count s e before name
-name_zero zero s e before name none same = same
-name_zero (suc count) s e before name none same = absurd (omega arith)
-
--- a linkage name
-pub name_linkage : (count : ℕ) (s : DebugSectionsRecord) (e : UnitEntryRecord) (before name : Option (List ℕ)) (linkage : List ℕ) → 0 < count → linkage_name s e ≡ Some linkage → name ≡ Some linkage
-    → IsNameWithin count s e before name
-name_linkage zero s e before name linkage some has same = absurd (omega arith)
-name_linkage (suc count) s e before name linkage some has same = rw has same
-
--- the last entry
-pub name_last : (count : ℕ) (s : DebugSectionsRecord) (e : UnitEntryRecord) (before name : Option (List ℕ)) → 0 < count → linkage_name s e ≡ None → IsOrigin s e None
-    → name ≡ option_or before (text_in s e e.entry.attributes.name) → IsNameWithin count s e before name
-name_last zero s e before name some none origin same = absurd (omega arith)
-name_last (suc count) s e before name some none origin same = rw none (None, origin, same)
-
 -- one that leads on
 pub name_next : (count : ℕ) (s : DebugSectionsRecord) (e o : UnitEntryRecord) (before next name : Option (List ℕ)) → 0 < count → linkage_name s e ≡ None → IsOrigin s e (Some o)
     → next ≡ option_or before (text_in s e e.entry.attributes.name) → IsNameWithin (count - 1) s o next name → IsNameWithin count s e before name

@@ -211,7 +211,7 @@ pub none_taken : (unit : UnitRangesRecord) (left : ℕ) (entry : EntryRecord) �
 unfolding left_after_scope
 none_taken unit left entry e = rw e refl
 
-no_ranges : (unit : UnitRangesRecord) (left : ℕ) (entry : EntryRecord) → is_function entry ≡ false → scope_ranges unit left entry ≡ []
+pub no_ranges : (unit : UnitRangesRecord) (left : ℕ) (entry : EntryRecord) → is_function entry ≡ false → scope_ranges unit left entry ≡ []
 unfolding scope_ranges
 no_ranges unit left entry e = rw e refl
 

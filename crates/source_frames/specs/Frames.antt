@@ -9,7 +9,7 @@ use Rattle.source_frames.specs.DebugSections.{DebugSectionsRecord}
 use Rattle.source_frames.specs.DebugUnits.{UnitRecord, UnitEntryRecord}
 use Rattle.source_frames.specs.Names.{IsName}
 use Rattle.source_frames.specs.UnitLines.{LinesRecord}
-use Rattle.source_frames.specs.declared.frame.Place.{Place}
+use Rattle.source_frames.specs.declared.frame.SourceLocation.{SourceLocation}
 
 -- a frame: the name of its function, and the path, the line and the column at which it stands
 pub record FrameRecord : Type 0 where
@@ -28,15 +28,15 @@ abbrev pub constant_of : Option ValueRecord → Option ℕ
 constant_of (Some (Constant n)) = Some n
 constant_of _ = None
 
--- the place of a row, or none
-abbrev pub place_of_row : Option Row → Place
-place_of_row None = record { file = None; line = 0; column = 0 }
-place_of_row (Some row) =
+-- the location of a row, or none
+abbrev pub location_of_row : Option Row → SourceLocation
+location_of_row None = record { file = None; line = 0; column = 0 }
+location_of_row (Some row) =
     record { file = Some row.registers.file; line = row.registers.line; column = row.registers.column }
 
--- the place of the call that an entry is: DW_AT_call_file, DW_AT_call_line and DW_AT_call_column
-abbrev pub place_of_call : EntryRecord → Place
-place_of_call entry =
+-- the location of the call that an entry is: DW_AT_call_file, DW_AT_call_line and DW_AT_call_column
+abbrev pub location_of_call : EntryRecord → SourceLocation
+location_of_call entry =
     record {
       file = constant_of entry.attributes.call_file;
       line = constant_or_zero entry.attributes.call_line;
@@ -48,23 +48,23 @@ abbrev pub path_in : LinesRecord → Option ℕ → Option PathRecord
 path_in lines file =
     option_and_then (λ n. option_and_then (λ names. parts_of lines.texts lines.comp_dir names n) lines.names) file
 
--- the frame of an entry at a place
-pub record IsFrame (sections : DebugSectionsRecord) (lines : LinesRecord) (e : UnitEntryRecord) (place : Place)
+-- the frame of an entry at a location
+pub record IsFrame (sections : DebugSectionsRecord) (lines : LinesRecord) (e : UnitEntryRecord) (location : SourceLocation)
     (frame : FrameRecord) : Type 0 where
   pub name : IsName sections e frame.name
-  pub path : frame.path ≡ path_in lines place.file
-  pub line : frame.line ≡ place.line
-  pub column : frame.column ≡ place.column
+  pub path : frame.path ≡ path_in lines location.file
+  pub line : frame.line ≡ location.line
+  pub column : frame.column ≡ location.column
 
--- the frames of entries, the innermost first, which is at a place; each further one is at the call that the one before
+-- the frames of entries, the innermost first, which is at a location; each further one is at the call that the one before
 -- it is
 abbrev pub AreFramesFrom :
-    DebugSectionsRecord → LinesRecord → UnitRecord → Place → List EntryRecord → List FrameRecord → Type 0
-AreFramesFrom sections lines unit place [] frames = frames ≡ []
-AreFramesFrom sections lines unit place (e ∷ es) [] = ⊥
-AreFramesFrom sections lines unit place (e ∷ es) (f ∷ fs) =
-    IsFrame sections lines (record { unit = unit; entry = e }) place f
-    × AreFramesFrom sections lines unit (place_of_call e) es fs
+    DebugSectionsRecord → LinesRecord → UnitRecord → SourceLocation → List EntryRecord → List FrameRecord → Type 0
+AreFramesFrom sections lines unit location [] frames = frames ≡ []
+AreFramesFrom sections lines unit location (e ∷ es) [] = ⊥
+AreFramesFrom sections lines unit location (e ∷ es) (f ∷ fs) =
+    IsFrame sections lines (record { unit = unit; entry = e }) location f
+    × AreFramesFrom sections lines unit (location_of_call e) es fs
 
 -- the frame of a row alone
 abbrev pub frame_of_row : LinesRecord → Row → FrameRecord
@@ -83,4 +83,4 @@ abbrev pub AreFramesOfChain :
 AreFramesOfChain sections lines unit [] None frames = frames ≡ []
 AreFramesOfChain sections lines unit [] (Some row) frames = frames ≡ frame_of_row lines row ∷ []
 AreFramesOfChain sections lines unit (e ∷ es) row frames =
-    AreFramesFrom sections lines unit (place_of_row row) (e ∷ es) frames
+    AreFramesFrom sections lines unit (location_of_row row) (e ∷ es) frames

@@ -1,6 +1,5 @@
 -- The name of the function of an entry (DWARF 5, sections 2.13.2, 2.15, 2.22 and 3.3.8.2).
-use Rattle.std.specs.Prelude.{ℕ, zero, suc, List, ◌≡◌, ◌==◌, length, if◌then◌else◌, Option, Some, None}
-use Rattle.std.specs.Prelude.{MatchOption}
+use Rattle.std.specs.Prelude.{ℕ, zero, suc, List, ◌≡◌, ◌==◌, length, if◌then◌else◌, Option, Some, None, MatchOption}
 use Rattle.std.specs.Option.{option_and_then, option_or}
 use Rattle.dwarf_numbers.specs.Values.{ValueRecord}
 use Rattle.dwarf_numbers.specs.TextSections.{text_of}

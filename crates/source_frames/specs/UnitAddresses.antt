@@ -1,6 +1,5 @@
 -- The unit of an address (DWARF 5, section 6.1.2).
-use Rattle.std.specs.Prelude.{ℕ, List, [], ◌≡◌, ◌<◌, length, slice_index, slice_index_or, if◌then◌else◌}
-use Rattle.std.specs.Prelude.{Option, None}
+use Rattle.std.specs.Prelude.{ℕ, List, [], ◌≡◌, ◌<◌, length, slice_index, slice_index_or, if◌then◌else◌, Option, None}
 use Rattle.std.specs.List.{find}
 use Rattle.std.specs.Option.{option_and_then, option_map, option_map_or, option_or}
 use Rattle.dwarf_numbers.specs.Sequences.{placed}

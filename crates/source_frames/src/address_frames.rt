@@ -1,24 +1,19 @@
 //! The frames of addresses of an image.
 
-ghost use Rattle.std.specs.Prelude.{◌≡◌, ◌≢◌, ◌+◌, ◌++◌, ◌∷◌, ◌≤◌, ◌<◌, [], ℕ, IfNone, IfOk, IfSome, OnOk, EachIndex, length};
+ghost use Rattle.std.specs.Prelude.{◌≡◌, ◌≢◌, ◌+◌, ◌++◌, ◌∷◌, ◌<◌, [], ℕ, IfNone, IfOk, IfSome, OnOk, EachIndex, length};
 ghost use Rattle.std.specs.Prelude.{map, slice_index};
 ghost use Rattle.std.specs.Option.{option_map_or};
-ghost use Rattle.std.specs.Ordering.{nat_cmp};
 ghost use Rattle.std.specs.BTreeMap as tree_map;
-ghost use Rattle.source_frames.specs.AddressFrames.{AreFramesBy, AreFramesOf};
-ghost use Rattle.source_frames.specs.FoundFrames.{AreByUnit, AreOfUnit, AreRight, IsFound, IsInUnit, added};
+ghost use Rattle.source_frames.specs.AddressFrames.{AreFramesOf};
+ghost use Rattle.source_frames.specs.FoundFrames.{AreByUnit, AreOfUnit, AreRight, IsFound, added};
 ghost use Rattle.source_frames.specs.FoundFrames.{addresses_under, frames_under};
-ghost use Rattle.source_frames.specs.FrameViews.{frame_view, lines_view};
+ghost use Rattle.source_frames.specs.FrameViews.{frame_view};
 ghost use Rattle.source_frames.specs.SectionsViews.{sections_view};
 ghost use Rattle.source_frames.specs.UnitAddresses.{AreUnitsOf};
-ghost use Rattle.source_frames.specs.UnitLines.{lines_of};
-ghost use Rattle.source_frames.specs.UnitViews.{unit_view};
 
 use crate::debug_info::DebugInfo;
-use crate::debug_unit::DebugUnit;
 use crate::frame::Frame;
 use crate::unit_frames::Found;
-use crate::unit_lines::UnitLines;
 use dwarf_numbers::Units;
 use macho_image::Image;
 use memory::{Heap, NoMemory};
@@ -144,30 +139,6 @@ impl<'a> DebugInfo<'a> {
         let by_unit = self.by_unit(heap.clone()?, addresses, &places)?;
         let found = self.find_all(heap, &line_units, by_unit)?;
         Ok(found)
-    }
-}
-
-impl<'a> DebugInfo<'a> {
-    /// The frames of addresses of a unit, which is read once, and its program is run once.
-    pub fn frames_in_unit(
-        &self,
-        heap: Heap,
-        lines: &UnitLines<'a>,
-        unit: &DebugUnit<'a>,
-        addresses: &[u64],
-    ) -> Result<AddressFrames<'a>, NoMemory>
-        requires within { unit.now.header.entries_offset ≤ length unit.now.bytes.now }
-        requires range { IfSome lines.now.program (λ p. 0 < p.header.line_range) }
-        requires lines_are { lines_view lines.now ≡ lines_of (sections_view self.now.sections) (unit_view unit.now) }
-        requires unit_is { EachIndex addresses.now (λ i.
-            IsInUnit (sections_view self.now.sections) (unit_view unit.now) (slice_index addresses.now i)) }
-        ensures { IfOk result (λ frames. EachIndex addresses.now (λ i.
-            AreFramesBy (sections_view self.now.sections) (slice_index addresses.now i)
-            (frames_under frames (slice_index addresses.now i)))) }
-    {
-        let mut found = BTreeMap::new(heap.clone()?);
-        self.find_in(heap, lines, unit, addresses, &mut found)?;
-        Ok(AddressFrames { found })
     }
 }
 

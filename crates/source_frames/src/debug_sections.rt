@@ -1,6 +1,6 @@
 //! The DWARF sections of an image.
 
-ghost use Rattle.std.specs.Prelude.{◌≡◌, ◌+◌, ◌≤◌, drop, length, take};
+ghost use Rattle.std.specs.Prelude.{◌≡◌, ◌+◌, ◌≤◌, length};
 ghost use Rattle.source_frames.specs.DebugSections.{debug_section, debug_sections, is_named, section_bytes};
 ghost use Rattle.macho_image.specs.SectionViews.{section_view};
 ghost use Rattle.source_frames.specs.SectionsViews.{sections_view};

@@ -1,13 +1,13 @@
 //! The frames of an address, of which the entries and the row are known.
 
-ghost use Rattle.std.specs.Prelude.{◌≡◌, IfOk, map};
+ghost use Rattle.std.specs.Prelude.{◌≡◌};
 ghost use Rattle.std.specs.Option.{option_map};
 ghost use Rattle.debug_entries.specs.EntryViews.{entry_view};
 ghost use Rattle.dwarf_numbers.specs.Views.{value_view};
 ghost use Rattle.line_programs.specs.PathViews.{path_view};
 ghost use Rattle.source_frames.specs.FrameViews.{frame_view, lines_view};
-ghost use Rattle.source_frames.specs.Frames.{constant_of, constant_or_zero, frame_of_row, path_in, place_of_call};
-ghost use Rattle.source_frames.specs.Frames.{place_of_row, IsFrame};
+ghost use Rattle.source_frames.specs.Frames.{constant_of, constant_or_zero, frame_of_row, path_in, location_of_call};
+ghost use Rattle.source_frames.specs.Frames.{location_of_row, IsFrame};
 ghost use Rattle.source_frames.specs.SectionsViews.{sections_view};
 ghost use Rattle.source_frames.specs.UnitViews.{unit_entry_view};
 
@@ -20,7 +20,7 @@ use line_programs::{PathParts, Row};
 
 /// Where a frame stands.
 #[derive(Clone, Copy)]
-pub struct Place {
+pub struct SourceLocation {
     /// The index of a file, by the names of the unit's program.
     pub file: Option<u64>,
     /// A line, from 1 on; 0 if none is known.
@@ -60,18 +60,18 @@ fn constant_of(value: Option<Value<'_>>) -> Option<u64>
     }
 }
 
-impl Place {
-    /// The place of a row, or none.
-    pub fn of_row(row: Option<Row>) -> Place
-        ensures { result ≡ place_of_row row }
+impl SourceLocation {
+    /// The location of a row, or none.
+    pub fn of_row(row: Option<Row>) -> SourceLocation
+        ensures { result ≡ location_of_row row }
     {
         match row {
-            Some(row) => Place {
+            Some(row) => SourceLocation {
                 file: Some(row.registers.file),
                 line: row.registers.line,
                 column: row.registers.column,
             },
-            None => Place {
+            None => SourceLocation {
                 file: None,
                 line: 0,
                 column: 0,
@@ -79,11 +79,11 @@ impl Place {
         }
     }
 
-    /// The place of the call that an entry is.
-    pub fn of_call(entry: &Entry<'_>) -> Place
-        ensures { result ≡ place_of_call (entry_view entry.now) }
+    /// The location of the call that an entry is.
+    pub fn of_call(entry: &Entry<'_>) -> SourceLocation
+        ensures { result ≡ location_of_call (entry_view entry.now) }
     {
-        Place {
+        SourceLocation {
             file: constant_of(entry.attributes.call_file),
             line: constant_or_zero(entry.attributes.call_line),
             column: constant_or_zero(entry.attributes.call_column),
@@ -119,16 +119,21 @@ impl<'a> UnitLines<'a> {
 }
 
 impl<'a> DebugInfo<'a> {
-    /// The frame of an entry at a place.
-    pub fn frame(&self, lines: &UnitLines<'a>, of: &UnitEntry<'a>, place: Place) -> Frame<'a>
-        ensures { IsFrame (sections_view self.now.sections) (lines_view lines.now) (unit_entry_view of.now) place
+    /// The frame of an entry at a location.
+    pub fn frame(
+        &self,
+        lines: &UnitLines<'a>,
+        of: &UnitEntry<'a>,
+        location: SourceLocation,
+    ) -> Frame<'a>
+        ensures { IsFrame (sections_view self.now.sections) (lines_view lines.now) (unit_entry_view of.now) location
             (frame_view result) }
     {
         Frame {
             name: self.name_of(of),
-            path: lines.path_in(place.file),
-            line: place.line,
-            column: place.column,
+            path: lines.path_in(location.file),
+            line: location.line,
+            column: location.column,
         }
     }
 }

@@ -29,7 +29,7 @@ pub use address_frames::{AddressFrames, frames_of};
 pub use debug_info::DebugInfo;
 pub use debug_sections::DebugSections;
 pub use debug_unit::{DebugUnit, UnitEntry};
-pub use frame::{Frame, Place};
+pub use frame::{Frame, SourceLocation};
 pub use scopes::{is_function, scope_ranges};
 pub use unit_code::range_attributes;
 pub use unit_lines::UnitLines;

@@ -76,9 +76,6 @@ module _ (image : List ℕ) (cs : List Candidate) (are : AreCandidates image cs)
 
 -- ---- one entry more
 
-pub none_below : (image : List ℕ) → AreCandidatesBelow image 0 []
-none_below image = record { from = λ c h. absurd (omega (arith, h.1)); each = λ i c l. absurd (omega (arith, l)); small = λ c h. absurd (omega (arith, h.1)) }
-
 pub one_more : (image : List ℕ) (n : ℕ) (cs more : List Candidate) (k : Candidate) → numbered_in image (entry_of image n) ≡ Some k → k.sect < 256 → more ≡ cs ++ k ∷ []
     → AreCandidatesBelow image n cs → AreCandidatesBelow image (n + 1) more
 one_more image n cs more k is byte new are = subst (AreCandidatesBelow image (n + 1)) (sym new) (record { from = from; each = each; small = small })

@@ -1,7 +1,7 @@
 -- The names of sections in 32 bytes, and what is found with them.
-use Rattle.std.proofs.Common.{◌≡◌, ℕ, zero, suc, ◌+◌, ◌*◌, ◌-◌, ◌==◌, ◌<◌, ◌≤◌, inl, inr, subst, length-take, append_assoc, List, [], ◌∷◌, ◌++◌, length, take, drop, map, slice_get, refl, sym, ap, ◌∙◌, arith, Option, Some, None, length-append}
+use Rattle.std.proofs.Common.{◌≡◌, ℕ, zero, suc, ◌+◌, ◌*◌, ◌-◌, ◌==◌, ◌<◌, ◌≤◌, inl, inr, subst, length-take, append_assoc, List, [], ◌∷◌, ◌++◌, length, take, drop, map, slice_get, refl, sym, ap, ◌∙◌, arith, Option, Some, length-append}
 use Rattle.std.specs.Prelude.{All, flat_map}
-use Rattle.std.specs.List.{before_first, position_or_len}
+use Rattle.std.specs.List.{before_first}
 use Rattle.std.specs.Option.{option_map, option_map_or}
 use Rattle.std.proofs.lemmas.Option.{slice_get-map, slice_get_past}
 use Rattle.std.proofs.lemmas.Bool.{cases_Bool}
@@ -12,15 +12,14 @@ use Rattle.macho_image.specs.Commands.{SegmentRecord, nsects}
 use Rattle.macho_image.specs.Kinds.{segments}
 use Rattle.macho_image.specs.Sections.{SectionRecord, section_record, section_records, sections, sections_in, section_of}
 use Rattle.macho_symbols.specs.Symbols.{Tuple}
-use Rattle.macho_symbols.specs.Found.{FoundRecord, FindsNearest, found_of}
-use Rattle.symbol_tables.specs.Asked.{IsSaid}
+use Rattle.macho_symbols.specs.Found.{FindsNearest, found_of}
+use Rattle.symbol_tables.specs.Found.{IsSaid, names_at, owned_view}
 use Rattle.symbol_tables.specs.Table.{FitsTable, IsTableOf, head_bytes, SectionNames, TableParts, names_of, padded, section_bytes, table_bytes, zeros}
-use Rattle.symbol_tables.specs.Found.{names_at, owned_view}
 use Rattle.symbol_tables.specs.declared.found.OwnedFound.{OwnedFound}
-use Rattle.symbol_tables.proofs.SectionLemmas.{get-take}
-use Rattle.symbol_tables.proofs.NameLemmas.{before_nul, before_other}
+use Rattle.macho_symbols.proofs.Pieces.{before_nul, before_other}
 use Rattle.symbol_tables.proofs.TableLemmas.{length-head, length-padded}
 use Rattle.symbol_tables.specs.Rows.{rows_bytes}
+use Rattle.macho_symbols.proofs.ExtentLemmas.{get-take}
 
 -- ---- a name in 16 bytes
 
@@ -44,7 +43,7 @@ pub record IsPadded (name : List ℕ) : Type 0 where
   pub short : length name ≤ 16
   pub again : before_first (λ b. b == 0) (padded name) ≡ name
 
-short_first : (xs : List ℕ) → length (before_first (λ b. b == 0) xs) ≤ length xs
+pub short_first : (xs : List ℕ) → length (before_first (λ b. b == 0) xs) ≤ length xs
 short_first xs = omega (arith, length-take {A = ℕ})
 
 padded_name : (bytes : List ℕ) (at : ℕ) → IsPadded (name_at bytes at)
@@ -182,6 +181,3 @@ found_said image address t f is said small names offset =
     let at : AreNamesOf f.names (section_of image c.sect) =
     subst (λ n. AreNamesOf f.names (section_of image n)) said.3 (subst (λ ns. AreNamesOf ns (section_of image f.symbol.row.sect)) (sym (names ∙ ap (λ ns. names_at ns f.symbol.row.sect) is.names)) (names_of_number image f.symbol.row.sect small)) in
     (Some c, said.1, ap Some (found_same image address c f said.4 said.2 said.3 offset at))
-
-pub none_found : (image : List ℕ) (address : ℕ) → IsSaid image address None → FindsNearest image address None
-none_found image address said = (None, said, refl)

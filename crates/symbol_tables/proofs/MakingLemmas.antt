@@ -1,8 +1,7 @@
 -- The table of an image, out of what was collected.
-use Rattle.std.proofs.Common.{◌≡◌, ℕ, zero, suc, ◌==◌, ◌+◌, ◌-◌, ◌<◌, ◌≤◌, ◌^◌, inl, inr, List, [], ◌∷◌, ◌++◌, length, map, take, drop, refl, sym, ap, ◌∙◌, subst, append_assoc, arith, length-append, length-take, Option}
+use Rattle.std.proofs.Common.{◌≡◌, ℕ, zero, suc, ◌+◌, ◌-◌, ◌<◌, ◌≤◌, ◌^◌, inl, inr, List, [], ◌∷◌, ◌++◌, length, map, take, drop, refl, sym, ap, ◌∙◌, subst, append_assoc, arith, length-append, length-take, Option}
 use Rattle.std.specs.Prelude.{All, flat_map}
 use Rattle.std.specs.Int.{w64, to_be_bytes}
-use Rattle.std.specs.List.{before_first}
 use Rattle.std.proofs.Math.Seq.{drop-append-add, take-append-add, take-nil}
 use Rattle.std.proofs.lemmas.Bool.{cases_lt}
 use Rattle.std.proofs.lemmas.List.{append-nil, drop-append-le, drop_all, length-map, take-append-le, take_all}
@@ -21,14 +20,12 @@ use Rattle.symbol_tables.specs.InnerCandidates.{AreSectionsOf}
 use Rattle.symbol_tables.specs.declared.row.Row.{Row}
 use Rattle.symbol_tables.proofs.RowLemmas.{length-rows_bytes}
 use Rattle.symbol_tables.proofs.TableLemmas.{length-head, length-names}
+use Rattle.symbol_tables.proofs.FoundLemmas.{short_first as shorter}
 
 -- ---- names of sections are short
 
 Short : SectionRecord → Type 0
 Short s = (length s.segment ≤ 16) × (length s.section ≤ 16)
-
-shorter : (xs : List ℕ) → length (before_first (λ b. b == 0) xs) ≤ length xs
-shorter xs = omega (arith, length-take {A = ℕ})
 
 short_name : (bytes : List ℕ) (at : ℕ) → length (name_at bytes at) ≤ 16
 short_name bytes at = omega (arith, shorter (take 16 (drop at bytes)), length-take 16 (drop at bytes))
@@ -75,14 +72,14 @@ head_along t base n r s l b p q e f = λ i. head_of_numbers (b i) (p i) (q i) (e
 abbrev parts_for : List ℕ → List Row → List ℕ → TableParts
 parts_for image rows lines = record { base = text_base_of image; names = map names_of (take 255 (sections image)); rows = rows; strings = strings_of image; lines = lines }
 
-pub text_is : (image : List ℕ) (ss : List Section) (rows : List Row) (base : Option ℕ) (n r s l : ℕ) (none one two front strings lines : List ℕ) → AreSectionsOf image ss → AreSteps image rows
+pub text_is : (image : List ℕ) (ss : List Section) (rows : List Row) (base : Option ℕ) (n r s l : ℕ) (none one two own strings lines : List ℕ) → AreSectionsOf image ss → AreSteps image rows
     → base ≡ text_base_of image → strings ≡ strings_of image → n ≡ length ss → r ≡ length rows → s ≡ length strings → l ≡ length lines → base_or_zero base < 2 ^ 64 → All IsRow rows
     → none ≡ []
     → one ≡ none ++ (to_be_bytes w64 (base_flag base) ++ (to_be_bytes w64 (base_or_zero base) ++ (to_be_bytes w64 n ++ (to_be_bytes w64 r ++ (to_be_bytes w64 s ++ to_be_bytes w64 l)))))
     → two ≡ one ++ flat_map (λ s. section_bytes (names_of (section_view s))) ss
-    → front ≡ two ++ rows_bytes rows → length front + length strings + length lines < 2 ^ 64 → IsTableWith image lines (front ++ (strings ++ lines))
+    → own ≡ two ++ rows_bytes rows → length own + length strings + length lines < 2 ^ 64 → IsTableWith image lines (own ++ (strings ++ lines))
 unfolding head_of_numbers table_bytes
-text_is image ss rows base n r s l none one two front strings lines of are b str long_n long_r long_s long_l fits each empty first second third small =
+text_is image ss rows base n r s l none one two own strings lines of are b str long_n long_r long_s long_l fits each empty first second third small =
     (parts_for image rows lines, record { base = refl; names = refl; rows = are; strings = refl }, fitting, same, refl)
   where
     t : TableParts
@@ -94,17 +91,17 @@ text_is image ss rows base n r s l none one two front strings lines of are b str
     long_names : length ss ≡ length t.names
     long_names = omega (arith, ap length names_are, length-map (map section_view ss) names_of, length-map ss section_view)
 
-    front_is : front ≡ (head_bytes t ++ flat_map section_bytes t.names) ++ rows_bytes rows
-    front_is =
+    own_is : own ≡ (head_bytes t ++ flat_map section_bytes t.names) ++ rows_bytes rows
+    own_is =
         let head : one ≡ head_bytes t =
         first ∙ ap (λ x. x ++ head_of_numbers base n r s l) empty ∙ head_along t base n r s l b (long_n ∙ long_names) long_r (long_s ∙ ap length str) long_l in
         let names : flat_map (λ s. section_bytes (names_of (section_view s))) ss ≡ flat_map section_bytes t.names = names_along ss ∙ ap (flat_map section_bytes) names_are in
         third ∙ (λ i. (second ∙ (λ j. head j ++ names j)) i ++ rows_bytes rows)
 
-    same : front ++ (strings ++ lines) ≡ table_bytes t
+    same : own ++ (strings ++ lines) ≡ table_bytes t
     same =
         let names : List ℕ = flat_map section_bytes t.names in
-        (λ i. front_is i ++ (str i ++ lines)) ∙ append_assoc (head_bytes t ++ names) (rows_bytes rows) (strings_of image ++ lines)
+        (λ i. own_is i ++ (str i ++ lines)) ∙ append_assoc (head_bytes t ++ names) (rows_bytes rows) (strings_of image ++ lines)
         ∙ append_assoc (head_bytes t) names (rows_bytes rows ++ (strings_of image ++ lines))
 
     fitting : FitsTable t
@@ -118,7 +115,7 @@ text_is image ss rows base n r s l none one two front strings lines of are b str
               omega (
                 arith,
                 small,
-                ap length front_is,
+                ap length own_is,
                 ap length str,
                 length-append (head_bytes t ++ names) (rows_bytes rows),
                 length-append (head_bytes t) names,
@@ -150,7 +147,7 @@ part_of_both a b from n = elim (cases_lt (length a) from) [
       let nothing : take n (drop from a) ≡ [] = ap (take n) past ∙ take-nil n in
       let whole : n ≡ n - length (take n (drop from a)) = omega (arith, ap length nothing) in
       ap (λ k. take n (drop k (a ++ b))) rest ∙ ap (take n) (drop-append-add a b (from - length a)) ∙ ap (λ k. take k (drop (from - length a) b)) whole
-      ∙ ap (λ front. front ++ take (n - length (take n (drop from a))) (drop (from - length a) b)) (sym nothing)
+      ∙ ap (λ own. own ++ take (n - length (take n (drop from a))) (drop (from - length a) b)) (sym nothing)
   | inr l ↦
       let here : 0 ≡ from - length a = omega (arith, l) in
       ap (take n) (drop-append-le from a b l) ∙ take_of_both (drop from a) b n ∙ ap (λ k. take n (drop from a) ++ take (n - length (take n (drop from a))) (drop k b)) here

@@ -1,67 +1,15 @@
 -- An image has one list of steps, and one table with some lines.
-use Rattle.std.proofs.Common.{◌≡◌, ℕ, zero, suc, ◌<◌, List, [], ◌∷◌, length, map, get_or, refl, sym, ap, ◌∙◌, subst, inl, inr, arith, Contains, Option, Some, None, ◌⊎◌}
+use Rattle.std.proofs.Common.{◌≡◌, ℕ, ◌<◌, List, length, map, get_or, sym, ap, ◌∙◌, subst, arith, Option, Some, None}
 use Rattle.std.proofs.lemmas.List.{get_or-map, same_lists}
 use Rattle.std.proofs.Math.ListN.{length-map}
 use Rattle.macho_symbols.specs.Symbols.{Tuple}
 use Rattle.macho_symbols.specs.Nearest.{IsNearest}
 use Rattle.macho_symbols.proofs.Order.{nearest_once}
+use Rattle.waiting_indexes.specs.Rising.{AreRising}
+use Rattle.waiting_indexes.proofs.RisingLists.{one_rising}
 use Rattle.symbol_tables.specs.declared.row.Row.{Row}
 use Rattle.symbol_tables.specs.Steps.{AreSteps, SaysNearest, Says, IsLeastIndexOf}
 use Rattle.symbol_tables.specs.Table.{IsTableWith, table_bytes}
-
--- ---- rising numbers
-
-abbrev Rising : List ℕ → Type 0
-Rising xs = (i j d : ℕ) → i < j → j < length xs → get_or xs i d < get_or xs j d
-
-rising_rest : (x : ℕ) (xs : List ℕ) → Rising (x ∷ xs) → Rising xs
-rising_rest x xs rising i j d l m = rising (suc i) (suc j) d (omega arith) (omega arith)
-
--- the first one is below the others
-first_below : (x : ℕ) (xs : List ℕ) → Rising (x ∷ xs) → (a : ℕ) → Contains xs a → x < a
-first_below x xs rising a h = omega (arith, rising 0 (suc h.0) a (omega arith) (omega (arith, h.1)), h.2)
-
--- a member is the first one, or behind it
-first_or_rest : (x : ℕ) (xs : List ℕ) (a : ℕ) → Contains (x ∷ xs) a → (x ≡ a) ⊎ Contains xs a
-first_or_rest x xs a h = at_place h.0 h.1 h.2
-  where
-    at_place : (k : ℕ) → k < suc (length xs) → get_or (x ∷ xs) k a ≡ a → (x ≡ a) ⊎ Contains xs a
-    at_place zero l e = inl e
-    at_place (suc k) l e = inr (k, omega arith, e)
-
-first_is : (x : ℕ) (xs : List ℕ) → Contains (x ∷ xs) x
-first_is x xs = (0, omega arith, refl)
-
-rest_is : (x : ℕ) (xs : List ℕ) (a : ℕ) → Contains xs a → Contains (x ∷ xs) a
-rest_is x xs a h = (suc h.0, omega (arith, h.1), h.2)
-
--- two rising lists of the same numbers have the same first one
-same_first : (x y : ℕ) (xs ys : List ℕ) → Rising (x ∷ xs) → Rising (y ∷ ys) → Contains (y ∷ ys) x → Contains (x ∷ xs) y → x ≡ y
-same_first x y xs ys r s h k = elim (first_or_rest y ys x h) [
-  | inl e ↦ sym e
-  | inr m ↦ elim (first_or_rest x xs y k) [
-    | inl e ↦ e
-    | inr n ↦ absurd (omega (arith, first_below y ys s x m, first_below x xs r y n))
-  ]
-]
-
--- what is behind the first one of the one is behind that of the other
-same_rest : (x y : ℕ) (xs ys : List ℕ) → Rising (x ∷ xs) → x ≡ y → (a : ℕ) → Contains xs a → Contains (y ∷ ys) a → Contains ys a
-same_rest x y xs ys r e a h k = elim (first_or_rest y ys a k) [
-  | inl m ↦ absurd (omega (arith, first_below x xs r a h, e, m))
-  | inr m ↦ m
-]
-
-one_rising : (xs ys : List ℕ) → Rising xs → Rising ys → ((a : ℕ) → Contains xs a → Contains ys a) → ((a : ℕ) → Contains ys a → Contains xs a) → xs ≡ ys
-one_rising [] [] r s to from = refl
-one_rising [] (y ∷ ys) r s to from = let h = from y (first_is y ys) in absurd (omega (arith, h.1))
-one_rising (x ∷ xs) [] r s to from = let h = to x (first_is x xs) in absurd (omega (arith, h.1))
-one_rising (x ∷ xs) (y ∷ ys) r s to from =
-    let e : x ≡ y = same_first x y xs ys r s (to x (first_is x xs)) (from y (first_is y ys)) in
-    let rest : xs ≡ ys = one_rising xs ys (rising_rest x xs r) (rising_rest y ys s)
-    (λ a h. same_rest x y xs ys r e a h (to a (rest_is x xs a h)))
-    (λ a h. same_rest y x ys xs s (sym e) a h (from a (rest_is y ys a h))) in
-    λ i. e i ∷ rest i
 
 -- ---- rows
 
@@ -77,7 +25,7 @@ same_row image r s e a b =
     let nearest : a.0 ≡ b.0 = nearest_once image s.start a.0 b.0 (subst (λ n. IsNearest image n a.0) e a.1) b.1 in
     same_said image r s b.0 e (subst (Says image r) nearest a.2) b.2
 
-starts_rise : (image : List ℕ) (rows : List Row) → AreSteps image rows → Rising (map (λ r. r.start) rows)
+starts_rise : (image : List ℕ) (rows : List Row) → AreSteps image rows → AreRising (map (λ r. r.start) rows)
 starts_rise image rows are i j d l m =
     let row : Row = record { start = d; value = 0; n_strx = 0; sect = 0 } in
     let within : j < length rows = omega (arith, m, length-map rows (λ r. r.start)) in

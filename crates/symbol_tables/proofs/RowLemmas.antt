@@ -1,20 +1,17 @@
 -- Rows in the bytes of a table.
-use Rattle.std.proofs.Common.{◌≡◌, ℕ, zero, suc, ◌+◌, ◌*◌, ◌-◌, ◌<◌, ◌≤◌, List, [], ◌∷◌, ◌++◌, length, take, drop, get_or, refl, sym, ap, ◌∙◌, subst, arith, length-append, append_assoc, slice_get, Some}
-use Rattle.std.specs.Prelude.{slice_index_or, All}
+use Rattle.std.proofs.Common.{◌≡◌, ℕ, zero, suc, ◌+◌, ◌*◌, ◌-◌, ◌<◌, ◌≤◌, List, [], ◌∷◌, ◌++◌, length, take, drop, get_or, refl, sym, ap, ◌∙◌, subst, arith, length-append, append_assoc, slice_get, Some, inl, inr, true, false, nat_le}
+use Rattle.std.specs.Prelude.{slice_index_or, All, Option, None, MatchOption}
 use Rattle.std.specs.Int.{w32, w64, from_be_bytes}
 use Rattle.std.proofs.lemmas.List.{append-nil, take_at, drop_at, drop-drop, drop-take, take-take}
-use Rattle.symbol_tables.specs.Stored.{Stands}
+use Rattle.checked_pages.specs.Standing.{Stands}
 use Rattle.std.proofs.lemmas.Nat.{from_be_bytes-to_be_bytes_4, from_be_bytes-to_be_bytes_8}
-use Rattle.symbol_tables.specs.Rows.{row_bytes, rows_bytes, IsRow, AreRows}
+use Rattle.symbol_tables.specs.Rows.{row_bytes, rows_bytes, IsRow, AreRows, IsRowFor, IsLastNotAbove, AreAbove}
 use Rattle.symbol_tables.specs.declared.row.Row.{Row}
-use Rattle.std.specs.Prelude.{Option, None, MatchOption}
 use Rattle.std.proofs.lemmas.Option.{slice_get_within, get_or_from_slice_get, slice_get-get_or}
 use Rattle.std.proofs.lemmas.Bool.{cases_lt}
 use Rattle.std.proofs.lemmas.List.Elements.{All-get_or, All-head, All-tail}
-use Rattle.std.proofs.Common.{inl, inr, true, false, nat_le}
-use Rattle.std.specs.List.Sorted.{IsPartitionedBy, IsPartitionPoint}
+use Rattle.std.specs.List.Sorted.{IsPartitionPoint}
 use Rattle.std.proofs.lemmas.Bool.Decides.{nat_tests}
-use Rattle.symbol_tables.specs.Rows.{IsRowFor, IsLastNotAbove, AreAbove}
 
 pub length-row_bytes : (r : Row) → length (row_bytes r) ≡ 21
 unfolding row_bytes
@@ -65,9 +62,6 @@ row_here (r ∷ rows) rest (suc i) d h =
     let far : 21 * suc i ≡ 21 + 21 * i = omega arith in
     ap (λ b. take 21 (drop (21 * suc i) b)) (append_assoc (row_bytes r) (rows_bytes rows) rest)
     ∙ ap (λ n. take 21 (drop n all)) far ∙ ap (take 21) (sym (drop-drop (21 * i) 21 all)) ∙ ap (λ b. take 21 (drop (21 * i) b)) behind ∙ row_here rows rest i d (omega arith)
-
-pub row_fits : (rows : List Row) (rest : List ℕ) (i : ℕ) → i < length rows → 21 * i + 21 ≤ length (rows_bytes rows ++ rest)
-row_fits rows rest i h = omega (arith, length-rows_bytes rows, length-append (rows_bytes rows) rest)
 
 -- ---- one row, and one table
 
@@ -125,17 +119,6 @@ is_above a s h = grind (arith, nat_tests)
 
 is_not_above : (a s : ℕ) → nat_le s a ≡ true → s ≤ a
 is_not_above a s h = grind (arith, nat_tests)
-
-pub partitioned : (rows : List Row) (address : ℕ) → AreRows rows → IsPartitionedBy (λ r. nat_le r.start address) rows
-partitioned rows address are i j d h l before = elim (cases_lt i j) [
-  | inl k ↦ reaches address (slice_index_or rows i d).start (slice_index_or rows j d).start (are.rising i j d k l) before
-  | inr k ↦
-      let same : j ≡ i = omega arith in
-      subst (λ n. nat_le (slice_index_or rows n d).start address ≡ true) same before
-]
-
-pub all_above : (rows : List Row) (address end : ℕ) → IsPartitionPoint (λ r. nat_le r.start address ≡ true) (λ r. nat_le r.start address ≡ false) rows end → end ≡ 0 → AreAbove rows address
-all_above rows address end point e j d l = is_above address (slice_index_or rows j d).start (point.1 j d (omega arith) l)
 
 pub last_before : (rows : List Row) (address end : ℕ) → IsPartitionPoint (λ r. nat_le r.start address ≡ true) (λ r. nat_le r.start address ≡ false) rows end → end ≤ length rows → 0 < end → (d : Row) → IsLastNotAbove rows address (slice_index_or rows (end - 1) d)
 last_before rows address end point within some d = record {

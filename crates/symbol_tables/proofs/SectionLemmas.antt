@@ -8,6 +8,7 @@ use Rattle.macho_image.specs.SectionViews.{section_view}
 use Rattle.macho_image.specs.declared.section.Section.{Section}
 use Rattle.macho_symbols.specs.Symbols.{is_in_section}
 use Rattle.symbol_tables.specs.InnerCandidates.{AreSectionsOf}
+use Rattle.macho_symbols.proofs.ExtentLemmas.{get-take}
 
 -- one section more, the next of those that are left
 pub section_added : (all : List SectionRecord) (so_far more : List Section) (section : Section) (n m : ℕ) (before after : List SectionRecord)
@@ -25,12 +26,6 @@ pub sections_all : (all : List SectionRecord) (so_far : List Section) (n : ℕ) 
 sections_all all so_far zero left is none = sym (append-nil (map section_view so_far)) ∙ is
 sections_all all so_far (suc n) left is none =
     sym (append-nil (map section_view so_far)) ∙ ap (λ ss. map section_view so_far ++ take (suc n) ss) (sym (none (omega arith))) ∙ is
-
-pub get-take : {X : Type 0} (n : ℕ) (xs : List X) (i : ℕ) → i < n → slice_get (take n xs) i ≡ slice_get xs i
-get-take zero xs i h = absurd (omega arith)
-get-take (suc n) [] i h = refl
-get-take (suc n) (x ∷ xs) zero h = refl
-get-take (suc n) (x ∷ xs) (suc i) h = get-take n xs i (omega arith)
 
 module _ (image : List ℕ) (all : List Section) (are : AreSectionsOf image all) where
   few : length all ≤ 255

@@ -19,7 +19,7 @@ use Rattle.symbol_tables.specs.Steps.{turns, ends_of, AreSteps, AreBytes, SaysNe
 
 -- ---- members
 
-mapped : {X Y : Type 0} (f : X → Y) (xs : List X) (x : X) → Contains xs x → Contains (map f xs) (f x)
+pub mapped : {X Y : Type 0} (f : X → Y) (xs : List X) (x : X) → Contains xs x → Contains (map f xs) (f x)
 mapped f xs x h = (h.0, omega (arith, h.1, length-map xs f), get_or-map f xs h.0 x (f x) h.1 ∙ ap f h.2)
 
 in_flat_at : {X : Type 0} (f : X → List ℕ) (xs : List X) (x : X) (n k : ℕ) → k < length xs → get_or xs k x ≡ x → Contains (f x) n → Contains (flat_map f xs) n

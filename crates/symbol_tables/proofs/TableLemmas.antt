@@ -7,7 +7,7 @@ use Rattle.std.proofs.lemmas.List.Elements.{All-head, All-tail}
 use Rattle.std.proofs.lemmas.Nat.{from_be_bytes-to_be_bytes_8}
 use Rattle.symbol_tables.specs.Table.{FitsTable, SectionNames, TableParts, base_flag, base_or_zero, head_bytes, padded, section_bytes, table_bytes, zeros}
 use Rattle.symbol_tables.specs.Rows.{rows_bytes}
-use Rattle.symbol_tables.specs.Stored.{IsRestFrom, Stands}
+use Rattle.checked_pages.specs.Standing.{IsRestFrom, Stands}
 use Rattle.symbol_tables.proofs.RowLemmas.{length-rows_bytes}
 use Rattle.symbol_tables.specs.Opened.{IsHeadOf}
 use Rattle.symbol_tables.specs.declared.head.Head.{Head}

@@ -1,10 +1,20 @@
 -- What a table of an image tells of an address, with the names of the section.
-use Rattle.std.specs.Prelude.{ℕ, zero, suc, List, slice_get}
+use Rattle.std.specs.Prelude.{◌≡◌, ℕ, zero, suc, List, Option, Some, None, slice_get}
 use Rattle.std.specs.Option.{option_map_or}
 use Rattle.macho_image.specs.Layout.{name_at}
+use Rattle.macho_symbols.specs.Symbols.{Tuple}
+use Rattle.macho_symbols.specs.Nearest.{IsNearest}
 use Rattle.macho_symbols.specs.Found.{FoundRecord}
 use Rattle.symbol_tables.specs.Table.{SectionNames, section_bytes, zeros}
 use Rattle.symbol_tables.specs.declared.found.OwnedFound.{OwnedFound}
+use Rattle.symbol_tables.specs.declared.nearest.NearestSymbol.{NearestSymbol}
+
+-- what is said is the nearest candidate, with its name, or that there is none
+abbrev pub IsSaid : List ℕ → ℕ → Option NearestSymbol → Type 0
+IsSaid image address None = IsNearest image address None
+IsSaid image address (Some s) =
+    (c : Tuple) × IsNearest image address (Some c) × (s.row.value ≡ c.value) × (s.row.sect ≡ c.sect)
+    × (s.name.items ≡ c.name)
 
 -- the names of the section of a number, from 1 on, in 32 bytes; zeros where there is no such section
 abbrev pub names_at : List SectionNames → ℕ → List ℕ

@@ -10,6 +10,7 @@ use Rattle.macho_image.specs.declared.section.Section.{Section}
 use Rattle.macho_symbols.specs.Nlist.{n_strx, n_type, n_sect, n_value}
 use Rattle.macho_symbols.specs.Symbols.{Tuple, table_of, entry_of, is_candidate, name_of, strings_of}
 use Rattle.macho_symbols.specs.Nearest.{can_stand_for, tuple_cmp}
+use Rattle.waiting_indexes.specs.Rising.{AreRising}
 use Rattle.symbol_tables.specs.Steps.{turns}
 use Rattle.symbol_tables.specs.declared.row.Row.{Row}
 use Rattle.symbol_tables.specs.declared.candidate.Candidate.{Candidate}
@@ -82,17 +83,13 @@ abbrev pub AreByValue : List Candidate → Type 0
 AreByValue candidates = (i j : ℕ) (d : Candidate) → i < j → j < length candidates
     → (slice_index_or candidates i d).value ≤ (slice_index_or candidates j d).value
 
--- numbers ascend
-abbrev pub AreAscending : List ℕ → Type 0
-AreAscending all = (i j d : ℕ) → i < j → j < length all → slice_index_or all i d < slice_index_or all j d
-
 -- where a section begins, and where it ends, if that is an address
 abbrev pub ends_below : SectionRecord → List ℕ
 ends_below s = s.addr ∷ (if nat_lt (s.addr + s.size) (2 ^ 64) then (s.addr + s.size) ∷ [] else [])
 
 -- the turns of an image that are addresses, ascending
 pub record AreTurns (image : List ℕ) (all : List ℕ) : Type 0 where
-  pub rising : AreAscending all
+  pub rising : AreRising all
   pub from : (a : ℕ) → Contains all a → Contains (turns image) a
   pub each : (a : ℕ) → Contains (turns image) a → a < 2 ^ 64 → Contains all a
 

@@ -1,7 +1,5 @@
 pub mod Rows
 pub mod Steps
-pub mod Stored
-pub mod Asked
 pub mod Table
 pub mod Opened
 pub mod Found

@@ -7,7 +7,7 @@ ghost use Rattle.macho_symbols.specs.Symbols.{name_of, strings_of};
 
 use crate::candidate::Candidate;
 use crate::scan::Scan;
-use crate::strings::{compare_names, name_len};
+use macho_symbols::Name;
 use memory::{Heap, NoMemory};
 use std::cmp::Ordering;
 use std::marker::Model;
@@ -37,7 +37,8 @@ fn is_long(strings: &[u8], candidates: &[Candidate]) -> bool {
     let mut left = strings.len();
     'candidates: for index in 1..candidates.len() {
         if candidates[index].value == candidates[index - 1].value {
-            let size = name_len(strings, candidates[index].n_strx);
+            let name = Name::at(strings, candidates[index].n_strx);
+            let size = name.bytes().len();
             if left < size {
                 return true;
             }
@@ -76,7 +77,7 @@ impl<'a> ComparedNames<'a> {
                 n_strx as usize,
                 other as usize,
             ),
-            _ => compare_names(self.strings, n_strx, other),
+            _ => Name::at(self.strings, n_strx).compare(&Name::at(self.strings, other)),
         }
     }
 }

@@ -14,12 +14,11 @@ ghost use Rattle.symbol_tables.specs.Found.{names_at, owned_view};
 ghost use Rattle.symbol_tables.specs.Opened.{IsOpened};
 
 use crate::Table;
-use crate::names::before_nul;
 use crate::nearest::NearestSymbol;
 use crate::opening::{HEAD_LEN, SECTION_LEN};
 use byte_device::Placed;
 use checked_pages::CheckFault;
-use macho_symbols::Found;
+use macho_symbols::{Found, before_nul};
 use memory::Heap;
 
 /// A symbol that was found. It holds its names.
@@ -48,8 +47,8 @@ impl OwnedFound {
         before_nul(&self.names[16..32])
     }
 
-    /// The same with its names lent.
-    pub fn lent(&self) -> Found<'_>
+    /// The same with its names borrowed.
+    pub fn borrowed(&self) -> Found<'_>
         ensures { found_view result ≡ owned_view self.now }
     {
         Found {
@@ -92,10 +91,6 @@ impl Table {
     }
 
     /// What is found for an address of the file.
-    ///
-    /// # Errors
-    ///
-    /// Those of [`checked_pages::Pages::read`].
     pub fn found<P: Placed>(
         &mut self,
         heap: Heap,

@@ -5,7 +5,7 @@
 //!
 //! Made:
 //!
-//! - `strings`, `candidate`: the string table and its names; an entry that counts, and the order of those;
+//! - `candidate`: an entry that counts, and the order of those;
 //! - `compared`: how names that tie in all that counts more are compared;
 //! - `scan`: the entries of an image that are candidates;
 //! - `turns`: the addresses at which the nearest candidate may change;
@@ -18,8 +18,7 @@
 //! - `search`: [`row_for`], the row that an address belongs to;
 //! - `names`: [`name_from`], a name among the strings of a table;
 //! - `head`, `table`: [`Table`], a table whose head was read; `opening`: [`Table::open`];
-//! - `nearest`: [`NearestSymbol`]; `asking`: [`Table::nearest`], the nearest symbol of an address, and
-//!   [`nearest_by_claim`], of a table that is opened for it;
+//! - `nearest`: [`NearestSymbol`], and [`Table::nearest`], the nearest symbol of an address;
 //! - `found`: [`OwnedFound`], a symbol with the names of its section; [`Table::found`];
 //! - `lines`: [`open_lines`], where the lines of a table begin;
 //! - `laws`: what the definitions say of each other.
@@ -32,12 +31,11 @@
 //! - Names are compared piece by piece. Where those of candidates of one value have more bytes than the strings, they
 //!   overlap, and are compared by their order, which costs at most 1,023 bytes and two ranks each time.
 //! - The order of candidates goes on with `n_strx`, so the first one has the least place of its name.
-//! - A table is its front (head, sections, rows) in memory, the strings where they lie, and its lines as another maker
+//! - A table is its own bytes (head, sections, rows) in memory, the strings where they lie, and its lines as another maker
 //!   gave them: a page is hashed in these three parts, and none is copied.
 //! - What the lines of a table are is not told here: what is asked of its symbols holds with any.
 #![tactic(auto)]
 
-mod asking;
 mod candidate;
 mod compared;
 mod found;
@@ -51,13 +49,11 @@ mod opening;
 mod row;
 mod scan;
 mod search;
-mod strings;
 mod sweep;
 mod table;
 mod text;
 mod turns;
 
-pub use asking::nearest_by_claim;
 pub use found::OwnedFound;
 pub use lines::open_lines;
 pub use making::TableText;

@@ -4,7 +4,7 @@ ghost use Rattle.std.specs.Prelude.{◌≡◌, ◌<◌, ◌^◌, ℕ, List, IfOk
 ghost use Rattle.checked_pages.specs.Pages.{AreStored, MayBeStored};
 ghost use Rattle.checked_pages.specs.Views.{ArePagesOf, claim_view};
 ghost use Rattle.checked_pages.specs.Reading.{ReadsStored};
-ghost use Rattle.symbol_tables.specs.Stored.{IsRestFrom};
+ghost use Rattle.checked_pages.specs.Standing.{IsRestFrom};
 ghost use Rattle.symbol_tables.specs.Table.{IsTableWith};
 
 use crate::Table;
@@ -13,10 +13,6 @@ use checked_pages::{CheckFault, Claim, Pages};
 use memory::Heap;
 
 /// The bytes of the table that a claim names, and the offset among them from which on they are its lines.
-///
-/// # Errors
-///
-/// Those of [`Table::open`].
 pub fn open_lines<P: Placed>(
     heap: Heap,
     device: &mut P,

@@ -21,7 +21,7 @@ use std::marker::Model;
 /// its lines. A contract sees all of them, one after another.
 #[derive(Drop)]
 pub struct TableText<'a> {
-    front: Vec<u8, Heap>,
+    own: Vec<u8, Heap>,
     strings: &'a [u8],
     lines: Vec<u8, Heap>,
 }
@@ -31,16 +31,16 @@ impl<'a> Model for TableText<'a> {
 
     ghost Value = { List ℕ };
 
-    ghost view = { λ t. t.front.items ++ (t.strings.now ++ t.lines.items) };
+    ghost view = { λ t. t.own.items ++ (t.strings.now ++ t.lines.items) };
 
-    ghost invariant = { λ t. length t.front.items + length t.strings.now + length t.lines.items < 2 ^ 64 };
+    ghost invariant = { λ t. length t.own.items + length t.strings.now + length t.lines.items < 2 ^ 64 };
 }
 
 /// Whether parts of these lengths have fewer than 2^64 bytes.
-fn is_counted(front: usize, strings: usize, lines: usize) -> bool
-    ensures { IsTrue result ↔ (front + strings + lines < 2 ^ 64) }
+fn is_counted(own: usize, strings: usize, lines: usize) -> bool
+    ensures { IsTrue result ↔ (own + strings + lines < 2 ^ 64) }
 {
-    front as u128 + strings as u128 + lines as u128 <= u128::from(u64::MAX)
+    own as u128 + strings as u128 + lines as u128 <= u128::from(u64::MAX)
 }
 
 /// So many bytes from an offset on, or as many of them as there are.
@@ -67,22 +67,22 @@ impl<'a> TableText<'a> {
         let scan = Scan::new(heap.clone()?, image)?;
         let rows = steps(heap.clone()?, &scan)?;
         let (sections, strings) = (scan.sections(), scan.strings());
-        let mut front = Vec::new(heap);
+        let mut own = Vec::new(heap);
         push_head(
-            &mut front,
+            &mut own,
             image.text_base(),
             sections.len(),
             rows.len(),
             strings.len(),
             lines.len(),
         )?;
-        push_sections(&mut front, sections)?;
-        push_rows(&mut front, &rows)?;
-        if !is_counted(front.len(), strings.len(), lines.len()) {
+        push_sections(&mut own, sections)?;
+        push_rows(&mut own, &rows)?;
+        if !is_counted(own.len(), strings.len(), lines.len()) {
             return Err(NoMemory);
         }
         Ok(TableText {
-            front,
+            own,
             strings,
             lines,
         })
@@ -92,7 +92,7 @@ impl<'a> TableText<'a> {
     pub fn size(&self) -> u64
         ensures { result ≡ length self.now }
     {
-        self.front.len() as u64 + self.strings.len() as u64 + self.lines.len() as u64
+        self.own.len() as u64 + self.strings.len() as u64 + self.lines.len() as u64
     }
 
     /// The SHA-256 of a page. What it has of the strings and the lines is not copied.
@@ -102,8 +102,8 @@ impl<'a> TableText<'a> {
         ensures { result ≡ sha256 (page_of self.now index) }
     {
         let from = PAGE_LEN as usize * index as usize;
-        let first = part(&self.front, from, PAGE_LEN as usize);
-        let after = from.saturating_sub(self.front.len());
+        let first = part(&self.own, from, PAGE_LEN as usize);
+        let after = from.saturating_sub(self.own.len());
         let second = part(self.strings, after, PAGE_LEN as usize - first.len());
         let left = PAGE_LEN as usize - first.len() - second.len();
         let past = after.saturating_sub(self.strings.len());
@@ -128,17 +128,13 @@ impl<'a> TableText<'a> {
 
     /// Writes the table as it is stored, after the first `done` bytes of a text, and says how many there are then. The
     /// digests are those of its pages.
-    ///
-    /// # Errors
-    ///
-    /// The writer failed; it has so many first bytes of the text as `written` says.
     pub fn write<W: Sink>(&self, digests: &[u8], w: &mut W, done: u128) -> Result<u128, WriteFault>
         requires digests { digests.now ≡ page_digests self.now }
         requires fits { done < 2 ^ 127 }
         ensures { Puts W.held W.failures (λ n. n) w.old w.new done (stored self.now) result }
     {
         let between = put(w, done, digests)?;
-        let before = put(w, between, &self.front)?;
+        let before = put(w, between, &self.own)?;
         let after = put(w, before, self.strings)?;
         put(w, after, &self.lines)
     }

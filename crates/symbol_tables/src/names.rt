@@ -1,30 +1,19 @@
 //! Names among the strings of a stored table.
 
-ghost use Rattle.std.specs.Prelude.{◌≡◌, ◌+◌, ◌<◌, ◌≤◌, ◌^◌, ◌==◌, ◌++◌, ℕ, List, Some, IfErr, OnOk, length, drop};
+ghost use Rattle.std.specs.Prelude.{◌≡◌, ◌+◌, ◌<◌, ◌≤◌, ◌^◌, ◌==◌, ◌++◌, ℕ, List, IfErr, OnOk, length, drop};
 ghost use Rattle.std.specs.List.{before_first};
 ghost use Rattle.checked_pages.specs.Pages.{AreStored};
-ghost use Rattle.checked_pages.specs.Views.{ArePagesOf, claim_view};
+ghost use Rattle.checked_pages.specs.Views.{ArePagesOf, KeepsPages, claim_view};
 ghost use Rattle.checked_pages.specs.Reading.{ReadsStored};
-ghost use Rattle.symbol_tables.specs.Stored.{Stands};
+ghost use Rattle.checked_pages.specs.Standing.{Stands};
 
 use byte_device::Placed;
 use checked_pages::{CheckFault, Pages};
-use memchr::memchr;
+use macho_symbols::before_nul;
 use memory::Heap;
 
 /// How many bytes are read at once.
 const PIECE: usize = 64;
-
-/// What stands before the first NUL, or all.
-#[tactic(auto, using(crate::proofs::NameLemmas::parts_at_nul))]
-pub(crate) fn before_nul(bytes: &[u8]) -> &[u8]
-    ensures { result.now ≡ before_first (λ b. b == 0) bytes.now }
-{
-    match memchr(0, bytes) {
-        Some(end) => &bytes[..end],
-        None => bytes,
-    }
-}
 
 /// Adds bytes to a name.
 fn push_all(name: &mut Vec<u8, Heap>, bytes: &[u8]) -> Result<(), CheckFault>
@@ -39,10 +28,6 @@ fn push_all(name: &mut Vec<u8, Heap>, bytes: &[u8]) -> Result<(), CheckFault>
 
 /// The name from an offset on of the strings, `size` bytes that stand in the table from `first` on. It ends before the
 /// first NUL, or with the strings; past their end there is none, and it is empty.
-///
-/// # Errors
-///
-/// Those of [`Pages::read`].
 pub fn name_from<P: Placed>(
     heap: Heap,
     device: &mut P,
@@ -53,8 +38,7 @@ pub fn name_from<P: Placed>(
 ) -> Result<Vec<u8, Heap>, CheckFault>
     requires { first + size < 2 ^ 64 }
     ensures claim { table.new.claim ≡ table.old.claim }
-    ensures keeps { (text all : List ℕ) → P.whole device.old ≡ Some text → ArePagesOf table.old text all
-        → ArePagesOf table.new text all }
+    ensures keeps { KeepsPages P.whole device.old table.old table.new }
     ensures read { ReadsStored P.whole P.failures device.old device.new result
         (λ text name. (all strings : List ℕ) → ArePagesOf table.old text all → Stands all first strings
         → length strings ≡ size → name.items ≡ before_first (λ b. b == 0) (drop offset strings))

@@ -1,8 +1,6 @@
 //! The head of a stored table.
 
-ghost use Rattle.std.specs.Prelude.{◌≡◌, ◌+◌, ◌*◌, ◌<◌, ◌≤◌, ◌^◌, ℕ, List, ◌↔◌, Option, IfOk, IsTrue};
-ghost use Rattle.std.specs.Prelude.{length, take, drop};
-ghost use Rattle.std.specs.Int.{w64, from_be_bytes};
+ghost use Rattle.std.specs.Prelude.{◌≡◌, ◌+◌, ◌*◌, ◌<◌, ◌^◌, ℕ, ◌↔◌, Option, IfOk, IsTrue, length};
 ghost use Rattle.checked_pages.specs.Pages.{AreStored, MayBeStored};
 ghost use Rattle.checked_pages.specs.Views.{claim_view};
 ghost use Rattle.checked_pages.specs.Reading.{ReadsStored};
@@ -10,10 +8,10 @@ ghost use Rattle.symbol_tables.specs.Table.{FitsTable, TableParts, base_flag, ba
 ghost use Rattle.symbol_tables.specs.Opened.{IsHeadOf, IsOpened};
 
 use crate::head::Head;
-use crate::row::{ROW_LEN, u64_be_at};
+use crate::row::ROW_LEN;
 use crate::table::Table;
 use byte_device::Placed;
-use checked_pages::{CheckFault, Claim, Pages};
+use checked_pages::{CheckFault, Claim, Pages, u64_be_at};
 use memory::Heap;
 
 /// How many bytes the head has.
@@ -56,10 +54,6 @@ fn has_size(head: &Head, size: u64) -> bool
 
 impl Table {
     /// The table that a claim names, with its head read.
-    ///
-    /// # Errors
-    ///
-    /// `Changed` also where the head says of another size than the claim.
     pub fn open<P: Placed>(heap: Heap, device: &mut P, claim: Claim) -> Result<Table, CheckFault>
         ensures claim { IfOk result (λ table. table.pages.claim ≡ claim) }
         ensures read { ReadsStored P.whole P.failures device.old device.new result

@@ -1,11 +1,10 @@
 //! A row, and how it stands in a table.
 
-ghost use Rattle.std.specs.Prelude.{◌≡◌, length, ◌≤◌, ◌+◌, take, drop};
-ghost use Rattle.std.specs.Int.{w32, w64, from_be_bytes};
+ghost use Rattle.std.specs.Prelude.{◌≡◌, length};
 ghost use Rattle.symbol_tables.specs.Rows.{row_bytes, IsRow};
 ghost use Rattle.symbol_tables.specs.declared.row.Row.{Row};
 
-use byteorder::{BigEndian, ByteOrder};
+use checked_pages::{u32_be_at, u64_be_at};
 
 /// How many bytes a row has.
 pub(crate) const ROW_LEN: usize = 21;
@@ -21,22 +20,6 @@ pub struct Row {
     pub n_strx: u32,
     /// The number of its section, from 1 on; 0 where no symbol is nearest.
     pub sect: u8,
-}
-
-/// The number in eight bytes from an offset on.
-pub(crate) fn u64_be_at(bytes: &[u8], offset: usize) -> u64
-    requires { offset + 8 ≤ length bytes.now }
-    ensures { result ≡ from_be_bytes w64 (take 8 (drop offset bytes.now)) }
-{
-    BigEndian::read_u64(&bytes[offset..])
-}
-
-/// The number in four bytes from an offset on.
-fn u32_be_at(bytes: &[u8], offset: usize) -> u32
-    requires { offset + 4 ≤ length bytes.now }
-    ensures { result ≡ from_be_bytes w32 (take 4 (drop offset bytes.now)) }
-{
-    BigEndian::read_u32(&bytes[offset..])
 }
 
 /// The row that these bytes are: start u64, value u64, n_strx u32, sect u8, big-endian.

@@ -3,36 +3,19 @@
 ghost use Rattle.std.specs.Prelude.{◌≡◌, ◌<◌, ◌≤◌, ◌+◌, ◌*◌, ◌^◌, IfOk, length, take, drop};
 ghost use Rattle.macho_image.specs.Sections.{is_inside, sections};
 ghost use Rattle.macho_image.specs.SectionViews.{section_view};
-ghost use Rattle.macho_symbols.specs.Nlist.{n_strx, n_value};
 ghost use Rattle.macho_symbols.specs.Symbols.{is_candidate, is_in_section, strings_of};
 ghost use Rattle.macho_symbols.specs.Halving.{is_placed};
 ghost use Rattle.macho_symbols.specs.Fault.{HasSymbols};
 ghost use Rattle.symbol_tables.specs.InnerCandidates.{AreCandidates, AreSectionsOf, numbered_in};
 
 use crate::candidate::Candidate;
-use crate::strings::{has_name, strings_of, table_of};
-use byteorder::{ByteOrder, LittleEndian};
 use macho_image::{Image, Section};
+use macho_symbols::nlist::{
+    MAX_SECT, N_EXT, N_SECT, N_STAB, N_TYPE, NLIST_64_LEN, n_strx, n_value,
+};
+use macho_symbols::{Name, strings_of, table_of};
 use memory::{Heap, NoMemory};
 use std::marker::Model;
-
-/// The greatest value of `n_sect`. The sections that a symbol can name are 1 to this.
-const MAX_SECT: usize = 255;
-
-/// The size of `nlist_64` in bytes.
-const NLIST_64_LEN: usize = 16;
-
-/// Bits of `n_type`: any of them is set in an entry for a debugger.
-const N_STAB: u8 = 0xe0;
-
-/// Bits of `n_type`: where the symbol is defined.
-const N_TYPE: u8 = 0x0e;
-
-/// A bit of `n_type`: the symbol is external.
-const N_EXT: u8 = 0x01;
-
-/// A value of the bits N_TYPE: the symbol is defined in the section `n_sect`.
-const N_SECT: u8 = 0xe;
 
 /// An image beside the sections that its symbols can name and its string table, which are looked for once. A contract
 /// sees it as the bytes of the image.
@@ -52,24 +35,6 @@ impl<'a> Model for Scan<'a> {
     ghost view = { λ s. s.image };
 
     ghost invariant = { λ s. IsScanOf s.image s.sections.items s.strings.now };
-}
-
-/// `n_strx`: where the name begins in the string table.
-#[tactic(auto, unfolding(macho_image::specs::Layout::u32_le_at))]
-fn n_strx(entry: &[u8]) -> u32
-    requires { 16 ≤ length entry.now }
-    ensures { result ≡ n_strx entry.now }
-{
-    LittleEndian::read_u32(entry)
-}
-
-/// `n_value`: the address.
-#[tactic(auto, unfolding(macho_image::specs::Layout::u64_le_at))]
-fn n_value(entry: &[u8]) -> u64
-    requires { 16 ≤ length entry.now }
-    ensures { result ≡ n_value entry.now }
-{
-    LittleEndian::read_u64(&entry[8..])
 }
 
 /// The entry of an index.
@@ -94,7 +59,7 @@ fn collect_sections<'a>(heap: Heap, image: &Image<'a>) -> Result<Vec<Section<'a>
     ensures { IfOk result (λ all. AreSectionsOf image.now all.items) }
 {
     let mut all = Vec::new(heap);
-    for section in image.sections().take(MAX_SECT) {
+    for section in image.sections().take(MAX_SECT as usize) {
         all.push(section)?;
     }
     Ok(all)
@@ -157,7 +122,7 @@ impl<'a> Scan<'a> {
         requires { 16 ≤ length entry.now }
         ensures { result ≡ is_candidate self.now entry.now }
     {
-        self.is_placed(entry) && has_name(self.strings, n_strx(entry))
+        self.is_placed(entry) && !Name::at(self.strings, n_strx(entry)).is_empty()
     }
 
     /// The candidate that an entry is, if it is one.

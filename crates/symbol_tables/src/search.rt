@@ -2,10 +2,10 @@
 
 ghost use Rattle.std.specs.Prelude.{◌≡◌, ◌+◌, ◌*◌, ◌<◌, ◌≤◌, ◌^◌, ℕ, List, Some, length, slice_get};
 ghost use Rattle.checked_pages.specs.Pages.{AreStored};
-ghost use Rattle.checked_pages.specs.Views.{ArePagesOf, claim_view};
+ghost use Rattle.checked_pages.specs.Views.{ArePagesOf, KeepsPages, claim_view};
 ghost use Rattle.checked_pages.specs.Reading.{ReadsStored};
 ghost use Rattle.symbol_tables.specs.Rows.{AreRows, IsRowFor, rows_bytes};
-ghost use Rattle.symbol_tables.specs.Stored.{Stands};
+ghost use Rattle.checked_pages.specs.Standing.{Stands};
 ghost use Rattle.symbol_tables.specs.declared.row.Row.{Row};
 
 use crate::row::{ROW_LEN, Row, row_of};
@@ -21,8 +21,7 @@ fn row_at<P: Placed>(
 ) -> Result<Row, CheckFault>
     requires { first + 21 * index < 2 ^ 64 }
     ensures claim { table.new.claim ≡ table.old.claim }
-    ensures keeps { (text all : List ℕ) → P.whole device.old ≡ Some text → ArePagesOf table.old text all
-        → ArePagesOf table.new text all }
+    ensures keeps { KeepsPages P.whole device.old table.old table.new }
     ensures read { ReadsStored P.whole P.failures device.old device.new result
         (λ text row. (all : List ℕ) (rows : List Row) → ArePagesOf table.old text all → AreRows rows
         → Stands all first (rows_bytes rows) → index < length rows → slice_get rows index ≡ Some row)
@@ -36,10 +35,6 @@ fn row_at<P: Placed>(
 
 /// The row that an address belongs to, among so many rows, from an offset of the table on. It reads one row for each
 /// halving.
-///
-/// # Errors
-///
-/// Those of [`Pages::read`].
 pub fn row_for<P: Placed>(
     device: &mut P,
     table: &mut Pages,
@@ -49,8 +44,7 @@ pub fn row_for<P: Placed>(
 ) -> Result<Option<Row>, CheckFault>
     requires { first + 21 * count < 2 ^ 64 }
     ensures claim { table.new.claim ≡ table.old.claim }
-    ensures keeps { (text all : List ℕ) → P.whole device.old ≡ Some text → ArePagesOf table.old text all
-        → ArePagesOf table.new text all }
+    ensures keeps { KeepsPages P.whole device.old table.old table.new }
     ensures read { ReadsStored P.whole P.failures device.old device.new result
         (λ text found. (all : List ℕ) (rows : List Row) → ArePagesOf table.old text all → AreRows rows
         → length rows ≡ count → Stands all first (rows_bytes rows) → IsRowFor rows address found)

@@ -1,6 +1,6 @@
 //! The rows of an image, from its first turn to its last.
 
-ghost use Rattle.std.specs.Prelude.{◌≡◌, ◌≤◌, ◌<◌, ◌+◌, ◌-◌, ℕ, List, IfOk, IfSome, Option, Some, None, MatchOption};
+ghost use Rattle.std.specs.Prelude.{◌≡◌, ◌≤◌, ◌<◌, ◌+◌, ◌-◌, ℕ, List, IfOk, IfSome, Some, None, MatchOption};
 ghost use Rattle.std.specs.Prelude.{Contains, length, slice_get, slice_index_or, slice_set};
 ghost use Rattle.macho_image.specs.declared.section.Section.{Section};
 ghost use Rattle.macho_symbols.specs.Symbols.{strings_of};

@@ -1,6 +1,6 @@
 //! The bytes of a table, part by part.
 
-ghost use Rattle.std.specs.Prelude.{◌≡◌, ◌++◌, ◌+◌, ◌-◌, ◌≤◌, ◌<◌, ◌^◌, OnOk, IfOk, length, flat_map, map, All};
+ghost use Rattle.std.specs.Prelude.{◌≡◌, ◌++◌, ◌+◌, ◌-◌, ◌<◌, ◌^◌, OnOk, length, flat_map, All};
 ghost use Rattle.std.specs.Int.{w64, to_be_bytes};
 ghost use Rattle.macho_image.specs.SectionViews.{section_view};
 ghost use Rattle.symbol_tables.specs.Rows.{IsRow, row_bytes, rows_bytes};

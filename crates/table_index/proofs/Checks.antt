@@ -1,11 +1,9 @@
 -- What the checks of entries say.
 use Rattle.std.proofs.Common.{◌≡◌, ℕ, ◌+◌, ◌*◌, ◌≤◌, Bool, true, not, cond, List, [], ◌∷◌, ◌++◌, length, take, drop, refl, sym, ap, ◌∙◌, subst, arith, length-append, append_assoc}
 use Rattle.std.specs.Prelude.{Result, Ok, Err}
-use Rattle.std.specs.List.{concat}
-use Rattle.std.specs.List.{AllByRecursion}
+use Rattle.std.specs.List.{concat, AllByRecursion}
 use Rattle.std.specs.List.Sorted.{IsStrictlySortedBy}
 use Rattle.std.specs.Ordering.{nat_cmp, is_lt}
-use Rattle.std.specs.declared.cmp.Ordering.{Ordering}
 use Rattle.std.specs.declared.cmp.Ordering.TheVariants.{Less}
 use Rattle.std.specs.Cmp.Lexicographic.{slice_cmp, nat_list_cmp_total}
 use Rattle.std.proofs.lemmas.List.Elements.{All-from_recursion, All-weaker, recursion_from_All}
@@ -18,11 +16,12 @@ use Rattle.table_index.specs.Entry.{has_claim}
 use Rattle.table_index.specs.Text.{PassChecks, check_entry}
 use Rattle.index_faults.specs.declared.fault.IndexFaultKind.{IndexFaultKind}
 use Rattle.index_faults.specs.declared.fault.IndexFaultKind.TheVariants.{BadTag, BadKind, BadLength, NotAscending, BadTable}
+use Rattle.archive_index.proofs.Ascending.{less_is}
 
-abbrev fine : Result (Unit {0}) IndexFaultKind
+abbrev pub fine : Result (Unit {0}) IndexFaultKind
 fine = Ok tt
 
-abbrev failed : IndexFaultKind → Result (Unit {0}) IndexFaultKind
+abbrev pub failed : IndexFaultKind → Result (Unit {0}) IndexFaultKind
 failed kind = Err kind
 
 all_pass : (a b c d e : Bool)
@@ -50,16 +49,9 @@ pub pass_push : (end : ℕ) (low : List ℕ) (xs : List (List ℕ)) (x : List �
 pass_push end low [] x a long h = (long, h, tt)
 pass_push end low (y ∷ ys) x a long h = (a.0, a.1, pass_push end y ys x a.2 long h)
 
-pub last_push : (low : List ℕ) (xs : List (List ℕ)) (x : List ℕ) → last_of low (xs ++ x ∷ []) ≡ x
-last_push low [] x = refl
-last_push low (y ∷ ys) x = last_push y ys x
-
 pub long_entries : (end : ℕ) (low : List ℕ) (xs : List (List ℕ)) → PassChecks end low xs → length (concat xs) ≡ 122 * length xs
 long_entries end low [] a = refl
 long_entries end low (x ∷ xs) a = omega (arith, length-append x (concat xs), a.0, long_entries end x xs a.2)
-
-less_is : (o : Ordering) → is_lt o ≡ true → o ≡ Less
-less_is o e = grind arith
 
 -- entries that pass their checks are strictly sorted, and above what they are after
 pub pass_ascending : (end : ℕ) (low : List ℕ) (xs : List (List ℕ)) → PassChecks end low xs → AllByRecursion (λ y. slice_cmp nat_cmp low y ≡ Less) xs × IsStrictlySortedBy (slice_cmp nat_cmp) xs
@@ -85,8 +77,8 @@ IsStop end last rest = 122 ≤ length rest → check_entry end last (take 122 re
 
 entry_next : (end : ℕ) (last x s rest : List ℕ) → length x ≡ 122 → check_entry end last x ≡ Ok tt → s ≡ x ++ rest → IsStop end last s → ⊥
 entry_next end last x s rest long h is stop =
-    let front : take 122 s ≡ x = ap (take 122) is ∙ ap (λ (n : ℕ). take n (x ++ rest)) (sym long) ∙ take-append_seam x rest in
-    stop (omega (arith, ap length is, length-append x rest, long)) (ap (check_entry end last) front ∙ h)
+    let beginning : take 122 s ≡ x = ap (take 122) is ∙ ap (λ (n : ℕ). take n (x ++ rest)) (sym long) ∙ take-append_seam x rest in
+    stop (omega (arith, ap length is, length-append x rest, long)) (ap (check_entry end last) beginning ∙ h)
 
 pub one_front : (end : ℕ) (low : List ℕ) (xs ys : List (List ℕ)) (s r t : List ℕ) → PassChecks end low xs → PassChecks end low ys → s ≡ concat xs ++ r → s ≡ concat ys ++ t
     → IsStop end (last_of low xs) r → IsStop end (last_of low ys) t → (xs ≡ ys) × (r ≡ t)

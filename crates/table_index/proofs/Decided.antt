@@ -16,7 +16,7 @@ use Rattle.archive_records.specs.Text.{last_of}
 use Rattle.archive_records.proofs.Forms.{IsBytes, IsBytes-drop, IsBytes-take}
 use Rattle.archive_index.specs.Entry.{length_in, offset_in}
 use Rattle.table_index.specs.Entry.{claim_in, stored_size}
-use Rattle.table_index.specs.Fault.{HasDigest, HasEnds, IsIndexFault, front_offset, check_end, check_front}
+use Rattle.table_index.specs.Fault.{HasDigest, HasEnds, IsIndexFault, beginning_offset, check_end, check_beginning}
 use Rattle.table_index.specs.InnerReading.{AreEndsOf}
 use Rattle.table_index.specs.Text.{AreLaid, FollowOn, IsIndexText, PassChecks, count_in, digest_in, entries_in, start_in, check_entry}
 use Rattle.table_index.specs.declared.ends.Ends.{Ends}
@@ -154,13 +154,13 @@ follow_or_not offset at end (x ∷ xs) = elim (cases_eq (offset_in x) offset) [
 abbrev pub IsDecided : List ℕ → Type 0
 IsDecided text = ((entries : List (List ℕ)) × IsIndexText text entries) ⊎ ((fault : IndexFault) × IsIndexFault text fault)
 
-by_front : (text : List ℕ) (r : Result (Unit {0}) IndexFaultKind) → check_front text ≡ r → (check_front text ≡ Ok tt → IsDecided text) → IsDecided text
-by_front text (Err kind) is rest = inr (record { kind = kind; offset = front_offset text kind }, inl (record { fails = is; offset_is = refl }))
+by_front : (text : List ℕ) (r : Result (Unit {0}) IndexFaultKind) → check_beginning text ≡ r → (check_beginning text ≡ Ok tt → IsDecided text) → IsDecided text
+by_front text (Err kind) is rest = inr (record { kind = kind; offset = beginning_offset text kind }, inl (record { fails = is; offset_is = refl }))
 by_front text (Ok tt) is rest = rest is
 
-by_end : (text : List ℕ) (r : Result (Unit {0}) IndexFaultKind) → check_front text ≡ Ok tt → check_end text ≡ r → (HasEnds text → IsDecided text) → IsDecided text
-by_end text (Err kind) front is rest = inr (record { kind = kind; offset = length text - 41 }, inr (inl (record { front = front; fails = is; offset_is = refl })))
-by_end text (Ok tt) front is rest = rest (record { front = front; end = is })
+by_end : (text : List ℕ) (r : Result (Unit {0}) IndexFaultKind) → check_beginning text ≡ Ok tt → check_end text ≡ r → (HasEnds text → IsDecided text) → IsDecided text
+by_end text (Err kind) beginning is rest = inr (record { kind = kind; offset = length text - 41 }, inr (inl (record { beginning = beginning; fails = is; offset_is = refl })))
+by_end text (Ok tt) beginning is rest = rest (record { beginning = beginning; end = is })
 
 by_digest : (text : List ℕ) → HasEnds text → (HasDigest text → IsDecided text) → IsDecided text
 by_digest text ends rest = elim (cases_Bool (bytes_eq (sha256 (entries_in text)) (digest_in text))) [
@@ -189,7 +189,7 @@ module _ (text : List ℕ) (bytes : IsBytes text) (digest : HasDigest text) wher
 
   number_long : length number ≡ 8
   number_long =
-      let long = (front_passed text digest.ends.front).1 in
+      let long = (front_passed text digest.ends.beginning).1 in
       length-take-le 8 (drop (length text - 40) text) (omega (arith, long, length-drop (length text - 40) text))
 
   abbrev ends : Ends
@@ -236,4 +236,4 @@ module _ (text : List ℕ) (bytes : IsBytes text) (digest : HasDigest text) wher
 
 pub decided : (text : List ℕ) → IsBytes text → IsDecided text
 decided text bytes =
-    by_front text (check_front text) refl (λ front. by_end text (check_end text) front refl (λ ends. by_digest text ends (λ digest. by_entries text bytes digest)))
+    by_front text (check_beginning text) refl (λ beginning. by_end text (check_end text) beginning refl (λ ends. by_digest text ends (λ digest. by_entries text bytes digest)))

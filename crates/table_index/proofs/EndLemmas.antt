@@ -6,7 +6,7 @@ use Rattle.std.specs.Str.{bytes_eq}
 use Rattle.std.proofs.lemmas.Bool.{cases_lt, le-ltb, lt-ltb, ne_eqb}
 use Rattle.std.proofs.lemmas.List.{drop-drop, get_or-drop, take_all}
 use Rattle.archive_index.specs.Text.{index_magic}
-use Rattle.table_index.specs.Fault.{IsPartOffset, check_end, check_front}
+use Rattle.table_index.specs.Fault.{IsPartOffset, check_end, check_beginning}
 use Rattle.table_index.specs.InnerReading.{AreEndsOf, IsUnread}
 use Rattle.table_index.specs.Reading.{IsRefused}
 use Rattle.table_index.specs.Text.{count_in, digest_in}
@@ -37,20 +37,20 @@ first_eight text = elim (cases_lt (length text) 8) [
 ]
 
 -- the question of the magic, of the bytes that were read
-pub asked : (text front : List ℕ) (size : ℕ) → size ≡ length text → front ≡ take 8 text → length front ≡ min size 8 → bytes_eq front (take (length front) index_magic) ≡ bytes_eq (take 8 text) (take (min (length text) 8) index_magic)
-asked text front size same is long =
-    ap (λ (n : ℕ). bytes_eq front (take n index_magic)) (long ∙ ap (λ (n : ℕ). min n 8) same) ∙ ap (λ (t : List ℕ). bytes_eq t (take (min (length text) 8) index_magic)) is
+pub asked : (text beginning : List ℕ) (size : ℕ) → size ≡ length text → beginning ≡ take 8 text → length beginning ≡ min size 8 → bytes_eq beginning (take (length beginning) index_magic) ≡ bytes_eq (take 8 text) (take (min (length text) 8) index_magic)
+asked text beginning size same is long =
+    ap (λ (n : ℕ). bytes_eq beginning (take n index_magic)) (long ∙ ap (λ (n : ℕ). min n 8) same) ∙ ap (λ (t : List ℕ). bytes_eq t (take (min (length text) 8) index_magic)) is
 
-pub magic_fails : (text : List ℕ) → bytes_eq (take 8 text) (take (min (length text) 8) index_magic) ≡ false → check_front text ≡ Err BadMagic
-unfolding check_front
+pub magic_fails : (text : List ℕ) → bytes_eq (take 8 text) (take (min (length text) 8) index_magic) ≡ false → check_beginning text ≡ Err BadMagic
+unfolding check_beginning
 magic_fails text h = rw h refl
 
-pub room_fails : (text : List ℕ) → bytes_eq (take 8 text) (take (min (length text) 8) index_magic) ≡ true → length text < 49 → check_front text ≡ Err Truncated
-unfolding check_front
+pub room_fails : (text : List ℕ) → bytes_eq (take 8 text) (take (min (length text) 8) index_magic) ≡ true → length text < 49 → check_beginning text ≡ Err Truncated
+unfolding check_beginning
 room_fails text h short = rw (h, lt-ltb (length text) 49 short) refl
 
-pub front_passes : (text : List ℕ) → bytes_eq (take 8 text) (take (min (length text) 8) index_magic) ≡ true → 49 ≤ length text → check_front text ≡ Ok tt
-unfolding check_front
+pub front_passes : (text : List ℕ) → bytes_eq (take 8 text) (take (min (length text) 8) index_magic) ≡ true → 49 ≤ length text → check_beginning text ≡ Ok tt
+unfolding check_beginning
 front_passes text h room = rw (h, le-ltb (length text) 49 room) refl
 
 -- ---- the end record
@@ -94,9 +94,9 @@ module _ (text end : List ℕ) (room : 49 ≤ length text) (is : end ≡ drop (l
         let less : 49 + 122 * count_in text ≤ length text = omega (arith, few, count_is) in
         rw (tagged, le-ltb (length text) (49 + 122 * count_in text) less) refl
 
-    pub are_ends : (ends : Ends) → check_front text ≡ Ok tt → 49 + 122 * count ≤ length text → ends.count ≡ count → ends.start ≡ length text - 41 - 122 * count → ends.digest ≡ drop 9 end → to_be_bytes w64 count ≡ take 8 (drop 1 end) → AreEndsOf text ends
-    are_ends ends front few same start digest bytes = record {
-      has = record { front = front; end = end_passes few };
+    pub are_ends : (ends : Ends) → check_beginning text ≡ Ok tt → 49 + 122 * count ≤ length text → ends.count ≡ count → ends.start ≡ length text - 41 - 122 * count → ends.digest ≡ drop 9 end → to_be_bytes w64 count ≡ take 8 (drop 1 end) → AreEndsOf text ends
+    are_ends ends beginning few same start digest bytes = record {
+      has = record { beginning = beginning; end = end_passes few };
       start_is = omega (arith, start, count_is);
       count_is = same ∙ count_is;
       count_bytes = ap (to_be_bytes w64) same ∙ bytes ∙ ap (take 8) number_at;

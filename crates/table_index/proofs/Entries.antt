@@ -69,27 +69,27 @@ entry_of_parts bytes e placed claim = (λ i. placed i ++ claim i) ∙ take-appen
 -- ---- what the bytes of an entry say
 
 -- 74 bytes, and a claim
-module _ (front : List ℕ) (c : Claim) (long : length front ≡ 74) where
-  claim_behind : drop 74 (front ++ claim_bytes c) ≡ claim_bytes c
-  claim_behind = drop_at front (claim_bytes c) 74 long
+module _ (beginning : List ℕ) (c : Claim) (long : length beginning ≡ 74) where
+  claim_behind : drop 74 (beginning ++ claim_bytes c) ≡ claim_bytes c
+  claim_behind = drop_at beginning (claim_bytes c) 74 long
 
-  size_behind : drop 82 (front ++ claim_bytes c) ≡ to_be_bytes w64 c.size ++ c.root
+  size_behind : drop 82 (beginning ++ claim_bytes c) ≡ to_be_bytes w64 c.size ++ c.root
   unfolding claim_bytes
-  size_behind = sym (drop-drop 8 74 (front ++ claim_bytes c)) ∙ ap (drop 8) claim_behind ∙ drop-append_seam (to_be_bytes w64 c.offset) (to_be_bytes w64 c.size ++ c.root)
+  size_behind = sym (drop-drop 8 74 (beginning ++ claim_bytes c)) ∙ ap (drop 8) claim_behind ∙ drop-append_seam (to_be_bytes w64 c.offset) (to_be_bytes w64 c.size ++ c.root)
 
-  pub offset_read : c.offset < 2 ^ 64 → (claim_in (front ++ claim_bytes c)).offset ≡ c.offset
+  pub offset_read : c.offset < 2 ^ 64 → (claim_in (beginning ++ claim_bytes c)).offset ≡ c.offset
   unfolding claim_bytes
   offset_read fits =
       ap (from_be_bytes w64) (ap (take 8) claim_behind ∙ take-append_seam (to_be_bytes w64 c.offset) (to_be_bytes w64 c.size ++ c.root)) ∙ from_be_bytes-to_be_bytes_8 c.offset fits
 
-  pub size_read : c.size < 2 ^ 64 → (claim_in (front ++ claim_bytes c)).size ≡ c.size
+  pub size_read : c.size < 2 ^ 64 → (claim_in (beginning ++ claim_bytes c)).size ≡ c.size
   size_read fits =
       ap (from_be_bytes w64) (ap (take 8) size_behind ∙ take-append_seam (to_be_bytes w64 c.size) c.root) ∙ from_be_bytes-to_be_bytes_8 c.size fits
 
-  pub root_read : (claim_in (front ++ claim_bytes c)).root ≡ c.root
-  root_read = sym (drop-drop 8 82 (front ++ claim_bytes c)) ∙ ap (drop 8) size_behind ∙ drop-append_seam (to_be_bytes w64 c.size) c.root
+  pub root_read : (claim_in (beginning ++ claim_bytes c)).root ≡ c.root
+  root_read = sym (drop-drop 8 82 (beginning ++ claim_bytes c)) ∙ ap (drop 8) size_behind ∙ drop-append_seam (to_be_bytes w64 c.size) c.root
 
-  pub claim_read : c.offset < 2 ^ 64 → c.size < 2 ^ 64 → claim_in (front ++ claim_bytes c) ≡ c
+  pub claim_read : c.offset < 2 ^ 64 → c.size < 2 ^ 64 → claim_in (beginning ++ claim_bytes c) ≡ c
   claim_read offset size = λ i. record { offset = offset_read offset i; size = size_read size i; root = root_read i }
 
 length-claim : (c : Claim) → length (claim_bytes c) ≡ 16 + length c.root
@@ -97,16 +97,16 @@ unfolding claim_bytes
 length-claim c = omega (arith, length-append (to_be_bytes w64 c.offset) (to_be_bytes w64 c.size ++ c.root), length-append (to_be_bytes w64 c.size) c.root)
 
 -- 74 bytes with a claim after them say what they say alone
-module _ (front : List ℕ) (c : Claim) (long : length front ≡ 74) where
-  pub number_kept : (at : ℕ) → at + 8 < 75 → take 8 (drop at (front ++ claim_bytes c)) ≡ take 8 (drop at front)
+module _ (beginning : List ℕ) (c : Claim) (long : length beginning ≡ 74) where
+  pub number_kept : (at : ℕ) → at + 8 < 75 → take 8 (drop at (beginning ++ claim_bytes c)) ≡ take 8 (drop at beginning)
   number_kept at within =
-      ap (take 8) (drop-append-le at front (claim_bytes c) (omega (arith, long, within))) ∙ take-append-le 8 (drop at front) (claim_bytes c) (omega (arith, long, within, length-drop at front))
+      ap (take 8) (drop-append-le at beginning (claim_bytes c) (omega (arith, long, within))) ∙ take-append-le 8 (drop at beginning) (claim_bytes c) (omega (arith, long, within, length-drop at beginning))
 
-  pub byte_kept : (i : ℕ) → i < 74 → get_or (front ++ claim_bytes c) i 0 ≡ get_or front i 0
-  byte_kept i lt = get_or-append front (claim_bytes c) 0 i (omega (arith, long, lt))
+  pub byte_kept : (i : ℕ) → i < 74 → get_or (beginning ++ claim_bytes c) i 0 ≡ get_or beginning i 0
+  byte_kept i lt = get_or-append beginning (claim_bytes c) 0 i (omega (arith, long, lt))
 
-pub long_with : (front : List ℕ) (c : Claim) → length front ≡ 74 → length c.root ≡ 32 → length (front ++ claim_bytes c) ≡ 122
-long_with front c long root = omega (arith, long, root, length-append front (claim_bytes c), length-claim c)
+pub long_with : (beginning : List ℕ) (c : Claim) → length beginning ≡ 74 → length c.root ≡ 32 → length (beginning ++ claim_bytes c) ≡ 122
+long_with beginning c long root = omega (arith, long, root, length-append beginning (claim_bytes c), length-claim c)
 
 pub fields_of : (bytes : List ℕ) (e : TableEntry) → length bytes ≡ 122 → entry_bytes e ≡ bytes → offset_in (take 74 bytes) ≡ e.placed.offset → length_in (take 74 bytes) ≡ e.placed.length → claim_view e.claim ≡ claim_in bytes → IsPlacedEntry (placed_bytes e.placed) → HasItsFields e
 fields_of bytes e long same offset len claim placed = record {

@@ -4,7 +4,7 @@ use Rattle.std.specs.Prelude.{◌⊎◌, Ok}
 use Rattle.std.specs.List.{concat}
 use Rattle.std.proofs.lemmas.List.{append-nil}
 use Rattle.archive_records.specs.Text.{last_of}
-use Rattle.table_index.specs.Fault.{FailsAfter, FailsAtEnd, FailsDigest, FailsInEntries, FailsInFront, FailsInPlaces, HasDigest, IsIndexFault, front_offset, check_end, check_front}
+use Rattle.table_index.specs.Fault.{FailsAfter, FailsAtEnd, FailsDigest, FailsInEntries, FailsInBeginning, FailsInPlaces, HasDigest, IsIndexFault, beginning_offset, check_end, check_beginning}
 use Rattle.table_index.specs.Text.{AreLaid, IsIndexText, PassChecks, entries_in, start_in, check_entry}
 use Rattle.index_faults.specs.declared.fault.IndexFault.{IndexFault}
 use Rattle.table_index.proofs.Checks.{IsStop, long_entries, one_front}
@@ -61,14 +61,14 @@ module _ (text : List ℕ) (xs : List (List ℕ)) (is : IsIndexText text xs) whe
   pub laid_there : AreLaid (start_in text) xs
   laid_there = subst (λ (n : ℕ). AreLaid n xs) (sym start_there) is.laid
 
-no_front : (text : List ℕ) (f : IndexFault) → FailsInFront text f → check_front text ≡ Ok tt → ⊥
+no_front : (text : List ℕ) (f : IndexFault) → FailsInBeginning text f → check_beginning text ≡ Ok tt → ⊥
 no_front text f a h = cc (a.fails, h)
 
 no_end : (text : List ℕ) (f : IndexFault) → FailsAtEnd text f → check_end text ≡ Ok tt → ⊥
 no_end text f a h = cc (a.fails, h)
 
 pub no_fault : (text : List ℕ) (xs : List (List ℕ)) (f : IndexFault) → IsIndexText text xs → IsIndexFault text f → ⊥
-no_fault text xs f is (inl a) = no_front text f a (digest_there text xs is).ends.front
+no_fault text xs f is (inl a) = no_front text f a (digest_there text xs is).ends.beginning
 no_fault text xs f is (inr (inl a)) = no_end text f a (digest_there text xs is).ends.end
 no_fault text xs f is (inr (inr (inl a))) = a.other (digest_there text xs is).same
 no_fault text xs f is (inr (inr (inr (inl a)))) = not_both (start_in text) (entries_in text) a.before xs f a.after (pass_there text xs is) (entries_there text xs is)
@@ -88,8 +88,8 @@ InEntries text f = FailsInEntries text f ⊎ FailsInPlaces text f
 abbrev BehindEnds : List ℕ → IndexFault → Type 0
 BehindEnds text f = FailsDigest text f ⊎ InEntries text f
 
-abbrev BehindFront : List ℕ → IndexFault → Type 0
-BehindFront text f = FailsAtEnd text f ⊎ BehindEnds text f
+abbrev BehindBeginning : List ℕ → IndexFault → Type 0
+BehindBeginning text f = FailsAtEnd text f ⊎ BehindEnds text f
 
 digest_of : (text : List ℕ) (f : IndexFault) → InEntries text f → HasDigest text
 digest_of text f (inl a) = a.digest
@@ -111,12 +111,12 @@ one_behind_ends text f g (inl a) (inr b) = absurd (a.other (digest_of text g b).
 one_behind_ends text f g (inr a) (inl b) = absurd (b.other (digest_of text f a).same)
 one_behind_ends text f g (inr a) (inr b) = one_in_entries text f g a b
 
-front_of_later : (text : List ℕ) (f : IndexFault) → BehindFront text f → check_front text ≡ Ok tt
-front_of_later text f (inl a) = a.front
-front_of_later text f (inr (inl a)) = a.ends.front
-front_of_later text f (inr (inr a)) = (digest_of text f a).ends.front
+front_of_later : (text : List ℕ) (f : IndexFault) → BehindBeginning text f → check_beginning text ≡ Ok tt
+front_of_later text f (inl a) = a.beginning
+front_of_later text f (inr (inl a)) = a.ends.beginning
+front_of_later text f (inr (inr a)) = (digest_of text f a).ends.beginning
 
-one_behind_front : (text : List ℕ) (f g : IndexFault) → BehindFront text f → BehindFront text g → f ≡ g
+one_behind_front : (text : List ℕ) (f g : IndexFault) → BehindBeginning text f → BehindBeginning text g → f ≡ g
 one_behind_front text f g (inl a) (inl b) =
     let kinds : f.kind ≡ g.kind = cc (a.fails, b.fails) in
     same_fault f g kinds (a.offset_is ∙ sym b.offset_is)
@@ -127,7 +127,7 @@ one_behind_front text f g (inr a) (inr b) = one_behind_ends text f g a b
 pub one_fault : (text : List ℕ) (f g : IndexFault) → IsIndexFault text f → IsIndexFault text g → f ≡ g
 one_fault text f g (inl a) (inl b) =
     let kinds : f.kind ≡ g.kind = cc (a.fails, b.fails) in
-    same_fault f g kinds (a.offset_is ∙ ap (front_offset text) kinds ∙ sym b.offset_is)
+    same_fault f g kinds (a.offset_is ∙ ap (beginning_offset text) kinds ∙ sym b.offset_is)
 one_fault text f g (inl a) (inr b) = absurd (no_front text f a (front_of_later text g b))
 one_fault text f g (inr a) (inl b) = absurd (no_front text g b (front_of_later text f a))
 one_fault text f g (inr a) (inr b) = one_behind_front text f g a b

@@ -15,8 +15,8 @@ use Rattle.std.proofs.lemmas.List.Sums.{sum_by-cons}
 use Rattle.checked_pages.specs.Views.{claim_view}
 use Rattle.join_core.proofs.Listing.{listing_ascending}
 use Rattle.archive_core.proofs.Compare.{slice_cmp-append}
-use Rattle.archive_records.proofs.Ascending.{here, later}
-use Rattle.archive_records.proofs.Puts.{bytes_same}
+use Rattle.archive_core.proofs.Made.{bytes_same}
+use Rattle.archive_core.proofs.Members.{in_rest, in_front}
 use Rattle.archive_index.specs.declared.entry.PlacedEntry.{PlacedEntry}
 use Rattle.archive_index.specs.Entry.{IsPlacedEntry, length_in, offset_in, placed_bytes}
 use Rattle.archive_index.specs.Index.{lengths_of}
@@ -47,8 +47,8 @@ pub each_placed : (es : List TableEntry) → AllByRecursion HasItsFields es → 
 each_placed [] fields = tt
 each_placed (e ∷ es) fields = (fields.0.placed, each_placed es fields.1)
 
-front_offset : (e : List ℕ) → offset_in (take 74 e) ≡ offset_in e
-front_offset e = ap (from_be_bytes w64) (front_number 58 e (omega arith))
+beginning_offset : (e : List ℕ) → offset_in (take 74 e) ≡ offset_in e
+beginning_offset e = ap (from_be_bytes w64) (front_number 58 e (omega arith))
 
 front_length : (e : List ℕ) → length_in (take 74 e) ≡ length_in e
 front_length e = ap (from_be_bytes w64) (front_number 66 e (omega arith))
@@ -81,11 +81,11 @@ one_at_most n offset at end (x ∷ xs) follow some =
     elim (cases_Bool (eqb (offset_in x) n)) [
       | inl t ↦
           let is : offset_in x ≡ n = eqb-true (offset_in x) n t in
-          let past : n < next = omega (arith, is, follow.0, some x (here x xs)) in
+          let past : n < next = omega (arith, is, follow.0, some x (in_front x xs)) in
           omega (arith, more, is_at n x is, none_before n next (at + stored_size (claim_in x)) end xs follow.2 past)
       | inr f ↦
           let other : at_offset n x ≡ 0 = ap (λ b. cond b 1 0) f in
-          omega (arith, more, other, one_at_most n next (at + stored_size (claim_in x)) end xs follow.2 (λ z c. some z (later x z xs c)))
+          omega (arith, more, other, one_at_most n next (at + stored_size (claim_in x)) end xs follow.2 (λ z c. some z (in_rest x xs z c)))
     ]
 
 abbrev AreApart : List (List ℕ) → Type 0
@@ -101,7 +101,7 @@ laid_apart end entries pass laid n =
 -- entries of other offsets differ in their fronts
 front_less : (x y : List ℕ) (r : Ordering) → order (take 74 x) (take 74 y) ≡ r → ordering_then r (order (drop 74 x) (drop 74 y)) ≡ Less → (offset_in x ≡ offset_in y → ⊥) → order (take 74 x) (take 74 y) ≡ Less
 front_less x y Less e h other = e
-front_less x y Equal e h other = absurd (other (sym (front_offset x) ∙ ap offset_in (bytes_same (take 74 x) (take 74 y) e) ∙ front_offset y))
+front_less x y Equal e h other = absurd (other (sym (beginning_offset x) ∙ ap offset_in (bytes_same (take 74 x) (take 74 y) e) ∙ beginning_offset y))
 front_less x y Greater e h other = cc
 
 fronts_compared : (x y : List ℕ) → length x ≡ 122 → length y ≡ 122 → order x y ≡ Less → (offset_in x ≡ offset_in y → ⊥) → order (take 74 x) (take 74 y) ≡ Less

@@ -14,10 +14,9 @@ use Rattle.std.proofs.lemmas.List.Sorted.{Contains-permutation, IsNonDecreasingB
 use Rattle.std.proofs.lemmas.List.Sums.{sum_by-cons}
 use Rattle.std.proofs.lemmas.Slice.Eq.{bytes_eq-Decides}
 use Rattle.archive_core.specs.Content.{is_admission}
+use Rattle.archive_core.proofs.Members.{in_rest, in_cons, in_front}
 use Rattle.archive_records.specs.Layout.{largest_slice}
-use Rattle.archive_records.proofs.Ascending.{cons_cases, here, later}
 use Rattle.archive_index.specs.Entry.{length_in, offset_in}
-use Rattle.checked_pages.specs.Views.{claim_view}
 use Rattle.table_index.specs.Entry.{HasItsFields, claim_in, entry_bytes, stored_size}
 use Rattle.table_index.specs.declared.entry.TableEntry.{TableEntry}
 use Rattle.table_index.specs.Text.{AreLaid, FollowOn, PassChecks}
@@ -39,10 +38,10 @@ counts_itself x xs =
 is_counted : (x : List ℕ) (xs : List (List ℕ)) → 0 < sum_by (counted x) xs → Contains xs x
 is_counted x [] some = absurd (omega (arith, some))
 is_counted x (y ∷ ys) some = elim (cases_Bool (bytes_eq y x)) [
-  | inl t ↦ subst (Contains (y ∷ ys)) ((bytes_eq-Decides y x).0 t) (here y ys)
+  | inl t ↦ subst (Contains (y ∷ ys)) ((bytes_eq-Decides y x).0 t) (in_front y ys)
   | inr f ↦
       let none : counted x y ≡ 0 = ap (λ b. cond b 1 0) f in
-      later y x ys (is_counted x ys (omega (arith, some, none, sum_by-cons (counted x) y ys)))
+      in_rest y ys x (is_counted x ys (omega (arith, some, none, sum_by-cons (counted x) y ys)))
 ]
 
 alike_tails : (x : List ℕ) (xs ys : List (List ℕ)) → AreAlike (x ∷ xs) (x ∷ ys) → AreAlike xs ys
@@ -53,7 +52,7 @@ alike_tails x xs ys alike f = omega (arith, alike f, sum_by-cons f x xs, sum_by-
 -- what follows begins no earlier
 pub follows : (offset at end : ℕ) (xs : List (List ℕ)) (z : List ℕ) → FollowOn offset at end xs → Contains xs z → offset ≤ offset_in z
 follows offset at end [] z follow c = absurd (omega (arith, c.1))
-follows offset at end (x ∷ xs) z follow c = elim (cons_cases x z xs c) [
+follows offset at end (x ∷ xs) z follow c = elim (in_cons x xs z c) [
   | inl e ↦ omega (arith, follow.0, ap offset_in e)
   | inr there ↦ omega (arith, follows (offset + length_in x) (at + stored_size (claim_in x)) end xs z follow.2 there)
 ]
@@ -70,12 +69,12 @@ one_order offset at end (x ∷ xs) (y ∷ ys) follow some up alike =
     let y_there : Contains (x ∷ xs) y = is_counted y (x ∷ xs) (omega (arith, alike (counted y), counts_itself y ys)) in
     let x_there : Contains (y ∷ ys) x = is_counted x (y ∷ ys) (omega (arith, alike (counted x), counts_itself x xs)) in
     let least : offset_in y ≤ offset_in x = first_least y x ys up x_there in
-    elim (cons_cases x y xs y_there) [
+    elim (in_cons x xs y y_there) [
       | inl e ↦
           let tails : AreAlike xs ys = alike_tails x xs ys (subst (λ (t : List ℕ). AreAlike (x ∷ xs) (t ∷ ys)) (sym e) alike) in
-          cc (e, one_order (offset + length_in x) (at + stored_size (claim_in x)) end xs ys follow.2 (λ z c. some z (later x z xs c)) (IsNonDecreasingBy-drop offset_in 1 (y ∷ ys) up) tails)
+          cc (e, one_order (offset + length_in x) (at + stored_size (claim_in x)) end xs ys follow.2 (λ z c. some z (in_rest x xs z c)) (IsNonDecreasingBy-drop offset_in 1 (y ∷ ys) up) tails)
       | inr there ↦
-          absurd (omega (arith, least, follow.0, some x (here x xs), follows (offset + length_in x) (at + stored_size (claim_in x)) end xs y follow.2 there))
+          absurd (omega (arith, least, follow.0, some x (in_front x xs), follows (offset + length_in x) (at + stored_size (claim_in x)) end xs y follow.2 there))
     ]
 
 -- ---- entries that pass their checks
@@ -85,7 +84,7 @@ some_length a n h = grind (arith, nat_tests)
 
 pub each_some : (end : ℕ) (low : List ℕ) (xs : List (List ℕ)) (z : List ℕ) → PassChecks end low xs → Contains xs z → 0 < length_in z
 each_some end low [] z pass c = absurd (omega (arith, c.1))
-each_some end low (x ∷ xs) z pass c = elim (cons_cases x z xs c) [
+each_some end low (x ∷ xs) z pass c = elim (in_cons x xs z c) [
   | inl e ↦ subst (λ (t : List ℕ). 0 < length_in t) e (some_length (is_admission x) (length_in x) (passed end low x pass.1).length_is)
   | inr there ↦ each_some end x xs z pass.2 there
 ]
@@ -111,7 +110,7 @@ module _ (offset at end i : ℕ) (xs : List (List ℕ)) (e : List ℕ) (P : Type
   head_of : P → FollowOn offset at end (e ∷ drop (i + 1) xs)
   head_of p = subst (FollowOn offset at end) (rest_from xs i e lt is) (left.1 p)
 
-  -- no entry follows here
+  -- no entry follows in_front
   pub not_here : (offset_in e ≡ offset → (is_admission e ≡ true → (claim_in e).offset ≡ at) → ⊥) → P → ⊥
   not_here other p = other (head_of p).0 (head_of p).1
 
@@ -138,12 +137,6 @@ bytes_at entries i e lt is = ap entry_bytes is ∙ sym (get_or-map entry_bytes e
 pub fields_at : (entries : List TableEntry) (i : ℕ) (e : TableEntry) → All HasItsFields entries → i < length entries → e ≡ get_or entries i e → HasItsFields e
 fields_at entries i e fields lt is = All-contains HasItsFields entries e fields (i, lt, sym is)
 
--- what the entry at a place claims
-pub claim_at_place : (entries : List TableEntry) (index : List (List ℕ)) (i : ℕ) (e : TableEntry) → map entry_bytes entries ≡ index → All HasItsFields entries → i < length index → e ≡ get_or entries i e → claim_in (get_or index i []) ≡ claim_view e.claim
-claim_at_place entries index i e are fields lt is =
-    let within : i < length entries = omega (arith, lt, ap length are, length-map entries entry_bytes) in
-    ap (λ (xs : List (List ℕ)). claim_in (get_or xs i [])) (sym are) ∙ ap claim_in (sym (bytes_at entries i e within is)) ∙ (fields_at entries i e fields within is).claim_is
-
 -- offsets do not fall, by their fields and by their bytes
 pub offsets_rise : (xs : List TableEntry) → All HasItsFields xs → IsNonDecreasingBy (λ e. e.placed.offset) xs → IsNonDecreasingBy offset_in (map entry_bytes xs)
 offsets_rise [] fields up = λ i j d le lt. absurd (omega (arith, lt))
@@ -155,28 +148,28 @@ offsets_rise (x ∷ xs) fields up = λ i j d le lt.
     let b : offset_in (get_or (map entry_bytes all) j d) ≡ (get_or all j x).placed.offset = ap offset_in (get_or-map entry_bytes all j x d within) ∙ (All-contains HasItsFields all (get_or all j x) fields (Contains-get_or all j x within)).offset_is in
     omega (arith, a, b, up i j x le within)
 
--- ---- entries that are lent
+-- ---- entries that are borrowed
 
-abbrev pub of_lent : Bor TableEntry → TableEntry
-of_lent e = e.now
+abbrev pub of_borrowed : Bor TableEntry → TableEntry
+of_borrowed e = e.now
 
-abbrev pub all_lent : List (Bor TableEntry) → List TableEntry
-all_lent xs = map of_lent xs
+abbrev pub all_borrowed : List (Bor TableEntry) → List TableEntry
+all_borrowed xs = map of_borrowed xs
 
 -- the one at a place
-pub lent_at : (xs : List (Bor TableEntry)) (i : ℕ) (e : Bor TableEntry) → i < length xs → e ≡ get_or xs i e → of_lent e ≡ get_or (all_lent xs) i (of_lent e)
-lent_at xs i e lt is = ap of_lent is ∙ sym (get_or-map of_lent xs i e (of_lent e) lt)
+pub borrowed_at : (xs : List (Bor TableEntry)) (i : ℕ) (e : Bor TableEntry) → i < length xs → e ≡ get_or xs i e → of_borrowed e ≡ get_or (all_borrowed xs) i (of_borrowed e)
+borrowed_at xs i e lt is = ap of_borrowed is ∙ sym (get_or-map of_borrowed xs i e (of_borrowed e) lt)
 
-pub lent_within : (xs : List (Bor TableEntry)) (i : ℕ) → i < length xs → i < length (all_lent xs)
-lent_within xs i lt = omega (arith, lt, length-map xs of_lent)
+pub borrowed_within : (xs : List (Bor TableEntry)) (i : ℕ) → i < length xs → i < length (all_borrowed xs)
+borrowed_within xs i lt = omega (arith, lt, length-map xs of_borrowed)
 
--- offsets do not fall, where they are lent and as they are
-pub lent_rise : (xs : List (Bor TableEntry)) → IsNonDecreasingBy (λ e. e.now.placed.offset) xs → IsNonDecreasingBy (λ e. e.placed.offset) (all_lent xs)
-lent_rise [] up = λ i j d le lt. absurd (omega (arith, lt))
-lent_rise (x ∷ xs) up = λ i j d le lt.
+-- offsets do not fall, where they are borrowed and as they are
+pub borrowed_rise : (xs : List (Bor TableEntry)) → IsNonDecreasingBy (λ e. e.now.placed.offset) xs → IsNonDecreasingBy (λ e. e.placed.offset) (all_borrowed xs)
+borrowed_rise [] up = λ i j d le lt. absurd (omega (arith, lt))
+borrowed_rise (x ∷ xs) up = λ i j d le lt.
     let all : List (Bor TableEntry) = x ∷ xs in
-    let within : j < length all = omega (arith, lt, length-map all of_lent) in
+    let within : j < length all = omega (arith, lt, length-map all of_borrowed) in
     let before : i < length all = omega (arith, le, within) in
-    let a : (get_or (all_lent all) i d).placed.offset ≡ (get_or all i x).now.placed.offset = ap (λ (e : TableEntry). e.placed.offset) (get_or-map of_lent all i x d before) in
-    let b : (get_or (all_lent all) j d).placed.offset ≡ (get_or all j x).now.placed.offset = ap (λ (e : TableEntry). e.placed.offset) (get_or-map of_lent all j x d within) in
+    let a : (get_or (all_borrowed all) i d).placed.offset ≡ (get_or all i x).now.placed.offset = ap (λ (e : TableEntry). e.placed.offset) (get_or-map of_borrowed all i x d before) in
+    let b : (get_or (all_borrowed all) j d).placed.offset ≡ (get_or all j x).now.placed.offset = ap (λ (e : TableEntry). e.placed.offset) (get_or-map of_borrowed all j x d within) in
     omega (arith, a, b, up i j x le within)

@@ -1,6 +1,6 @@
 -- The ends and the entries of the text of an index.
 use Rattle.std.proofs.Common.{◌≡◌, ℕ, ◌+◌, ◌-◌, ◌*◌, ◌<◌, ◌≤◌, ◌^◌, suc, Bool, true, false, not, cond, eqb, ltb, List, ◌∷◌, ◌++◌, length, min, take, drop, get_or, refl, sym, ap, ◌∙◌, arith, length-append, length-take, length-drop, append_assoc}
-use Rattle.std.specs.Prelude.{Result, Ok, Err}
+use Rattle.std.specs.Prelude.{Ok}
 use Rattle.std.specs.Int.{w64, to_be_bytes, from_be_bytes}
 use Rattle.std.specs.List.{concat}
 use Rattle.std.specs.Str.{bytes_eq}
@@ -12,18 +12,13 @@ use Rattle.std.proofs.lemmas.Slice.Eq.{bytes_eq-Decides}
 use Rattle.sha2.specs.Sha256.{sha256}
 use Rattle.sha2.proofs.Facts256.{length-sha256}
 use Rattle.archive_index.specs.Text.{index_magic}
-use Rattle.table_index.specs.Fault.{HasDigest, HasEnds, check_end, check_front}
+use Rattle.table_index.specs.Fault.{HasDigest, HasEnds, check_end, check_beginning}
 use Rattle.table_index.specs.InnerReading.{AreEndsOf}
 use Rattle.table_index.specs.Text.{IsIndexText, count_in, digest_in, end_of, entries_in, index_text, start_in}
 use Rattle.table_index.specs.declared.ends.Ends.{Ends}
+use Rattle.table_index.proofs.Checks.{fine, failed}
 use Rattle.index_faults.specs.declared.fault.IndexFaultKind.{IndexFaultKind}
 use Rattle.index_faults.specs.declared.fault.IndexFaultKind.TheVariants.{BadMagic, Truncated, BadCount}
-
-abbrev fine : Result (Unit {0}) IndexFaultKind
-fine = Ok tt
-
-abbrev failed : IndexFaultKind → Result (Unit {0}) IndexFaultKind
-failed kind = Err kind
 
 -- ---- what the text of tables and entries has
 
@@ -32,26 +27,26 @@ unfolding end_of
 end_long entries = omega (arith, length-append (to_be_bytes w64 (length entries)) (sha256 (concat entries)), length-sha256 (concat entries))
 
 module _ (tables : List ℕ) (entries : List (List ℕ)) (few : length entries < 2 ^ 64) (each : length (concat entries) ≡ 122 * length entries) where
-  abbrev front : List ℕ
-  front = index_magic ++ (tables ++ concat entries)
+  abbrev beginning : List ℕ
+  beginning = index_magic ++ (tables ++ concat entries)
 
   abbrev text : List ℕ
   text = index_text tables entries
 
-  parts : text ≡ front ++ end_of entries
+  parts : text ≡ beginning ++ end_of entries
   parts = ap (λ (t : List ℕ). index_magic ++ t) (sym (append_assoc tables (concat entries) (end_of entries))) ∙ sym (append_assoc index_magic (tables ++ concat entries) (end_of entries))
 
-  front_long : length front ≡ 8 + length tables + length (concat entries)
+  front_long : length beginning ≡ 8 + length tables + length (concat entries)
   front_long = omega (arith, length-append index_magic (tables ++ concat entries), length-append tables (concat entries))
 
   pub text_long : length text ≡ 49 + length tables + 122 * length entries
-  text_long = ap length parts ∙ omega (arith, length-append front (end_of entries), end_long entries, front_long, each)
+  text_long = ap length parts ∙ omega (arith, length-append beginning (end_of entries), end_long entries, front_long, each)
 
   -- what stands at the end, so many bytes after the beginning of the end record
   at_end : (k : ℕ) → k ≤ 41 → drop (length text - (41 - k)) text ≡ drop k (end_of entries)
   at_end k h =
-      let at : length text - (41 - k) ≡ length front + k = omega (arith, text_long, front_long, each, h) in
-      (λ i. drop (at i) (parts i)) ∙ drop-append-add front (end_of entries) k
+      let at : length text - (41 - k) ≡ length beginning + k = omega (arith, text_long, front_long, each, h) in
+      (λ i. drop (at i) (parts i)) ∙ drop-append-add beginning (end_of entries) k
 
   pub count_is : count_in text ≡ length entries
   unfolding end_of
@@ -78,17 +73,17 @@ module _ (tables : List ℕ) (entries : List (List ℕ)) (few : length entries <
   tag_is : get_or text (length text - 41) 0 ≡ 3
   unfolding end_of
   tag_is =
-      let at : length text - 41 ≡ length front = omega (arith, text_long, front_long, each) in
-      (λ i. get_or (parts i) (at i) 0) ∙ get_or_at front 3 (to_be_bytes w64 (length entries) ++ sha256 (concat entries)) 0 (length front) refl
+      let at : length text - 41 ≡ length beginning = omega (arith, text_long, front_long, each) in
+      (λ i. get_or (parts i) (at i) 0) ∙ get_or_at beginning 3 (to_be_bytes w64 (length entries) ++ sha256 (concat entries)) 0 (length beginning) refl
 
   pub has_ends : HasEnds text
-  unfolding check_front check_end
+  unfolding check_beginning check_end
   has_ends =
       let least : min (length text) 8 ≡ 8 = omega (arith, text_long) in
       let begins : take 8 text ≡ take (min (length text) 8) index_magic = take-append_seam index_magic (tables ++ (concat entries ++ end_of entries)) ∙ ap (λ (n : ℕ). take n index_magic) (sym least) in
       let room : 49 + 122 * count_in text ≤ length text = omega (arith, text_long, count_is) in
       record {
-        front = rw ((bytes_eq-Decides (take 8 text) (take (min (length text) 8) index_magic)).1 begins, le-ltb (length text) 49 (omega (arith, text_long))) refl;
+        beginning = rw ((bytes_eq-Decides (take 8 text) (take (min (length text) 8) index_magic)).1 begins, le-ltb (length text) 49 (omega (arith, text_long))) refl;
         end = rw (tag_is, le-ltb (length text) (49 + 122 * count_in text) room) refl;
       }
 
@@ -100,8 +95,8 @@ module _ (tables : List ℕ) (entries : List (List ℕ)) (few : length entries <
 two_pass : (a b : Bool) (k l : IndexFaultKind) → cond (not a) (failed k) (cond b (failed l) fine) ≡ fine → (a ≡ true) × (b ≡ false)
 two_pass a b k l h = grind arith
 
-pub front_passed : (text : List ℕ) → check_front text ≡ Ok tt → (take 8 text ≡ index_magic) × (49 ≤ length text)
-unfolding check_front
+pub front_passed : (text : List ℕ) → check_beginning text ≡ Ok tt → (take 8 text ≡ index_magic) × (49 ≤ length text)
+unfolding check_beginning
 front_passed text h =
     let p = two_pass (bytes_eq (take 8 text) (take (min (length text) 8) index_magic)) (ltb (length text) 49) BadMagic Truncated h in
     let long : 49 ≤ length text = ltb-false (length text) 49 p.1 in
@@ -116,7 +111,7 @@ end_passed text h =
 
 module _ (text : List ℕ) (ends : Ends) (are : AreEndsOf text ends) where
   fronted : (take 8 text ≡ index_magic) × (49 ≤ length text)
-  fronted = front_passed text are.has.front
+  fronted = front_passed text are.has.beginning
 
   ended : (get_or text (length text - 41) 0 ≡ 3) × (49 + 122 * count_in text ≤ length text)
   ended = end_passed text are.has.end
@@ -161,8 +156,8 @@ module _ (text : List ℕ) (ends : Ends) (are : AreEndsOf text ends) where
 -- the last bytes of an index are its end record
 pub last_is : (text : List ℕ) (entries : List (List ℕ)) → IsIndexText text entries → drop (length text - 41) text ≡ end_of entries
 last_is text entries is =
-    let front : List ℕ = index_magic ++ (is.tables ++ concat entries) in
-    let whole : text ≡ front ++ end_of entries =
+    let beginning : List ℕ = index_magic ++ (is.tables ++ concat entries) in
+    let whole : text ≡ beginning ++ end_of entries =
     is.whole ∙ ap (λ (t : List ℕ). index_magic ++ t) (sym (append_assoc is.tables (concat entries) (end_of entries))) ∙ sym (append_assoc index_magic (is.tables ++ concat entries) (end_of entries)) in
-    let at : length text - 41 ≡ length front = omega (arith, ap length whole, length-append front (end_of entries), end_long entries) in
-    (λ i. drop (at i) (whole i)) ∙ drop-append_seam front (end_of entries)
+    let at : length text - 41 ≡ length beginning = omega (arith, ap length whole, length-append beginning (end_of entries), end_long entries) in
+    (λ i. drop (at i) (whole i)) ∙ drop-append_seam beginning (end_of entries)

@@ -12,9 +12,9 @@ use Rattle.index_faults.specs.declared.fault.IndexFaultKind.{IndexFaultKind}
 use Rattle.index_faults.specs.declared.fault.IndexFaultKind.TheVariants.{BadMagic, Truncated, BadCount, BadDigest}
 use Rattle.index_faults.specs.declared.fault.IndexFaultKind.TheVariants.{BadPlace, Device, OutOfMemory}
 
--- What the front of a text must be: the magic, and 41 bytes more for an end record.
-unfoldable pub check_front : List ℕ → Result (Unit {0}) IndexFaultKind
-check_front text = if not (bytes_eq (take 8 text) (take (min (length text) 8) index_magic)) then Err BadMagic
+-- What the beginning of a text must be: the magic, and 41 bytes more for an end record.
+unfoldable pub check_beginning : List ℕ → Result (Unit {0}) IndexFaultKind
+check_beginning text = if not (bytes_eq (take 8 text) (take (min (length text) 8) index_magic)) then Err BadMagic
     else if nat_lt (length text) 49 then Err Truncated
     else Ok tt
 
@@ -24,25 +24,25 @@ check_end text = if not (slice_index text (length text - 41) == 3) then Err Trun
     else if nat_lt (length text) (49 + 122 * count_in text) then Err BadCount
     else Ok tt
 
--- where a fault of the front is
-abbrev pub front_offset : List ℕ → IndexFaultKind → ℕ
-front_offset text BadMagic = 0
-front_offset text _ = length text - 41
+-- where a fault of the beginning is
+abbrev pub beginning_offset : List ℕ → IndexFaultKind → ℕ
+beginning_offset text BadMagic = 0
+beginning_offset text _ = length text - 41
 
--- the front fails its first check
-pub record FailsInFront (text : List ℕ) (fault : IndexFault) : Type 0 where
-  pub fails : check_front text ≡ Err fault.kind
-  pub offset_is : fault.offset ≡ front_offset text fault.kind
+-- the beginning fails its first check
+pub record FailsInBeginning (text : List ℕ) (fault : IndexFault) : Type 0 where
+  pub fails : check_beginning text ≡ Err fault.kind
+  pub offset_is : fault.offset ≡ beginning_offset text fault.kind
 
--- the front stands, and the end record fails its first check
+-- the beginning stands, and the end record fails its first check
 pub record FailsAtEnd (text : List ℕ) (fault : IndexFault) : Type 0 where
-  pub front : check_front text ≡ Ok tt
+  pub beginning : check_beginning text ≡ Ok tt
   pub fails : check_end text ≡ Err fault.kind
   pub offset_is : fault.offset ≡ length text - 41
 
 -- a text with the magic and an end record
 pub record HasEnds (text : List ℕ) : Type 0 where
-  pub front : check_front text ≡ Ok tt
+  pub beginning : check_beginning text ≡ Ok tt
   pub end : check_end text ≡ Ok tt
 
 -- the entries have another SHA-256 than the end record says
@@ -85,7 +85,7 @@ pub record FailsInPlaces (text : List ℕ) (fault : IndexFault) : Type 0 where
 -- the fault of a text that is no index
 abbrev pub IsIndexFault : List ℕ → IndexFault → Type 0
 IsIndexFault text fault =
-    FailsInFront text fault ⊎ FailsAtEnd text fault ⊎ FailsDigest text fault ⊎ FailsInEntries text fault
+    FailsInBeginning text fault ⊎ FailsAtEnd text fault ⊎ FailsDigest text fault ⊎ FailsInEntries text fault
     ⊎ FailsInPlaces text fault
 
 -- no text is at fault

@@ -3,8 +3,8 @@ use Rattle.std.specs.Prelude.{◌≡◌, ℕ, ◌+◌, ◌-◌, ◌<◌, List, [
 use Rattle.std.specs.Int.{w64, to_be_bytes}
 use Rattle.std.specs.List.{concat}
 use Rattle.table_index.specs.Entry.{HasItsFields, entry_bytes}
-use Rattle.table_index.specs.Fault.{FailsAtEnd, FailsDigest, FailsInEntries, FailsInFront, FailsInPlaces, HasDigest}
-use Rattle.table_index.specs.Fault.{HasEnds, IsOfMachine, check_front}
+use Rattle.table_index.specs.Fault.{FailsAtEnd, FailsDigest, FailsInEntries, FailsInBeginning, FailsInPlaces, HasDigest}
+use Rattle.table_index.specs.Fault.{HasEnds, IsOfMachine, check_beginning}
 use Rattle.table_index.specs.Text.{AreLaid, PassChecks, count_in, digest_in, entries_in, start_in}
 use Rattle.table_index.specs.declared.ends.Ends.{Ends}
 use Rattle.table_index.specs.declared.entry.TableEntry.{TableEntry}
@@ -15,9 +15,9 @@ abbrev pub IsUnread : ℕ → ℕ → List ℕ → IndexFault → Type 0
 IsUnread offset count text fault = (fault.offset ≡ offset) × (IsOfMachine fault.kind ⊎ (length text < offset + count))
 
 -- the text has the magic, and this is its size
-pub record IsFronted (text : List ℕ) (size : ℕ) : Type 0 where
+pub record HasBeginning (text : List ℕ) (size : ℕ) : Type 0 where
   pub size_is : size ≡ length text
-  pub front : check_front text ≡ Ok tt
+  pub beginning : check_beginning text ≡ Ok tt
 
 -- these are the ends of a text
 pub record AreEndsOf (text : List ℕ) (ends : Ends) : Type 0 where
@@ -29,7 +29,7 @@ pub record AreEndsOf (text : List ℕ) (ends : Ends) : Type 0 where
 
 -- what is wrong with the ends of a text
 abbrev pub FailsInEnds : List ℕ → IndexFault → Type 0
-FailsInEnds text fault = FailsInFront text fault ⊎ FailsAtEnd text fault
+FailsInEnds text fault = FailsInBeginning text fault ⊎ FailsAtEnd text fault
 
 -- the bytes of the entries, compared with their digest
 pub record AreEntriesOf (text bytes : List ℕ) : Type 0 where

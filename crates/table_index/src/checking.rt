@@ -10,7 +10,8 @@ ghost use Rattle.table_index.specs.Text.{check_entry};
 ghost use Rattle.index_faults.specs.declared.fault.IndexFaultKind.TheVariants.{Device, OutOfMemory};
 
 use crate::TableEntry;
-use crate::entry::{ADMISSION, ENTRY_LEN, RETIREMENT, claim_in, number_at};
+use crate::entry::{ENTRY_LEN, claim_in};
+use archive_records::{ADMISSION, RETIREMENT, number_at};
 use checked_pages::{Claim, pages_in};
 use index_faults::{IndexFault, IndexFaultKind};
 use memory::Heap;

@@ -1,16 +1,16 @@
 //! What stands at the two ends of an index.
 
 ghost use Rattle.std.specs.Prelude.{◌≡◌, ◌≢◌, ◌↔◌, ◌+◌, ◌-◌, ◌*◌, ◌<◌, ◌≤◌, ◌^◌, ℕ, List, Ok};
-ghost use Rattle.std.specs.Prelude.{IfOk, IfErr, OnOk, MatchResult};
-ghost use Rattle.std.specs.Prelude.{IsTrue, length, slice_index, take, drop, min};
+ghost use Rattle.std.specs.Prelude.{IfOk, IfErr, OnOk, MatchResult, IsTrue, length, slice_index, take, drop, min};
 ghost use Rattle.std.specs.Str.{bytes_eq};
 ghost use Rattle.archive_index.specs.Text.{index_magic};
-ghost use Rattle.table_index.specs.Fault.{FailsInFront, FailsAtEnd, check_front};
-ghost use Rattle.table_index.specs.InnerReading.{AreEndsOf, FailsInEnds, IsFronted, IsUnread};
+ghost use Rattle.table_index.specs.Fault.{FailsInBeginning, FailsAtEnd, check_beginning};
+ghost use Rattle.table_index.specs.InnerReading.{AreEndsOf, FailsInEnds, HasBeginning, IsUnread};
 ghost use Rattle.table_index.specs.Reading.{IsRefused, ReadsText};
 ghost use Rattle.index_faults.specs.declared.fault.IndexFaultKind.TheVariants.{Device};
 
-use crate::entry::{ENTRY_LEN, number_at};
+use crate::entry::ENTRY_LEN;
+use archive_records::number_at;
 use byte_device::{Failed, Placed, ReadFault, read_at};
 use index_faults::{IndexFault, IndexFaultKind};
 use memory::Heap;
@@ -83,11 +83,11 @@ pub(crate) fn read_part<P: Placed>(
 }
 
 /// Whether these bytes begin the magic.
-fn begins(front: &[u8]) -> bool
-    requires { length front.now ≤ 8 }
-    ensures { result ≡ bytes_eq front.now (take (length front.now) index_magic) }
+fn begins(beginning: &[u8]) -> bool
+    requires { length beginning.now ≤ 8 }
+    ensures { result ≡ bytes_eq beginning.now (take (length beginning.now) index_magic) }
 {
-    front == &magic()[..front.len()]
+    beginning == &magic()[..beginning.len()]
 }
 
 /// Whether so many bytes have room for the magic, an end record and so many entries.
@@ -98,15 +98,15 @@ fn has_room(size: u64, count: u64) -> bool
     u128::from(MAGIC_LEN + END_LEN) + entries <= u128::from(size)
 }
 
-/// Checks the front of a text of this size, whose first bytes these are.
-fn check_front(size: u64, front: &[u8]) -> Result<(), IndexFault>
-    requires { length front.now ≡ min size 8 }
-    ensures checked { (text : List ℕ) → size ≡ length text → front.now ≡ take 8 text
-        → MatchResult result (λ _. check_front text ≡ Ok tt) (FailsInFront text) }
+/// Checks the beginning of a text of this size, whose first bytes these are.
+fn check_beginning(size: u64, beginning: &[u8]) -> Result<(), IndexFault>
+    requires { length beginning.now ≡ min size 8 }
+    ensures checked { (text : List ℕ) → size ≡ length text → beginning.now ≡ take 8 text
+        → MatchResult result (λ _. check_beginning text ≡ Ok tt) (FailsInBeginning text) }
     ensures room { OnOk result (49 ≤ size) }
     ensures faulty { IfErr result (λ fault. fault.kind ≢ Device) }
 {
-    if !begins(front) {
+    if !begins(beginning) {
         return Err(IndexFault {
             kind: IndexFaultKind::BadMagic,
             offset: 0,
@@ -122,14 +122,14 @@ fn check_front(size: u64, front: &[u8]) -> Result<(), IndexFault>
 }
 
 /// Reads the magic, and says how many bytes there are: room for an end record at least.
-fn read_front<P: Placed>(heap: Heap, device: &mut P) -> Result<u64, IndexFault>
+fn read_beginning<P: Placed>(heap: Heap, device: &mut P) -> Result<u64, IndexFault>
     ensures room { IfOk result (λ size. 49 ≤ size) }
     ensures read { ReadsText P.whole P.failures device.old device.new result
-        IsFronted FailsInFront }
+        HasBeginning FailsInBeginning }
 {
     let size = read_size(device)?;
-    let front = read_part(heap, device, 0, size.min(MAGIC_LEN))?;
-    check_front(size, &front)?;
+    let beginning = read_part(heap, device, 0, size.min(MAGIC_LEN))?;
+    check_beginning(size, &beginning)?;
     Ok(size)
 }
 
@@ -155,7 +155,7 @@ fn digest_in(end: &[u8]) -> [u8; 32]
 fn ends_in(size: u64, end: &[u8]) -> Result<Ends, IndexFault>
     requires room { 49 ≤ size }
     requires long { length end.now ≡ 41 }
-    ensures checked { (text : List ℕ) → IsFronted text size → end.now ≡ drop (length text - 41) text
+    ensures checked { (text : List ℕ) → HasBeginning text size → end.now ≡ drop (length text - 41) text
         → MatchResult result (AreEndsOf text) (FailsAtEnd text) }
     ensures faulty { IfErr result (λ fault. fault.kind ≢ Device) }
     ensures fits { IfOk result (λ ends. ends.start + 122 * ends.count + 41 ≡ size) }
@@ -186,8 +186,8 @@ fn read_end<P: Placed>(heap: Heap, device: &mut P, size: u64) -> Result<Ends, In
     requires { 49 ≤ size }
     ensures fits { IfOk result (λ ends. ends.start + 122 * ends.count + 41 ≡ size) }
     ensures read { ReadsText P.whole P.failures device.old device.new result
-        (λ text ends. IsFronted text size → AreEndsOf text ends)
-        (λ text fault. IsFronted text size → IsRefused FailsAtEnd text fault) }
+        (λ text ends. HasBeginning text size → AreEndsOf text ends)
+        (λ text fault. HasBeginning text size → IsRefused FailsAtEnd text fault) }
 {
     let end = read_part(heap, device, size - END_LEN, END_LEN)?;
     ends_in(size, &end)
@@ -201,6 +201,6 @@ pub(crate) fn read_ends<P: Placed>(heap: Heap, device: &mut P) -> Result<Ends, I
     let Ok(own) = heap.clone() else {
         return Err(IndexFault::out_of_memory(0));
     };
-    let size = read_front(own, device)?;
+    let size = read_beginning(own, device)?;
     read_end(heap, device, size)
 }

@@ -1,7 +1,7 @@
 //! What a record is, where it stands, and where its table is stored.
 
-ghost use Rattle.std.specs.Prelude.{◌≡◌, ◌+◌, ◌≤◌, ◌++◌, true, length, slice_index, take, drop};
-ghost use Rattle.std.specs.Int.{w64, to_be_bytes, from_be_bytes};
+ghost use Rattle.std.specs.Prelude.{◌≡◌, ◌+◌, ◌≤◌, ◌++◌, true, length, slice_index, drop};
+ghost use Rattle.std.specs.Int.{w64, to_be_bytes};
 ghost use Rattle.std.specs.Ordering.{nat_cmp};
 ghost use Rattle.std.specs.Cmp.Lexicographic.{slice_cmp};
 ghost use Rattle.checked_pages.specs.Views.{claim_view};
@@ -11,8 +11,7 @@ ghost use Rattle.table_index.specs.Entry.{HasItsFields, claim_bytes, claim_in, e
 
 use archive_core::{FindRow, FindState};
 use archive_index::PlacedEntry;
-use archive_records::{digest_in, key_in};
-use byteorder::{BigEndian, ByteOrder};
+use archive_records::{RETIREMENT, digest_in, key_in, number_at};
 use checked_pages::Claim;
 use std::cmp::Ordering;
 
@@ -21,12 +20,6 @@ pub const ENTRY_LEN: usize = 122;
 
 /// How many bytes of it say what the record is, and where it stands.
 const PLACED_LEN: usize = 74;
-
-/// The tag of a retirement.
-pub(crate) const RETIREMENT: u8 = 1;
-
-/// The tag of an admission.
-pub(crate) const ADMISSION: u8 = 2;
 
 /// An entry of an index.
 #[derive(Clone, Copy)]
@@ -47,15 +40,6 @@ pub fn no_claim() -> Claim
         size: 0,
         root: [0; 32],
     }
-}
-
-/// The number in eight bytes from an offset on.
-pub(crate) fn number_at(bytes: &[u8], offset: usize) -> u64
-    requires { offset + 8 ≤ length bytes.now }
-    ensures number { result ≡ from_be_bytes w64 (take 8 (drop offset bytes.now)) }
-    ensures bytes { to_be_bytes w64 result ≡ take 8 (drop offset bytes.now) }
-{
-    BigEndian::read_u64(&bytes[offset..])
 }
 
 /// What the tag and the kind of an entry say.

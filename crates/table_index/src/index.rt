@@ -77,13 +77,13 @@ impl TableIndex {
         &self.entries
     }
 
-    /// From which number on, and up to which, the entries of a tag under a front stand, a key or less: the retirements
+    /// From which number on, and up to which, the entries of a tag under a prefix stand, a key or less: the retirements
     /// under it, tag 1, or the admissions, tag 2. They are found by halving.
-    pub fn run_under(&self, tag: u8, front: &[u8]) -> (usize, usize)
-        requires { length front.now ≤ 24 }
-        ensures { IsRun (is_tagged tag front.now) self.now result.0 result.1 }
+    pub fn run_under(&self, tag: u8, prefix: &[u8]) -> (usize, usize)
+        requires { length prefix.now ≤ 24 }
+        ensures { IsRun (is_tagged tag prefix.now) self.now result.0 result.1 }
     {
-        run_under(&self.entries, tag, front)
+        run_under(&self.entries, tag, prefix)
     }
 
     /// How many bytes an archive has whose records the entries name: the magic, the records and the end record.

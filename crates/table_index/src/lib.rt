@@ -7,7 +7,7 @@
 //! the SHA-256 of its page digests.
 //!
 //! - `entry`: [`TableEntry`], what a record is, where it stands, and where its table is stored;
-//! - `index`: [`TableIndex`], the entries of an index that was read; `runs`: those of one tag under a front;
+//! - `index`: [`TableIndex`], the entries of an index that was read; `runs`: those of one tag under a prefix;
 //! - `ends`: the magic and the end record; `checking`: the checks of an entry; `places`: whether records and tables
 //!   follow one another; `reading`: [`read_index`];
 //! - [`laws`]: a text is the index with one list of entries, or has one fault.

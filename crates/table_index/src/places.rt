@@ -60,20 +60,20 @@ fn fit_memory(entries: &[TableEntry])
 }
 
 /// The places of the entries in memory, which are sorted in their stead.
-fn lent(heap: Heap, entries: &[TableEntry]) -> Result<Vec<&TableEntry, Heap>, NoMemory>
-    ensures { IfOk result (λ lent. map (λ entry. entry.now) lent.items ≡ entries.now) }
+fn borrowed(heap: Heap, entries: &[TableEntry]) -> Result<Vec<&TableEntry, Heap>, NoMemory>
+    ensures { IfOk result (λ borrowed. map (λ entry. entry.now) borrowed.items ≡ entries.now) }
 {
     entries.iter().collect(heap)
 }
 
-/// Whether in some order they do. Entries are sorted by their offsets where they are lent: none is copied.
+/// Whether in some order they do. Entries are sorted by their offsets where they are borrowed: none is copied.
 pub(crate) fn are_laid(heap: Heap, entries: &[TableEntry], end: u64) -> Result<bool, NoMemory>
     requires fields { All HasItsFields entries.now }
     requires checked { PassChecks end [] (map entry_bytes entries.now) }
     ensures { IfOk result (λ laid. IsTrue laid ↔ AreLaid end (map entry_bytes entries.now)) }
 {
     fit_memory(entries);
-    let mut order = lent(heap, entries)?;
+    let mut order = borrowed(heap, entries)?;
     order.sort_unstable_by_key(|entry| entry.placed.offset);
     Ok(follow_on(&order, end))
 }

@@ -1,5 +1,5 @@
 -- An entry is added, if it has ranges.
-use Rattle.std.proofs.Common.{◌≡◌, ◌≢◌, ℕ, ◌+◌, false, List, [], ◌∷◌, ◌++◌, length, refl, sym, ap, subst, ◌∙◌, arith, length-append}
+use Rattle.std.proofs.Common.{◌≡◌, ◌≢◌, ℕ, ◌+◌, false, List, [], ◌∷◌, ◌++◌, length, refl, sym, ap, subst, ◌∙◌, arith}
 use Rattle.std.specs.Option.{option_map}
 use Rattle.std.proofs.lemmas.List.{append-nil}
 use Rattle.code_ranges.specs.EntryRanges.{UnitRangesRecord}
@@ -8,24 +8,17 @@ use Rattle.debug_entries.specs.Entries.{EntryRecord}
 use Rattle.source_frames.specs.ChainSteps.{scope_of}
 use Rattle.source_frames.specs.DebugSections.{DebugSectionsRecord}
 use Rattle.source_frames.specs.DebugUnits.{UnitRecord}
-use Rattle.source_frames.specs.Frames.{place_of_call}
+use Rattle.source_frames.specs.Frames.{location_of_call}
 use Rattle.source_frames.specs.Names.{IsName}
-use Rattle.source_frames.specs.Scopes.{ScopeRecord, is_function, left_after_scope, scope_ranges}
+use Rattle.source_frames.specs.Scopes.{ScopeRecord, is_function, scope_ranges}
 use Rattle.unit_functions.specs.OpenFunctions.{Adds, Closes, Takes}
 use Rattle.unit_functions.specs.declared.functions.Function.{Function}
 use Rattle.unit_functions.specs.declared.functions.Open.{Open}
-
--- as many ranges as before are no ranges more
-pub adds_none : (s : DebugSectionsRecord) (unit : UnitRecord) (scope : ScopeRecord) (ranges next : List CodeRange) (opened : List Open) (functions : List Function) → next ≡ ranges ++ scope.ranges → length next ≡ length ranges
-    → Adds s unit scope (length next) opened opened functions functions
-adds_none s unit scope ranges next opened functions more same = record {
-  without = λ none. (refl, refl);
-  with_ranges = λ some. absurd (omega (arith, ap (λ (rs : List CodeRange). length rs) more, length-append ranges scope.ranges));
-}
+use Rattle.source_frames.proofs.SettledLemmas.{no_ranges}
 
 -- a function of the entry
 pub adds_one : (s : DebugSectionsRecord) (unit : UnitRecord) (scope : ScopeRecord) (ranges next : List CodeRange) (opened now_open : List Open) (functions after : List Function) (f : Function) (index : ℕ) → next ≡ ranges ++ scope.ranges → length next ≢ length ranges → index ≡ length functions
-    → IsName s (record { unit = unit; entry = scope.entry }) (option_map (λ n. n.now) f.name) → f.call ≡ place_of_call scope.entry → f.end ≡ index + 1 → f.ranges_end ≡ length next
+    → IsName s (record { unit = unit; entry = scope.entry }) (option_map (λ n. n.now) f.name) → f.call ≡ location_of_call scope.entry → f.end ≡ index + 1 → f.ranges_end ≡ length next
     → after ≡ functions ++ f ∷ [] → now_open ≡ opened ++ record { depth = scope.depth; index = index } ∷ [] → Adds s unit scope (length next) opened now_open functions after
 adds_one s unit scope ranges next opened now_open functions after f index more other last name call end ranges_end pushed opens = record {
   without = λ none. absurd (other (ap (λ (rs : List CodeRange). length rs) (more ∙ ap (λ (rs : List CodeRange). ranges ++ rs) none ∙ append-nil ranges)));
@@ -37,15 +30,6 @@ adds_one s unit scope ranges next opened now_open functions after f index more o
     opens ∙ ap (λ (n : ℕ). opened ++ record { depth = scope.depth; index = n } ∷ []) last,
   );
 }
-
--- an entry that is of no function has no ranges
-pub none_taken : (unit : UnitRangesRecord) (left : ℕ) (entry : EntryRecord) → is_function entry ≡ false → left ≡ left_after_scope unit left entry
-unfolding left_after_scope
-none_taken unit left entry e = rw e refl
-
-pub no_ranges : (unit : UnitRangesRecord) (left : ℕ) (entry : EntryRecord) → is_function entry ≡ false → scope_ranges unit left entry ≡ []
-unfolding scope_ranges
-no_ranges unit left entry e = rw e refl
 
 pub none_pushed : (unit : UnitRangesRecord) (left : ℕ) (entry : EntryRecord) (ranges : List CodeRange) → is_function entry ≡ false → ranges ≡ ranges ++ scope_ranges unit left entry
 none_pushed unit left entry ranges e = sym (ap (λ (rs : List CodeRange). ranges ++ rs) (no_ranges unit left entry e) ∙ append-nil ranges)

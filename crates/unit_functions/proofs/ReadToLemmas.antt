@@ -10,7 +10,7 @@ use Rattle.code_ranges.specs.declared.range.CodeRange.{CodeRange}
 use Rattle.debug_entries.specs.Entries.{PlacedRecord}
 use Rattle.source_frames.specs.DebugSections.{DebugSectionsRecord}
 use Rattle.source_frames.specs.DebugUnits.{UnitRecord}
-use Rattle.source_frames.specs.Frames.{place_of_call}
+use Rattle.source_frames.specs.Frames.{location_of_call}
 use Rattle.source_frames.specs.Names.{IsName}
 use Rattle.source_frames.specs.ChainSteps.{scope_of}
 use Rattle.source_frames.specs.Scopes.{ScopeRecord, left_after_scope, scope_ranges, scopes_from, scopes_of}
@@ -29,7 +29,7 @@ ranges_of fs = flat_map (λ f. f.ranges) fs
 -- a function is named and called as its entry
 pub record IsNamed (s : DebugSectionsRecord) (unit : UnitRecord) (of : FunctionRecord) (f : Function) : Type 0 where
   pub name : IsName s (record { unit = unit; entry = of.entry }) (option_map (λ n. n.now) f.name)
-  pub call : f.call ≡ place_of_call of.entry
+  pub call : f.call ≡ location_of_call of.entry
 
 -- the functions so far, but for their ends
 pub record AreSoFar (s : DebugSectionsRecord) (unit : UnitRecord) (done : List FunctionRecord) (functions : List Function) (ranges : List CodeRange) : Type 0 where

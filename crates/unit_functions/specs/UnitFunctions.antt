@@ -7,7 +7,7 @@ use Rattle.code_ranges.specs.declared.range.CodeRange.{CodeRange}
 use Rattle.debug_entries.specs.Entries.{EntryRecord}
 use Rattle.source_frames.specs.DebugSections.{DebugSectionsRecord}
 use Rattle.source_frames.specs.DebugUnits.{UnitRecord}
-use Rattle.source_frames.specs.Frames.{place_of_call}
+use Rattle.source_frames.specs.Frames.{location_of_call}
 use Rattle.source_frames.specs.Names.{IsName}
 use Rattle.source_frames.specs.Scopes.{ScopeRecord, scopes_of}
 use Rattle.unit_functions.specs.declared.functions.Function.{Function}
@@ -61,7 +61,7 @@ functions_after (suc room) a end index (f ∷ fs) =
 pub record IsFunction (sections : DebugSectionsRecord) (unit : UnitRecord) (of : FunctionRecord) (function : Function)
     : Type 0 where
   pub name : IsName sections (record { unit = unit; entry = of.entry }) (option_map (λ n. n.now) function.name)
-  pub call : function.call ≡ place_of_call of.entry
+  pub call : function.call ≡ location_of_call of.entry
   pub end : function.end ≡ of.end
 
 -- the functions of a unit with their ranges, one after another

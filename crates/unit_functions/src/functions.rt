@@ -18,7 +18,7 @@ use crate::origins::{Origins, nameless_origin};
 use code_ranges::{CodeRange, Ranges, UnitRanges};
 use debug_entries::{Entries, Entry, UnreadEntry};
 use memory::{Heap, NoMemory};
-use source_frames::{DebugInfo, DebugUnit, Place, UnitEntry, is_function, scope_ranges};
+use source_frames::{DebugInfo, DebugUnit, SourceLocation, UnitEntry, is_function, scope_ranges};
 
 /// A function of a unit.
 #[derive(Clone, Copy)]
@@ -28,7 +28,7 @@ pub struct Function<'a> {
     /// The index of a function that has the same name: functions of one number have one name.
     pub name_number: usize,
     /// The place of the call that it is.
-    pub call: Place,
+    pub call: SourceLocation,
     /// How many functions there are up to the last that stands in it.
     pub end: usize,
     /// How many ranges there are up to its last.
@@ -143,7 +143,7 @@ impl<'a> Functions<'a> {
         let index = self.functions.len();
         let origin = nameless_origin(unit, entry);
         let named = self.named(info, unit, entry, origin);
-        let call = Place::of_call(entry);
+        let call = SourceLocation::of_call(entry);
         self.functions.push(Function {
             name: named.name,
             name_number: named.number,

@@ -1,5 +1,5 @@
 -- Numbers that are sorted, each once.
-use Rattle.std.proofs.Common.{◌≡◌, ℕ, ◌<◌, ◌≤◌, ◌+◌, nat_cmp, nat_lt, true, false, List, length, get_or, sym, subst, inl, inr, arith}
+use Rattle.std.proofs.Common.{◌≡◌, ℕ, ◌<◌, ◌≤◌, nat_cmp, nat_lt, true, false, List, length, get_or, sym, subst, inl, inr, arith}
 use Rattle.std.specs.Prelude.{eqb, ◌↔◌}
 use Rattle.std.specs.List.{Contains, dedup}
 use Rattle.std.specs.List.Sorted.{IsPartitionPoint, IsPartitionedBy, IsPermutation, IsSorted}
@@ -8,8 +8,7 @@ use Rattle.std.proofs.lemmas.Bool.Decides.{nat_tests}
 use Rattle.std.proofs.lemmas.List.Kept.{AllPairs-from_increasing, Contains-dedup_nat, Contains-from_dedup}
 use Rattle.std.proofs.lemmas.List.Sorted.{Contains-permutation, IsPermutation-sym}
 use Rattle.std.proofs.lemmas.Map.Keys.{IsStrictlyIncreasing-dedup}
-use Rattle.waiting_indexes.specs.Rising.{IsCountBelow}
-use Rattle.waiting_indexes.specs.Rising.{AreRising}
+use Rattle.waiting_indexes.specs.Rising.{IsCountBelow, AreRising}
 
 module _ (pushed sorted all : List ℕ) (moved : IsPermutation pushed sorted) (order : IsSorted nat_cmp sorted) (is : all ≡ dedup eqb sorted) where
   pub rises : AreRising all

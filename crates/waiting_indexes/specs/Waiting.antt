@@ -1,5 +1,5 @@
 -- Indexes that wait, of which each knows one up to which no other waits: the words of inner functions.
-use Rattle.std.specs.Prelude.{ℕ, Bool, List, ◌≡◌, ◌≢◌, ◌==◌, ◌≤◌, ◌<◌, ◌+◌, length, slice_index}
+use Rattle.std.specs.Prelude.{ℕ, List, ◌≡◌, ◌≢◌, ◌≤◌, ◌<◌, ◌+◌, length, slice_index}
 
 -- an index waits if it is its own next one
 abbrev pub Waits : List ℕ → ℕ → Type 0

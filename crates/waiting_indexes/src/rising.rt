@@ -2,8 +2,7 @@
 
 ghost use Rattle.std.specs.Prelude.{◌↔◌, ◌≤◌, ℕ, length};
 ghost use Rattle.std.specs.List.{Contains};
-ghost use Rattle.waiting_indexes.specs.Rising.{IsCountBelow};
-ghost use Rattle.waiting_indexes.specs.Rising.{AreRising};
+ghost use Rattle.waiting_indexes.specs.Rising.{IsCountBelow, AreRising};
 
 use memory::Heap;
 

@@ -1,6 +1,6 @@
 use Rattle.std.proofs.Common.{◌≡◌, [], length}
 use Rattle.exchange_model.specs.World.{start}
-use Rattle.archive_exchange.specs.Rehearsal.{Represents}
+use Rattle.archive_exchange.specs.WorldState.{Represents}
 use Rattle.archive_exchange.proofs.running.empty_sites.Given as goal
 
 abbrev pub invariant-sites : goal.invariant-sites

@@ -1,4 +1,3 @@
-use Rattle.std.proofs.Common.{ℕ}
 use Rattle.archive_files.proofs.sameness.have_same.Given as goal
 
 abbrev pub decreases-pieces : goal.decreases-pieces

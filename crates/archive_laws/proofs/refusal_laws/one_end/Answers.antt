@@ -11,6 +11,6 @@ returns g c = record {
   symbolicate = λ archive others also more key load lines addresses alike.
       answered_alike archive others also more key load lines addresses (λ o. one_told c.one_answer.ensures.one c.one_list_of_frames.ensures o key load lines addresses) alike;
   frames = λ lines input archive others also other more alike archives.
-      framed_alike lines input archive others also other more (λ o said. one_frame_told c.one_answer.ensures.one c.one_list_of_frames.ensures lines o said) alike archives;
+      framed_alike lines input archive others also other more (λ o listed. one_frame_told c.one_answer.ensures.one c.one_list_of_frames.ensures lines o listed) alike archives;
   rehearse = λ script other alike. rehearsed_alike c.one_meaning.ensures.one script other alike;
 }

@@ -1,7 +1,7 @@
 use Rattle.archive_records.specs.declared.kind.TextKind.TheVariants.{Operations as OperationsFile, Summary as SummaryFile}
-use Rattle.command_ends.specs.declared.faults.InputName.TheVariants.{File, Ops, Summary}
-use Rattle.command_ends.specs.Archives.{further_name}
-use Rattle.command_ends.specs.Inputs.{IsAccepted, IsArchive, IsArchiveRefused, IsFileRefused, IsFirstRefused, IsRefusedOps, IsRefusedSummary}
+use Rattle.command_core.specs.declared.faults.InputName.TheVariants.{File, Ops, Summary}
+use Rattle.command_core.specs.Archives.{further_name}
+use Rattle.command_core.specs.Inputs.{IsAccepted, IsArchive, IsArchiveRefused, IsFileRefused, IsFirstRefused, IsRefusedOps, IsRefusedSummary}
 use Rattle.archive_laws.proofs.Refusals.{archives_agree, files_agree, one_archive, one_at, one_first, one_in_turn}
 use Rattle.archive_laws.proofs.refusal_laws.one_refusal.Goals as goal
 

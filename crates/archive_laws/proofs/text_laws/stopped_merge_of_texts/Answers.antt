@@ -1,4 +1,4 @@
-use Rattle.archive_updates.proofs.Beginnings.{first_of_join}
+use Rattle.archive_writing.proofs.Beginnings.{first_of_join}
 use Rattle.archive_laws.proofs.text_laws.stopped_merge_of_texts.Goals as goal
 
 pub returns : goal.returns

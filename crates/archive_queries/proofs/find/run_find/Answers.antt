@@ -4,10 +4,10 @@ use Rattle.byte_device.proofs.Known.{Appends-none}
 use Rattle.archive_core.specs.Part.{is_under}
 use Rattle.archive_core.proofs.Picked.{finds_alike}
 use Rattle.report_text.specs.Finds.{find_lines}
-use Rattle.command_ends.specs.Found.{found_status}
-use Rattle.command_ends.proofs.Endings.{reported}
-use Rattle.command_ends.proofs.Readers.{none_failed}
-use Rattle.archive_queries.proofs.Parts.{together_refused, together_tells}
+use Rattle.command_core.specs.Found.{found_status}
+use Rattle.command_core.proofs.Endings.{reported}
+use Rattle.command_core.proofs.Readers.{none_failed}
+use Rattle.command_inputs.proofs.Parts.{together_refused, together_tells}
 use Rattle.archive_queries.proofs.find.run_find.Goals as goal
 
 pub returns-in_err-clone : goal.returns-in_err-clone
@@ -28,7 +28,7 @@ returns g c =
     (together_tells _ _ _ _ (λ o alike. record {
       rows = rows;
       finds = finds_alike (g.A.Join.content c.in_ok-kept.kept) o uuid rows
-          (alike uuid (omega (arith, c.bytes_of-front.ensures.long)) (λ r h. ap (λ front. is_under front r) c.bytes_of-front.ensures.bytes ∙ h)) c.in_ok-rows.ensures;
+          (alike uuid (omega (arith, c.bytes_of-prefix.ensures.long)) (λ r h. ap (λ prefix. is_under prefix r) c.bytes_of-prefix.ensures.bytes ∙ h)) c.in_ok-rows.ensures;
       status_is = c.found_status.ensures ∙ ap found_status c.deref-2.ensures.value;
       text_is = c.deref-3.ensures ∙ c.in_ok-text.ensures ∙ ap find_lines c.deref.ensures.value;
     }) c.in_ok-kept.ensures.is)

@@ -1,7 +1,7 @@
 use Rattle.std.proofs.Common.{ap, ◌∙◌}
 use Rattle.report_text.specs.Finds.{list_lines}
-use Rattle.command_ends.specs.Found.{found_status}
-use Rattle.command_ends.proofs.Endings.{reported}
+use Rattle.command_core.specs.Found.{found_status}
+use Rattle.command_core.proofs.Endings.{reported}
 use Rattle.archive_queries.proofs.list.run_list.Goals as goal
 
 pub returns : goal.returns

@@ -1,8 +1,8 @@
 use Rattle.std.proofs.Common.{◌≡◌, ◌<◌, length, arith, refl}
 use Rattle.std.proofs.lemmas.Result.{err_from_is_err_and}
-use Rattle.command_ends.specs.Archives.{further_name}
-use Rattle.command_ends.specs.Inputs.{IsArchive, IsArchiveRefused}
-use Rattle.command_ends.proofs.Readers.{all_read, none_failed, one_more, refused_at, rest_kept, same_at, unfailed_more}
+use Rattle.command_core.specs.Archives.{further_name}
+use Rattle.command_core.specs.Inputs.{IsArchive, IsArchiveRefused}
+use Rattle.command_core.proofs.Readers.{all_read, none_failed, one_more, refused_at, rest_kept, same_at, unfailed_more}
 use Rattle.archive_queries.proofs.NamesTogether.{added_archives, added_more, added_none}
 use Rattle.archive_queries.proofs.name.gather_others.Goals as goal
 

@@ -1,5 +1,5 @@
 use Rattle.std.proofs.Common.{◌≡◌, take, drop}
-use Rattle.command_ends.specs.Inputs.{EachUnfailed, readers}
+use Rattle.command_core.specs.Inputs.{EachUnfailed, readers}
 use Rattle.archive_queries.specs.InnerNames.{HaveAdded}
 use Rattle.archive_queries.proofs.name.gather_others.Given as goal
 

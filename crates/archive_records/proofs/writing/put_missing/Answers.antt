@@ -1,7 +1,7 @@
 use Rattle.std.proofs.Common.{◌<◌, ◌≡◌, ◌+◌, Ok, Err, length, take, drop, arith}
 use Rattle.std.proofs.lemmas.List.{take_all}
 use Rattle.join_core.specs.Listing.{listing}
-use Rattle.archive_core.specs.Record.{lent_bytes}
+use Rattle.archive_core.specs.Record.{borrowed_bytes}
 use Rattle.archive_records.specs.Text.{missing}
 use Rattle.archive_records.proofs.Blamed.{failed}
 use Rattle.archive_records.proofs.Puts.{length_written, missing_parts, missing_puts, missing_count, few_missing, stops_among}
@@ -22,7 +22,7 @@ putting-preserved g c =
     let xs = listing (g.A.Join.content c.args.archive.now) in
     let s = c.args.summary.now in
     let lt : c.putting.i < length xs = omega (arith, length_written (g.A.Join.content c.args.archive.now), c.len-i-end.ensures.len, c.putting-test.true) in
-    let one = few_missing s (lent_bytes c.record_at.result) in
+    let one = few_missing s (borrowed_bytes c.record_at.result) in
     record {
       fits = omega (arith, c.in_ok-sizes.ensures.short, c.putting.invariant.fits);
       few = omega (arith, c.in_ok-sizes.ensures.records, c.putting.invariant.few, one);

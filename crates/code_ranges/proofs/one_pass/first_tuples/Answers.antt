@@ -1,11 +1,12 @@
 use Rattle.std.proofs.Common.{sym, subst, Option, slice_index}
 use Rattle.code_ranges.specs.Aranges.{IsFirstTuple}
 use Rattle.code_ranges.specs.declared.arange.Arange.{Arange}
-use Rattle.code_ranges.proofs.TupleLemmas.{first_tuple-is, of_each}
+use Rattle.std.proofs.lemmas.Result.{IfOk-weaker}
+use Rattle.code_ranges.proofs.TupleLemmas.{first_tuple-is}
 use Rattle.code_ranges.proofs.one_pass.first_tuples.Goals as goal
 
 pub returns : goal.returns
-returns c = of_each c.assign_all.result _ _
+returns c = IfOk-weaker c.assign_all.result _ _
     (λ found known. record {
       each = λ i h.
           let a = slice_index c.args.addresses.now i in

@@ -1,4 +1,4 @@
-use Rattle.std.proofs.Common.{arith, sym}
+use Rattle.std.proofs.Common.{sym}
 use Rattle.debug_entries.specs.DeclarationViews.{declaration_view}
 use Rattle.debug_entries.proofs.SizeLemmas.{skipped, skip_fails}
 use Rattle.debug_entries.proofs.unread_entry.skip_entry.Goals as goal

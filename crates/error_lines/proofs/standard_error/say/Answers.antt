@@ -1,4 +1,4 @@
-use Rattle.command_ends.specs.Outputs.{writer}
+use Rattle.command_core.specs.Outputs.{writer}
 use Rattle.error_lines.proofs.Saying.{said_of, wanting_said}
 use Rattle.error_lines.proofs.standard_error.say.Goals as goal
 

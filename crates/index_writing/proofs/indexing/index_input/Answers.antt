@@ -1,5 +1,6 @@
 use Rattle.std.proofs.lemmas.Result.{err_from_is_err_and}
-use Rattle.index_writing.proofs.Stopped.{lent_from, stopped_so, unopened, wanted_before}
+use Rattle.index_writing.proofs.Stopped.{stopped_so, unopened, wanted_before}
+use Rattle.command_inputs.proofs.BorrowedSources.{borrowed_from}
 use Rattle.index_writing.proofs.indexing.index_input.Goals as goal
 
 pub returns-in_err-source : goal.returns-in_err-source
@@ -10,12 +11,12 @@ returns-in_err-source g c =
 pub returns-in_err-clone : goal.returns-in_err-clone
 returns-in_err-clone g c =
     let p = err_from_is_err_and c.from_residual-in_err-clone.result c.from_residual-in_err-clone.ensures.1 in
-    rw (p.1, p.2, lent_from c.args.archive.now _ c.in_ok-source.ensures.source) (wanted_before g.R.Source.left g.R.Source.failures _ g.W.Sink.held g.W.Sink.failures _ c.one_slice_table.ensures)
+    rw (p.1, p.2, borrowed_from c.args.archive.now _ c.in_ok-source.ensures.source) (wanted_before g.R.Source.left g.R.Source.failures _ g.W.Sink.held g.W.Sink.failures _ c.one_slice_table.ensures)
 
 pub returns-in-Ok : goal.returns-in-Ok
 returns-in-Ok g c =
     let m = c.in-Ok.ensures in
-    rw (lent_from c.args.archive.now _ c.in_ok-source.ensures.source) (record {
+    rw (borrowed_from c.args.archive.now _ c.in_ok-source.ensures.source) (record {
       content = m.content;
       is_content = m.whole.is;
       archive_is = m.text;
@@ -27,5 +28,5 @@ returns-in-Ok g c =
 
 pub returns-in-Err : goal.returns-in-Err
 returns-in-Err g c =
-    rw (lent_from c.args.archive.now _ c.in_ok-source.ensures.source)
+    rw (borrowed_from c.args.archive.now _ c.in_ok-source.ensures.source)
     (stopped_so g.R.Source.left g.R.Source.failures _ _ g.W.Sink.held g.W.Sink.failures _ _ _ _ c.in-Err.ensures c.stop_of.ensures)

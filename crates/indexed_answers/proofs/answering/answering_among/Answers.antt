@@ -10,19 +10,19 @@ use Rattle.indexed_answers.proofs.answering.answering_among.Goals as goal
 
 pub returns-then-are_tied : goal.returns-then-are_tied
 returns-then-are_tied c =
-    let front = c.key_front.result in
+    let prefix = c.key_prefix.result in
     let indexes = c.args.indexes.now in
-    let sorted = map entry_at c.put_by_place.new.entries.items in
-    let moved = subst (λ (xs : List EntryAt). IsPermutation xs sorted) c.in_ok-entries.ensures c.put_by_place.ensures.moved in
+    let sorted = map entry_at c.sort_by_rank.new.entries.items in
+    let moved = subst (λ (xs : List EntryAt). IsPermutation xs sorted) c.in_ok-entries.ensures c.sort_by_rank.ensures.moved in
     let tie = subst (λ (ns : List Numbered). HaveTie (map entry_at ns)) c.deref.ensures.value (MatchBool-at_true _ _ c.if-are_tied.true c.are_tied.ensures) in
-    subst (λ f. AreTied f indexes) c.key_front.ensures (tied front indexes sorted moved c.put_by_place.ensures.sorted tie)
+    subst (λ f. AreTied f indexes) c.key_prefix.ensures (tied prefix indexes sorted moved c.sort_by_rank.ensures.sorted tie)
 
 pub returns : goal.returns
 returns c =
-    let front = c.key_front.result in
+    let prefix = c.key_prefix.result in
     let indexes = c.args.indexes.now in
-    let sorted = map entry_at c.put_by_place.new.entries.items in
-    let moved = subst (λ (xs : List EntryAt). IsPermutation xs sorted) c.in_ok-entries.ensures c.put_by_place.ensures.moved in
+    let sorted = map entry_at c.sort_by_rank.new.entries.items in
+    let moved = subst (λ (xs : List EntryAt). IsPermutation xs sorted) c.in_ok-entries.ensures c.sort_by_rank.ensures.moved in
     let agree = subst (λ (ns : List Numbered). AllPairs HaveOrder (map entry_at ns)) c.deref.ensures.value (MatchBool-at_false _ _ c.if-are_tied.false c.are_tied.ensures) in
-    subst (λ f. AreAnsweringAmong f indexes c.of_entries.result) c.key_front.ensures
-    (subst (AreAnsweringAmong front indexes) (sym (c.of_entries.ensures ∙ c.keep_once.ensures)) (answering front indexes sorted moved c.put_by_place.ensures.sorted agree))
+    subst (λ f. AreAnsweringAmong f indexes c.of_entries.result) c.key_prefix.ensures
+    (subst (AreAnsweringAmong prefix indexes) (sym (c.of_entries.ensures ∙ c.keep_once.ensures)) (answering prefix indexes sorted moved c.sort_by_rank.ensures.sorted agree))

@@ -1,5 +1,4 @@
-use Rattle.std.proofs.Common.{Err, ap, sym, subst, ◌∙◌}
-use Rattle.std.proofs.lemmas.Result.{err_from_is_err_and}
+use Rattle.std.proofs.Common.{sym, subst, ◌∙◌}
 use Rattle.checked_pages.specs.Pages.{AreStored}
 use Rattle.checked_pages.specs.Views.{claim_view}
 use Rattle.checked_pages.proofs.ReadLemmas.{after_ok, passed_on}
@@ -11,16 +10,14 @@ use Rattle.indexed_answers.proofs.lines.frames_by_claim.Goals as goal
 
 pub returns-in_err-pages : goal.returns-in_err-pages
 returns-in_err-pages g c =
-    let p = err_from_is_err_and c.from_residual.result c.from_residual.ensures.1 in
-    passed_on _ _ _ _ _ _ _ _ _ _ _ c.in_err-pages.was (p.1 ∙ ap Err p.2)
+    passed_on _ _ _ _ _ _ _ _ _ _ _ c.in_err-pages.was c.from_residual.ensures.1
     (λ text known absent long slice all is stored. absent long slice is.lines all is.is_table stored)
     c.open_lines.ensures.read
 
 pub returns-in_err-table : goal.returns-in_err-table
 returns-in_err-table g c =
-    let p = err_from_is_err_and c.from_residual-in_err-table.result c.from_residual-in_err-table.ensures.1 in
     let opened = c.in_ok-pages.ensures.read in
-    passed_on _ _ _ _ _ _ _ _ _ _ _ c.in_err-table.was (p.1 ∙ ap Err p.2)
+    passed_on _ _ _ _ _ _ _ _ _ _ _ c.in_err-table.was c.from_residual-in_err-table.ensures.1
     (λ text known absent long slice all is stored.
     let here = opened.says text known slice is.lines all is.is_table (may_be text all (claim_view c.args.claim) stored) in
     absent slice all is.lines (subst (λ claim. AreStored text (claim_view claim) all) (sym c.in_ok-pages.ensures.claim) stored) here.0 here.1 is.are_lines)
@@ -40,10 +37,9 @@ returns-in_default-2 g c =
 
 pub returns-in_err-lists : goal.returns-in_err-lists
 returns-in_err-lists g c =
-    let p = err_from_is_err_and c.from_residual-in_err-lists.result c.from_residual-in_err-lists.ensures.1 in
     let opened = c.in_ok-pages.ensures.read in
     let table = after_ok _ _ _ _ _ _ _ _ opened.keeps opened.counts c.in_ok-table.ensures.read in
-    passed_on _ _ _ _ _ _ _ _ _ _ _ c.in_err-lists.was (p.1 ∙ ap Err p.2)
+    passed_on _ _ _ _ _ _ _ _ _ _ _ c.in_err-lists.was c.from_residual-in_err-lists.ensures.1
     (λ text known absent long slice all is stored.
     let here = opened.says text known slice is.lines all is.is_table (may_be text all (claim_view c.args.claim) stored) in
     let found = found_some slice all is.lines text c.open.new.pages _ c.in-Some.table c.in-Some.is (table.says text known slice all is.lines here.0 here.1 is.are_lines) in

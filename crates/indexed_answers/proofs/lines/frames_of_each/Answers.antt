@@ -1,7 +1,6 @@
-use Rattle.std.proofs.Common.{Err, ℕ, List, map, subst, ap, sym, get_or, ◌∙◌, arith}
+use Rattle.std.proofs.Common.{ℕ, List, map, subst, sym, get_or, ◌∙◌, arith}
 use Rattle.std.specs.List.{AllZip}
 use Rattle.std.proofs.lemmas.List.{take_all}
-use Rattle.std.proofs.lemmas.Result.{err_from_is_err_and}
 use Rattle.checked_pages.specs.Pages.{AreStored}
 use Rattle.checked_pages.specs.Views.{ArePagesOf, claim_view}
 use Rattle.checked_pages.specs.declared.pages.Pages.{Pages}
@@ -35,8 +34,7 @@ asked-preserved g c =
 
 pub returns-in_err-frames : goal.returns-in_err-frames
 returns-in_err-frames g c =
-    let p = err_from_is_err_and c.from_residual.result c.from_residual.ensures.1 in
-    passed_on _ _ _ _ _ _ _ _ _ _ _ c.in_err-frames.was (p.1 ∙ ap Err p.2)
+    passed_on _ _ _ _ _ _ _ _ _ _ _ c.in_err-frames.was c.from_residual.ensures.1
     (λ text known absent slice all steps stored are opened.
     absent slice all steps (subst (λ claim. AreStored text (claim_view claim) all) (sym c.asked.invariant.claim) stored) are (still c.args.table.now c.args.pages.now c.asked.pages text all steps (c.asked.invariant.keeps text all known) opened))
     (after_ok _ _ _ _ _ _ _ _ c.asked.invariant.whole c.asked.invariant.unfailed c.frames_of.ensures.read)

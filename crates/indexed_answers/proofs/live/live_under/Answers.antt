@@ -8,9 +8,9 @@ use Rattle.indexed_answers.proofs.live.live_under.Goals as goal
 
 pub returns : goal.returns
 returns c =
-    let front = c.args.front.now in
+    let prefix = c.args.prefix.now in
     let indexes = c.args.indexes.now in
     let retired = c.deref.result.now in
     let same = ap is_retired c.deref.ensures.value ∙ c.in_ok-retired.ensures.same in
     subst (λ (xs : List EntryAt). IfOk c.live_besides.result (λ live. map entry_at live.items ≡ xs))
-    (filter_agree (λ (x : EntryAt). lives_by front retired x.entry) (λ x. lives_under front (all_of indexes) x.entry) (λ x. lives_is front (all_of indexes) retired c.requires same x.entry) (all_at 0 indexes)) c.live_besides.ensures
+    (filter_agree (λ (x : EntryAt). lives_by prefix retired x.entry) (λ x. lives_under prefix (all_of indexes) x.entry) (λ x. lives_is prefix (all_of indexes) retired c.requires same x.entry) (all_at 0 indexes)) c.live_besides.ensures

@@ -4,4 +4,4 @@ use Rattle.indexed_answers.specs.InnerAnswering.{retired_of}
 use Rattle.indexed_answers.proofs.retired.gathered.Given as goal
 
 abbrev pub invariant-indexes : goal.invariant-indexes
-invariant-indexes l = l.retired.items ≡ retired_of l.front (all_of (take l.index-index l.indexes))
+invariant-indexes l = l.retired.items ≡ retired_of l.prefix (all_of (take l.index-index l.indexes))

@@ -1,6 +1,5 @@
-use Rattle.std.proofs.Common.{Err, List, ℕ, map, take, drop, ap, sym, subst, ◌∙◌}
+use Rattle.std.proofs.Common.{List, ℕ, map, take, drop, ap, sym, subst, ◌∙◌}
 use Rattle.std.specs.List.{AllZip}
-use Rattle.std.proofs.lemmas.Result.{err_from_is_err_and}
 use Rattle.checked_pages.specs.Pages.{AreStored}
 use Rattle.checked_pages.proofs.ReadLemmas.{after_ok, passed_on}
 use Rattle.indexed_answers.specs.Told.{AreFramesToldBy, IsToldBy}
@@ -11,16 +10,14 @@ use Rattle.indexed_answers.proofs.told.column_of.Goals as goal
 
 pub returns-in_err-base-clause-read : goal.returns-in_err-base-clause-read
 returns-in_err-base-clause-read g c =
-    let p = err_from_is_err_and c.from_residual.result c.from_residual.ensures.1 in
-    passed_on _ _ _ _ _ _ _ _ _ _ _ c.in_err-base.was (p.1 ∙ ap Err p.2)
+    passed_on _ _ _ _ _ _ _ _ _ _ _ c.in_err-base.was c.from_residual.ensures.1
     (λ text known absent long slice all is stored. absent long slice all is (subst (λ claim. AreStored text claim all) c.args.numbered.now.fields.claim_is stored))
     c.owns_by_claim.ensures
 
 pub returns-in_err-frames-clause-read : goal.returns-in_err-frames-clause-read
 returns-in_err-frames-clause-read g c =
-    let p = err_from_is_err_and c.from_residual-in_err-frames.result c.from_residual-in_err-frames.ensures.1 in
     let owns = c.in_ok-base.ensures in
-    passed_on _ _ _ _ _ _ _ _ _ _ _ c.in_err-frames.was (p.1 ∙ ap Err p.2)
+    passed_on _ _ _ _ _ _ _ _ _ _ _ c.in_err-frames.was c.from_residual-in_err-frames.ensures.1
     (λ text known absent long slice all is stored. absent long slice all is (subst (λ claim. AreStored text claim all) c.args.numbered.now.fields.claim_is stored))
     (after_ok _ _ _ _ _ _ _ _ owns.keeps owns.counts c.frames_if.ensures.read)
 

@@ -1,5 +1,4 @@
-use Rattle.std.proofs.Common.{Err, ap, sym, subst, ◌∙◌}
-use Rattle.std.proofs.lemmas.Result.{err_from_is_err_and}
+use Rattle.std.proofs.Common.{sym, subst, ◌∙◌}
 use Rattle.checked_pages.specs.Pages.{AreStored, MayBeStored}
 use Rattle.checked_pages.specs.Views.{claim_view}
 use Rattle.checked_pages.proofs.PageLemmas.{may_be}
@@ -10,15 +9,13 @@ use Rattle.indexed_answers.proofs.told.owns_by_claim.Goals as goal
 
 pub returns-in_err-table : goal.returns-in_err-table
 returns-in_err-table g c =
-    let p = err_from_is_err_and c.from_residual.result c.from_residual.ensures.1 in
-    passed_on _ _ _ _ _ _ _ _ _ _ _ c.in_err-table.was (p.1 ∙ ap Err p.2)
+    passed_on _ _ _ _ _ _ _ _ _ _ _ c.in_err-table.was c.from_residual.ensures.1
     (λ text known absent long slice all is stored. absent long is.is_table.0 is.is_table.2 (subst (AreStored text (claim_view c.args.claim)) is.is_table.3 stored)) c.open.ensures.read
 
 pub returns-in_err-owns : goal.returns-in_err-owns
 returns-in_err-owns g c =
-    let p = err_from_is_err_and c.from_residual-in_err-owns.result c.from_residual-in_err-owns.ensures.1 in
     let opened = c.in_ok-table.ensures.read in
-    passed_on _ _ _ _ _ _ _ _ _ _ _ c.in_err-owns.was (p.1 ∙ ap Err p.2)
+    passed_on _ _ _ _ _ _ _ _ _ _ _ c.in_err-owns.was c.from_residual-in_err-owns.ensures.1
     (λ text known absent long slice all is stored.
     let here = subst (AreStored text (claim_view c.args.claim)) is.is_table.3 stored in
     absent is.is_table.0 (opened.says text known is.is_table.0 is.is_table.2 (may_be text (table_bytes is.is_table.0) (claim_view c.args.claim) here))

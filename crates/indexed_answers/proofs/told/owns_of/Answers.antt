@@ -1,7 +1,6 @@
-use Rattle.std.proofs.Common.{Err, map, subst, ap, sym, get_or, ◌∙◌, arith}
+use Rattle.std.proofs.Common.{map, subst, sym, get_or, ◌∙◌, arith}
 use Rattle.std.specs.List.{AllZip}
 use Rattle.std.proofs.lemmas.List.{take_all}
-use Rattle.std.proofs.lemmas.Result.{err_from_is_err_and}
 use Rattle.checked_pages.specs.Pages.{AreStored}
 use Rattle.checked_pages.specs.Views.{claim_view}
 use Rattle.checked_pages.proofs.ReadLemmas.{after_ok, passed_on}
@@ -28,8 +27,7 @@ asked-preserved g c =
 
 pub returns-in_err-found : goal.returns-in_err-found
 returns-in_err-found g c =
-    let p = err_from_is_err_and c.from_residual.result c.from_residual.ensures.1 in
-    passed_on _ _ _ _ _ _ _ _ _ _ _ c.in_err-found.was (p.1 ∙ ap Err p.2)
+    passed_on _ _ _ _ _ _ _ _ _ _ _ c.in_err-found.was c.from_residual.ensures.1
     (λ text known absent t opened stored.
     absent t (c.asked.invariant.keeps text t known opened) (subst (λ claim. AreStored text (claim_view claim) (table_bytes t)) (sym c.asked.invariant.claim) stored))
     (after_ok _ _ _ _ _ _ _ _ c.asked.invariant.whole c.asked.invariant.unfailed c.own_of.ensures.read)

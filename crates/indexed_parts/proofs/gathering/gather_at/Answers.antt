@@ -21,8 +21,8 @@ returns g c =
     let are = subst AreIndexed (sym c.entries.ensures) (indexed_of (listing s) (ascending_members s c.len-count.ensures.entries)) in
     let all : length (map placed_bytes entries) ≤ length entries = omega (arith, length-map entries placed_bytes) in
     reads_behind g.P.Placed.whole g.P.Placed.failures c.args.archive.now c.args.archive.now _ refl refl _ _
-    (IsReadAmong (is_under c.args.front.now) (map placed_bytes entries)) (IsReadUnder c.args.front.now s) c.gather_under.result
-    (λ _ h. under_front _ c.args.front.now _ are _ all s _ _ c.entries.ensures h)
-    (λ fault h. fault_under _ c.args.front.now _ are _ all s fault c.entries.ensures h)
-    (λ n h. subst (λ (es : List (List ℕ)). IsReadAmong (is_under c.args.front.now) es n) c.entries.ensures h)
+    (IsReadAmong (is_under c.args.prefix.now) (map placed_bytes entries)) (IsReadUnder c.args.prefix.now s) c.gather_under.result
+    (λ _ h. under_front _ c.args.prefix.now _ are _ all s _ _ c.entries.ensures h)
+    (λ fault h. fault_under _ c.args.prefix.now _ are _ all s fault c.entries.ensures h)
+    (λ n h. subst (λ (es : List (List ℕ)). IsReadAmong (is_under c.args.prefix.now) es n) c.entries.ensures h)
     c.gather_under.ensures

@@ -7,4 +7,4 @@ pub returns-then-bytes-lt-ADMISSION_HEAD_LEN-clause-no : goal.returns-then-bytes
 returns-then-bytes-lt-ADMISSION_HEAD_LEN-clause-no c = λ e a. omega (arith, long-admission c.args.bytes.now a)
 
 pub returns-clause-no : goal.returns-clause-no
-returns-clause-no c = λ e a. claims_long c.args.bytes.now c.number_at.result a c.number_at.ensures e
+returns-clause-no c = λ e a. claims_long c.args.bytes.now c.number_at.result a c.number_at.ensures.number e

@@ -6,13 +6,14 @@ use Rattle.archive_index.specs.Places.{IsNamedBy}
 use Rattle.indexed_parts.proofs.Gathered.{known}
 use Rattle.indexed_parts.proofs.Named.{named_retirement, none_other, none_short, read_of}
 use Rattle.indexed_parts.proofs.records.operation_at.Goals as goal
+use Rattle.archive_core.specs.Record.{record_bytes}
 
 pub returns-then-is_retirement : goal.returns-then-is_retirement
 returns-then-is_retirement g c =
     let whole = g.P.Placed.whole c.args.archive.now in
     let made = c.retirement.ensures in
-    let named = named_retirement whole c.args.entry.now c.requires.entry (omega arith) (omega arith) (c.is_retirement.ensures.yes c.if-is_retirement.true) made.key made.digest in
-    (IfSome_then whole named (λ text n. subst (IsNamedBy text (placed_bytes c.args.entry.now)) (sym made.record) n), refl, refl)
+    let named = named_retirement whole c.args.entry.now c.requires.entry (omega arith) (omega arith) (c.is_retirement.ensures.yes c.if-is_retirement.true) made.operation.0 made.operation.1 in
+    (IfSome_then whole named (λ text n. subst (IsNamedBy text (placed_bytes c.args.entry.now)) (sym (ap record_bytes made.is)) n), refl, refl)
 
 pub returns-in-Ok-None : goal.returns-in-Ok-None
 returns-in-Ok-None g c =

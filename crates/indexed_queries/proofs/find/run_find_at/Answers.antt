@@ -1,9 +1,9 @@
 use Rattle.std.proofs.Common.{refl, List, ℕ, ap, ◌∙◌, subst}
 use Rattle.report_text.specs.Finds.{find_lines}
-use Rattle.command_ends.specs.Found.{found_status}
+use Rattle.command_core.specs.Found.{found_status}
 use Rattle.std.proofs.lemmas.Result.{err_from_is_err_and}
 use Rattle.byte_device.proofs.Known.{Appends-none}
-use Rattle.command_ends.proofs.Endings.{reported}
+use Rattle.command_core.proofs.Endings.{reported}
 use Rattle.indexed_queries.specs.Rows.{AreIndexRows}
 use Rattle.indexed_queries.proofs.find.run_find_at.Goals as goal
 

@@ -2,9 +2,9 @@ use Rattle.std.proofs.Common.{ap, ◌∙◌, refl}
 use Rattle.std.proofs.lemmas.Result.{err_from_is_err_and}
 use Rattle.byte_device.proofs.Known.{Appends-none}
 use Rattle.report_text.specs.Finds.{find_lines}
-use Rattle.command_ends.specs.Found.{found_status}
-use Rattle.command_ends.proofs.Endings.{reported}
-use Rattle.indexed_queries.proofs.Refused.{query_refused}
+use Rattle.command_core.specs.Found.{found_status}
+use Rattle.command_core.proofs.Endings.{reported}
+use Rattle.index_inputs.proofs.Refused.{query_refused}
 use Rattle.indexed_queries.proofs.find.run_find_together.Goals as goal
 
 pub returns-in_err-kept : goal.returns-in_err-kept

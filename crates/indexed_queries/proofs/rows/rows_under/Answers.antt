@@ -10,11 +10,11 @@ use Rattle.indexed_queries.proofs.rows.rows_under.Goals as goal
 
 pub returns : goal.returns
 returns c =
-    let placed = c.put_by_place.new.entries.items in
+    let placed = c.sort_by_offset.new.entries.items in
     record {
       placed = map placed_bytes placed;
-      moved = subst (λ es. IsPermutation es (map placed_bytes placed)) (c.in_ok-placed.ensures ∙ ap (filter (is_under c.args.prefix.now)) c.entries.ensures) c.put_by_place.ensures.moved;
-      by_place = c.put_by_place.ensures.sorted;
+      moved = subst (λ es. IsPermutation es (map placed_bytes placed)) (c.in_ok-placed.ensures ∙ ap (filter (is_under c.args.prefix.now)) c.entries.ensures) c.sort_by_offset.ensures.moved;
+      by_offset = c.sort_by_offset.ensures.sorted;
       told = c.in_ok-rows.rows.items;
       each = subst (λ (es : List PlacedEntry). AllZip IsEntryRow (map placed_bytes es) c.in_ok-rows.rows.items) c.deref.ensures.value c.in_ok-rows.ensures;
       by_key = c.in_ok-put_by_key.ensures.sorted;

@@ -2,8 +2,8 @@ use Rattle.std.proofs.Common.{ap, inl, refl}
 use Rattle.std.proofs.lemmas.Result.{err_from_is_err_and}
 use Rattle.byte_device.proofs.Known.{Appends-none}
 use Rattle.archive_records.specs.Text.{summary_text}
-use Rattle.command_ends.specs.Outputs.{summary_report_of}
-use Rattle.command_ends.proofs.Endings.{given_out}
+use Rattle.command_core.specs.Outputs.{summary_report_of}
+use Rattle.command_core.proofs.Endings.{given_out}
 use Rattle.indexed_queries.proofs.summary.run_summary_at.Goals as goal
 
 pub returns-in_err-clone : goal.returns-in_err-clone

@@ -3,12 +3,12 @@ use Rattle.std.proofs.lemmas.Result.{err_from_is_err_and}
 use Rattle.byte_device.proofs.Known.{Appends-none}
 use Rattle.crash_frames.specs.Frames.{frames_of}
 use Rattle.crash_frames.specs.declared.frame.Frame.{Frame}
-use Rattle.command_ends.proofs.Endings.{reported}
-use Rattle.command_ends.proofs.Readers.{none_failed, none_touched, readers_long}
-use Rattle.command_ends.specs.Inputs.{Gives, reader, readers}
-use Rattle.command_ends.specs.Outputs.{writer}
-use Rattle.indexed_queries.proofs.Groups.{three_long}
-use Rattle.indexed_queries.specs.Together.{AreReadWith, IsReadWith}
+use Rattle.command_core.proofs.Endings.{reported}
+use Rattle.command_core.proofs.Readers.{none_failed, none_touched, readers_long}
+use Rattle.command_core.specs.Inputs.{Gives, reader, readers}
+use Rattle.command_core.specs.Outputs.{writer}
+use Rattle.index_inputs.proofs.Groups.{three_long}
+use Rattle.index_inputs.specs.Together.{AreReadWith, IsReadWith}
 use Rattle.indexed_symbols.specs.Frames.{AreToldAt}
 use Rattle.indexed_symbols.proofs.Ended.{unfailed_all}
 use Rattle.indexed_symbols.proofs.FramesEnded.{frames_first, index_refused_at, refused_after, refused_at, told_at}
@@ -40,8 +40,8 @@ returns-in_err-read g c =
     let archives = readers g.P.Placed.whole g.P.Placed.failures c.args.archives.now c.read_indexes.new.archives in
     let frames = reader g.C.Source.left g.C.Source.failures c.args.crash.now c.read_crash.new.frames in
     let report = writer g.W.Sink.held g.W.Sink.failures c.args.report.now c.args.report.now in
-    let said = c.in_ok-frames.ensures in
-    rw (p.1, p.2) (refused_after c.args.lines frames indexes archives report c.in_ok-frames.frames.items c.in_err-read.field-0.0 said.is said.unfailed
+    let listed = c.in_ok-frames.ensures in
+    rw (p.1, p.2) (refused_after c.args.lines frames indexes archives report c.in_ok-frames.frames.items c.in_err-read.field-0.0 listed.is listed.unfailed
     (index_refused_at c.args.lines indexes archives c.in_ok-frames.frames.items c.in_err-read.field-0.0 c.in_err-read.ensures.read)
     (Appends-none _, refl))
 
@@ -73,7 +73,7 @@ returns-in_err-status g c =
     let archives = readers g.P.Placed.whole g.P.Placed.failures c.args.archives.now c.tell_frames.new.archives in
     let frames = reader g.C.Source.left g.C.Source.failures c.args.crash.now c.read_crash.new.frames in
     let report = writer g.W.Sink.held g.W.Sink.failures c.args.report.now c.args.report.now in
-    let gives = subst (λ (said : List Frame). Gives frames (λ bytes. frames_of bytes ≡ Ok said)) (sym c.deref.ensures.value) c.in_ok-frames.ensures.is in
+    let gives = subst (λ (listed : List Frame). Gives frames (λ bytes. frames_of bytes ≡ Ok listed)) (sym c.deref.ensures.value) c.in_ok-frames.ensures.is in
     let read = subst (λ all. AreReadWith (readers g.I.Placed.whole g.I.Placed.failures c.args.indexes.now c.read_indexes.new.indexes) (readers g.P.Placed.whole g.P.Placed.failures c.args.archives.now c.read_indexes.new.archives) all)
     (sym c.deref-2.ensures.value) c.in_ok-read.ensures.read.is in
     rw (p.1, p.2) (refused_after c.args.lines frames indexes archives report c.deref.result.now c.in_err-status.field-0.0 gives c.in_ok-frames.ensures.unfailed
@@ -88,7 +88,7 @@ returns g c =
     let indexes = readers g.I.Placed.whole g.I.Placed.failures c.args.indexes.now c.tell_frames.new.indexes in
     let archives = readers g.P.Placed.whole g.P.Placed.failures c.args.archives.now c.tell_frames.new.archives in
     let frames = reader g.C.Source.left g.C.Source.failures c.args.crash.now c.read_crash.new.frames in
-    let gives = subst (λ (said : List Frame). Gives frames (λ bytes. frames_of bytes ≡ Ok said)) (sym c.deref.ensures.value) c.in_ok-frames.ensures.is in
+    let gives = subst (λ (listed : List Frame). Gives frames (λ bytes. frames_of bytes ≡ Ok listed)) (sym c.deref.ensures.value) c.in_ok-frames.ensures.is in
     let read = subst (λ all. AreReadWith (readers g.I.Placed.whole g.I.Placed.failures c.args.indexes.now c.read_indexes.new.indexes) (readers g.P.Placed.whole g.P.Placed.failures c.args.archives.now c.read_indexes.new.archives) all)
     (sym c.deref-2.ensures.value) c.in_ok-read.ensures.read.is in
     let long = c.read_indexes.auto.indexes in
@@ -103,7 +103,7 @@ returns g c =
     read c.in_ok-read.ensures.read.unfailed c.in_ok-read.ensures.kept c.in_ok-status.ensures.unfailed in
     reported _ _ _ _ c.publish_bytes.result _ _ (c.in_ok-frames.ensures.unfailed, unfailed)
     (record {
-      said = c.deref.result.now;
+      listed = c.deref.result.now;
       frames_are = gives;
       told = subst (λ (text : List ℕ). AreToldAt c.args.lines indexes archives c.deref.result.now c.in_ok-status.status text) (sym c.deref-3.ensures.value) told;
     })

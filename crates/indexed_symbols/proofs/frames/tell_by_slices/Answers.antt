@@ -1,9 +1,9 @@
 use Rattle.std.proofs.Common.{List, map, subst, sym}
 use Rattle.std.proofs.lemmas.Result.{err_from_is_err_and}
 use Rattle.archive_core.specs.Content.{HaveSameMembers}
-use Rattle.command_ends.proofs.Readers.{none_failed}
-use Rattle.indexed_queries.specs.Prefixes.{prefix_bytes}
-use Rattle.indexed_queries.specs.declared.prefixes.KeyPrefix.{KeyPrefix}
+use Rattle.command_core.proofs.Readers.{none_failed}
+use Rattle.index_inputs.specs.Prefixes.{prefix_bytes}
+use Rattle.index_inputs.specs.declared.prefixes.KeyPrefix.{KeyPrefix}
 use Rattle.indexed_symbols.specs.Frames.{keys_of}
 use Rattle.indexed_symbols.proofs.Ended.{sought_refused}
 use Rattle.indexed_symbols.proofs.frames.tell_by_slices.Goals as goal

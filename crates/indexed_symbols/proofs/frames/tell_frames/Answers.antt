@@ -2,8 +2,8 @@ use Rattle.std.proofs.Common.{inl, subst}
 use Rattle.std.specs.Prelude.{MatchOption}
 use Rattle.std.proofs.lemmas.Result.{err_from_is_err_and}
 use Rattle.archive_core.specs.Content.{HaveSameMembers}
-use Rattle.command_ends.proofs.Readers.{none_failed}
-use Rattle.command_ends.specs.Inputs.{readers}
+use Rattle.command_core.proofs.Readers.{none_failed}
+use Rattle.command_core.specs.Inputs.{readers}
 use Rattle.indexed_answers.specs.AmongAsked.{HaveTexts}
 use Rattle.indexed_symbols.specs.Asking.{AreTiedUnder}
 use Rattle.indexed_symbols.specs.Frames.{TellTablesOfFrames, keys_of}

@@ -1,13 +1,14 @@
 use Rattle.std.proofs.Common.{◌∙◌, length, ap, refl, sym, subst}
 use Rattle.std.proofs.lemmas.Result.{err_from_is_err_and}
 use Rattle.byte_device.proofs.Known.{Appends-none}
-use Rattle.command_ends.specs.Inputs.{readers}
-use Rattle.command_ends.proofs.Endings.{reported}
-use Rattle.command_ends.proofs.Readers.{readers_long}
-use Rattle.indexed_queries.specs.Together.{AreReadWith, IsReadWith}
-use Rattle.indexed_queries.proofs.Groups.{three_long}
+use Rattle.command_core.specs.Inputs.{readers}
+use Rattle.command_core.proofs.Endings.{reported}
+use Rattle.command_core.proofs.Readers.{readers_long}
+use Rattle.command_inputs.proofs.Parts.{together_refused}
+use Rattle.index_inputs.specs.Together.{AreReadWith, IsReadWith}
+use Rattle.index_inputs.proofs.Groups.{three_long}
 use Rattle.indexed_symbols.specs.Symbolicate.{symbolicate_at}
-use Rattle.indexed_symbols.proofs.Ended.{refused_ends, unfailed_all}
+use Rattle.indexed_symbols.proofs.Ended.{unfailed_all}
 use Rattle.indexed_symbols.proofs.OneKey.{key_refused, key_told}
 use Rattle.indexed_symbols.proofs.States.{opened_read}
 use Rattle.indexed_symbols.proofs.symbolicate.run_symbolicate_at.Goals as goal
@@ -52,7 +53,7 @@ returns-in_err-status g c =
     let read = subst (AreReadWith (readers left failures old mid) (readers whole failures_at before seen)) (sym c.deref.ensures.value) c.in_ok-read.ensures.read.is in
     let p = err_from_is_err_and c.from_residual-in_err-status.result c.from_residual-in_err-status.ensures.1 in
     rw (p.1, p.2)
-    (refused_ends (symbolicate_at (readers left failures old new) (readers whole failures_at before after) c.args.key.now c.args.load c.args.lines c.args.addresses.now) _ c.in_err-status.field-0.0
+    (together_refused _ _ _ _ c.in_err-status.field-0.0
     (key_refused left failures whole failures_at old mid new before seen after c.deref.result.now
     c.read_indexes.auto.indexes (c.tell_addresses.auto.indexes ∙ c.read_indexes.auto.indexes) c.read_indexes.auto.archives (c.tell_addresses.auto.archives ∙ c.read_indexes.auto.archives)
     read c.in_ok-read.ensures.read.unfailed c.in_ok-read.ensures.kept c.args.key.now c.args.load c.args.lines c.args.addresses.now c.in_err-status.field-0.0 c.in_err-status.ensures)

@@ -1,8 +1,8 @@
 use Rattle.std.proofs.Common.{◌≡◌, ◌∷◌, [], MatchOption, inl, subst, string_bytes}
 use Rattle.std.proofs.lemmas.Result.{err_from_is_err_and}
 use Rattle.archive_core.specs.Key.{key_bytes}
-use Rattle.command_ends.specs.Inputs.{readers}
-use Rattle.command_ends.proofs.Readers.{none_failed}
+use Rattle.command_core.specs.Inputs.{readers}
+use Rattle.command_core.proofs.Readers.{none_failed}
 use Rattle.indexed_answers.specs.AmongAsked.{HaveTexts}
 use Rattle.indexed_symbols.specs.Asking.{AreTiedUnder, TellTables}
 use Rattle.indexed_symbols.proofs.Ended.{tables_refused}

@@ -7,9 +7,9 @@ use Rattle.indexed_symbols.proofs.States.{opened_among}
 use Rattle.indexed_symbols.proofs.tables.tell_key.Goals as goal
 
 -- those that were found answer
-answer : (front : List ℕ) (all : List (List (List ℕ))) (found : Option (List EntryAt)) (answering : List EntryAt) → found ≡ Some answering
-    → MatchOption found (AreTied front all) (AreAnsweringAmong front all) → AreAnsweringAmong front all answering
-answer front all found answering is told = subst (λ (o : Option (List EntryAt)). MatchOption o (AreTied front all) (AreAnsweringAmong front all)) is told
+answer : (prefix : List ℕ) (all : List (List (List ℕ))) (found : Option (List EntryAt)) (answering : List EntryAt) → found ≡ Some answering
+    → MatchOption found (AreTied prefix all) (AreAnsweringAmong prefix all) → AreAnsweringAmong prefix all answering
+answer prefix all found answering is told = subst (λ (o : Option (List EntryAt)). MatchOption o (AreTied prefix all) (AreAnsweringAmong prefix all)) is told
 
 pub answer_among-requires : goal.answer_among-requires
 answer_among-requires g c =

@@ -3,7 +3,7 @@ use Rattle.std.specs.Ordering.{is_lt}
 use Rattle.std.proofs.lemmas.Fn.{always_returns_same}
 use Rattle.macho_symbols.specs.Symbols.{strings_of}
 use Rattle.macho_symbols.specs.Views.{rows_of}
-use Rattle.macho_symbols.specs.Halving.{place_cmp}
+use Rattle.macho_symbols.specs.Halving.{row_cmp}
 use Rattle.macho_symbols.specs.Rows.{AreFirsts}
 use Rattle.macho_symbols.proofs.RowLemmas.{places_total, rows_sorted}
 use Rattle.macho_symbols.proofs.BuildLemmas.{firsts_of_sorted}
@@ -12,7 +12,7 @@ use Rattle.macho_symbols.proofs.rows.sorted_rows.Goals as goal
 pub keep_firsts-requires : goal.keep_firsts-requires
 keep_firsts-requires c =
     rows_sorted c.sort_unstable_by.new.self.items
-    (c.sort_unstable_by.ensures.sorted (λ x y. is_lt (place_cmp x y)) places_total (always_returns_same _ _ _ (λ a r g called. (search rules, search rules))))
+    (c.sort_unstable_by.ensures.sorted (λ x y. is_lt (row_cmp x y)) places_total (always_returns_same _ _ _ (λ a r g called. (search rules, search rules))))
 
 pub returns : goal.returns
 returns c =

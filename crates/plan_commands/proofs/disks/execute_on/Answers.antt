@@ -1,5 +1,5 @@
 use Rattle.std.proofs.Common.{◌∙◌}
-use Rattle.command_ends.proofs.Readers.{pairs_long}
+use Rattle.command_core.proofs.Readers.{pairs_long}
 use Rattle.command_line.specs.LineView.{line_view}
 use Rattle.plan_commands.proofs.Counted.{enough}
 use Rattle.plan_commands.proofs.Turned.{at_turn}

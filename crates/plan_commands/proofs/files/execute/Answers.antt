@@ -1,21 +1,19 @@
-use Rattle.std.proofs.Common.{◌≡◌, ◌∙◌, ℕ, List, [], ◌++◌, Some, None, refl, ap, inl, option_map}
-use Rattle.std.proofs.Common.{string_bytes, subst, sym, append-nil}
+use Rattle.std.proofs.Common.{◌≡◌, ◌∙◌, ℕ, List, [], ◌++◌, Some, None, refl, ap, inl, option_map, string_bytes, subst, sym, append-nil}
 use mathlib.Core.Logic.{∥∥₁_map}
 use Rattle.std.proofs.lemmas.Result.{err_from_is_err_and}
 use Rattle.std.specs.Io.KnownBytes.{Appends}
 use Rattle.archive_files.specs.FileCalls.{bytes_in}
-use Rattle.archive_files.specs.OutFiles.{draft_account, is_settled, published_account, publishing_calls, Untouched}
-use Rattle.archive_files.specs.OutFiles.{stage_of}
+use Rattle.archive_files.specs.OutFiles.{draft_account, is_settled, published_account, publishing_calls, Untouched, stage_of}
 use Rattle.archive_files.specs.Publishing.{IsPublished, IsRemoved, account}
 use Rattle.command_line.specs.LineView.{line_view}
 use Rattle.command_line.specs.Lines.{inputs_of}
 use Rattle.plan_commands.specs.Files.{command_fault_of}
-use Rattle.plan_commands.proofs.OutPublished.{draft_took, first_from, none_asked, nothing_taken, nothing_there}
-use Rattle.plan_commands.proofs.OutPublished.{published_there, settled_of, settled_without_calls}
-use Rattle.plan_commands.proofs.Noting.{on_any, told_done}
+use Rattle.plan_commands.proofs.OutPublished.{draft_took, first_from, none_asked, nothing_taken, nothing_there, published_there, settled_of, settled_without_calls}
+use Rattle.plan_commands.proofs.Noting.{told_done}
 use Rattle.plan_commands.proofs.Outcomes.{carried_outcome}
 use Rattle.plan_commands.proofs.Saying.{none_called}
 use Rattle.plan_commands.proofs.files.execute.Goals as goal
+use Rattle.archive_writing.proofs.Taking.{always as on_any}
 
 pub returns-in_err-heap : goal.returns-in_err-heap
 returns-in_err-heap g c =

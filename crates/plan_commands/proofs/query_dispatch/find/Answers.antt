@@ -1,7 +1,8 @@
-use Rattle.std.proofs.Common.{◌∙◌, arith, length, refl, sym}
+use Rattle.std.proofs.Common.{◌∙◌, length, refl, sym}
 use Rattle.std.proofs.lemmas.Result.{err_from_is_err_and}
 use Rattle.indexed_queries.specs.Find.{find_together}
-use Rattle.plan_commands.proofs.Dispatched.{alone_refused, apart, as_many_readers, find_by, not_none, paired_kept, some_read}
+use Rattle.command_core.proofs.Readers.{readers_long}
+use Rattle.plan_commands.proofs.Dispatched.{alone_refused, apart, find_by, not_none, paired_kept, some_read}
 use Rattle.plan_commands.proofs.query_dispatch.find.Goals as goal
 
 pub returns-in_err-test_pairs : goal.returns-in_err-test_pairs
@@ -17,8 +18,8 @@ returns-in_err-test_pairs g c =
     c.in_err-test_pairs.ensures.other
     (find_by _ _ _ _ some (λ one single. apart (length c.args.archives.now) (length c.args.indexes.now) _
     c.in_err-test_pairs.ensures.other
-    (sym (as_many_readers left g.S.Source.failures c.args.archives.now c.args.archives.now refl) ∙ one)
-    (sym (as_many_readers whole failures c.args.indexes.now c.args.indexes.now refl) ∙ single))))
+    (sym (readers_long left g.S.Source.failures c.args.archives.now c.args.archives.now refl) ∙ one)
+    (sym (readers_long whole failures c.args.indexes.now c.args.indexes.now refl) ∙ single))))
 
 pub returns : goal.returns
 returns g c =
@@ -32,5 +33,5 @@ returns g c =
     c.args.indexes.now c.run_find_together.new.indexes _ _ _ c.in_ok-test_pairs.ensures.same
     c.run_find_together.auto.archives c.run_find_together.auto.indexes
     (find_by _ _ _ _ some (λ one single. c.if-archives-eq1.false
-    (sym (as_many_readers left g.S.Source.failures c.args.archives.now c.run_find_together.new.archives
+    (sym (readers_long left g.S.Source.failures c.args.archives.now c.run_find_together.new.archives
     c.run_find_together.auto.archives) ∙ one))) c.run_find_together.ensures

@@ -1,5 +1,5 @@
 use Rattle.command_line.specs.LineView.{line_view}
-use Rattle.command_ends.specs.Outputs.{writer}
+use Rattle.command_core.specs.Outputs.{writer}
 use Rattle.error_lines.proofs.Helping.{without_help}
 use Rattle.plan_commands.proofs.runs.say_failure.Goals as goal
 

@@ -3,16 +3,16 @@ use Rattle.query_laws.proofs.FrameKeys.{frame_keys}
 use Rattle.query_laws.proofs.laws.framed_by_indexes.Goals as goal
 
 pub returns-clause-tables : goal.returns-clause-tables
-returns-clause-tables g c = λ inputs archives os lines said status text are tell keys by. framed_by_tables inputs archives os are tell lines said status text keys by
+returns-clause-tables g c = λ inputs archives os lines listed status text are tell keys by. framed_by_tables inputs archives os are tell lines listed status text keys by
 
 pub returns-clause-alone : goal.returns-clause-alone
-returns-clause-alone g c = λ input archive o lines said status text is keys by. framed_alone input archive o is lines said status text keys by
+returns-clause-alone g c = λ input archive o lines listed status text is keys by. framed_alone input archive o is lines listed status text keys by
 
 pub returns-clause-slices : goal.returns-clause-slices
-returns-clause-slices g c = λ inputs archives os lines said status text short are by. framed_by_slices inputs archives os are lines said status text short by
+returns-clause-slices g c = λ inputs archives os lines listed status text short are by. framed_by_slices inputs archives os are lines listed status text short by
 
 pub returns-clause-either : goal.returns-clause-either
-returns-clause-either g c = λ inputs archives os lines said status text are tell keys by. framed_either inputs archives os are lines said status text tell keys by
+returns-clause-either g c = λ inputs archives os lines listed status text are tell keys by. framed_either inputs archives os are lines listed status text tell keys by
 
 pub returns-clause-keys : goal.returns-clause-keys
-returns-clause-keys g c = λ bytes said frame is there. frame_keys bytes said frame is there
+returns-clause-keys g c = λ bytes listed frame is there. frame_keys bytes listed frame is there

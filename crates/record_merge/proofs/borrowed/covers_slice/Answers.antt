@@ -4,6 +4,4 @@ use Rattle.archive_records.specs.Reader.{set_of}
 use Rattle.record_merge.proofs.borrowed.covers_slice.Goals as goal
 
 pub returns-clause-covered : goal.returns-clause-covered
-returns-clause-covered c =
-    let valid = rw c.of_checked-slice.ensures at c.bytes-bytes.ensures.valid in
-    (rw c.of_checked-slice.ensures at c.covers-covered.ensures.covers) ∙ sym (covered_slice (set_of c.args.retirements.now) c.args.bytes.now valid)
+returns-clause-covered c = c.covers.ensures.covers ∙ sym (covered_slice (set_of c.args.retirements.now) c.args.slice.now c.bytes-bytes.ensures.valid)

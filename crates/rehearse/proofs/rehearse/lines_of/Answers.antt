@@ -1,6 +1,6 @@
 use Rattle.std.proofs.Common.{length, subst, sym}
 use Rattle.std.specs.Prelude.{All}
-use Rattle.rehearse.specs.Rehearsal.{IsSentAmong}
+use Rattle.rehearse.specs.EventLines.{IsSentAmong}
 use Rattle.rehearse.proofs.Rehearsed.{all_there, told_so}
 use Rattle.rehearse.proofs.rehearse.lines_of.Goals as goal
 

@@ -1,6 +1,6 @@
 use Rattle.std.proofs.Common.{◌≡◌, ◌++◌, string_bytes}
 use Rattle.exchange_model.specs.World.{World}
-use Rattle.archive_exchange.specs.Rehearsal.{Represents}
+use Rattle.archive_exchange.specs.WorldState.{Represents}
 use Rattle.rehearse.specs.Rehearse.{site_lines}
 use Rattle.rehearse.proofs.rehearse.push_sites.Given as goal
 

@@ -1,6 +1,6 @@
 use Rattle.std.proofs.Common.{subst, sym, refl}
 use Rattle.rehearse.specs.Rehearse.{TellsEvents}
-use Rattle.command_ends.proofs.Endings.{reported}
+use Rattle.command_core.proofs.Endings.{reported}
 use Rattle.rehearse.proofs.rehearse.run_rehearse.Goals as goal
 
 pub returns : goal.returns

@@ -5,7 +5,8 @@ use Rattle.archive_core.specs.Key.{key_bytes}
 use Rattle.archive_core.specs.Valid.{key_of}
 use Rattle.archive_core.specs.declared.keys.SliceKey.{SliceKey}
 use Rattle.archive_core.proofs.Records.{length-key_of}
-use Rattle.slice_extraction.proofs.Held.{key_itself, same_slice}
+use Rattle.archive_core.proofs.Answering.{is_key_of}
+use Rattle.slice_extraction.proofs.Held.{same_slice}
 use Rattle.slice_extraction.proofs.choosing.slice_in.Goals as goal
 use Rattle.slice_extraction.proofs.choosing.slice_in.Goals.{else-is_key-via-then-is_key+else-eq, else-is_key-via-else-is_key}
 
@@ -19,5 +20,5 @@ returns-else-is_key-clause-none c = λ slice is of digest_is.
     c.digest-found.ensures.digest ∙ ap sha256 same ∙ digest_is in
     elim c.else-is_key.branch [
       | else-is_key-via-then-is_key+else-eq w ↦ cc (w.if-eq.false, w.eq.ensures, (bytes_eq-Decides c.digest-found.result.0 c.args.digest.now.0).1 found)
-      | else-is_key-via-else-is_key w ↦ cc (w.if-is_key.false, c.is_key.ensures, key_itself _ _ key_is)
+      | else-is_key-via-else-is_key w ↦ cc (w.if-is_key.false, c.is_key.ensures, is_key_of _ _ key_is)
     ]

@@ -3,11 +3,11 @@ use Rattle.std.proofs.lemmas.Result.{err_from_is_err_and}
 use Rattle.byte_device.proofs.Known.{Appends-none}
 use Rattle.archive_core.specs.Key.{key_bytes}
 use Rattle.archive_core.specs.Part.{is_under}
-use Rattle.archive_queries.proofs.Parts.{together_tells}
-use Rattle.command_ends.specs.Archives.{AreRefused, AreUnfailed, HoldTogether}
-use Rattle.command_ends.specs.Inputs.{reader, readers}
-use Rattle.command_ends.specs.declared.faults.CommandFault.TheVariants.{OutOfMemory}
-use Rattle.command_ends.proofs.Readers.{none_failed}
+use Rattle.command_inputs.proofs.Parts.{together_tells}
+use Rattle.command_core.specs.Archives.{AreRefused, AreUnfailed, HoldTogether}
+use Rattle.command_core.specs.Inputs.{reader, readers}
+use Rattle.command_core.specs.declared.faults.CommandFault.TheVariants.{OutOfMemory}
+use Rattle.command_core.proofs.Readers.{none_failed}
 use Rattle.slice_extraction.proofs.Extracted.{refused_so, wanted_so}
 use Rattle.slice_extraction.proofs.extract.run_extract.Goals as goal
 
@@ -39,6 +39,6 @@ returns g c =
     let others = readers left failures c.args.others.now c.read_parts.new.others in
     wanted_so (HoldTogether archive others) (AreRefused archive others) (AreUnfailed archive others) c.args.key.now c.args.digest.now _ _
     c.publish_wanted.result (g.A.Join.content c.in_ok-kept.kept) c.in_ok-kept.ensures.unfailed
-    (λ IsTrue tells. together_tells archive others _ IsTrue (λ o alike. tells o (alike (key_bytes c.args.key.now) (omega (arith, c.bytes_of-front.ensures.long))
-    (λ r h. ap (λ front. is_under front r) c.bytes_of-front.ensures.bytes ∙ h))) c.in_ok-kept.ensures.is)
+    (λ IsTrue tells. together_tells archive others _ IsTrue (λ o alike. tells o (alike (key_bytes c.args.key.now) (omega (arith, c.bytes_of-prefix.ensures.long))
+    (λ r h. ap (λ prefix. is_under prefix r) c.bytes_of-prefix.ensures.bytes ∙ h))) c.in_ok-kept.ensures.is)
     c.publish_wanted.ensures

@@ -1,6 +1,6 @@
 use Rattle.std.proofs.Common.{◌≡◌, ℕ, get_or, set, sym, ap, subst}
-use Rattle.command_ends.specs.Inputs.{reader}
-use Rattle.command_ends.specs.Outputs.{outs, writer}
+use Rattle.command_core.specs.Inputs.{reader}
+use Rattle.command_core.specs.Outputs.{outs, writer}
 use Rattle.slice_extraction.specs.InnerEntries.{PublishesSlice}
 use Rattle.slice_extraction.proofs.indexed.publish_from.Goals as goal
 

@@ -2,17 +2,17 @@ use Rattle.std.proofs.Common.{◌<◌, ◌∙◌, List, Result, length, refl, sy
 use Rattle.std.proofs.Math.ListN.{length-set}
 use Rattle.std.proofs.lemmas.Result.{err_from_is_err_and}
 use Rattle.byte_device.proofs.Known.{Appends-none}
-use Rattle.command_ends.specs.Inputs.{readers}
+use Rattle.command_core.specs.Inputs.{readers}
 use Rattle.byte_device.specs.declared.disks.CannotOpen.{CannotOpen}
 use Rattle.archive_core.specs.Key.{key_bytes}
 use Rattle.archive_core.specs.declared.find.FindRow.{FindRow}
-use Rattle.command_ends.specs.Outputs.{out_of, outs, writer}
+use Rattle.command_core.specs.Outputs.{out_of, outs, writer}
 use Rattle.indexed_answers.specs.Among.{AreTied}
 use Rattle.slice_extraction.specs.Extract.{Extracts}
 use Rattle.slice_extraction.specs.Indexed.{extract_at}
 use Rattle.slice_extraction.specs.InnerEntries.{IsEntryChoice}
-use Rattle.command_ends.proofs.Readers.{none_failed}
-use Rattle.indexed_queries.specs.Together.{AreReadWith}
+use Rattle.command_core.proofs.Readers.{none_failed}
+use Rattle.index_inputs.specs.Together.{AreReadWith}
 use Rattle.slice_extraction.specs.InnerChoice.{PublishesRows}
 use Rattle.slice_extraction.proofs.ByEntry.{archive_there, as_many, refused_first, rows_so, sent_so, tied_so, wanting}
 use Rattle.slice_extraction.proofs.indexed.run_extract_at.Goals as goal

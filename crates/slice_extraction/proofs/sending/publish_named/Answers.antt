@@ -1,9 +1,9 @@
 use Rattle.std.proofs.Common.{◌∙◌, inl, refl, sym}
 use Rattle.std.proofs.lemmas.Result.{err_from_is_err_and}
 use Rattle.byte_device.proofs.Known.{Appends-none}
-use Rattle.command_ends.specs.Inputs.{reader}
-use Rattle.command_ends.specs.Outputs.{outs, writer}
-use Rattle.command_ends.specs.declared.faults.CommandFault.TheVariants.{OutOfMemory}
+use Rattle.command_core.specs.Inputs.{reader}
+use Rattle.command_core.specs.Outputs.{outs, writer}
+use Rattle.command_core.specs.declared.faults.CommandFault.TheVariants.{OutOfMemory}
 use Rattle.slice_extraction.specs.Wanted.{written_line}
 use Rattle.slice_extraction.proofs.Placed.{not_placed, placed_so, same_line, unsent_so}
 use Rattle.slice_extraction.proofs.Sent.{unbegun}
@@ -37,26 +37,26 @@ returns-in_err-send_named g c =
     let p = err_from_is_err_and c.from_residual-in_err-send_named.result c.from_residual-in_err-send_named.ensures.1 in
     rw (p.1, p.2) (λ x names. unsent_so out _ archive c.args.key.now x c.in_err-send_named.field-0.0 (c.in_err-send_named.ensures x names) (refl, refl) (Appends-none _, refl))
 
-pub returns-in_err-put_in_place : goal.returns-in_err-put_in_place
-returns-in_err-put_in_place g c =
-    let out = outs g.T.Draft.Sink.held g.T.Draft.Sink.failures g.T.Target.published g.T.Target.failures c.args.out.now c.put_in_place.new.out in
-    let put = c.in_err-put_in_place.ensures in
-    let p = err_from_is_err_and c.from_residual-in_err-put_in_place.result c.from_residual-in_err-put_in_place.ensures.1 in
+pub returns-in_err-publish_output : goal.returns-in_err-publish_output
+returns-in_err-publish_output g c =
+    let out = outs g.T.Draft.Sink.held g.T.Draft.Sink.failures g.T.Target.published g.T.Target.failures c.args.out.now c.publish_output.new.out in
+    let put = c.in_err-publish_output.ensures in
+    let p = err_from_is_err_and c.from_residual-in_err-publish_output.result c.from_residual-in_err-publish_output.ensures.1 in
     rw (p.1, p.2) (λ x names.
     let sent = c.in_ok-send_named.ensures x names in
     inl (
       sent.0,
       sent.1,
       sent.3,
-      not_placed out _ c.send_named.new.draft sent.0 sent.2 (written_line c.args.key.now sent.0) c.in_err-put_in_place.field-0.0 c.args.named.now.size put.failed.0 (names.size_is ∙ sym sent.1.of.long)
+      not_placed out _ c.send_named.new.draft sent.0 sent.2 (written_line c.args.key.now sent.0) c.in_err-publish_output.field-0.0 c.args.named.now.size put.failed.0 (names.size_is ∙ sym sent.1.of.long)
           put.held put.draft put.kept put.failed.1 (Appends-none _, refl),
     ))
 
 pub returns : goal.returns
 returns g c = λ x names.
-    let out = outs g.T.Draft.Sink.held g.T.Draft.Sink.failures g.T.Target.published g.T.Target.failures c.args.out.now c.put_in_place.new.out in
+    let out = outs g.T.Draft.Sink.held g.T.Draft.Sink.failures g.T.Target.published g.T.Target.failures c.args.out.now c.publish_output.new.out in
     let report = writer g.W.Sink.held g.W.Sink.failures c.args.report.now c.publish_report.new.report in
-    let put = c.in_ok-put_in_place.ensures in
+    let put = c.in_ok-publish_output.ensures in
     let sent = c.in_ok-send_named.ensures x names in
     inl (
       sent.0,

@@ -1,10 +1,10 @@
 use Rattle.std.proofs.Common.{refl}
 use Rattle.std.proofs.lemmas.Result.{err_from_is_err_and}
-use Rattle.indexed_queries.proofs.Refused.{lent_from}
+use Rattle.command_inputs.proofs.BorrowedSources.{borrowed_from}
 use Rattle.byte_device.proofs.Known.{Appends-none}
-use Rattle.command_ends.specs.Inputs.{reader}
-use Rattle.command_ends.specs.Outputs.{writer}
-use Rattle.command_ends.specs.declared.faults.CommandFault.TheVariants.{OutOfMemory}
+use Rattle.command_core.specs.Inputs.{reader}
+use Rattle.command_core.specs.Outputs.{writer}
+use Rattle.command_core.specs.declared.faults.CommandFault.TheVariants.{OutOfMemory}
 use Rattle.slice_extraction.proofs.Sent.{sent, unbegun, unopened, unsent}
 use Rattle.slice_extraction.proofs.sending.send_named.Goals as goal
 
@@ -23,10 +23,10 @@ returns-in_err-device g c =
 
 pub returns-in-Ok : goal.returns-in-Ok
 returns-in-Ok g c =
-    rw (lent_from c.args.archive.now _ c.in_ok-device.ensures.source)
+    rw (borrowed_from c.args.archive.now _ c.in_ok-device.ensures.source)
     (λ x names. sent g.P.Placed.whole g.P.Placed.failures g.W.Sink.held g.W.Sink.failures c.in_ok-device.device.now c.send_slice_at.new.device c.args.draft.now c.send_slice_at.new.w c.args.named.now x names c.in-Ok.ensures.sends)
 
 pub returns : goal.returns
 returns g c =
-    rw (lent_from c.args.archive.now _ c.in_ok-device.ensures.source, c.told.ensures)
+    rw (borrowed_from c.args.archive.now _ c.in_ok-device.ensures.source, c.told.ensures)
     (λ x names. unsent g.P.Placed.whole g.P.Placed.failures g.W.Sink.held g.W.Sink.failures c.in_ok-device.device.now c.send_slice_at.new.device c.args.draft.now c.send_slice_at.new.w c.args.named.now x names c.in-Err.fault c.in-Err.ensures.sends)

@@ -12,7 +12,7 @@ use Rattle.sorted_archive.proofs.Uncovered.{left_by, front_left, back_left}
 use Rattle.sorted_archive.proofs.covered.drop_retired.Goals as goal
 
 pub of-by-requires : goal.of-by-requires
-of-by-requires c = rw c.retirement.ensures.retirement (held_alone (Retire c.args.key.now c.args.digest.now) c.retirement.ensures.operation)
+of-by-requires c = rw c.retirement.ensures.is (held_alone (Retire c.args.key.now c.args.digest.now) c.retirement.ensures.operation)
 
 pub loop-index-init : goal.loop-index-init
 loop-index-init c =
@@ -31,7 +31,7 @@ loop-index-init c =
 pub loop-index-preserved-then-retires_operation : goal.loop-index-preserved-then-retires_operation
 loop-index-preserved-then-retires_operation c =
     let kept = left_by c.args.key.now c.args.digest.now in
-    let only = c.of-by.ensures ∙ ap (λ (o : Operation). from_list (map record_bytes (o ∷ []))) c.retirement.ensures.retirement in
+    let only = c.of-by.ensures ∙ ap (λ (o : Operation). from_list (map record_bytes (o ∷ []))) c.retirement.ensures.is in
     let test : kept c.index.result.now ≡ false = ap (λ s. not (is_covered s (record_bytes c.index.result.now))) (sym only) ∙ ap not (sym c.retires_operation.ensures ∙ c.if-retires_operation.true) in
     record {
       from = omega arith;
@@ -42,7 +42,7 @@ loop-index-preserved-then-retires_operation c =
 pub loop-index-preserved : goal.loop-index-preserved
 loop-index-preserved c =
     let kept = left_by c.args.key.now c.args.digest.now in
-    let only = c.of-by.ensures ∙ ap (λ (o : Operation). from_list (map record_bytes (o ∷ []))) c.retirement.ensures.retirement in
+    let only = c.of-by.ensures ∙ ap (λ (o : Operation). from_list (map record_bytes (o ∷ []))) c.retirement.ensures.is in
     let test : kept c.index.result.now ≡ true = ap (λ s. not (is_covered s (record_bytes c.index.result.now))) (sym only) ∙ ap not (sym c.retires_operation.ensures ∙ c.if-retires_operation.false) in
     record {
       from = omega arith;

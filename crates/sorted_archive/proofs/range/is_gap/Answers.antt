@@ -3,8 +3,7 @@ use Rattle.std.specs.Ordering.{is_lt, is_gt}
 use Rattle.sorted_archive.specs.declared.range.RecordKind.TheVariants.{Retirement}
 use Rattle.sorted_archive.proofs.Ranges.{below_place, above_place, none_at}
 use Rattle.sorted_archive.proofs.range.is_gap.Goals as goal
-use Rattle.sorted_archive.proofs.range.is_gap.Goals.{else-asked-gt0-via-then-asked-gt0+else-not-is_lt, else-asked-gt0-via-else-asked-gt0}
-use Rattle.sorted_archive.proofs.range.is_gap.Goals.{else-asked-operations-2-via-then-asked-operations-2+else-not-is_gt, else-asked-operations-2-via-else-asked-operations-2}
+use Rattle.sorted_archive.proofs.range.is_gap.Goals.{else-asked-gt0-via-then-asked-gt0+else-not-is_lt, else-asked-gt0-via-else-asked-gt0, else-asked-operations-2-via-then-asked-operations-2+else-not-is_gt, else-asked-operations-2-via-else-asked-operations-2}
 
 pub returns : goal.returns
 returns c = λ _.

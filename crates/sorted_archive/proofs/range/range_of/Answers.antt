@@ -3,7 +3,7 @@ use Rattle.std.specs.Ordering.{nat_cmp, is_lt, is_le}
 use Rattle.std.specs.Cmp.Lexicographic.{slice_cmp}
 use Rattle.std.proofs.lemmas.List.Sorted.{IsPartitionPoint-from_clause}
 use Rattle.archive_core.specs.declared.operations.Operation.{Operation}
-use Rattle.sorted_archive.specs.InnerRange.{front, front_of}
+use Rattle.sorted_archive.specs.InnerRange.{scope_prefix, prefix_of}
 use Rattle.sorted_archive.proofs.Falling.{middle, parted_drop}
 use Rattle.sorted_archive.proofs.Ranges.{below_place, none_at, parted}
 use Rattle.sorted_archive.proofs.range.range_of.Goals as goal
@@ -13,14 +13,14 @@ returns-clause-range c =
     let operations = c.args.operations.now in
     let start = c.partition_point-start.result in
     let count = c.partition_point-count.result in
-    let compared = λ (a : Operation). slice_cmp nat_cmp (front_of c.args.scope a) (front c.args.kind c.args.scope) in
+    let compared = λ (a : Operation). slice_cmp nat_cmp (prefix_of c.args.scope a) (scope_prefix c.args.kind c.args.scope) in
     let before = λ (a : Operation). is_lt (compared a) in
     let upto = λ (a : Operation). is_le (compared a) in
     let rest = c.split_at.ensures.back in
-    let first = IsPartitionPoint-from_clause before operations start c.partition_point-start.ensures.partitioned (parted is_lt refl refl c.args.scope (front c.args.kind c.args.scope) operations c.requires.ascending c.requires.are) (λ a r f called. (search rules, search rules)) in
+    let first = IsPartitionPoint-from_clause before operations start c.partition_point-start.ensures.partitioned (parted is_lt refl refl c.args.scope (scope_prefix c.args.kind c.args.scope) operations c.requires.ascending c.requires.are) (λ a r f called. (search rules, search rules)) in
     let second =
     IsPartitionPoint-from_clause upto c.split_at.result.1.now count c.partition_point-count.ensures.partitioned
-    (rw rest (parted_drop upto operations start (parted is_le refl refl c.args.scope (front c.args.kind c.args.scope) operations c.requires.ascending c.requires.are))) (λ a r f called. (search rules, search rules)) in
+    (rw rest (parted_drop upto operations start (parted is_le refl refl c.args.scope (scope_prefix c.args.kind c.args.scope) operations c.requires.ascending c.requires.are))) (λ a r f called. (search rules, search rules)) in
     let later = rw rest at second in
     middle compared operations start count first.0 first.1 later.0 later.1
 

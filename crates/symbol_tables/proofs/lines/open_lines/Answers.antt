@@ -1,16 +1,14 @@
-use Rattle.std.proofs.Common.{Err, ap, sym, subst, ◌∙◌, arith}
-use Rattle.std.proofs.lemmas.Result.{err_from_is_err_and}
+use Rattle.std.proofs.Common.{sym, subst, ◌∙◌, arith}
 use Rattle.checked_pages.specs.Pages.{AreStored, MayBeStored}
 use Rattle.checked_pages.specs.Views.{ArePagesOf, claim_view}
 use Rattle.checked_pages.proofs.ReadLemmas.{passed_on}
-use Rattle.symbol_tables.specs.Stored.{IsRestFrom}
+use Rattle.checked_pages.specs.Standing.{IsRestFrom}
 use Rattle.symbol_tables.proofs.TableLemmas.{lines_stand}
 use Rattle.symbol_tables.proofs.lines.open_lines.Goals as goal
 
 pub returns-in_err-table-clause-read : goal.returns-in_err-table-clause-read
 returns-in_err-table-clause-read g c =
-    let p = err_from_is_err_and c.from_residual.result c.from_residual.ensures.1 in
-    passed_on _ _ _ _ _ _ _ _ _ _ _ c.in_err-table.was (p.1 ∙ ap Err p.2)
+    passed_on _ _ _ _ _ _ _ _ _ _ _ c.in_err-table.was c.from_residual.ensures.1
     (λ text known absent long image lines all is stored. absent long is.0 is.2 (subst (AreStored text (claim_view c.args.claim)) is.3 stored)) c.open.ensures.read
 
 pub returns-clause-read : goal.returns-clause-read

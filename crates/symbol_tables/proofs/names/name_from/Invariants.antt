@@ -1,7 +1,7 @@
 use Rattle.std.proofs.Common.{◌≡◌, ◌==◌, ◌++◌, ◌-◌, ℕ, List, length, drop, Some}
 use Rattle.std.specs.List.{before_first}
 use Rattle.checked_pages.specs.Views.{ArePagesOf}
-use Rattle.symbol_tables.specs.Stored.{Stands}
+use Rattle.checked_pages.specs.Standing.{Stands}
 use Rattle.symbol_tables.proofs.names.name_from.Given as goal
 
 abbrev pub invariant-pieces : goal.invariant-pieces

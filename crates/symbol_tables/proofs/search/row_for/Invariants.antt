@@ -2,7 +2,7 @@ use Rattle.std.proofs.Common.{◌≡◌, ℕ, ◌+◌, ◌-◌, ◌<◌, ◌≤�
 use Rattle.std.specs.Prelude.{slice_index_or, MatchOption}
 use Rattle.checked_pages.specs.Views.{ArePagesOf}
 use Rattle.symbol_tables.specs.Rows.{AreRows, rows_bytes}
-use Rattle.symbol_tables.specs.Stored.{Stands}
+use Rattle.checked_pages.specs.Standing.{Stands}
 use Rattle.symbol_tables.specs.declared.row.Row.{Row}
 use Rattle.symbol_tables.proofs.search.row_for.Given as goal
 

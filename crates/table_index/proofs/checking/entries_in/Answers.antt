@@ -6,8 +6,9 @@ use Rattle.std.proofs.lemmas.List.{length-take-le, map-append, take-append-drop,
 use Rattle.archive_records.specs.Text.{last_of}
 use Rattle.table_index.specs.Entry.{HasItsFields, entry_bytes}
 use Rattle.table_index.specs.Text.{PassChecks, check_entry}
-use Rattle.table_index.proofs.Checks.{concat_more, last_push, pass_push, passed}
+use Rattle.table_index.proofs.Checks.{concat_more, pass_push, passed}
 use Rattle.table_index.proofs.checking.entries_in.Goals as goal
+use Rattle.archive_records.proofs.Apart.{last_of-push as last_push}
 
 -- so many bytes from an offset on
 part_is : (bytes : List ℕ) (at n : ℕ) → take (at + n - at) (drop at bytes) ≡ take n (drop at bytes)

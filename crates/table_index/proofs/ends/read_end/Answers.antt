@@ -2,7 +2,7 @@ use Rattle.std.proofs.Common.{◌≡◌, ◌-◌, ◌∙◌, List, ℕ, Err, ap,
 use Rattle.std.proofs.lemmas.List.{take_all}
 use Rattle.std.proofs.lemmas.Result.{err_from_is_err_and}
 use Rattle.table_index.specs.Fault.{FailsAtEnd}
-use Rattle.table_index.specs.InnerReading.{AreEndsOf, IsFronted}
+use Rattle.table_index.specs.InnerReading.{AreEndsOf, HasBeginning}
 use Rattle.table_index.specs.Reading.{IsRefused}
 use Rattle.table_index.proofs.EndLemmas.{part_unread}
 use Rattle.table_index.proofs.ReadLemmas.{as_refused, passed_on, checked, under}
@@ -24,6 +24,6 @@ returns-clause-read g c =
     let read = c.in_ok-end.ensures.read in
     checked _ _ _ _ _ _ _ read.keeps read.counts
     (λ text known.
-    under c.ends_in.result (AreEndsOf text) (IsRefused FailsAtEnd text) (λ (fronted : IsFronted text c.args.size).
+    under c.ends_in.result (AreEndsOf text) (IsRefused FailsAtEnd text) (λ (fronted : HasBeginning text c.args.size).
     as_refused c.ends_in.result (AreEndsOf text) FailsAtEnd text (c.ends_in.ensures.checked text fronted (c.deref.ensures.value ∙ read.says text known ∙ last_part text c.args.size 41 fronted.size_is))))
     c.ends_in.ensures.faulty

@@ -1,12 +1,12 @@
 use Rattle.std.proofs.Common.{◌+◌, ◌*◌, ◌≤◌, ◌^◌, ◌↔◌, drop, map}
 use Rattle.table_index.specs.Entry.{entry_bytes}
 use Rattle.table_index.specs.Text.{FollowOn}
-use Rattle.table_index.proofs.PlaceLemmas.{all_lent}
+use Rattle.table_index.proofs.PlaceLemmas.{all_borrowed}
 use Rattle.table_index.proofs.places.follow_on.Given as goal
 
 abbrev pub invariant-following : goal.invariant-following
 invariant-following l = record {
   offset_fits : l.offset ≤ 8 + l.entry-index * 2 ^ 64;
   at_fits : l.at ≤ 8 + l.entry-index * 2 ^ 70;
-  left : FollowOn l.offset l.at l.end (drop l.entry-index (map entry_bytes (all_lent l.order))) ↔ FollowOn 8 8 l.end (map entry_bytes (all_lent l.order));
+  left : FollowOn l.offset l.at l.end (drop l.entry-index (map entry_bytes (all_borrowed l.order))) ↔ FollowOn 8 8 l.end (map entry_bytes (all_borrowed l.order));
 }

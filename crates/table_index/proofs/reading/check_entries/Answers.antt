@@ -14,9 +14,9 @@ use Rattle.table_index.proofs.reading.check_entries.Goals as goal
 checked_in : (text bytes : List ℕ) (ends : Ends) (entries : List TableEntry) → AreEndsOf text ends → AreEntriesOf text bytes → AreChecked ends.start bytes entries → AreChecked (start_in text) (entries_in text) entries
 checked_in text bytes ends entries are of h = subst (λ (n : ℕ). AreChecked n (entries_in text) entries) are.start_is (subst (λ (b : List ℕ). AreChecked ends.start b entries) of.bytes_are h)
 
--- what is told of the entries where they are lent
-laid_of : (end : ℕ) (lent entries : List TableEntry) → lent ≡ entries → AreLaid end (map entry_bytes lent) → AreLaid end (map entry_bytes entries)
-laid_of end lent entries same = subst (λ (xs : List TableEntry). AreLaid end (map entry_bytes xs)) same
+-- what is told of the entries where they are borrowed
+laid_of : (end : ℕ) (borrowed entries : List TableEntry) → borrowed ≡ entries → AreLaid end (map entry_bytes borrowed) → AreLaid end (map entry_bytes entries)
+laid_of end borrowed entries same = subst (λ (xs : List TableEntry). AreLaid end (map entry_bytes xs)) same
 
 pub returns-in_err-entries-clause-faulty : goal.returns-in_err-entries-clause-faulty
 returns-in_err-entries-clause-faulty c =

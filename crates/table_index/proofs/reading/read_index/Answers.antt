@@ -9,7 +9,7 @@ use Rattle.table_index.proofs.ReadLemmas.{after_ok, flat, memory_refused, passed
 use Rattle.table_index.proofs.reading.read_index.Goals as goal
 
 in_ends : (text : List ℕ) (f : IndexFault) → FailsInEnds text f → IsIndexFault text f
-in_ends text f (inl front) = inl front
+in_ends text f (inl beginning) = inl beginning
 in_ends text f (inr end) = inr (inl end)
 
 behind_ends : (text : List ℕ) (f : IndexFault) → FailsBehindEnds text f → IsIndexFault text f

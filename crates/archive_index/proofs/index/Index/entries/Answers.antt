@@ -2,9 +2,9 @@ use Rattle.std.proofs.Common.{◌∙◌, ap, sym, map}
 use Rattle.std.specs.Cmp.Lexicographic.{nat_list_cmp_total}
 use Rattle.join_core.specs.Listing.{listing}
 use Rattle.join_core.proofs.Listing.{listing_ascending}
-use Rattle.archive_records.proofs.Puts.{bytes_same}
 use Rattle.archive_index.specs.Entry.{placed_bytes}
 use Rattle.archive_index.proofs.index.Index.entries.Goals as goal
+use Rattle.archive_core.proofs.Made.{bytes_same}
 
 pub returns : goal.returns
 returns c =

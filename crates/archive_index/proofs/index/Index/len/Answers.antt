@@ -2,11 +2,11 @@ use Rattle.std.proofs.Common.{◌≡◌, arith, map, length, subst}
 use Rattle.std.proofs.Math.ListN.{length-map}
 use Rattle.std.specs.Cmp.Lexicographic.{nat_list_cmp_total}
 use Rattle.join_core.proofs.Place.{len_listed}
-use Rattle.archive_records.proofs.Puts.{bytes_same}
 use Rattle.archive_index.specs.Entry.{placed_bytes}
 use Rattle.archive_index.specs.Index.{AreIndexEntries}
 use Rattle.archive_index.proofs.Kept.{are_listed}
 use Rattle.archive_index.proofs.index.Index.len.Goals as goal
+use Rattle.archive_core.proofs.Made.{bytes_same}
 
 pub returns-clause-len : goal.returns-clause-len
 returns-clause-len c =

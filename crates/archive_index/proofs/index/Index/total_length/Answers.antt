@@ -3,10 +3,10 @@ use Rattle.std.specs.List.{sum_by}
 use Rattle.std.specs.Cmp.Lexicographic.{nat_list_cmp_total}
 use Rattle.join_core.specs.Listing.{listing}
 use Rattle.join_core.proofs.Listing.{listing_ascending}
-use Rattle.archive_records.proofs.Puts.{bytes_same}
 use Rattle.archive_index.specs.Entry.{length_in, placed_bytes}
 use Rattle.archive_index.specs.Index.{lengths_of}
 use Rattle.archive_index.proofs.index.Index.total_length.Goals as goal
+use Rattle.archive_core.proofs.Made.{bytes_same}
 
 pub sum_lengths-requires : goal.sum_lengths-requires
 sum_lengths-requires c = rw c.deref.ensures.value c.self.invariant.are

@@ -3,9 +3,9 @@ use Rattle.std.proofs.Math.ListN.{length-map}
 use Rattle.std.specs.Cmp.Lexicographic.{nat_list_cmp_total}
 use Rattle.join_core.proofs.Place.{len_listed}
 use Rattle.archive_records.specs.Entry.{entry_bytes, AreEntries}
-use Rattle.archive_records.proofs.Puts.{bytes_same}
 use Rattle.archive_records.proofs.Summarised.{AreEntries-listed}
 use Rattle.archive_records.proofs.summary.Summary.len.Goals as goal
+use Rattle.archive_core.proofs.Made.{bytes_same}
 
 pub returns-clause-len : goal.returns-clause-len
 returns-clause-len c =

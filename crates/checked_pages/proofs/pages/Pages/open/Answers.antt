@@ -1,5 +1,4 @@
-use Rattle.std.proofs.Common.{refl, ap, ◌∙◌, Err, arith}
-use Rattle.std.proofs.lemmas.Result.{err_from_is_err_and}
+use Rattle.std.proofs.Common.{refl, arith}
 use Rattle.checked_pages.specs.Views.{claim_view}
 use Rattle.checked_pages.proofs.PageLemmas.{digests_are_there, lies_within}
 use Rattle.checked_pages.proofs.ReadLemmas.{passed_on}
@@ -14,6 +13,5 @@ returns-in_default-clause-read g c = record {
 
 pub returns-in_err-digests-clause-read : goal.returns-in_err-digests-clause-read
 returns-in_err-digests-clause-read g c =
-    let p = err_from_is_err_and c.from_residual.result c.from_residual.ensures.1 in
-    passed_on _ _ _ _ _ _ _ _ _ _ _ c.in_err-digests.was (p.1 ∙ ap Err p.2)
+    passed_on _ _ _ _ _ _ _ _ _ _ _ c.in_err-digests.was c.from_residual.ensures.1
     (λ text known absent long all are. digests_are_there text all (claim_view c.args.claim) c.in-Some.len are c.in-Some.ensures.len absent) c.read_checked.ensures.read

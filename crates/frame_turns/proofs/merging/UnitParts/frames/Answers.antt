@@ -1,8 +1,8 @@
 use Rattle.std.proofs.Common.{◌∷◌, ◌-◌, ◌≡◌, ◌<◌, suc, length, refl, subst, arith}
 use Rattle.function_links.specs.LinkViews.{links_view}
 use Rattle.source_frames.specs.FrameViews.{lines_view}
-use Rattle.source_frames.specs.Frames.{path_in, place_of_row}
-use Rattle.source_frames.specs.declared.frame.Place.{Place}
+use Rattle.source_frames.specs.Frames.{path_in, location_of_row}
+use Rattle.source_frames.specs.declared.frame.SourceLocation.{SourceLocation}
 use Rattle.function_links.specs.Links.{AreFramesOfLink, frame_at_place}
 use Rattle.frame_turns.specs.UnitNumbers.{row_frames}
 use Rattle.frame_turns.proofs.NumberLemmas.{frames_of_link, frames_of_row_alone, frames_with_link, linked_still, numbers_of, paths_still, still_more}
@@ -42,9 +42,9 @@ returns-clause-is g c =
     let within : n < length c.args.self.now.linked.items = omega (arith, told.count_is, c.requires.within, c.if-number-eq0.false) in
     let inside : n < length c.args.self.now.links.links.items = omega (arith, c.requires.within, c.if-number-eq0.false) in
     let of = numbers_of (g.T.FrameTaker.tells_name c.args.taker.now) (g.T.FrameTaker.tells_frames c.args.taker.now) lines c.args.self.now.links.links.items (length c.args.self.now.links.links.items) c.args.self.now.linked.items n c.index-of.result.now told within c.index-of.ensures inside in
-    let place : ◌≡◌ {A = Place} c.of_row-place.result (place_of_row c.args.row) = c.of_row-place.ensures in
+    let place : ◌≡◌ {A = SourceLocation} c.of_row-place.result (location_of_row c.args.row) = c.of_row-place.ensures in
     let frames = frame_at_place lines of.0.name c.of_row-place.result ∷ of.2.outer in
-    let are : AreFramesOfLink lines links (place_of_row c.args.row) c.args.number frames = subst (λ (p : Place). AreFramesOfLink lines links p c.args.number frames) place
+    let are : AreFramesOfLink lines links (location_of_row c.args.row) c.args.number frames = subst (λ (p : SourceLocation). AreFramesOfLink lines links p c.args.number frames) place
     (frames_of_link lines links c.of_row-place.result c.args.number n of.0 of.2.outer some of.1 (c.requires.told.callers n of.0 of.1) of.2.are_outer) in (
       frames,
       frames_with_link lines links c.args.row c.args.number n frames some are,

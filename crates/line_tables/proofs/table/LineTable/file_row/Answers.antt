@@ -1,5 +1,4 @@
-use Rattle.std.proofs.Common.{length, Err, refl, ap, ◌∙◌, arith}
-use Rattle.std.proofs.lemmas.Result.{err_from_is_err_and}
+use Rattle.std.proofs.Common.{length, refl, arith}
 use Rattle.checked_pages.proofs.ReadLemmas.{passed_on}
 use Rattle.line_tables.proofs.OpenedLemmas.{file_number, file_read, opened_long}
 use Rattle.line_tables.proofs.table.LineTable.file_row.Goals as goal
@@ -13,8 +12,7 @@ returns-in_default-clause-read g c = record {
 
 pub returns-in_err-read-clause-read : goal.returns-in_err-read-clause-read
 returns-in_err-read-clause-read g c =
-    let p = err_from_is_err_and c.from_residual.result c.from_residual.ensures.1 in
-    passed_on _ _ _ _ _ _ _ _ _ _ _ c.in_err-read.was (p.1 ∙ ap Err p.2)
+    passed_on _ _ _ _ _ _ _ _ _ _ _ c.in_err-read.was c.from_residual.ensures.1
     (λ text known absent all steps path stored opened is.
     absent all stored opened.are_pages (omega (arith, opened_long _ _ _ _ _ opened, c.in-Some.ensures.inside, c.first_file.ensures, c.read.auto.buf)))
     c.read.ensures.read

@@ -1,5 +1,4 @@
-use Rattle.std.proofs.Common.{Err, ap, sym, subst, ◌∙◌}
-use Rattle.std.proofs.lemmas.Result.{err_from_is_err_and}
+use Rattle.std.proofs.Common.{sym, subst, ◌∙◌}
 use Rattle.checked_pages.specs.Pages.{AreStored}
 use Rattle.checked_pages.specs.Views.{claim_view}
 use Rattle.checked_pages.proofs.ReadLemmas.{after_ok, passed_on}
@@ -8,16 +7,14 @@ use Rattle.line_tables.proofs.table.LineTable.frame.Goals as goal
 
 pub returns-in_err-name-clause-read : goal.returns-in_err-name-clause-read
 returns-in_err-name-clause-read g c =
-    let p = err_from_is_err_and c.from_residual-in_err-name.result c.from_residual-in_err-name.ensures.1 in
-    passed_on _ _ _ _ _ _ _ _ _ _ _ c.in_err-name.was (p.1 ∙ ap Err p.2)
+    passed_on _ _ _ _ _ _ _ _ _ _ _ c.in_err-name.was c.from_residual-in_err-name.ensures.1
     (λ text known absent all steps told callers stored opened is. absent all steps told.name stored opened is.name)
     c.maybe_text.ensures.read
 
 pub returns-in_err-path-clause-read : goal.returns-in_err-path-clause-read
 returns-in_err-path-clause-read g c =
-    let p = err_from_is_err_and c.from_residual-in_err-path.result c.from_residual-in_err-path.ensures.1 in
     let name = c.in_ok-name.ensures.read in
-    passed_on _ _ _ _ _ _ _ _ _ _ _ c.in_err-path.was (p.1 ∙ ap Err p.2)
+    passed_on _ _ _ _ _ _ _ _ _ _ _ c.in_err-path.was c.from_residual-in_err-path.ensures.1
     (λ text known absent all steps told callers stored opened is.
     absent all steps told.path (subst (λ claim. AreStored text (claim_view claim) all) (sym c.in_ok-name.ensures.claim) stored)
     (kept _ _ _ _ _ _ opened (c.in_ok-name.ensures.keeps text all known opened.are_pages)) is.file)

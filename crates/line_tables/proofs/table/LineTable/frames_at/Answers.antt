@@ -1,5 +1,4 @@
-use Rattle.std.proofs.Common.{Err, ap, sym, subst, ◌∙◌}
-use Rattle.std.proofs.lemmas.Result.{err_from_is_err_and}
+use Rattle.std.proofs.Common.{sym, subst}
 use Rattle.checked_pages.specs.Pages.{AreStored}
 use Rattle.checked_pages.specs.Views.{claim_view}
 use Rattle.checked_pages.proofs.ReadLemmas.{after_ok, passed_on}
@@ -11,16 +10,14 @@ use Rattle.line_tables.proofs.table.LineTable.frames_at.Goals as goal
 
 pub returns-in_err-location-clause-read : goal.returns-in_err-location-clause-read
 returns-in_err-location-clause-read g c =
-    let p = err_from_is_err_and c.from_residual.result c.from_residual.ensures.1 in
-    passed_on _ _ _ _ _ _ _ _ _ _ _ c.in_err-location.was (p.1 ∙ ap Err p.2)
+    passed_on _ _ _ _ _ _ _ _ _ _ _ c.in_err-location.was c.from_residual.ensures.1
     (λ text known absent image all steps stored are opened. absent all steps stored opened)
     c.location_for.ensures.read
 
 pub returns-in_err-frames-clause-read : goal.returns-in_err-frames-clause-read
 returns-in_err-frames-clause-read g c =
-    let p = err_from_is_err_and c.from_residual-in_err-frames.result c.from_residual-in_err-frames.ensures.1 in
     let location = c.in_ok-location.ensures.read in
-    passed_on _ _ _ _ _ _ _ _ _ _ _ c.in_err-frames.was (p.1 ∙ ap Err p.2)
+    passed_on _ _ _ _ _ _ _ _ _ _ _ c.in_err-frames.was c.from_residual-in_err-frames.ensures.1
     (λ text known absent image all steps stored are opened.
     let found = location.says text known all steps are.rising opened in
     let right = c.frames_by_step.ensures image steps c.args.address found.0 c.ranges.address.fits are found.1 in

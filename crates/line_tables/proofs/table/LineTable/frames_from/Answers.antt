@@ -1,5 +1,4 @@
-use Rattle.std.proofs.Common.{Err, refl, ap, sym, subst, ◌∙◌, arith}
-use Rattle.std.proofs.lemmas.Result.{err_from_is_err_and}
+use Rattle.std.proofs.Common.{refl, sym, subst, ◌∙◌, arith}
 use Rattle.checked_pages.specs.Pages.{AreStored}
 use Rattle.checked_pages.specs.Views.{claim_view}
 use Rattle.checked_pages.proofs.ReadLemmas.{after_ok, passed_on}
@@ -29,8 +28,7 @@ returns-then-len-eq-MOST_FRAMES-clause-read g c = record {
 
 pub returns-in_err-row-clause-read : goal.returns-in_err-row-clause-read
 returns-in_err-row-clause-read g c =
-    let p = err_from_is_err_and c.from_residual-in_err-row.result c.from_residual-in_err-row.ensures.1 in
-    passed_on _ _ _ _ _ _ _ _ _ _ _ c.in_err-row.was (p.1 ∙ ap Err p.2)
+    passed_on _ _ _ _ _ _ _ _ _ _ _ c.in_err-row.was c.from_residual-in_err-row.ensures.1
     (λ text known absent all steps chain stored opened is few.
     let told = c.callers.invariant.told text all steps chain known opened is few in
     let next = maybe_cons (parts_of steps) c.callers.number told.0 c.callers-test.true told.1 in
@@ -53,9 +51,8 @@ returns-then-row-number-clause-read g c =
 
 pub returns-in_err-frame-clause-read : goal.returns-in_err-frame-clause-read
 returns-in_err-frame-clause-read g c =
-    let p = err_from_is_err_and c.from_residual-in_err-frame.result c.from_residual-in_err-frame.ensures.1 in
     let row = after_ok _ _ _ _ _ _ _ _ c.callers.invariant.whole c.callers.invariant.unfailed c.in_ok-row.ensures.read in
-    passed_on _ _ _ _ _ _ _ _ _ _ _ c.in_err-frame.was (p.1 ∙ ap Err p.2)
+    passed_on _ _ _ _ _ _ _ _ _ _ _ c.in_err-frame.was c.from_residual-in_err-frame.ensures.1
     (λ text known absent all steps chain stored opened is few.
     let told = c.callers.invariant.told text all steps chain known opened is few in
     let next = maybe_cons (parts_of steps) c.callers.number told.0 c.callers-test.true told.1 in

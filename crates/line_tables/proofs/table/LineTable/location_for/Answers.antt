@@ -1,5 +1,4 @@
-use Rattle.std.proofs.Common.{◌-◌, Err, ap, sym, subst, ◌∙◌, arith}
-use Rattle.std.proofs.lemmas.Result.{err_from_is_err_and}
+use Rattle.std.proofs.Common.{◌-◌, sym, subst, ◌∙◌, arith}
 use Rattle.checked_pages.specs.Pages.{AreStored}
 use Rattle.checked_pages.specs.Views.{claim_view}
 use Rattle.checked_pages.proofs.ReadLemmas.{after_ok, passed_on}
@@ -9,8 +8,7 @@ use Rattle.line_tables.proofs.table.LineTable.location_for.Goals as goal
 
 pub returns-in_err-count-clause-read : goal.returns-in_err-count-clause-read
 returns-in_err-count-clause-read g c =
-    let p = err_from_is_err_and c.from_residual.result c.from_residual.ensures.1 in
-    passed_on _ _ _ _ _ _ _ _ _ _ _ c.in_err-count.was (p.1 ∙ ap Err p.2)
+    passed_on _ _ _ _ _ _ _ _ _ _ _ c.in_err-count.was c.from_residual.ensures.1
     (λ text known absent all steps stored opened. absent all steps stored opened)
     c.steps_up_to.ensures.read
 
@@ -23,9 +21,8 @@ returns-then-count-eq0-clause-read g c = record {
 
 pub returns-in_err-step-clause-read : goal.returns-in_err-step-clause-read
 returns-in_err-step-clause-read g c =
-    let p = err_from_is_err_and c.from_residual-in_err-step.result c.from_residual-in_err-step.ensures.1 in
     let count = c.in_ok-count.ensures.read in
-    passed_on _ _ _ _ _ _ _ _ _ _ _ c.in_err-step.was (p.1 ∙ ap Err p.2)
+    passed_on _ _ _ _ _ _ _ _ _ _ _ c.in_err-step.was c.from_residual-in_err-step.ensures.1
     (λ text known absent all steps stored opened.
     absent all steps (subst (λ claim. AreStored text (claim_view claim) all) (sym c.in_ok-count.ensures.claim) stored)
     (kept _ _ _ _ _ _ opened (c.in_ok-count.ensures.keeps text all known opened.are_pages)))

@@ -1,5 +1,4 @@
-use Rattle.std.proofs.Common.{Err, Some, refl, ap, sym, subst, ◌∙◌}
-use Rattle.std.proofs.lemmas.Result.{err_from_is_err_and}
+use Rattle.std.proofs.Common.{Some, refl, ap, sym, subst, ◌∙◌}
 use Rattle.checked_pages.specs.Pages.{AreStored}
 use Rattle.checked_pages.specs.Views.{claim_view}
 use Rattle.checked_pages.proofs.ReadLemmas.{after_ok, passed_on}
@@ -16,8 +15,7 @@ returns-then-number-eq0-clause-read g c = record {
 
 pub returns-in_err-row-clause-read : goal.returns-in_err-row-clause-read
 returns-in_err-row-clause-read g c =
-    let p = err_from_is_err_and c.from_residual.result c.from_residual.ensures.1 in
-    passed_on _ _ _ _ _ _ _ _ _ _ _ c.in_err-row.was (p.1 ∙ ap Err p.2)
+    passed_on _ _ _ _ _ _ _ _ _ _ _ c.in_err-row.was c.from_residual.ensures.1
     (λ text known absent all steps told stored opened is.
     let some = some_file (parts_of steps) c.args.number told c.if-number-eq0.false is in
     absent all steps some.0 stored opened some.2)
@@ -25,9 +23,8 @@ returns-in_err-row-clause-read g c =
 
 pub returns-in_err-path-clause-read : goal.returns-in_err-path-clause-read
 returns-in_err-path-clause-read g c =
-    let p = err_from_is_err_and c.from_residual-in_err-path.result c.from_residual-in_err-path.ensures.1 in
     let row = c.in_ok-row.ensures.read in
-    passed_on _ _ _ _ _ _ _ _ _ _ _ c.in_err-path.was (p.1 ∙ ap Err p.2)
+    passed_on _ _ _ _ _ _ _ _ _ _ _ c.in_err-path.was c.from_residual-in_err-path.ensures.1
     (λ text known absent all steps told stored opened is.
     let some = some_file (parts_of steps) c.args.number told c.if-number-eq0.false is in
     absent all steps some.0 (subst (λ claim. AreStored text (claim_view claim) all) (sym c.in_ok-row.ensures.claim) stored)

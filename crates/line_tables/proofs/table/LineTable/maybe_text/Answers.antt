@@ -1,5 +1,4 @@
-use Rattle.std.proofs.Common.{Err, Some, refl, ap, sym, ◌∙◌}
-use Rattle.std.proofs.lemmas.Result.{err_from_is_err_and}
+use Rattle.std.proofs.Common.{Some, refl, ap, sym, ◌∙◌}
 use Rattle.checked_pages.proofs.ReadLemmas.{passed_on}
 use Rattle.line_tables.proofs.OpenedLemmas.{no_text, some_text}
 use Rattle.line_tables.specs.LineText.{parts_of}
@@ -14,8 +13,7 @@ returns-then-number-eq0-clause-read g c = record {
 
 pub returns-in_err-text-clause-read : goal.returns-in_err-text-clause-read
 returns-in_err-text-clause-read g c =
-    let p = err_from_is_err_and c.from_residual.result c.from_residual.ensures.1 in
-    passed_on _ _ _ _ _ _ _ _ _ _ _ c.in_err-text.was (p.1 ∙ ap Err p.2)
+    passed_on _ _ _ _ _ _ _ _ _ _ _ c.in_err-text.was c.from_residual.ensures.1
     (λ text known absent all steps told stored opened is.
     let some = some_text (parts_of steps) c.args.number told c.if-number-eq0.false is in
     absent all steps some.0 stored opened some.2)

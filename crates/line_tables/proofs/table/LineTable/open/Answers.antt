@@ -1,14 +1,11 @@
-use Rattle.std.proofs.Common.{length, Err, ap, sym, ◌∙◌, arith}
-use Rattle.std.proofs.lemmas.Result.{err_from_is_err_and}
+use Rattle.std.proofs.Common.{length, ap, sym, ◌∙◌, arith, length-drop}
 use Rattle.checked_pages.proofs.ReadLemmas.{passed_on}
 use Rattle.line_tables.proofs.OpeningLemmas.{head_read, opens_none, opens_not, opens_some, table_long}
-use Rattle.std.proofs.Common.{length-drop}
 use Rattle.line_tables.proofs.table.LineTable.open.Goals as goal
 
 pub returns-in_err-read-clause-read : goal.returns-in_err-read-clause-read
 returns-in_err-read-clause-read g c =
-    let p = err_from_is_err_and c.from_residual.result c.from_residual.ensures.1 in
-    passed_on _ _ _ _ _ _ _ _ _ _ _ c.in_err-read.was (p.1 ∙ ap Err p.2)
+    passed_on _ _ _ _ _ _ _ _ _ _ _ c.in_err-read.was c.from_residual.ensures.1
     (λ text known absent image all bytes stored pages stands is.
     absent all stored pages (omega (arith, stands.0, ap length stands.1, length-drop c.args.offset all, table_long image bytes is, c.read.auto.buf)))
     c.read.ensures.read

@@ -1,5 +1,4 @@
-use Rattle.std.proofs.Common.{Err, ap, sym, subst, ◌∙◌}
-use Rattle.std.proofs.lemmas.Result.{err_from_is_err_and}
+use Rattle.std.proofs.Common.{sym, subst, ◌∙◌}
 use Rattle.checked_pages.specs.Pages.{AreStored}
 use Rattle.checked_pages.specs.Views.{claim_view}
 use Rattle.checked_pages.proofs.ReadLemmas.{after_ok, passed_on}
@@ -8,16 +7,14 @@ use Rattle.line_tables.proofs.table.LineTable.path_of.Goals as goal
 
 pub returns-in_err-base-clause-read : goal.returns-in_err-base-clause-read
 returns-in_err-base-clause-read g c =
-    let p = err_from_is_err_and c.from_residual-in_err-base.result c.from_residual-in_err-base.ensures.1 in
-    passed_on _ _ _ _ _ _ _ _ _ _ _ c.in_err-base.was (p.1 ∙ ap Err p.2)
+    passed_on _ _ _ _ _ _ _ _ _ _ _ c.in_err-base.was c.from_residual-in_err-base.ensures.1
     (λ text known absent all steps told stored opened is. absent all steps told.base stored opened is.base)
     c.text.ensures.read
 
 pub returns-in_err-directory-clause-read : goal.returns-in_err-directory-clause-read
 returns-in_err-directory-clause-read g c =
-    let p = err_from_is_err_and c.from_residual-in_err-directory.result c.from_residual-in_err-directory.ensures.1 in
     let base = c.in_ok-base.ensures.read in
-    passed_on _ _ _ _ _ _ _ _ _ _ _ c.in_err-directory.was (p.1 ∙ ap Err p.2)
+    passed_on _ _ _ _ _ _ _ _ _ _ _ c.in_err-directory.was c.from_residual-in_err-directory.ensures.1
     (λ text known absent all steps told stored opened is.
     absent all steps told.directory (subst (λ claim. AreStored text (claim_view claim) all) (sym c.in_ok-base.ensures.claim) stored)
     (kept _ _ _ _ _ _ opened (c.in_ok-base.ensures.keeps text all known opened.are_pages)) is.directory)
@@ -25,10 +22,9 @@ returns-in_err-directory-clause-read g c =
 
 pub returns-in_err-name-clause-read : goal.returns-in_err-name-clause-read
 returns-in_err-name-clause-read g c =
-    let p = err_from_is_err_and c.from_residual-in_err-name.result c.from_residual-in_err-name.ensures.1 in
     let base = c.in_ok-base.ensures.read in
     let directory = after_ok _ _ _ _ _ _ _ _ base.keeps base.counts c.in_ok-directory.ensures.read in
-    passed_on _ _ _ _ _ _ _ _ _ _ _ c.in_err-name.was (p.1 ∙ ap Err p.2)
+    passed_on _ _ _ _ _ _ _ _ _ _ _ c.in_err-name.was c.from_residual-in_err-name.ensures.1
     (λ text known absent all steps told stored opened is.
     absent all steps told.name (subst (λ claim. AreStored text (claim_view claim) all) (sym (c.in_ok-directory.ensures.claim ∙ c.in_ok-base.ensures.claim)) stored)
     (kept _ _ _ _ _ _ opened (c.in_ok-directory.ensures.keeps text all (base.keeps ∙ known) (c.in_ok-base.ensures.keeps text all known opened.are_pages))) is.name)

@@ -1,13 +1,11 @@
-use Rattle.std.proofs.Common.{length, Err, ap, ◌∙◌, arith}
-use Rattle.std.proofs.lemmas.Result.{err_from_is_err_and}
+use Rattle.std.proofs.Common.{length, arith}
 use Rattle.checked_pages.proofs.ReadLemmas.{passed_on}
 use Rattle.line_tables.proofs.OpenedLemmas.{opened_long, run_read}
 use Rattle.line_tables.proofs.table.LineTable.run_at.Goals as goal
 
 pub returns-in_err-read-clause-read : goal.returns-in_err-read-clause-read
 returns-in_err-read-clause-read g c =
-    let p = err_from_is_err_and c.from_residual.result c.from_residual.ensures.1 in
-    passed_on _ _ _ _ _ _ _ _ _ _ _ c.in_err-read.was (p.1 ∙ ap Err p.2)
+    passed_on _ _ _ _ _ _ _ _ _ _ _ c.in_err-read.was c.from_residual.ensures.1
     (λ text known absent all steps stored opened. absent all stored opened.are_pages (omega (arith, opened_long _ _ _ _ _ opened, c.requires, c.first_run.ensures, c.read.auto.buf)))
     c.read.ensures.read
 

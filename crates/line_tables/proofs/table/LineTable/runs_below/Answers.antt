@@ -1,13 +1,12 @@
-use Rattle.std.proofs.Common.{ℕ, ◌+◌, ◌-◌, ◌/◌, ◌<◌, length, Err, refl, ap, sym, subst, ◌∙◌, arith}
-use Rattle.std.proofs.lemmas.Result.{err_from_is_err_and}
+use Rattle.std.proofs.Common.{ℕ, ◌+◌, ◌-◌, ◌/◌, ◌<◌, length, refl, sym, subst, ◌∙◌, arith}
 use Rattle.checked_pages.specs.Pages.{AreStored}
 use Rattle.checked_pages.specs.Views.{claim_view}
 use Rattle.checked_pages.proofs.ReadLemmas.{after_ok, passed_on}
 use Rattle.line_tables.specs.Inner.{run_halves}
 use Rattle.line_tables.specs.Runs.{runs_of}
 use Rattle.line_tables.proofs.OpenedLemmas.{kept}
-use Rattle.line_tables.proofs.RunLemmas.{uppers_rise}
-use Rattle.line_tables.proofs.SearchLemmas.{below_to, halved, others_from, runs_long, upper_of_row}
+use Rattle.line_tables.proofs.RunLemmas.{uppers_rise, uppers_long as runs_long}
+use Rattle.line_tables.proofs.SearchLemmas.{below_to, halved, others_from, upper_of_row}
 use Rattle.line_tables.proofs.table.LineTable.runs_below.Goals as goal
 
 pub halving-init : goal.halving-init
@@ -24,8 +23,7 @@ halving-init g c = record {
 
 pub returns-in_err-row-clause-read : goal.returns-in_err-row-clause-read
 returns-in_err-row-clause-read g c =
-    let p = err_from_is_err_and c.from_residual.result c.from_residual.ensures.1 in
-    passed_on _ _ _ _ _ _ _ _ _ _ _ c.in_err-row.was (p.1 ∙ ap Err p.2)
+    passed_on _ _ _ _ _ _ _ _ _ _ _ c.in_err-row.was c.from_residual.ensures.1
     (λ text known absent all steps stored opened.
     absent all steps (subst (λ claim. AreStored text (claim_view claim) all) (sym c.halving.invariant.claim) stored)
     (kept _ _ _ _ _ _ opened (c.halving.invariant.keeps text all known opened.are_pages)))

@@ -1,5 +1,4 @@
-use Rattle.std.proofs.Common.{◌-◌, ◌<◌, length, Err, ap, sym, subst, ◌∙◌, arith}
-use Rattle.std.proofs.lemmas.Result.{err_from_is_err_and}
+use Rattle.std.proofs.Common.{◌-◌, ◌<◌, length, sym, subst, ◌∙◌, arith}
 use Rattle.checked_pages.specs.Pages.{AreStored}
 use Rattle.checked_pages.specs.Views.{claim_view}
 use Rattle.checked_pages.proofs.ReadLemmas.{after_ok, passed_on}
@@ -11,8 +10,7 @@ use Rattle.line_tables.proofs.table.LineTable.steps_below.Goals as goal
 
 pub returns-in_err-runs-clause-read : goal.returns-in_err-runs-clause-read
 returns-in_err-runs-clause-read g c =
-    let p = err_from_is_err_and c.from_residual.result c.from_residual.ensures.1 in
-    passed_on _ _ _ _ _ _ _ _ _ _ _ c.in_err-runs.was (p.1 ∙ ap Err p.2)
+    passed_on _ _ _ _ _ _ _ _ _ _ _ c.in_err-runs.was c.from_residual.ensures.1
     (λ text known absent all steps stored opened. absent all steps stored opened)
     c.runs_below.ensures.read
 
@@ -25,9 +23,8 @@ returns-then-runs-eq0-clause-read g c = record {
 
 pub returns-in_err-last-clause-read : goal.returns-in_err-last-clause-read
 returns-in_err-last-clause-read g c =
-    let p = err_from_is_err_and c.from_residual-in_err-last.result c.from_residual-in_err-last.ensures.1 in
     let runs = c.in_ok-runs.ensures.read in
-    passed_on _ _ _ _ _ _ _ _ _ _ _ c.in_err-last.was (p.1 ∙ ap Err p.2)
+    passed_on _ _ _ _ _ _ _ _ _ _ _ c.in_err-last.was c.from_residual-in_err-last.ensures.1
     (λ text known absent all steps stored opened.
     absent all steps (subst (λ claim. AreStored text (claim_view claim) all) (sym c.in_ok-runs.ensures.claim) stored)
     (kept _ _ _ _ _ _ opened (c.in_ok-runs.ensures.keeps text all known opened.are_pages)))

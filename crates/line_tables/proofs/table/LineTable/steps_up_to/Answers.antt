@@ -1,5 +1,4 @@
-use Rattle.std.proofs.Common.{ℕ, ◌+◌, ◌-◌, ◌/◌, ◌<◌, ◌≤◌, Err, refl, ap, sym, subst, ◌∙◌, arith}
-use Rattle.std.proofs.lemmas.Result.{err_from_is_err_and}
+use Rattle.std.proofs.Common.{ℕ, ◌+◌, ◌-◌, ◌/◌, ◌<◌, ◌≤◌, refl, sym, subst, ◌∙◌, arith}
 use Rattle.checked_pages.specs.Pages.{AreStored}
 use Rattle.checked_pages.specs.Views.{claim_view}
 use Rattle.checked_pages.proofs.ReadLemmas.{after_ok, passed_on}
@@ -12,16 +11,14 @@ use Rattle.line_tables.proofs.table.LineTable.steps_up_to.Goals as goal
 
 pub returns-in_err-low-clause-read : goal.returns-in_err-low-clause-read
 returns-in_err-low-clause-read g c =
-    let p = err_from_is_err_and c.from_residual.result c.from_residual.ensures.1 in
-    passed_on _ _ _ _ _ _ _ _ _ _ _ c.in_err-low.was (p.1 ∙ ap Err p.2)
+    passed_on _ _ _ _ _ _ _ _ _ _ _ c.in_err-low.was c.from_residual.ensures.1
     (λ text known absent all steps stored opened. absent all steps stored opened)
     c.steps_below.ensures.read
 
 pub returns-in_err-high-clause-read : goal.returns-in_err-high-clause-read
 returns-in_err-high-clause-read g c =
-    let p = err_from_is_err_and c.from_residual-in_err-high.result c.from_residual-in_err-high.ensures.1 in
     let low = c.in_ok-low.ensures.read in
-    passed_on _ _ _ _ _ _ _ _ _ _ _ c.in_err-high.was (p.1 ∙ ap Err p.2)
+    passed_on _ _ _ _ _ _ _ _ _ _ _ c.in_err-high.was c.from_residual-in_err-high.ensures.1
     (λ text known absent all steps stored opened.
     absent all steps (subst (λ claim. AreStored text (claim_view claim) all) (sym c.in_ok-low.ensures.claim) stored)
     (kept _ _ _ _ _ _ opened (c.in_ok-low.ensures.keeps text all known opened.are_pages)))
@@ -89,12 +86,11 @@ halving-preserved g c =
 
 pub returns-in_err-step-clause-read : goal.returns-in_err-step-clause-read
 returns-in_err-step-clause-read g c =
-    let p = err_from_is_err_and c.from_residual-in_err-step.result c.from_residual-in_err-step.ensures.1 in
     let low = c.in_ok-low.ensures.read in
     let high = c.in_ok-high.ensures.read in
     let keeps = c.halving.invariant.whole ∙ high.keeps ∙ low.keeps in
     let counts = c.halving.invariant.unfailed ∙ high.counts ∙ low.counts in
-    passed_on _ _ _ _ _ _ _ _ _ _ _ c.in_err-step.was (p.1 ∙ ap Err p.2)
+    passed_on _ _ _ _ _ _ _ _ _ _ _ c.in_err-step.was c.from_residual-in_err-step.ensures.1
     (λ text known absent all steps stored opened.
     let first = c.in_ok-low.ensures.keeps text all known opened.are_pages in
     let second = c.in_ok-high.ensures.keeps text all (low.keeps ∙ known) first in

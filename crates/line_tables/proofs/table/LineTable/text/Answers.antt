@@ -1,5 +1,4 @@
-use Rattle.std.proofs.Common.{Err, refl, ap, sym, subst, ◌∙◌, arith}
-use Rattle.std.proofs.lemmas.Result.{err_from_is_err_and}
+use Rattle.std.proofs.Common.{refl, sym, subst, ◌∙◌, arith}
 use Rattle.std.proofs.lemmas.Option.{same_Some}
 use Rattle.checked_pages.specs.Pages.{AreStored}
 use Rattle.checked_pages.specs.Views.{claim_view}
@@ -19,16 +18,14 @@ returns-in_default-clause-read g c = record {
 
 pub returns-in_err-row-clause-read : goal.returns-in_err-row-clause-read
 returns-in_err-row-clause-read g c =
-    let p = err_from_is_err_and c.from_residual.result c.from_residual.ensures.1 in
-    passed_on _ _ _ _ _ _ _ _ _ _ _ c.in_err-row.was (p.1 ∙ ap Err p.2)
+    passed_on _ _ _ _ _ _ _ _ _ _ _ c.in_err-row.was c.from_residual.ensures.1
     (λ text known absent all steps told stored opened is. absent all steps stored opened)
     c.text_row.ensures.read
 
 pub returns-in_err-bytes-clause-read : goal.returns-in_err-bytes-clause-read
 returns-in_err-bytes-clause-read g c =
-    let p = err_from_is_err_and c.from_residual-in_err-bytes.result c.from_residual-in_err-bytes.ensures.1 in
     let row = c.in_ok-row.ensures.read in
-    passed_on _ _ _ _ _ _ _ _ _ _ _ c.in_err-bytes.was (p.1 ∙ ap Err p.2)
+    passed_on _ _ _ _ _ _ _ _ _ _ _ c.in_err-bytes.was c.from_residual-in_err-bytes.ensures.1
     (λ text known absent all steps told stored opened is.
     absent all steps c.in-Some.index (subst (λ claim. AreStored text (claim_view claim) all) (sym c.in_ok-row.ensures.claim) stored)
     (kept _ _ _ _ _ _ opened (c.in_ok-row.ensures.keeps text all known opened.are_pages)) (omega (arith, c.in-Some.ensures.inside, opened.head.texts))

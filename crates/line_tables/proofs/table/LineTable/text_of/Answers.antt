@@ -1,5 +1,4 @@
-use Rattle.std.proofs.Common.{length, Err, Some, refl, ap, sym, ◌∙◌, arith}
-use Rattle.std.proofs.lemmas.Result.{err_from_is_err_and}
+use Rattle.std.proofs.Common.{length, Some, refl, ap, sym, ◌∙◌, arith}
 use Rattle.checked_pages.proofs.ReadLemmas.{passed_on}
 use Rattle.std.proofs.lemmas.List.{take_at}
 use Rattle.line_tables.proofs.OpenedLemmas.{opened_long, text_ends, text_read}
@@ -15,8 +14,7 @@ returns-then-end-self-clause-read g c = record {
 
 pub returns-in_err-read-clause-read : goal.returns-in_err-read-clause-read
 returns-in_err-read-clause-read g c =
-    let p = err_from_is_err_and c.from_residual-in_err-read.result c.from_residual-in_err-read.ensures.1 in
-    passed_on _ _ _ _ _ _ _ _ _ _ _ c.in_err-read.was (p.1 ∙ ap Err p.2)
+    passed_on _ _ _ _ _ _ _ _ _ _ _ c.in_err-read.was c.from_residual-in_err-read.ensures.1
     (λ text known absent all steps index stored opened within is.
     absent all stored opened.are_pages
     (omega (arith, opened_long _ _ _ _ _ opened, text_ends _ _ _ _ _ opened index c.args.row within is, c.first_byte.ensures, c.read.auto.buf, c.in_ok-bytes.ensures.long, c.from-3.ensures)))

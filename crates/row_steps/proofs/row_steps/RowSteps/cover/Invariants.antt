@@ -1,4 +1,4 @@
-use Rattle.std.proofs.Common.{ℕ, ◌≡◌, ◌≢◌, ◌<◌, ◌≤◌, ◌+◌, ◌-◌, length, slice_index, get_or, None, Some}
+use Rattle.std.proofs.Common.{ℕ, ◌≡◌, ◌≢◌, ◌<◌, ◌≤◌, ◌-◌, length, slice_index, get_or, None, Some}
 use Rattle.waiting_indexes.specs.Waiting.{Waits}
 use Rattle.row_steps.proofs.row_steps.RowSteps.cover.Given as goal
 

@@ -1,4 +1,4 @@
-use Rattle.std.proofs.Common.{ℕ, ◌≡◌, List}
+use Rattle.std.proofs.Common.{◌≡◌}
 use Rattle.std.specs.Prelude.{IfSome}
 use Rattle.row_steps.specs.RowCover.{AreKnown}
 use Rattle.waiting_indexes.specs.Rising.{IsCountBelow}

@@ -20,4 +20,4 @@ returns c old all rest parting =
     let kept = c.in_ok-first.ensures.kept ∙ ap (set.insert (from_list c.args.seen.now)) c.retirement_bytes.ensures in
     let put = retirement_put old all rest c.args.self.now.admissions.items c.args.self.now.retirements.items (from_list c.args.seen.now) (Retire c.args.key c.args.digest) parting refl c.retirement.ensures.operation in
     parting_as old all rest c.args.self.now.admissions.items c.args.self.now.retirements.items c.push.new.self.items _ (from_list c.keep.new.self) (Retire c.args.key c.args.digest) c.retirement.result put
-    c.in_ok-push.ensures.items c.retirement.ensures.retirement kept
+    c.in_ok-push.ensures.items c.retirement.ensures.is kept

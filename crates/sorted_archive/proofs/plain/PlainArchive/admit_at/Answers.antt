@@ -31,21 +31,21 @@ pub returns-then-retires-clause-taken : goal.returns-then-retires-clause-taken
 returns-then-retires-clause-taken c =
     let o = c.args.self.now in
     let slice = c.keep_digest.new.slice in
-    let covered : is_covered o (admission_record slice) ≡ true = covered_slice o slice c.retires.ensures.valid ∙ rw (c.of-lent.ensures, c.deref.ensures.value, c.self.view_is) at (sym c.retires.ensures.retires ∙ c.if-retires.true) in
+    let covered : is_covered o (admission_record slice) ≡ true = covered_slice o slice c.retires.ensures.valid ∙ rw (c.of-borrowed.ensures, c.deref.ensures.value, c.self.view_is) at (sym c.retires.ensures.retires ∙ c.if-retires.true) in
     rw (← c.keep_digest.ensures) (c.self.view_is ∙ sym (with_known o (admission_record slice) (subst IsMade c.self.view_is c.self.invariant.itself) (or_right (set.contains o (admission_record slice)) (is_covered o (admission_record slice)) covered)))
 
 pub returns-then-retires-clause-place : goal.returns-then-retires-clause-place
 returns-then-retires-clause-place c =
     let o = c.args.self.now in
     let slice = c.keep_digest.new.slice in
-    let covered : is_covered o (admission_record slice) ≡ true = covered_slice o slice c.retires.ensures.valid ∙ rw (c.of-lent.ensures, c.deref.ensures.value, c.self.view_is) at (sym c.retires.ensures.retires ∙ c.if-retires.true) in
+    let covered : is_covered o (admission_record slice) ≡ true = covered_slice o slice c.retires.ensures.valid ∙ rw (c.of-borrowed.ensures, c.deref.ensures.value, c.self.view_is) at (sym c.retires.ensures.retires ∙ c.if-retires.true) in
     rw (← c.keep_digest.ensures) ((known_changes o (admission_record slice) (or_right (set.contains o (admission_record slice)) (is_covered o (admission_record slice)) covered), c.self.view_is))
 
 pub invariant_of-self-in-Err : goal.invariant_of-self-in-Err
 invariant_of-self-in-Err c =
     let o = c.args.self.now in
     let slice = c.keep_digest.new.slice in
-    let free : is_covered o (admission_record slice) ≡ false = covered_slice o slice c.retires.ensures.valid ∙ rw (c.of-lent.ensures, c.deref.ensures.value, c.self.view_is) at (sym c.retires.ensures.retires ∙ c.if-retires.false) in
+    let free : is_covered o (admission_record slice) ≡ false = covered_slice o slice c.retires.ensures.valid ∙ rw (c.of-borrowed.ensures, c.deref.ensures.value, c.self.view_is) at (sym c.retires.ensures.retires ∙ c.if-retires.false) in
     rw c.in_ok-insert-in-Err.ensures.items
     (held_admission c.self.inside.operations.items c.in-Err.index slice c.self.invariant c.retires.ensures.valid (rw (← c.deref-2.ensures.value) c.in-Err.ensures.found.absent) (rw c.self.view_is free))
 
@@ -67,7 +67,7 @@ pub returns-in_ok-insert-in-Err-clause-taken : goal.returns-in_ok-insert-in-Err-
 returns-in_ok-insert-in-Err-clause-taken c =
     let o = c.args.self.now in
     let slice = c.keep_digest.new.slice in
-    let free : is_covered o (admission_record slice) ≡ false = covered_slice o slice c.retires.ensures.valid ∙ rw (c.of-lent.ensures, c.deref.ensures.value, c.self.view_is) at (sym c.retires.ensures.retires ∙ c.if-retires.false) in
+    let free : is_covered o (admission_record slice) ≡ false = covered_slice o slice c.retires.ensures.valid ∙ rw (c.of-borrowed.ensures, c.deref.ensures.value, c.self.view_is) at (sym c.retires.ensures.retires ∙ c.if-retires.false) in
     rw (← c.keep_digest.ensures) (ap (λ items. set.from_list {R = slice_cmp nat_cmp} (map record_bytes items)) c.in_ok-insert-in-Err.ensures.items
     ∙ records_insert c.self.inside.operations.items c.in-Err.index (Admit slice)
     ∙ ap (λ s. set.insert s (admission_record slice)) c.self.view_is
@@ -79,7 +79,7 @@ returns-in_ok-insert-in-Err-clause-place c =
     let slice = c.keep_digest.new.slice in
     let items = c.self.inside.operations.items in
     let index = c.in-Err.index in
-    let free : is_covered o (admission_record slice) ≡ false = covered_slice o slice c.retires.ensures.valid ∙ rw (c.of-lent.ensures, c.deref.ensures.value, c.self.view_is) at (sym c.retires.ensures.retires ∙ c.if-retires.false) in
+    let free : is_covered o (admission_record slice) ≡ false = covered_slice o slice c.retires.ensures.valid ∙ rw (c.of-borrowed.ensures, c.deref.ensures.value, c.self.view_is) at (sym c.retires.ensures.retires ∙ c.if-retires.false) in
     let held = held_admission items index slice c.self.invariant c.retires.ensures.valid (rw (← c.deref-2.ensures.value) c.in-Err.ensures.found.absent) (rw c.self.view_is free) in
     rw (← c.keep_digest.ensures) (
       new_changes o (admission_record slice) (rw (← c.self.view_is, ← c.deref-2.ensures.value) c.in-Err.ensures.found.absent.absent) free,

@@ -15,7 +15,7 @@ operations-preserved c =
     let old = c.operations.missing.items in
     let new = c.if-not-knows.missing.items in
     let test = λ (operation : Operation). changes self (record_bytes operation) in
-    let told = ap (λ o. changes o (record_bytes a)) (sym c.lend-lent.ensures.lent) in
+    let told = ap (λ o. changes o (record_bytes a)) (sym c.lend-borrowed.ensures.borrowed) in
     elim c.if-not-knows.branch [
       | then-not-knows+in_ok-clone-2+in_ok-copy+in_ok-push w ↦
           one_kept test operations i a c.operations-test.true c.operation-item.is old new w.in_ok-copy.copy (told ∙ w.if-not-knows.ensures.changes) c.operations.invariant w.in_ok-copy.ensures

@@ -16,14 +16,14 @@ loop-entry-init c =
 
 pub loop-entry-preserved : goal.loop-entry-preserved
 loop-entry-preserved c =
-    let before = λ (d : Entry). subst (λ (rest : List EntryRecord). Completes (sections_view c.args.self.now.sections) (lines_view c.args.lines.now) (unit_view c.args.unit.now) c.loop-entry.place c.args.innermost rest (map (λ e. entry_view e) c.args.chain.now) (map (λ f. frame_view f) c.loop-entry.frames.items))
+    let before = λ (d : Entry). subst (λ (rest : List EntryRecord). Completes (sections_view c.args.self.now.sections) (lines_view c.args.lines.now) (unit_view c.args.unit.now) c.loop-entry.location c.args.innermost rest (map (λ e. entry_view e) c.args.chain.now) (map (λ f. frame_view f) c.loop-entry.frames.items))
     (entries_left c.args.chain.now c.loop-entry.entry-index d (omega arith)) c.loop-entry.invariant in
     let added = ap (map (λ f. frame_view f)) c.in_ok-push.ensures.items ∙ map-append (λ f. frame_view f) c.loop-entry.frames.items _ in
-    completes_more (sections_view c.args.self.now.sections) (lines_view c.args.lines.now) (unit_view c.args.unit.now) c.loop-entry.place c.args.innermost c.of_call-place.result _ (map (λ y. entry_view y) (drop (c.loop-entry.entry-index + 1) c.args.chain.now))
-    (map (λ y. entry_view y) c.args.chain.now) (map (λ f. frame_view f) c.loop-entry.frames.items) _ (frame_view c.frame-frame.result) c.of_call-place.ensures (before _) c.frame-frame.ensures added
+    completes_more (sections_view c.args.self.now.sections) (lines_view c.args.lines.now) (unit_view c.args.unit.now) c.loop-entry.location c.args.innermost c.of_call-location.result _ (map (λ y. entry_view y) (drop (c.loop-entry.entry-index + 1) c.args.chain.now))
+    (map (λ y. entry_view y) c.args.chain.now) (map (λ f. frame_view f) c.loop-entry.frames.items) _ (frame_view c.frame-frame.result) c.of_call-location.ensures (before _) c.frame-frame.ensures added
 
 pub returns : goal.returns
 returns c =
     let none = entries_none c.args.chain.now c.loop-entry.entry-index (omega arith) in
-    completes_all (sections_view c.args.self.now.sections) (lines_view c.args.lines.now) (unit_view c.args.unit.now) c.loop-entry.place c.args.innermost (map (λ e. entry_view e) c.args.chain.now) (map (λ f. frame_view f) c.loop-entry.frames.items)
-    (subst (λ (rest : List EntryRecord). Completes (sections_view c.args.self.now.sections) (lines_view c.args.lines.now) (unit_view c.args.unit.now) c.loop-entry.place c.args.innermost rest (map (λ e. entry_view e) c.args.chain.now) (map (λ f. frame_view f) c.loop-entry.frames.items)) none c.loop-entry.invariant)
+    completes_all (sections_view c.args.self.now.sections) (lines_view c.args.lines.now) (unit_view c.args.unit.now) c.loop-entry.location c.args.innermost (map (λ e. entry_view e) c.args.chain.now) (map (λ f. frame_view f) c.loop-entry.frames.items)
+    (subst (λ (rest : List EntryRecord). Completes (sections_view c.args.self.now.sections) (lines_view c.args.lines.now) (unit_view c.args.unit.now) c.loop-entry.location c.args.innermost rest (map (λ e. entry_view e) c.args.chain.now) (map (λ f. frame_view f) c.loop-entry.frames.items)) none c.loop-entry.invariant)

@@ -8,5 +8,5 @@ use Rattle.source_frames.proofs.debug_info.DebugInfo.frames_from.Given as goal
 
 abbrev pub invariant-loop-entry : goal.invariant-loop-entry
 invariant-loop-entry l =
-    Completes (sections_view l.self.sections) (lines_view l.lines) (unit_view l.unit) l.place l.fn.innermost
+    Completes (sections_view l.self.sections) (lines_view l.lines) (unit_view l.unit) l.location l.fn.innermost
     (map (λ e. entry_view e) (drop l.entry-index l.chain)) (map (λ e. entry_view e) l.chain) (map (λ f. frame_view f) l.frames.items)

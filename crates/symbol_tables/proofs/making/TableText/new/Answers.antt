@@ -16,4 +16,4 @@ returns c =
     let counted : c.len-2.result ≡ length c.args.lines.items = search rules in
     text_is image c.sections-sections.result.now c.in_ok-rows.rows.items c.text_base.result _ _ _ _ _ _ _ _ _ _ (subst (λ b. AreSectionsOf b c.sections-sections.result.now) same c.sections-sections.ensures)
     (subst (λ b. AreSteps b c.in_ok-rows.rows.items) same c.in_ok-rows.ensures) c.text_base.ensures (c.strings-strings.ensures.is ∙ ap strings_of same) refl long refl counted c.in_ok-push_head.ensures.base
-    (subst (All IsRow) c.deref.ensures.value c.in_ok-push_rows.ensures.fit) c.new-front.ensures.items c.in_ok-push_head.ensures.pushed c.in_ok-push_sections.ensures (c.in_ok-push_rows.ensures.pushed ∙ ap (λ rows. c.push_sections.new.text.items ++ rows_bytes rows) c.deref.ensures.value) small
+    (subst (All IsRow) c.deref.ensures.value c.in_ok-push_rows.ensures.fit) c.new-own.ensures.items c.in_ok-push_head.ensures.pushed c.in_ok-push_sections.ensures (c.in_ok-push_rows.ensures.pushed ∙ ap (λ rows. c.push_sections.new.text.items ++ rows_bytes rows) c.deref.ensures.value) small

@@ -1,6 +1,6 @@
 use Rattle.std.proofs.Common.{subst}
 use Rattle.checked_pages.proofs.ReadLemmas.{after_ok}
-use Rattle.symbol_tables.specs.Asked.{IsSaid}
+use Rattle.symbol_tables.specs.Found.{IsSaid}
 use Rattle.symbol_tables.proofs.FoundLemmas.{found_said}
 use Rattle.symbol_tables.proofs.table.Table.found.Goals as goal
 

@@ -1,6 +1,5 @@
-use Rattle.std.proofs.Common.{◌==◌, drop, Err, Some, None, ap, sym, subst, ◌∙◌, arith}
+use Rattle.std.proofs.Common.{◌==◌, drop, Some, None, ap, sym, subst, ◌∙◌, arith}
 use Rattle.std.specs.List.{before_first}
-use Rattle.std.proofs.lemmas.Result.{err_from_is_err_and}
 use Rattle.checked_pages.specs.Pages.{AreStored}
 use Rattle.checked_pages.specs.Views.{claim_view}
 use Rattle.checked_pages.proofs.ReadLemmas.{after_ok, passed_on}
@@ -14,8 +13,7 @@ use Rattle.symbol_tables.proofs.table.Table.nearest.Goals as goal
 
 pub returns-in_err-row-clause-read : goal.returns-in_err-row-clause-read
 returns-in_err-row-clause-read g c =
-    let p = err_from_is_err_and c.from_residual.result c.from_residual.ensures.1 in
-    passed_on _ _ _ _ _ _ _ _ _ _ _ c.in_err-row.was (p.1 ∙ ap Err p.2)
+    passed_on _ _ _ _ _ _ _ _ _ _ _ c.in_err-row.was c.from_residual.ensures.1
     (λ text known absent t opened stored. absent (table_bytes t) stored opened.pages (omega (arith, length-table t opened.fits, opened.head.rows, opened.head.sections, c.first_row-first.ensures)))
     c.row_for.ensures.read
 
@@ -41,9 +39,8 @@ returns-then-row-eq0-clause-read g c = record {
 
 pub returns-in_err-name-clause-read : goal.returns-in_err-name-clause-read
 returns-in_err-name-clause-read g c =
-    let p = err_from_is_err_and c.from_residual-in_err-name.result c.from_residual-in_err-name.ensures.1 in
     let row = c.in_ok-row.ensures.read in
-    passed_on _ _ _ _ _ _ _ _ _ _ _ c.in_err-name.was (p.1 ∙ ap Err p.2)
+    passed_on _ _ _ _ _ _ _ _ _ _ _ c.in_err-name.was c.from_residual-in_err-name.ensures.1
     (λ text known absent t opened stored.
     absent (table_bytes t) (subst (λ claim. AreStored text (claim_view claim) (table_bytes t)) (sym c.in_ok-row.ensures.claim) stored)
     (c.in_ok-row.ensures.keeps text (table_bytes t) known opened.pages)

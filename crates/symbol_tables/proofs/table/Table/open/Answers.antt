@@ -1,5 +1,4 @@
-use Rattle.std.proofs.Common.{Err, ap, sym, subst, ◌∙◌, arith}
-use Rattle.std.proofs.lemmas.Result.{err_from_is_err_and}
+use Rattle.std.proofs.Common.{sym, subst, ◌∙◌, arith}
 use Rattle.checked_pages.specs.Pages.{AreStored}
 use Rattle.checked_pages.specs.Views.{ArePagesOf, claim_view}
 use Rattle.checked_pages.proofs.PageLemmas.{may_be}
@@ -10,14 +9,12 @@ use Rattle.symbol_tables.proofs.table.Table.open.Goals as goal
 
 pub returns-in_err-pages-clause-read : goal.returns-in_err-pages-clause-read
 returns-in_err-pages-clause-read g c =
-    let p = err_from_is_err_and c.from_residual.result c.from_residual.ensures.1 in
-    passed_on _ _ _ _ _ _ _ _ _ _ _ c.in_err-pages.was (p.1 ∙ ap Err p.2) (λ text known absent long t fits stored. absent long (table_bytes t) stored) c.open.ensures.read
+    passed_on _ _ _ _ _ _ _ _ _ _ _ c.in_err-pages.was c.from_residual.ensures.1 (λ text known absent long t fits stored. absent long (table_bytes t) stored) c.open.ensures.read
 
 pub returns-in_err-read-clause-read : goal.returns-in_err-read-clause-read
 returns-in_err-read-clause-read g c =
-    let p = err_from_is_err_and c.from_residual-in_err-read.result c.from_residual-in_err-read.ensures.1 in
     let opened = c.in_ok-pages.ensures.read in
-    passed_on _ _ _ _ _ _ _ _ _ _ _ c.in_err-read.was (p.1 ∙ ap Err p.2)
+    passed_on _ _ _ _ _ _ _ _ _ _ _ c.in_err-read.was c.from_residual-in_err-read.ensures.1
     (λ text known absent long t fits stored.
     absent (table_bytes t) (subst (λ claim. AreStored text (claim_view claim) (table_bytes t)) (sym c.in_ok-pages.ensures.claim) stored)
     (opened.says text known (table_bytes t) (may_be text (table_bytes t) (claim_view c.args.claim) stored)) (omega (arith, length-table t fits, c.read.auto.buf)))

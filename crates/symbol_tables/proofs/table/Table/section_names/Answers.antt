@@ -1,5 +1,4 @@
-use Rattle.std.proofs.Common.{◌≡◌, List, ℕ, length, Err, ap, sym, refl, ◌∙◌, arith}
-use Rattle.std.proofs.lemmas.Result.{err_from_is_err_and}
+use Rattle.std.proofs.Common.{ap, sym, refl, ◌∙◌, arith}
 use Rattle.checked_pages.proofs.ReadLemmas.{passed_on}
 use Rattle.symbol_tables.specs.Table.{table_bytes}
 use Rattle.symbol_tables.specs.Found.{names_at}
@@ -21,8 +20,7 @@ returns-then-sect-eq0-clause-read g c = record {
 
 pub returns-in_err-read-clause-read : goal.returns-in_err-read-clause-read
 returns-in_err-read-clause-read g c =
-    let p = err_from_is_err_and c.from_residual.result c.from_residual.ensures.1 in
-    passed_on _ _ _ _ _ _ _ _ _ _ _ c.in_err-read.was (p.1 ∙ ap Err p.2)
+    passed_on _ _ _ _ _ _ _ _ _ _ _ c.in_err-read.was c.from_residual.ensures.1
     (λ text known absent t opened stored.
     absent (table_bytes t) stored opened.pages
     (omega (arith, length-table t opened.fits, opened.head.sections, c.if-sect-eq0.false, c.from.ensures, c.from-2.ensures, c.if-from-self.false, c.read.auto.buf)))

@@ -9,4 +9,4 @@ run_under-requires-clause-entries c = subst AreTableEntries (sym c.deref.ensures
 pub returns : goal.returns
 returns c =
     let run = c.run_under.result in
-    subst (λ (es : List (List ℕ)). IsRun (is_tagged c.args.tag c.args.front.now) es run.0 run.1) (ap (map entry_bytes) c.deref.ensures.value ∙ c.self.view_is) c.run_under.ensures
+    subst (λ (es : List (List ℕ)). IsRun (is_tagged c.args.tag c.args.prefix.now) es run.0 run.1) (ap (map entry_bytes) c.deref.ensures.value ∙ c.self.view_is) c.run_under.ensures

@@ -6,9 +6,10 @@ use Rattle.debug_entries.specs.EntryViews.{entry_view, unread_view}
 use Rattle.source_frames.specs.Scopes.{is_function, left_after_scope}
 use Rattle.source_frames.specs.SectionsViews.{sections_view}
 use Rattle.source_frames.specs.UnitViews.{unit_view}
-use Rattle.unit_functions.proofs.AddingLemmas.{none_pushed, none_taken, ranges_added, takes_added, takes_none}
+use Rattle.unit_functions.proofs.AddingLemmas.{none_pushed, ranges_added, takes_added, takes_none}
 use Rattle.unit_functions.proofs.NameLemmas.{named_closed}
 use Rattle.unit_functions.proofs.functions.Functions.take.Goals as goal
+use Rattle.source_frames.proofs.SettledLemmas.{none_taken}
 
 pub returns-then-not-is_function : goal.returns-then-not-is_function
 returns-then-not-is_function c =

@@ -1,4 +1,4 @@
-use Rattle.std.proofs.Common.{ℕ, ◌≡◌, ◌≢◌, ◌<◌, ◌≤◌, ◌-◌, length, slice_index}
+use Rattle.std.proofs.Common.{ℕ, ◌≢◌, ◌<◌, ◌≤◌, ◌-◌, length, slice_index}
 use Rattle.waiting_indexes.specs.Waiting.{WaitTheSame}
 use Rattle.waiting_indexes.proofs.waiting.Waiting.first_from.Given as goal
 

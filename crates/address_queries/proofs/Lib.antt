@@ -1,0 +1,3 @@
+pub mod Sourced
+pub mod Answered
+pub mod Framed

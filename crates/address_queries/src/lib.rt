@@ -1,0 +1,20 @@
+//! The commands that answer addresses, with the nearest symbol of each or with its source frames, over any sources and
+//! sinks.
+//!
+//! - `sources`: the source frames of places in the slices that answer under a key;
+//! - `asked_frames`: frames, as questions in the order of their keys;
+//! - `symbolicate`, `frames`: a command each.
+//!
+//! # Why it is so
+//!
+//! - Frames are sorted by key and address, so that one slice is asked at a time, and their lines are put together
+//!   as bytes. All frames of a key are answered at once, so that the DWARF of a slice is read once.
+#![tactic(auto)]
+
+mod asked_frames;
+mod frames;
+mod sources;
+mod symbolicate;
+
+pub use frames::{answer_frames, run_frames};
+pub use symbolicate::{answer_each, asked_of, places_of, run_symbolicate, status_behind};

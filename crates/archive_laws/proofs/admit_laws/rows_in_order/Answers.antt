@@ -1,5 +1,0 @@
-use Rattle.archive_laws.proofs.Orders.{rows_of}
-use Rattle.archive_laws.proofs.admit_laws.rows_in_order.Goals as goal
-
-pub returns : goal.returns
-returns c = rows_of

@@ -1,5 +1,0 @@
-use Rattle.archive_laws.proofs.Accepted.{archive}
-use Rattle.archive_laws.proofs.migrate_laws.accepted_archive_is_not_refused.Goals as goal
-
-pub returns : goal.returns
-returns g c = λ input o place why content given refused. archive input o why content given refused.1

@@ -1,5 +1,0 @@
-use Rattle.archive_laws.proofs.Joins.{join_refused}
-use Rattle.archive_laws.proofs.name_laws.accepted_archives_are_not_refused.Goals as goal
-
-pub returns : goal.returns
-returns g c = λ archive others o sought place why given refused. join_refused archive others o given place why refused

@@ -1,9 +1,0 @@
-use Rattle.archive_queries.specs.Name.{TellsNamed}
-use Rattle.archive_laws.proofs.Joins.{told_of_join}
-use Rattle.archive_laws.proofs.name_laws.one_report.Goals as goal
-
-pub returns : goal.returns
-returns g c = λ archive others also more o sought status other_status text other_text given also_given makes also_makes.
-    c.one_telling.ensures o sought status other_status text other_text
-    (told_of_join archive others o given (λ p. TellsNamed p sought status text) makes)
-    (told_of_join also more o also_given (λ p. TellsNamed p sought other_status other_text) also_makes)

@@ -1,0 +1,15 @@
+use Rattle.command_core.specs.Found.{TellsFound}
+use Rattle.archive_queries.specs.Name.{TellsNamed}
+use Rattle.address_queries.specs.Symbolicate.{TellsAddresses}
+use Rattle.archive_laws.proofs.FramesTold.{as_one}
+use Rattle.archive_laws.proofs.Joins.{as_merged}
+use Rattle.archive_laws.proofs.report_laws.asked_together.Goals as goal
+
+pub returns : goal.returns
+returns g c = record {
+  find = λ archive others file uuid m status text. as_merged archive others file m (λ p. TellsFound p uuid status text);
+  name = λ archive others file sought m status text. as_merged archive others file m (λ p. TellsNamed p sought status text);
+  symbolicate = λ archive others file key load lines addresses m status text.
+      as_merged archive others file m (λ p. TellsAddresses p key load lines addresses status text);
+  frames = λ lines input archive others file m status text. as_one lines input archive others file m status text;
+}

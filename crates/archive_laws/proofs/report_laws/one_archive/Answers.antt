@@ -1,0 +1,14 @@
+use Rattle.command_core.specs.Found.{TellsFound}
+use Rattle.archive_queries.specs.Name.{TellsNamed}
+use Rattle.address_queries.specs.Symbolicate.{TellsAddresses}
+use Rattle.archive_laws.proofs.FramesTold.{as_alone}
+use Rattle.archive_laws.proofs.Joins.{alone_held}
+use Rattle.archive_laws.proofs.report_laws.one_archive.Goals as goal
+
+pub returns : goal.returns
+returns g c = record {
+  find = λ archive uuid status text. alone_held archive (λ o. TellsFound o uuid status text);
+  name = λ archive sought status text. alone_held archive (λ o. TellsNamed o sought status text);
+  symbolicate = λ archive key load lines addresses status text. alone_held archive (λ o. TellsAddresses o key load lines addresses status text);
+  frames = λ lines input archive status text. as_alone lines input archive status text;
+}

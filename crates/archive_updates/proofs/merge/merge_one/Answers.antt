@@ -1,7 +1,0 @@
-use Rattle.archive_updates.proofs.AtHand.{lent_from}
-use Rattle.archive_updates.proofs.merge.merge_one.Goals as goal
-
-pub returns : goal.returns
-returns g c =
-    rw (lent_from c.args.input.now _ c.in_ok-left.ensures.source, lent_from c.args.file.now _ c.in_ok-right.ensures.source)
-    c.merge_opened.ensures

@@ -1,7 +1,0 @@
-use Rattle.std.proofs.Common.{◌≡◌, map, take}
-use Rattle.fat_slices.specs.Slices.{slices}
-use Rattle.archive_updates.specs.Slicing.{slice_in}
-use Rattle.archive_updates.proofs.slicing.slices_in.Given as goal
-
-abbrev pub invariant-parts : goal.invariant-parts
-invariant-parts l = l.slices.items ≡ map slice_in (take l.index (slices l.universal))

@@ -1,0 +1,154 @@
+-- IN's archive, merged with one that is at hand: what came of it.
+use Rattle.std.proofs.Common.{◌≡◌, ℕ, List, [], ◌++◌, length, Option, Result, Ok, Err, refl, ap, sym, subst, arith, ◌⊎◌, inl, inr}
+use Rattle.std.specs.FinSet as set
+use Rattle.archive_core.specs.Content.{Operations, IsContent, joined}
+use Rattle.archive_records.specs.declared.fault.MergeCause.{MergeCause}
+use Rattle.archive_records.specs.declared.fault.MergeCause.TheVariants.{Left, Right, Write}
+use Rattle.archive_records.specs.declared.fault.MergeFault.{MergeFault}
+use Rattle.archive_records.specs.declared.fault.RecordFault.{RecordFault}
+use Rattle.archive_records.specs.declared.fault.RecordFaultKind.TheVariants.{Device, OutOfMemory as RecordOutOfMemory}
+use Rattle.archive_records.specs.declared.writing.Sizes.{Sizes}
+use Rattle.archive_records.specs.Text.{written, IsArchiveOf}
+use Rattle.archive_records.specs.Writing.{IsWrittenWhole}
+use Rattle.byte_device.specs.Devices.{FailedIn, Stream, stream}
+use Rattle.byte_device.specs.Writes.{WritesFirst}
+use Rattle.report_text.specs.Report.{archive_line}
+use Rattle.record_merge.specs.Merging.{GainsCount, IsMerged, IsRefusedAlone, Merges, StopsBy}
+use Rattle.command_core.specs.declared.faults.CommandFault.{CommandFault}
+use Rattle.command_core.specs.declared.faults.CommandFault.TheVariants.{Input, Output, Report, OutOfMemory}
+use Rattle.command_core.specs.declared.faults.InputName.{InputName}
+use Rattle.command_core.specs.declared.faults.Status.{Status}
+use Rattle.command_core.specs.declared.faults.Why.{Why}
+use Rattle.command_core.specs.Ends.{EndsStreamed, HasFirst, HasTaken, MakesArchive, StopsAmidst, writes_amidst}
+use Rattle.command_core.specs.Inputs.{IsKnown, IsRefusedArchive, Reader, Unfailed, reader}
+use Rattle.command_core.specs.Outputs.{Out, PublishesNothing, Publishes, Takes, Writer, sizes_of, writer}
+use Rattle.command_core.proofs.Amidst.{gives_known, stopped_amidst, stops_alike}
+use Rattle.archive_writing.specs.Begun.{EndsBegun, HasBegun, IsUnfinished}
+use Rattle.archive_writing.specs.Joining.{IsAtHand, IsJoined, MakesJoin, joining}
+use Rattle.archive_writing.specs.MergeStreams.{IsMergeFaultTold}
+use Rattle.archive_writing.proofs.Beginnings.{first_of_join}
+use Rattle.archive_writing.proofs.Begun.{begun, published, taken_begun}
+
+pub sizes_are : (sizes : Sizes) (o : Operations) → sizes.records ≡ (sizes_of o).records → sizes.bytes ≡ (sizes_of o).bytes → sizes ≡ sizes_of o
+sizes_are sizes o r b = λ i. record { records = r i; bytes = b i }
+
+-- ---- a command whose archive was written
+
+-- it is published
+pub archive_published : (Makes : Operations → List ℕ → Type 0) (Stops : CommandFault → Type 0) (NoneFailed : Type 0) {W : Type 0} (draft : Stream W) (sizes : Sizes) (o : Operations) (lines : List ℕ) (out : Out) (report : Writer) (result : Result Status CommandFault)
+    → NoneFailed → Makes o lines → IsWrittenWhole draft.bytes draft.failures draft.old draft.new (set.len o) (written o) sizes → Publishes out report (written o) (lines ++ archive_line sizes) result
+    → EndsStreamed (record { Makes = MakesArchive Makes; Stops = Stops; Unfailed = NoneFailed }) out report result
+archive_published Makes Stops NoneFailed draft sizes o lines out report result unfailed makes whole =
+    published out report (record { Makes = MakesArchive Makes; Stops = Stops; Unfailed = NoneFailed }) result (written o) (lines ++ archive_line sizes) unfailed
+    (record { content = o; lines = lines; makes = makes; text_is = refl; told_is = ap (λ (s : Sizes). lines ++ archive_line s) (sizes_are sizes o whole.records_are whole.bytes_are) })
+
+-- one that was stopped
+pub stopped_begun : {R : Type 0} (input : Reader R) (Makes : List ℕ → List ℕ → Type 0) (Refuses : InputName → Why → Type 0) (NoneFailed : Type 0) (out : Out) (report : Writer) (fault : CommandFault)
+    → StopsAmidst (record { Makes = Makes; Refuses = Refuses; Unfailed = NoneFailed }) (IsKnown input) out.draft fault → IsUnfinished input (Unit {0}) out.draft → HasTaken out.draft fault → PublishesNothing out → Takes report []
+    → EndsBegun input (record { Makes = Makes; Refuses = Refuses; Unfailed = NoneFailed }) out report (Err fault)
+stopped_begun input Makes Refuses NoneFailed out report fault s u taken nothing unreported =
+    begun out report input (Unit {0}) (writes_amidst (record { Makes = Makes; Refuses = Refuses; Unfailed = NoneFailed }) (IsKnown input) out.draft) u (Err fault)
+    (stopped_amidst Makes Refuses NoneFailed (IsKnown input) out report fault s taken nothing unreported)
+
+module _ {R : Type 0} (input : Reader R) (p : Operations) (Makes : List ℕ → List ℕ → Type 0) (makes : (text told : List ℕ) → Makes text told → MakesJoin input p text told) where
+  -- what stops a join stops what makes no more
+  pub join_stops : (draft : Writer) (fault : CommandFault) → StopsAmidst (joining input p) (IsKnown input) draft fault
+      → StopsAmidst (record { Makes = Makes; Refuses = IsRefusedArchive 0 input; Unfailed = Unfailed input }) (IsKnown input) draft fault
+  join_stops draft =
+      stops_alike (MakesJoin input p) Makes (IsRefusedArchive 0 input) (IsRefusedArchive 0 input) (Unfailed input) (Unfailed input) (IsKnown input) (IsKnown input) draft
+      makes (λ at why r. r) (λ u. u) (λ k. k)
+
+  pub join_stopped : (out : Out) (report : Writer) (fault : CommandFault) → StopsAmidst (joining input p) (IsKnown input) out.draft fault → IsUnfinished input (Unit {0}) out.draft → HasTaken out.draft fault → PublishesNothing out → Takes report []
+      → EndsBegun input (record { Makes = Makes; Refuses = IsRefusedArchive 0 input; Unfailed = Unfailed input }) out report (Err fault)
+  join_stopped out report fault s = stopped_begun input Makes (IsRefusedArchive 0 input) (Unfailed input) out report fault (join_stops out.draft fault s)
+
+-- what a draft has where a merge into it was stopped
+module _ {R S W : Type 0} (left : R → Option (List ℕ)) (failures : R → ℕ) (l l' : R) (other : Stream S) (held : W → Option (List ℕ)) (draft_failures : W → ℕ) (w w' : W) where
+  begun_by : (cause : MergeCause) (n : ℕ) → StopsBy (stream left failures l l') other (stream held draft_failures w w') cause n → Takes (writer held draft_failures w w') [] ⊎ (Unit {0} × HasBegun (reader left failures (Ok l) (Ok l')))
+  begun_by (Left why) n s = elim s.order [
+    | inl magic ↦ inl (magic.0.2, s.out_unfailed)
+    | inr behind ↦ inr (tt, taken_begun (stream left failures l l') behind.lefts behind.left_next behind.left_taken)
+  ]
+  begun_by (Right why) n s = elim s.order [
+    | inl magic ↦ inl (magic.0.2, s.out_unfailed)
+    | inr behind ↦ inr (tt, taken_begun (stream left failures l l') behind.lefts behind.left_next behind.left_taken)
+  ]
+  begun_by Write n s = inr (tt, s.left_begun)
+
+  pub unfinished_opened : (e : MergeFault) → Merges (stream left failures l l') other (stream held draft_failures w w') (Err e) → IsUnfinished (reader left failures (Ok l) (Ok l')) (Unit {0}) (writer held draft_failures w w')
+  unfinished_opened e merges = record { no_text = merges.2; begun = begun_by e.cause e.written merges.0 }
+
+-- a device that has never failed did not fail
+never_failed : (old new : ℕ) → old ≡ 0 → new ≡ 0 → FailedIn old new → ⊥
+never_failed old new o n failed = omega arith
+
+module _ {S : Type 0} (left2 : S → Option (List ℕ)) (failures2 : S → ℕ) (r r' : S) (p : Operations) (at : IsAtHand (stream left2 failures2 r r') p) where
+  abbrev other : Stream S
+  other = stream left2 failures2 r r'
+
+  -- so it is refused for want of memory alone
+  right_memory : (why : RecordFault) → IsRefusedAlone other why → why.kind ≡ RecordOutOfMemory
+  right_memory why refused =
+      let alone : (m : Operations) → IsContent m → IsArchiveOf m at.text → (why.kind ≡ Device) ⊎ (why.kind ≡ RecordOutOfMemory) = rw at.bytes at refused.1 in
+      elim (alone p at.is_content at.is_text) [
+        | inl device ↦ absurd (never_failed (failures2 r) (failures2 r') at.unfailed_before at.unfailed (refused.0.blames.0 device))
+        | inr memory ↦ memory
+      ]
+
+  -- ---- an archive that was opened
+
+  module _ {R W : Type 0} (left : R → Option (List ℕ)) (failures : R → ℕ) (l l' : R) (held : W → Option (List ℕ)) (draft_failures : W → ℕ) (w w' : W) where
+    abbrev input : Reader R
+    input = reader left failures (Ok l) (Ok l')
+
+    abbrev draft : Writer
+    draft = writer held draft_failures w w'
+
+    abbrev MergesSo : Result Sizes MergeFault → Type 0
+    MergesSo result = Merges (stream left failures l l') other (stream held draft_failures w w') result
+
+    -- it was merged
+    unfoldable pub joined_opened : (sizes : Sizes) → MergesSo (Ok sizes) → IsJoined input p (stream held draft_failures w w') sizes
+    joined_opened sizes merges =
+        let m : IsMerged (stream left failures l l') other (stream held draft_failures w w') sizes = merges in
+        let alone : (q : Operations) → IsContent q → IsArchiveOf q at.text → m.p ≡ q = rw at.bytes at m.right_is.alone in
+        let same : m.p ≡ p = alone p at.is_content at.is_text in
+        record {
+          content = m.o;
+          is_content = m.left_is.is;
+          archive = m.left_is.text;
+          unfailed = m.left_is.unfailed;
+          written_is = subst (λ (q : Operations). IsWrittenWhole held draft_failures w w' (set.len (joined m.o q)) (written (joined m.o q)) sizes) same m.written_is;
+        }
+
+    -- a first part of the join was written
+    first : (e : MergeFault) → MergesSo (Err e) → HasFirst (joining input p) (IsKnown input) draft e.written
+    first e merges known text told m =
+        let given = gives_known left failures (Ok l) (Ok l') m.content known m.archive in
+        subst (λ (t : List ℕ). WritesFirst (held w) (held w') t e.written) (sym m.text_is)
+        (first_of_join (left l) (left2 r) (held w) (held w') e.written m.content p given.0 at.text m.is_content at.is_content given.1 at.is_text given.2 at.bytes merges.1)
+
+    -- what stopped it stops the command
+    stops : (cause : MergeCause) (n : ℕ) (fault : CommandFault) → StopsBy (stream left failures l l') other (stream held draft_failures w w') cause n → HasFirst (joining input p) (IsKnown input) draft n
+        → IsMergeFaultTold (record { cause = cause; written = n }) fault → StopsAmidst (joining input p) (IsKnown input) draft fault
+    stops (Left why) n (Input place says) s f t = ((t.0, (l', refl, why, t.1, t.2, s.refused)), s.out_unfailed, (n, f))
+    stops (Left why) n (Output k) s f t = absurd (cc (ap (λ (e : MergeFault). e.cause) t))
+    stops (Left why) n OutOfMemory s f t = (s.refused.0.blames.1 (λ device. cc), s.out_unfailed, (n, f))
+    stops (Right why) n (Input place says) s f t = absurd (t.2 (right_memory why s.refused))
+    stops (Right why) n (Output k) s f t = absurd (cc (ap (λ (e : MergeFault). e.cause) t))
+    stops (Right why) n OutOfMemory s f t = (s.left_unfailed, s.out_unfailed, (n, f))
+    stops Write n (Output k) s f t = (s.left_unfailed, s.failed, subst (HasFirst (joining input p) (IsKnown input) draft) (ap (λ (e : MergeFault). e.written) t) f)
+    stops cause n fault s f t = absurd t
+
+    pub stopped_opened : (e : MergeFault) (fault : CommandFault) → MergesSo (Err e) → IsMergeFaultTold e fault → StopsAmidst (joining input p) (IsKnown input) draft fault
+    stopped_opened e fault merges told = stops e.cause e.written fault merges.0 (first e merges) told
+
+-- what is told of OUT is how much was written when the merge was stopped
+pub counted : (e : MergeFault) (fault : CommandFault) (k n : ℕ) → k ≡ e.written → IsMergeFaultTold e fault → fault ≡ Output n → n ≡ k
+counted e (Output m) k n is told h = cc (ap (λ (f : MergeFault). f.written) told)
+counted e (Report m) k n is told h = absurd told
+counted e fault k n is told h = cc
+
+-- its draft took as much
+pub taken_of : {W : Type 0} (held : W → Option (List ℕ)) (failures : W → ℕ) (w w' : W) (e : MergeFault) (fault : CommandFault) → GainsCount (stream held failures w w') e.written → IsMergeFaultTold e fault → HasTaken (writer held failures w w') fault
+taken_of held failures w w' e fault g told = (g.0, g.1, λ n h. counted e fault (length g.0) n (sym g.2) told h)

@@ -1,0 +1,201 @@
+-- A copy of those records of an archive that a summary does not name, by the texts.
+use Rattle.std.proofs.Common.{◌≡◌, ℕ, ◌≤◌, ◌<◌, List, [], ◌∷◌, ◌++◌, length, take, MatchResult, Option, Some, Result, Ok, Err, refl, sym, ap, ◌∙◌, arith, inl, inr, ◌⊎◌, append_assoc, length-append, length-take-le}
+use Rattle.std.proofs.lemmas.List.{take-append-le}
+use Rattle.std.specs.Prelude.{IfOk, IfErr, IfSome}
+use Rattle.std.specs.List.{concat}
+use Rattle.std.specs.FinSet as set
+use Rattle.std.specs.Io.KnownBytes.{Appends, IsAtEnd}
+use Rattle.archive_core.specs.Content.{Operations, IsContent}
+use Rattle.archive_core.specs.Summary.{Entries, delta}
+use Rattle.archive_core.proofs.Summaries.{delta_content}
+use Rattle.archive_records.specs.declared.fault.MergeCause.{MergeCause}
+use Rattle.archive_records.specs.declared.fault.MergeCause.TheVariants.{Left, Right, Write}
+use Rattle.archive_records.specs.declared.fault.MergeFault.{MergeFault}
+use Rattle.archive_records.specs.declared.format.Format.{Format}
+use Rattle.archive_records.specs.declared.format.Format.TheVariants.{Archive, OldArchive, Operations as Operations_file, Summary as Summary_file}
+use Rattle.archive_records.specs.declared.kind.TextKind.TheVariants.{Archive as Archive_text}
+use Rattle.archive_records.specs.declared.writing.Sizes.{Sizes}
+use Rattle.archive_records.specs.Kind.{kind_of, magic, magic_of}
+use Rattle.archive_records.specs.Reader.{IsGathered, set_of}
+use Rattle.archive_records.specs.Text.{end_record, ending, missing, text_of, written, taken_of, AreApart, InOrder, IsArchiveOf}
+use Rattle.byte_device.specs.Devices.{stream}
+use Rattle.byte_device.specs.Writes.{WritesFirst}
+use Rattle.archive_records.proofs.Ends.{length-end_record}
+use Rattle.archive_records.proofs.Formats.{format_magic, in_order_old, no_operations_text, no_summary_text}
+use Rattle.archive_records.proofs.Inputs.{read_whole, refused}
+use Rattle.archive_records.proofs.KeptRecords.{behind, kept_more}
+use Rattle.archive_records.proofs.Made.{read_to, taken_listing}
+use Rattle.archive_records.proofs.Puts.{delta_count, delta_parts}
+use Rattle.archive_records.proofs.Versions.{Formed, formed, formed_content, formed_text, one_content}
+use Rattle.record_merge.specs.Merging.{IsArchiveText, IsBegun}
+use Rattle.record_merge.proofs.Fronts.{before, front_of, taken_rest, text_whole}
+use Rattle.record_merge.proofs.Unread.{first_no_text}
+use Rattle.archive_writing.specs.Copying.{BlamesDevices, BlamesOne, CopiesUnnamed, HasDraft, IsCause, IsCopiedToEnd, IsCopiedUpTo, IsCopiedWhole, StopsCopy, StopsCopyBy, copy_of}
+use Rattle.archive_writing.proofs.Beginnings.{good_formed}
+use Rattle.archive_writing.proofs.Begun.{no_bytes}
+use Rattle.archive_writing.proofs.Copied.{copy_more}
+
+-- ---- what is written of an archive's records
+
+-- the whole text of what is written of these records
+abbrev whole_of : Entries → List (List ℕ) → List ℕ
+whole_of s records = copy_of s records ++ end_record (length (missing s records))
+
+module _ (s : Entries) (f : Format) (kind : kind_of f ≡ Archive_text) (xs : List (List ℕ)) (a : InOrder f [] xs) where
+  abbrev o : Operations
+  o = set_of (taken_of f xs)
+
+  abbrev count : ℕ
+  count = length (missing s (taken_of f xs))
+
+  delta_text : written (delta o s) ≡ whole_of s (taken_of f xs)
+  delta_text =
+      delta_parts o s count (ap (λ (rs : List (List ℕ)). length (missing s rs)) (sym (taken_listing f kind xs a)))
+      ∙ ap (λ (rs : List (List ℕ)). (magic ++ concat (missing s rs)) ++ end_record count) (taken_listing f kind xs a)
+
+  delta_number : count ≡ set.len (delta o s)
+  delta_number = delta_count o s count (ap (λ (rs : List (List ℕ)). length (missing s rs)) (sym (taken_listing f kind xs a)))
+
+-- what is taken of records begins what is taken of more
+in_front : (low : List ℕ) (xs ys : List (List ℕ)) → InOrder Archive low (xs ++ ys) → InOrder Archive low xs
+in_front low [] ys a = tt
+in_front low (x ∷ xs) ys a = (a.0, a.1, in_front x xs ys a.2)
+
+taken_front : (f : Format) → kind_of f ≡ Archive_text → (done more : List (List ℕ)) → InOrder f [] (done ++ more) → (ms : List (List ℕ)) × (taken_of f (done ++ more) ≡ taken_of f done ++ ms)
+taken_front Archive k done more a = (more, refl)
+taken_front OldArchive k done more a =
+    let b = in_order_old [] (done ++ more) a in
+    let front = in_front [] done more b in
+    (behind done more b front, kept_more done more b front)
+taken_front Operations_file k done more a = absurd (no_operations_text k)
+taken_front Summary_file k done more a = absurd (no_summary_text k)
+
+-- the first bytes of a front are those of the whole
+first_in : (w0 w1 : Option (List ℕ)) (front tail whole : List ℕ) (n : ℕ) → whole ≡ front ++ tail → 0 < length tail → n ≤ length front → Appends w0 w1 (take n front) → WritesFirst w0 w1 whole n
+first_in w0 w1 front tail whole n is some within gained = record {
+  within = omega (arith, ap length is, length-append front tail);
+  gained = rw (is, take-append-le n front tail within) gained;
+}
+
+-- ---- what was written of a text that is known
+
+module _ (s : Entries) (text : List ℕ) (o : Operations) (content : IsContent o) (is : IsArchiveOf o text) (b w0 w1 : Option (List ℕ)) (n : ℕ) where
+  abbrev First : Type 0
+  First = WritesFirst w0 w1 (written (delta o s)) n
+
+  first_up_to : (file : Format) → kind_of file ≡ Archive_text → IsCopiedUpTo file s (Some text) b w0 w1 n → First
+  first_up_to file kind u =
+      let f = formed o text content is in
+      let k = taken_rest text (magic_of file ++ (concat u.records ++ u.rest)) b u.taken in
+      let begun : text ≡ magic_of file ++ ((concat u.records ++ u.rest) ++ k.0) = k.1 ∙ append_assoc (magic_of file) (concat u.records ++ u.rest) k.0 in
+      let split : text ≡ (magic_of file ++ concat u.records) ++ (u.rest ++ k.0) = k.1 ∙ simp append_assoc in
+      let longest = front_of file kind text f.records ((concat u.records ++ u.rest) ++ k.0, begun) (good_formed f.format f.archive text f.records f.ordered f.apart f.whole) in
+      let more = before file text (Some (u.rest ++ k.0)) u.records f.records split u.ordered u.apart longest in
+      let same : f.format ≡ file =
+      sym (format_magic f.format f.archive text (concat f.records ++ ending f.format (length f.records)) f.whole) ∙ format_magic file kind text ((concat u.records ++ u.rest) ++ k.0) begun in
+      let ordered : InOrder file [] (u.records ++ more.0) = rw (← more.1, ← same) f.ordered in
+      let ms = taken_front file kind u.records more.0 ordered in
+      let o_is : o ≡ set_of (taken_of file (u.records ++ more.0)) = rw (← more.1, ← same) f.content in
+      let end = end_record (length (missing s (taken_of file (u.records ++ more.0)))) in
+      let whole : written (delta o s) ≡ copy_of s (taken_of file u.records) ++ (concat (missing s ms.0) ++ end) =
+      ap (λ (p : Operations). written (delta p s)) o_is ∙ delta_text s file kind (u.records ++ more.0) ordered
+      ∙ ap (λ (rs : List (List ℕ)). copy_of s rs ++ end) ms.1 ∙ ap (λ (t : List ℕ). t ++ end) (copy_more s (taken_of file u.records) ms.0)
+      ∙ append_assoc (copy_of s (taken_of file u.records)) (concat (missing s ms.0)) end in
+      let some : 0 < length (concat (missing s ms.0) ++ end) = omega (arith, length-append (concat (missing s ms.0)) end, length-end_record (length (missing s (taken_of file (u.records ++ more.0))))) in
+      first_in w0 w1 (copy_of s (taken_of file u.records)) (concat (missing s ms.0) ++ end) (written (delta o s)) n whole some u.within u.gained
+
+  first_to_end : (file : Format) → kind_of file ≡ Archive_text → IsCopiedToEnd file s (Some text) b w0 w1 n → First
+  first_to_end file kind u =
+      let all = text_whole file text b u.records u.taken u.at_end in
+      let made = set_of (taken_of file u.records) in
+      let form : Formed made text = record { format = file; archive = kind; records = u.records; ordered = u.ordered; apart = u.apart; whole = all; content = refl } in
+      let same : o ≡ made = one_content text o made content (formed_content made text form) is (formed_text made text form) in
+      rw (same, delta_text s file kind u.records u.ordered) u.first
+
+  first_none : n ≡ 0 → Appends w0 w1 [] → First
+  first_none zero gained =
+      let f = formed o text content is in
+      let kept_of = taken_of f.format f.records in
+      let end = end_record (length (missing s kept_of)) in
+      let whole : written (delta o s) ≡ copy_of s kept_of ++ end = ap (λ (p : Operations). written (delta p s)) f.content ∙ delta_text s f.format f.archive f.records f.ordered in
+      let some : 0 < length (copy_of s kept_of ++ end) = omega (arith, length-append (copy_of s kept_of) end, length-end_record (length (missing s kept_of))) in
+      rw zero (first_in w0 w1 [] (copy_of s kept_of ++ end) (written (delta o s)) 0 whole some (omega arith) gained)
+
+  pub first_of : (a : Option (List ℕ)) → a ≡ Some text → HasDraft s a b w0 w1 n → First
+  first_of a given (inl none) = first_none none.0 none.1
+  first_of a given (inr (file, kind, inl u)) = first_up_to file kind (rw given at u)
+  first_of a given (inr (file, kind, inr u)) = first_to_end file kind (rw given at u)
+
+-- ---- how much was written
+
+drafted : (s : Entries) (a b w0 w1 : Option (List ℕ)) (n : ℕ) → HasDraft s a b w0 w1 n → (bytes : List ℕ) × Appends w0 w1 bytes × (n ≡ length bytes)
+drafted s a b w0 w1 n (inl none) = ([], none.1, none.0)
+drafted s a b w0 w1 n (inr (file, kind, inl u)) = let front = copy_of s (taken_of file u.records) in (take n front, u.gained, sym (length-take-le n front u.within))
+drafted s a b w0 w1 n (inr (file, kind, inr u)) =
+    let p = u.first in
+    let lt = p.within in
+    let all = whole_of s (taken_of file u.records) in
+    (take n all, p.gained, sym (length-take-le n all (omega (arith, lt))))
+
+-- ---- a beginning, and no archive's text
+
+module _ (s : Entries) (a b w0 w1 : Option (List ℕ)) (n : ℕ) where
+  abbrev NoText : Type 0
+  NoText = IfSome w0 (λ _. (bytes : List ℕ) → Appends w0 w1 bytes → IsArchiveText bytes → ⊥)
+
+  none_of : (f : Format) (kind : kind_of f ≡ Archive_text) (xs : List (List ℕ)) → InOrder f [] xs → AreApart f xs → WritesFirst w0 w1 (whole_of s (taken_of f xs)) n → NoText
+  none_of f kind xs ordered apart w =
+      let made : Operations = set_of (taken_of f xs) in
+      let content : IsContent made = formed_content made (text_of f xs) (record { format = f; archive = kind; records = xs; ordered = ordered; apart = apart; whole = refl; content = refl }) in
+      first_no_text w0 w1 (delta made s) n (delta_content made s content) (rw (delta_text s f kind xs ordered) w)
+
+  pub draft_no_text : HasDraft s a b w0 w1 n → NoText
+  draft_no_text (inl none) = no_bytes w0 w1 none.1
+  draft_no_text (inr (file, kind, inl u)) =
+      let kept_of = taken_of file u.records in
+      let end = end_record (length (missing s kept_of)) in
+      none_of file kind u.records u.ordered u.apart (first_in w0 w1 (copy_of s kept_of) end (whole_of s kept_of) n refl (omega (arith, length-end_record (length (missing s kept_of)))) u.within u.gained)
+  draft_no_text (inr (file, kind, inr u)) = none_of file kind u.records u.ordered u.apart u.first
+
+-- ---- what came of it
+
+module _ {R W : Type 0} (left : R → Option (List ℕ)) (failures : R → ℕ) (old new : R) (held : W → Option (List ℕ)) (write_failures : W → ℕ) (w w' : W) (s : Entries) where
+  stops_by : (cause : MergeCause) → IsCause (left old) (left new) cause → BlamesOne left failures old new (write_failures w) (write_failures w') cause → StopsCopyBy (stream left failures old new) (stream held write_failures w w') cause
+  stops_by (Left fault) st blames = (refused Archive_text left failures old new fault st blames.0, blames.1)
+  stops_by (Right fault) st blames = absurd st
+  stops_by Write st blames = blames
+
+  -- the magic was taken, or nothing was written
+  begun_by : (cause : MergeCause) (n : ℕ) → IsCause (left old) (left new) cause → HasDraft s (left old) (left new) (held w) (held w') n → BlamesOne left failures old new (write_failures w) (write_failures w') cause
+      → (Appends (held w) (held w') [] × (write_failures w' ≡ write_failures w)) ⊎ IsBegun (stream left failures old new)
+  begun_by (Left fault) n st (inl none) blames = inl (none.1, blames.1)
+  begun_by (Left fault) n st (inr (file, kind, inl u)) blames = inr (file, kind, concat u.records ++ u.rest, u.taken)
+  begun_by (Left fault) n st (inr (file, kind, inr u)) blames = inr (file, kind, concat u.records ++ ending file (length u.records), u.taken)
+  begun_by (Right fault) n st draft blames = absurd st
+  begun_by Write n st draft blames = inr st
+
+  pub unnamed : (r : Result Sizes MergeFault) → IfOk r (λ sizes. IsGathered Archive_text (IsCopiedWhole s (held w) (held w')) (left old) (left new) sizes × IsAtEnd (left new))
+      → IfErr r (λ e. IsCause (left old) (left new) e.cause × HasDraft s (left old) (left new) (held w) (held w') e.written)
+      → BlamesDevices left failures old new (write_failures w) (write_failures w') r
+      → MatchResult r (CopiesUnnamed (stream left failures old new) (stream held write_failures w w') s) (StopsCopy (stream left failures old new) (stream held write_failures w w') s)
+  unnamed (Ok sizes) (g, end) stops blames =
+      let c = g.makes in
+      let o = set_of (taken_of g.format g.records) in
+      let text = delta_text s g.format g.kind_is g.records g.ordered in
+      record {
+        content = o;
+        read = read_whole Archive_text o left failures old new (read_to g) end blames.0;
+        written_is = record {
+          written = rw text c.written_is;
+          records_are = c.records_are ∙ delta_number s g.format g.kind_is g.records g.ordered;
+          bytes_are = c.bytes_are ∙ ap length (sym text);
+          unfailed = blames.1;
+        };
+      }
+  unnamed (Err e) ok (cause, draft) blames = record {
+    by = stops_by e.cause cause blames;
+    first = λ o text content is given. first_of s text o content is (left new) (held w) (held w') e.written (left old) given draft;
+    count = drafted s (left old) (left new) (held w) (held w') e.written draft;
+    no_text = draft_no_text s (left old) (left new) (held w) (held w') e.written draft;
+    begun = begun_by e.cause e.written cause draft blames;
+  }

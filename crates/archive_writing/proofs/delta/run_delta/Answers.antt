@@ -1,0 +1,23 @@
+use Rattle.std.proofs.Common.{refl}
+use Rattle.std.proofs.lemmas.Result.{err_from_is_err_and}
+use Rattle.byte_device.proofs.Known.{Appends-none}
+use Rattle.command_core.specs.Inputs.{reader}
+use Rattle.command_core.specs.Outputs.{out_of, outs, writer}
+use Rattle.archive_writing.proofs.Behind.{told_behind, wanting}
+use Rattle.archive_writing.proofs.Deltas.{named}
+use Rattle.archive_writing.proofs.delta.run_delta.Goals as goal
+
+pub returns-in_err-kept : goal.returns-in_err-kept
+returns-in_err-kept g c =
+    let p = err_from_is_err_and c.from_residual.result c.from_residual.ensures.1 in
+    rw (p.1, p.2) (wanting _ _ _ _ _ _ _ _ refl refl ((Appends-none _, refl), (refl, refl)) (Appends-none _, refl))
+
+pub returns-in-Ok : goal.returns-in-Ok
+returns-in-Ok g c =
+    named (reader g.R.Source.left g.R.Source.failures c.args.archive.now c.write_unnamed.new.archive) g.S.Source.left g.S.Source.failures c.args.summary.now c.read_summary_input.new.summary
+    (out_of (outs g.T.Draft.Sink.held g.T.Draft.Sink.failures g.T.Target.published g.T.Target.failures c.args.out.now c.write_unnamed.new.out))
+    (writer g.P.Sink.held g.P.Sink.failures c.args.report.now c.write_unnamed.new.report) c.in-Ok.named c.in-Ok.ensures.is.0 c.in-Ok.ensures.is.1 c.in-Ok.ensures.unfailed c.write_unnamed.result c.write_unnamed.ensures
+
+pub returns-in-Err : goal.returns-in-Err
+returns-in-Err g c =
+    told_behind _ _ _ _ _ _ _ _ c.in-Err.fault c.refused_behind.result c.in-Err.ensures c.refused_behind.ensures ((Appends-none _, refl), (refl, refl)) (Appends-none _, refl)

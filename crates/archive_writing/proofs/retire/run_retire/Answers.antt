@@ -1,0 +1,40 @@
+use Rattle.std.proofs.Common.{Err, refl, ◌∙◌, inr}
+use Rattle.std.proofs.lemmas.Result.{err_from_is_err_and}
+use Rattle.byte_device.proofs.Known.{Appends-none}
+use Rattle.command_core.specs.declared.faults.CommandFault.TheVariants.{OutOfMemory}
+use Rattle.archive_writing.proofs.Noted.{missing_noted}
+use Rattle.archive_writing.proofs.Retired.{retire_published, retire_stopped}
+use Rattle.archive_writing.proofs.Taking.{always}
+use Rattle.archive_writing.proofs.retire.run_retire.Goals as goal
+
+pub returns-in_err-written-clause-ends : goal.returns-in_err-written-clause-ends
+returns-in_err-written-clause-ends g c =
+    let p = err_from_is_err_and c.from_residual.result c.from_residual.ensures.1 in
+    rw (p.1, p.2) (retire_stopped _ _ _ _ _ _ c.in_err-written.ensures.1 c.in_err-written.ensures.2 c.in_err-written.ensures.0 (refl, refl) (Appends-none _, refl))
+
+pub returns-in_err-note_missing-clause-ends : goal.returns-in_err-note_missing-clause-ends
+returns-in_err-note_missing-clause-ends g c =
+    let p = err_from_is_err_and c.from_residual-in_err-note_missing.result c.from_residual-in_err-note_missing.ensures.1 in
+    let i = c.in_ok-written.ensures in
+    rw (p.1, p.2) (retire_published _ _ _ _ _ _ _ i _ _ (Err OutOfMemory) (inr (i.written_is.written, i.written_is.unfailed), (refl, refl), (Appends-none _, refl)))
+
+pub returns-in_err-lines-clause-ends : goal.returns-in_err-lines-clause-ends
+returns-in_err-lines-clause-ends g c =
+    let p = err_from_is_err_and c.from_residual-in_err-lines.result c.from_residual-in_err-lines.ensures.1 in
+    let i = c.in_ok-written.ensures in
+    rw (p.1, p.2) (retire_published _ _ _ _ _ _ _ i _ _ (Err OutOfMemory) (inr (i.written_is.written, i.written_is.unfailed), (refl, refl), (Appends-none _, refl)))
+
+pub returns-clause-ends : goal.returns-clause-ends
+returns-clause-ends g c =
+    let i = c.in_ok-written.ensures in
+    retire_published _ _ _ _ _ _ _ i _ _ c.publish_draft.result (rw c.in_ok-lines.ensures at c.publish_draft.ensures c.args.out.now.draft _ (i.written_is.written, i.written_is.unfailed) i.written_is.bytes_are)
+
+pub returns-clause-noted : goal.returns-clause-noted
+returns-clause-noted g c =
+    let i = c.in_ok-written.ensures in
+    always c.publish_draft.result (record {
+      before = i.before;
+      is_content = i.is_content;
+      archive = i.archive;
+      added = c.in_ok-note_missing.ensures ∙ missing_noted i.before c.args.key c.args.digest c.args.notes.now.items c.in_ok-written.written.had i.had_is;
+    })

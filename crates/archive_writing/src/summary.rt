@@ -1,0 +1,29 @@
+//! `summary ARCHIVE OUT`.
+ghost use Rattle.command_core.specs.Ends.{Ends};
+ghost use Rattle.command_core.specs.Inputs.{reader};
+ghost use Rattle.command_core.specs.Outputs.{out_of, outs, writer};
+ghost use Rattle.archive_writing.specs.Summary.{summary};
+
+use byte_device::{CannotOpen, Sink, Source};
+use command_core::{CommandFault, Output, Status, Target, publish_summary};
+use command_inputs::read_entries;
+use memory::Heap;
+
+/// Writes the summary of ARCHIVE's content to OUT, and to the report how many entries and bytes it has.
+///
+/// # Errors
+///
+/// `Input` where the archive is refused; `Output` and `Report` where that writer failed; `OutOfMemory`.
+pub fn run_summary<R: Source, T: Target, P: Sink>(
+    heap: Heap,
+    archive: &mut Result<R, CannotOpen>,
+    out: &mut Output<T::Draft, T>,
+    report: &mut P,
+) -> Result<Status, CommandFault>
+    ensures { Ends (summary (reader R.left R.failures archive.old archive.new))
+        (out_of (outs T.Draft.held T.Draft.failures T.published T.failures out.old out.new))
+        (writer P.held P.failures report.old report.new) result }
+{
+    let summary = read_entries(heap.clone()?, archive)?;
+    publish_summary(heap, &summary, out, report)
+}

@@ -1,0 +1,4 @@
+pub mod Readers
+pub mod Archives
+pub mod Endings
+pub mod Amidst

@@ -1,8 +1,0 @@
-pub mod FaultTexts
-pub mod Inputs
-pub mod Archives
-pub mod InnerSources
-pub mod Outputs
-pub mod Ends
-pub mod Statuses
-pub mod Found

@@ -1,0 +1,4 @@
+pub mod BorrowedSources
+pub mod Given
+pub mod Parts
+pub mod Alike

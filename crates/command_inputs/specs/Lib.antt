@@ -1,0 +1,3 @@
+pub mod InnerSources
+pub mod Together
+pub mod InnerTogether

@@ -1,0 +1,5 @@
+pub mod Indexes
+pub mod Prefixes
+pub mod InnerParts
+pub mod Together
+pub mod Several

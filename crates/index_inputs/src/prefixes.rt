@@ -1,0 +1,33 @@
+//! What the keys of operations begin with, where they are asked for.
+
+ghost use Rattle.std.specs.Prelude.{◌≡◌, length};
+ghost use Rattle.archive_core.specs.Key.{key_bytes};
+
+use archive_core::SliceKey;
+use archive_records::key_prefix;
+use uuid::Uuid;
+
+/// What a key begins with.
+#[derive(Clone, Copy)]
+pub enum KeyPrefix {
+    /// A UUID, of which there may be several keys.
+    Uuid(Uuid),
+    /// A whole key.
+    Key(SliceKey),
+}
+
+/// The bytes of a UUID.
+pub fn uuid_bytes(uuid: Uuid) -> [u8; 16]
+    ensures bytes { result ≡ uuid }
+    ensures long { length uuid ≡ 16 }
+{
+    *uuid.as_bytes()
+}
+
+/// The bytes of a key.
+pub(crate) fn key_of(key: SliceKey) -> [u8; 24]
+    ensures bytes { result ≡ key_bytes key }
+    ensures long { length (key_bytes key) ≡ 24 }
+{
+    key_prefix(&key)
+}

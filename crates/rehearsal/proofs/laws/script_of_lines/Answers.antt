@@ -1,5 +1,0 @@
-use Rattle.rehearsal.proofs.Meant.{script_lines, script_said}
-use Rattle.rehearsal.proofs.laws.script_of_lines.Goals as goal
-
-pub returns : goal.returns
-returns c = record { lines = script_lines; said = script_said }
