@@ -106,12 +106,12 @@
 //! One that is not swept is carried out on the first with inputs in pieces of 1 byte, too, and on the second in pieces
 //! of 7. A report of more than 40 lines is printed as `5000 lines SHA256`. What contradicts itself is printed as `WRONG`.
 
-use crate::calls::Task;
-use crate::desk::{Desk, Tried};
 use crate::folder::Folder;
 use crate::sweeps::{tell_growths, tell_sweep};
+use crate::tasks::Task;
 use crate::texts::{TextFault, cut_case};
 use crate::verdicts::Step;
+use case_calls::{Call, Desk, Tried};
 use case_parts::{
     CaseFault, FileLimit, Left, Limits, Store, Sweep, bytes_of, first_word, number, tell_left,
     tell_line_fault, tell_room, tell_room_of_bytes, tell_same, words_of,
@@ -246,7 +246,7 @@ impl<'t> Bench<'t> {
             "room" => Ok(tell_room(self.alloc, number(words)?, told)?),
             "plan" => self.plan(words, told),
             "run" => self.run(words, told),
-            _ => self.carry(Task::of_verb(verb, words), None, told),
+            _ => self.carry(Task::Call(Call::of_verb(verb, words)), None, told),
         }
     }
 
@@ -370,7 +370,7 @@ impl<'t> Bench<'t> {
             Mode::Growths => tell_growths(desk, task, told),
             Mode::Sweep(sweep) => tell_sweep(desk, sweep, task, told),
             Mode::Once => {
-                let left = desk.carry_out(task)?;
+                let left = task.carry_out(desk)?;
                 tell_left(&left, told)?;
                 tell_others(desk, task, &left, told)?;
                 self.keep_out(out, left.out)
@@ -399,7 +399,7 @@ fn tell_others(desk: Desk, task: Task, left: &Left, told: &mut String) -> Result
     for (tried, pieces) in [(Tried::Plain, 1), (Tried::Indexed, 7)] {
         let mut other = Desk { tried, ..desk };
         other.limits.pieces = pieces;
-        if other.carry_out(task)? != *left {
+        if task.carry_out(other)? != *left {
             writeln!(
                 told,
                 "  WRONG: another end on {tried:?} with inputs in pieces of {pieces}"

@@ -4,16 +4,13 @@
 //! below them, over memory or over files of the system, and compares what comes of it with the lines after it. A word
 //! of its command line names a subject, or a case, `SUBJECT/CASE`; without words all subjects are carried out. Of each
 //! it says whether all is as it stands, and prints the lines that came otherwise. What the lines are made of is in
-//! `case_parts`.
+//! `case_parts`, and what they call in `case_calls`.
 //!
 //! - `texts`: the texts of cases;
 //! - `verdicts`: whether what came is what has to come;
 //! - `folder`: files of the system;
-//! - `desk`: what a case goes over;
-//! - `commands`: a line, carried out;
-//! - `subjects`, `changes`: calls that may change an archive, and what they leave where memory is refused;
-//! - `calls`: calls below the commands;
-//! - `outcomes`, `sweeps`: one case at each place of a device;
+//! - `commands`: a line, carried out; `tasks`: that, or a call;
+//! - `sweeps`: one case at each place of a device;
 //! - `cases`: the lines of cases, their language.
 #![tactic(auto)]
 
@@ -21,15 +18,11 @@ ghost use Rattle.std.specs.Prelude.{◌≡◌, All};
 ghost use Rattle.std.specs.Process.{exit_status};
 ghost use Rattle.acceptance.specs.Verdicts.{CameAsItStands};
 
-mod calls;
 mod cases;
-mod changes;
 mod commands;
-mod desk;
 mod folder;
-mod outcomes;
-mod subjects;
 mod sweeps;
+mod tasks;
 mod texts;
 mod verdicts;
 

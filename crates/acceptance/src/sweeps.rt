@@ -1,8 +1,7 @@
 //! One case at each point of a device.
 
-use crate::calls::Task;
-use crate::desk::{Desk, Tried};
-use crate::outcomes::outcome_at;
+use crate::tasks::Task;
+use case_calls::{Desk, Tried, outcome_at};
 use case_parts::{CaseFault, Left, Sweep};
 use memory::NoMemory;
 
@@ -14,7 +13,7 @@ pub fn tell_sweep<'a>(
     task: Task,
     told: &mut String,
 ) -> Result<(), CaseFault> {
-    let whole = desk.carry_out(task)?;
+    let whole = task.carry_out(desk)?;
     let groups = sweep_points(desk, sweep, task, &whole)?;
     told.push_str(&groups)?;
     let tried = Tried::Indexed;
@@ -37,7 +36,7 @@ fn sweep_points<'a>(
     let last = last_point(desk, sweep, whole)?;
     for point in 0..=last {
         let limits = sweep.limits(desk.limits, point);
-        let left = Desk { limits, ..desk }.carry_out(task)?;
+        let left = task.carry_out(Desk { limits, ..desk })?;
         let outcome = outcome_at(desk.alloc, point, &left, whole)?;
         if outcome != before {
             tell_group(first, point, &before, &mut groups)?;
@@ -75,7 +74,7 @@ const MOST_GROWTHS: u64 = 100_000;
 /// Carries out a case on either archive with each number of growths from 0 on, until it meets no refusal, however it
 /// ends then, and tells how many met one. A sweep that meets none shows nothing.
 pub fn tell_growths(desk: Desk, task: Task, told: &mut String) -> Result<(), CaseFault> {
-    let whole = desk.carry_out(task)?;
+    let whole = task.carry_out(desk)?;
     for tried in Tried::BOTH {
         tell_refusals(Desk { tried, ..desk }, task, &whole, told)?;
     }
@@ -91,7 +90,7 @@ fn tell_refusals(
     let tried = desk.tried;
     for growths in 0..MOST_GROWTHS {
         desk.limits.growths = growths;
-        let left = desk.carry_out(task)?;
+        let left = task.carry_out(desk)?;
         if !left.end.wants_memory() {
             return tell_last_growth(tried, growths, left == *whole, told);
         }

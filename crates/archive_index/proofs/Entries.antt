@@ -8,21 +8,21 @@ use Rattle.std.proofs.lemmas.List.{take_all, take-append-drop, drop-drop}
 use borrow.Rule.Slice.PartMut.{put_mid}
 use Rattle.sha2.specs.Sha256.{sha256}
 use Rattle.macho_image.specs.Contents.{is_dsym_image}
-use Rattle.archive_core.specs.Key.{key_bytes}
+use Rattle.archive_core.specs.Key.{IsKey, key_bytes}
 use Rattle.archive_core.specs.Valid.{key_of}
-use Rattle.archive_core.specs.Record.{record_bytes, IsOperation}
+use Rattle.archive_core.specs.Record.{borrowed_bytes, operation_borrowed, record_bytes, IsOperation}
 use Rattle.archive_core.specs.Find.{row_of}
 use Rattle.archive_core.specs.Summary.{entry}
 use Rattle.archive_core.specs.declared.find.FindRow.{FindRow}
 use Rattle.archive_core.specs.declared.find.FindState.TheVariants.{Image, Dsym}
 use Rattle.archive_core.specs.declared.operations.Operation.{Operation}
 use Rattle.archive_core.specs.declared.operations.Operation.TheVariants.{Admit, Retire}
+use Rattle.archive_core.specs.declared.operations.Record.{Record}
 use Rattle.archive_core.proofs.Entries.{admission_entry, retirement_entry, slice_of}
 use Rattle.archive_core.proofs.Heads.{laid_last}
-use Rattle.archive_reading.specs.InnerRows.{IsRowOf}
 use Rattle.archive_index.specs.declared.entry.PlacedEntry.{PlacedEntry}
 use Rattle.archive_index.proofs.Placed.{offset_laid, length_laid}
-use Rattle.archive_index.specs.Entry.{kind_byte, placed_entry, placed_bytes, tag_byte, dsym_byte, length_in, offset_in}
+use Rattle.archive_index.specs.Entry.{IsRowOf, kind_byte, placed_entry, placed_bytes, tag_byte, dsym_byte, length_in, offset_in}
 
 -- ---- laid in place
 
@@ -34,6 +34,15 @@ laid_place (x ∷ xs) off len k e p q =
     laid_last (k ∷ off) (drop 8 xs) len 9 n (omega (arith, p)) (omega (arith, p, length-append off (drop 8 xs), length-drop 8 xs))
 
 -- ---- the entry of a record's row
+
+pub row_of_borrowed : (borrowed : Record) (row : FindRow) → row ≡ row_of (operation_borrowed borrowed) → IsOperation (operation_borrowed borrowed) → IsKey row.key → IsRowOf (borrowed_bytes borrowed) row
+row_of_borrowed borrowed row is valid key = record {
+  operation = operation_borrowed borrowed;
+  is_operation = valid;
+  is_key = subst IsKey (ap (λ (r : FindRow). r.key) is) key;
+  bytes_are = refl;
+  row_is = is;
+}
 
 tag_of_slice : (b : Bool) → tag_byte (cond b Dsym Image) ≡ 2
 tag_of_slice b = grind arith

@@ -3,13 +3,25 @@ use Rattle.std.specs.Prelude.{◌≡◌, ℕ, ◌+◌, List, ◌∷◌, ◌++◌
 use Rattle.std.specs.Prelude.{◌==◌, nat_le, if◌then◌else◌}
 use Rattle.std.specs.Int.{w64, to_be_bytes, from_be_bytes}
 use Rattle.macho_image.specs.Contents.{is_dsym_image}
-use Rattle.archive_core.specs.Key.{key_bytes}
+use Rattle.archive_core.specs.Key.{IsKey, key_bytes}
+use Rattle.archive_core.specs.Record.{record_bytes, IsOperation}
 use Rattle.archive_core.specs.Content.{is_admission}
 use Rattle.archive_core.specs.Summary.{entry}
+use Rattle.archive_core.specs.Find.{key_in, row_of}
+use Rattle.archive_core.specs.declared.find.FindRow.{FindRow}
 use Rattle.archive_core.specs.declared.find.FindState.{FindState}
 use Rattle.archive_core.specs.declared.find.FindState.TheVariants.{Retired, Image, Dsym}
+use Rattle.archive_core.specs.declared.operations.Operation.{Operation}
 use Rattle.archive_records.specs.Layout.{largest_slice}
 use Rattle.archive_index.specs.declared.entry.PlacedEntry.{PlacedEntry}
+
+-- the row of the operation whose record these bytes are
+pub record IsRowOf (bytes : List ℕ) (row : FindRow) : Type 0 where
+  pub operation : Operation
+  pub is_operation : IsOperation operation
+  pub is_key : IsKey (key_in operation)
+  pub bytes_are : record_bytes operation ≡ bytes
+  pub row_is : row ≡ row_of operation
 
 -- whether a record is a companion's admission, as a byte
 abbrev pub kind_byte : List ℕ → ℕ

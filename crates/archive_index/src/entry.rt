@@ -6,8 +6,7 @@ ghost use Rattle.std.specs.Ordering.{nat_cmp};
 ghost use Rattle.std.specs.Cmp.Lexicographic.{slice_cmp};
 ghost use Rattle.archive_core.specs.Key.{key_bytes};
 ghost use Rattle.archive_core.specs.Record.{borrowed_bytes};
-ghost use Rattle.archive_reading.specs.InnerRows.{IsRowOf};
-ghost use Rattle.archive_index.specs.Entry.{dsym_byte, placed_bytes, placed_entry, tag_byte};
+ghost use Rattle.archive_index.specs.Entry.{IsRowOf, dsym_byte, placed_bytes, placed_entry, tag_byte};
 
 use archive_core::{FindRow, FindState, Record};
 use archive_records::Entry;

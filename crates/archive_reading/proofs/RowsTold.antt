@@ -28,7 +28,7 @@ use Rattle.archive_core.proofs.Compare.{then_assoc, three_parts}
 use Rattle.archive_core.proofs.Digits.{cmp_four}
 use Rattle.archive_core.proofs.Told.{list_sorted}
 use Rattle.archive_core.proofs.Made.{bytes_same}
-use Rattle.archive_reading.specs.InnerRows.{IsRowOf, AreRowsOf}
+use Rattle.archive_reading.specs.InnerRows.{AreRowsOf}
 use Rattle.archive_records.specs.Reader.{set_of}
 use Rattle.archive_records.proofs.Contents.{order, content_is}
 use Rattle.archive_reading.proofs.Stable.{lifted}
@@ -38,24 +38,18 @@ use Rattle.archive_reading.proofs.Stable.{lifted}
 pub no_rows : AreRowsOf [] []
 no_rows = record { operations = []; are = λ i d lt. absurd (omega arith); keys_are = λ i d lt. absurd (omega arith); records_are = refl; rows_are = refl }
 
-pub rows_more : (records : List (List ℕ)) (bytes : List ℕ) (rows grown : List FindRow) (row : FindRow) → grown ≡ rows ++ row ∷ [] → IsRowOf bytes row → AreRowsOf records rows → AreRowsOf (records ++ bytes ∷ []) grown
-rows_more records bytes rows grown row more one all = record {
-  operations = all.operations ++ one.operation ∷ [];
-  are = All-push IsOperation all.operations one.operation all.are one.is_operation;
-  keys_are = All-push (λ a. IsKey (key_in a)) all.operations one.operation all.keys_are one.is_key;
-  records_are = map-append record_bytes all.operations (one.operation ∷ []) ∙ (λ i. all.records_are i ++ one.bytes_are i ∷ []);
-  rows_are = more ∙ (λ i. all.rows_are i ++ one.row_is i ∷ []) ∙ sym (map-append row_of all.operations (one.operation ∷ []));
-}
-
 -- the row of a record that is borrowed
-pub row_of_borrowed : (borrowed : Record) (row : FindRow) → row ≡ row_of (operation_borrowed borrowed) → IsOperation (operation_borrowed borrowed) → IsKey row.key → IsRowOf (borrowed_bytes borrowed) row
-row_of_borrowed borrowed row is valid key = record {
-  operation = operation_borrowed borrowed;
-  is_operation = valid;
-  is_key = subst IsKey (ap (λ (r : FindRow). r.key) is) key;
-  bytes_are = refl;
-  row_is = is;
-}
+pub rows_more : (records : List (List ℕ)) (bytes : List ℕ) (borrowed : Record) (rows grown : List FindRow) (row : FindRow) → grown ≡ rows ++ row ∷ [] → borrowed_bytes borrowed ≡ bytes
+    → row ≡ row_of (operation_borrowed borrowed) → IsOperation (operation_borrowed borrowed) → IsKey row.key → AreRowsOf records rows → AreRowsOf (records ++ bytes ∷ []) grown
+rows_more records bytes borrowed rows grown row more same is valid key all =
+    let operation = operation_borrowed borrowed in
+    record {
+      operations = all.operations ++ operation ∷ [];
+      are = All-push IsOperation all.operations operation all.are valid;
+      keys_are = All-push (λ a. IsKey (key_in a)) all.operations operation all.keys_are (subst IsKey (ap (λ (r : FindRow). r.key) is) key);
+      records_are = map-append record_bytes all.operations (operation ∷ []) ∙ (λ i. all.records_are i ++ same i ∷ []);
+      rows_are = more ∙ (λ i. all.rows_are i ++ is i ∷ []) ∙ sym (map-append row_of all.operations (operation ∷ []));
+    }
 
 -- ---- the order of keys
 

@@ -7,14 +7,6 @@ use Rattle.archive_core.specs.Find.{key_in, row_of}
 use Rattle.archive_core.specs.declared.find.FindRow.{FindRow}
 use Rattle.archive_core.specs.declared.operations.Operation.{Operation}
 
--- the row of the operation whose record these bytes are
-pub record IsRowOf (bytes : List ℕ) (row : FindRow) : Type 0 where
-  pub operation : Operation
-  pub is_operation : IsOperation operation
-  pub is_key : IsKey (key_in operation)
-  pub bytes_are : record_bytes operation ≡ bytes
-  pub row_is : row ≡ row_of operation
-
 -- the rows of the operations whose records these are, in their order
 pub record AreRowsOf (records : List (List ℕ)) (rows : List FindRow) : Type 0 where
   pub operations : List Operation

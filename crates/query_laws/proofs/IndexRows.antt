@@ -44,9 +44,9 @@ use Rattle.archive_core.proofs.Records.{length-key_of, one_key as same_key}
 use Rattle.archive_core.proofs.Told.{found_under}
 use Rattle.archive_records.specs.Text.{written}
 use Rattle.archive_records.proofs.Contents.{order, along}
-use Rattle.archive_reading.specs.InnerRows.{AreRowsOf, IsRowOf}
+use Rattle.archive_reading.specs.InnerRows.{AreRowsOf}
 use Rattle.archive_reading.proofs.RowsTold.{list_of}
-use Rattle.archive_index.specs.Entry.{kind_byte, offset_in, placed_entry, dsym_byte, tag_byte}
+use Rattle.archive_index.specs.Entry.{IsRowOf, kind_byte, offset_in, placed_entry, dsym_byte, tag_byte}
 use Rattle.archive_index.specs.Index.{index, placed_entries}
 use Rattle.archive_index.specs.Places.{entries_under}
 use Rattle.archive_index.proofs.Named.{under_same}

@@ -1,5 +1,4 @@
-use Rattle.archive_reading.proofs.RowsTold.{row_of_borrowed}
-use Rattle.archive_index.proofs.Entries.{made_entry}
+use Rattle.archive_index.proofs.Entries.{made_entry, row_of_borrowed}
 use Rattle.archive_index.proofs.entry.PlacedEntry.of_record.Goals as goal
 
 pub returns-clause-bytes : goal.returns-clause-bytes

@@ -1,4 +1,4 @@
-//! What a case asks for: a command line, or a call below the commands.
+//! A call below the commands.
 
 use crate::changes::tell_change;
 use crate::desk::{Desk, Tried};
@@ -11,10 +11,8 @@ use case_parts::{
     tell_named, tell_nearest, tell_operations, tell_pairs, tell_part, tell_reading, tell_slice,
     tell_summary, tell_text, tell_whole, tell_writing, text_of,
 };
-use command_line::Line;
 use exchange_script::{Script, read_script};
 use memory::Heap;
-use plan_commands::Plan;
 use sorted_archive::{IndexedArchive, PlainArchive};
 
 /// A call below the commands.
@@ -27,63 +25,28 @@ pub struct Call<'t> {
     words: &'t str,
 }
 
-/// What a case asks for.
-#[derive(Clone, Copy)]
-pub enum Task<'t> {
-    Run(&'t Line),
-    Call(Call<'t>),
-}
-
-impl<'t> Task<'t> {
+impl<'t> Call<'t> {
     /// The call of a verb, over the file that the first of its words names.
-    pub fn of_verb(verb: &'t str, words: &'t str) -> Task<'t> {
+    pub fn of_verb(verb: &'t str, words: &'t str) -> Call<'t> {
         let (name, words) = first_word(words);
-        Task::Call(Call { verb, name, words })
-    }
-
-    /// Whether OUT is written while an input is read.
-    pub fn writes_as_it_reads(self) -> bool {
-        match self {
-            Task::Run(line) => match Plan::of(line) {
-                Plan::Admit { .. }
-                | Plan::Retire { .. }
-                | Plan::Merge { .. }
-                | Plan::Migrate { .. }
-                | Plan::Index
-                | Plan::Apply { .. }
-                | Plan::Delta { .. } => true,
-                _ => false,
-            },
-            Task::Call(_) => false,
-        }
+        Call { verb, name, words }
     }
 }
 
 impl<'a> Desk<'a> {
-    /// Carries out what a case asks for, on the archive that is tried.
-    pub fn carry_out(self, task: Task<'a>) -> Result<Left, CaseFault> {
-        match self.tried {
-            Tried::Plain => self.carry_out_on::<PlainArchive>(task),
-            Tried::Indexed => self.carry_out_on::<IndexedArchive>(task),
-        }
-    }
-
-    fn carry_out_on<A: Archive + Drop>(self, task: Task<'a>) -> Result<Left, CaseFault> {
-        match task {
-            Task::Run(line) => Ok(self.run::<A>(line)?),
-            Task::Call(call) => {
-                let mut told = String::new(self.alloc);
-                let end = End::of_call(self.call::<A>(call, &mut told)?);
-                let report = told.into_bytes();
-                let out = Vec::new(self.alloc);
-                Ok(Left {
-                    end,
-                    out,
-                    is_draft: false,
-                    report,
-                })
-            }
-        }
+    /// Makes a call on the archive that is tried, and tells what it gives.
+    pub fn make(self, call: Call<'a>) -> Result<Left, CaseFault> {
+        let mut told = String::new(self.alloc);
+        let ended = match self.tried {
+            Tried::Plain => self.call::<PlainArchive>(call, &mut told)?,
+            Tried::Indexed => self.call::<IndexedArchive>(call, &mut told)?,
+        };
+        Ok(Left {
+            end: End::of_call(ended),
+            out: Vec::new(self.alloc),
+            is_draft: false,
+            report: told.into_bytes(),
+        })
     }
 
     // Makes a call, and tells what it gives.

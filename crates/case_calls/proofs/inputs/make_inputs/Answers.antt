@@ -1,5 +1,5 @@
 use Rattle.archive_files.proofs.Asked.{inputs_more, is_waiting}
-use Rattle.acceptance.proofs.commands.make_inputs.Goals as goal
+use Rattle.case_calls.proofs.inputs.make_inputs.Goals as goal
 
 pub paths-preserved : goal.paths-preserved
 paths-preserved c =
