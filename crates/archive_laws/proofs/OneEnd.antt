@@ -1,15 +1,8 @@
 -- Queries whose inputs hold the same end alike.
-use Rattle.std.proofs.Common.{◌≡◌, ℕ, List, [], ◌∷◌, Option, Ok, Err, Bool, refl, sym, ap, ◌∙◌, subst, inl, inr}
+use Rattle.std.proofs.Common.{◌≡◌, ℕ, List, [], ◌∷◌, Ok, Err, Bool, refl, sym, ap, ◌∙◌, subst, inl, inr}
 use Rattle.std.specs.List.{AllByRecursion, AllZip}
 use Rattle.archive_core.specs.Content.{Operations, IsContent}
-use Rattle.archive_core.specs.Find.{IsFinds}
-use Rattle.archive_core.specs.Lists.{IsList}
-use Rattle.archive_core.specs.Names.{IsNames, NameRecord}
-use Rattle.archive_core.specs.declared.keys.SliceKey.{SliceKey}
-use Rattle.archive_core.specs.declared.find.FindRow.{FindRow}
 use Rattle.archive_records.specs.Text.{IsArchiveOf}
-use Rattle.report_text.specs.Finds.{find_lines, list_lines}
-use Rattle.report_text.specs.Names.{name_lines}
 use Rattle.crash_frames.specs.Frames.{frames_of}
 use Rattle.crash_frames.specs.declared.frame.Frame.{Frame}
 use Rattle.command_core.specs.declared.faults.CommandFault.TheVariants.{Input, Output, Report, OutOfMemory}
@@ -18,31 +11,16 @@ use Rattle.command_core.specs.declared.faults.Status.{Status}
 use Rattle.command_core.specs.declared.faults.Why.{Why}
 use Rattle.command_core.specs.Archives.{AreRefused, AreUnfailed, HoldTogether, further_name, merged}
 use Rattle.command_core.specs.Ends.{Query}
-use Rattle.command_core.specs.Found.{TellsFound, found_status}
-use Rattle.command_core.specs.Inputs.{Reader, EachUntouched, HoldsArchive, IsArchive, IsArchiveRefused, IsDeviceFault, IsFirstRefused, IsFrames, IsFramesRefused, IsGivenArchive, IsRefusedArchive, IsRefusedInOrder, IsRefusedInTurn}
+use Rattle.command_core.specs.Inputs.{Reader, EachUntouched, HoldsArchive, IsArchive, IsArchiveRefused, IsDeviceFault, IsFirstRefused, IsGivenArchive, IsRefusedInOrder, IsRefusedInTurn}
 use Rattle.command_core.specs.Outputs.{Takes}
-use Rattle.archive_exchange.specs.ModelEvent.{ModelEvent, AreSeen}
-use Rattle.exchange_script.specs.Script.{acts, script_of}
-use Rattle.exchange_script.specs.declared.event.Event.{Event}
-use Rattle.rehearse.specs.Rehearse.{rehearse}
-use Rattle.archive_queries.specs.Find.{find}
-use Rattle.archive_queries.specs.Name.{TellsNamed, name}
-use Rattle.address_queries.specs.Symbolicate.{TellsAddresses, symbolicate}
 use Rattle.address_queries.specs.Frames.{MakesFramed, RefusesFrames, TellsFrames, frames}
-use Rattle.archive_queries.specs.List.{list}
-use Rattle.archive_laws.specs.Joins.{IsGivenJoin}
+use Rattle.archive_laws.specs.Joins.{IsGivenJoin, TellOne}
 use Rattle.archive_laws.specs.Refusals.{ArchivesHoldAlike, EachHoldAlike, EndAlike, HoldAlike, RefuseOne}
-use Rattle.archive_laws.proofs.FramesTold.{frames_alone}
-use Rattle.archive_laws.proofs.Given.{is_given, one_given}
+use Rattle.archive_laws.proofs.Given.{is_given, one_value}
 use Rattle.archive_laws.proofs.Joins.{told_of_join}
-use Rattle.archive_laws.proofs.OneRehearsal.{one_text, script_not_refused}
-use Rattle.archive_laws.proofs.Refusals.{all_good, archives_agree, carried, each_swapped, good_in_turn, one_archive, one_first, one_frames, one_in_turn, one_script, swapped}
+use Rattle.archive_laws.proofs.Refusals.{all_good, archives_agree, carried, each_swapped, frames_accepted, good_in_turn, one_first, one_frames, one_in_turn, swapped}
 
 -- ---- a query
-
--- what one call tells the other tells
-abbrev pub TellOne : (Status → List ℕ → Type 0) → (Status → List ℕ → Type 0) → Type 0
-TellOne Makes Others = (status other_status : Status) (text other_text : List ℕ) → Makes status text → Others other_status other_text → (status ≡ other_status) × (text ≡ other_text)
 
 -- what one call tells something of, the other refuses for a device alone
 abbrev pub TellsOrFails : (Status → List ℕ → Type 0) → (InputName → Why → Type 0) → Type 0
@@ -141,10 +119,6 @@ asked_alike archive others also more Tells one alike =
 
 -- ---- frames
 
-frames_accepted : {R S : Type 0} (x : Reader R) (y : Reader S) (another : Why) → HoldAlike x y → IsFrames x → IsFramesRefused y another → IsDeviceFault another
-frames_accepted x y another alike good refused =
-    let c = carried x y (λ b. frames_of b ≡ Ok good.0) alike good.1 in frames_alone y.left y.failures y.old y.new c.0 good.0 another c.2 c.3 refused
-
 module _ {O P Q R S T : Type 0} (input : Reader O) (archive : Reader Q) (others : List (Reader R)) (also : Reader P) (other : Reader S) (more : List (Reader T))
     (alike : HoldAlike input also) (archives : ArchivesHoldAlike archive others other more) where
   pub one_of_frames : RefuseOne (RefusesFrames input archive others) (RefusesFrames also other more)
@@ -157,25 +131,6 @@ module _ {O P Q R S T : Type 0} (input : Reader O) (archive : Reader Q) (others 
   framed_fails lines status text at why makes (inl b) = frames_accepted input also why alike (makes.listed, makes.frames_are) b.0.1
   framed_fails lines status text at why makes (inr b) = held_fails archive others other more archives (λ o. TellsFrames lines o makes.listed status text) at why makes.tells b.2
 
--- ---- one archive alone
-
-archive_good : {R S : Type 0} (x : Reader R) (y : Reader S) (o : Operations) (at : InputName) (why : Why) → HoldAlike x y → IsContent o → HoldsArchive x o → IsRefusedArchive 0 y at why → IsDeviceFault why
-archive_good x y o at why alike content holds refused = archives_agree.left x y why alike (o, content, holds) refused.1
-
-pub listed_alike : {R S : Type 0} (x : Reader R) (y : Reader S) → ((o : Operations) (rows others : List FindRow) → IsList o rows → IsList o others → rows ≡ others) → HoldAlike x y → EndAlike (list x) (list y)
-listed_alike x y one alike =
-    ends_alike (list x) (list y)
-    (λ status other_status text other_text a b.
-    let c = carried x y (IsArchiveOf a.content) alike a.archive_is in
-    let same = one_given y a.content b.content a.is_content b.is_content (c.0, c.3, c.2) b.archive_is in
-    let rows = one a.content a.rows b.rows a.lists (subst (λ (o : Operations). IsList o b.rows) same b.lists) in
-    (a.status_is ∙ ap found_status rows ∙ sym b.status_is, a.text_is ∙ ap list_lines rows ∙ sym b.text_is))
-    (one_archive x y alike)
-    (λ status text at why a b. archive_good x y a.content at why alike a.is_content a.archive_is b)
-    (λ status text at why a b. archive_good y x a.content at why (swapped x y alike) a.is_content a.archive_is b)
-
--- ---- what each query tells
-
 pub framed_alike : {O P Q R S T : Type 0} (lines : Bool) (input : Reader O) (archive : Reader Q) (others : List (Reader R)) (also : Reader P) (other : Reader S) (more : List (Reader T))
     → ((o : Operations) (listed : List Frame) → TellOne (TellsFrames lines o listed) (TellsFrames lines o listed))
     → HoldAlike input also → ArchivesHoldAlike archive others other more → EndAlike (frames lines input archive others) (frames lines also other more)
@@ -183,54 +138,10 @@ framed_alike lines input archive others also other more one alike archives =
     ends_alike (frames lines input archive others) (frames lines also other more)
     (λ status other_status text other_text a b.
     let c = carried input also (λ bytes. frames_of bytes ≡ Ok a.listed) alike a.frames_are in
-    let listed = is_given also c.0 (λ bytes. frames_of bytes ≡ Ok b.listed) c.2 b.frames_are in
-    let same : b.listed ≡ a.listed = (let both = sym listed ∙ c.3 in cc) in
+    let same = one_value (frames_of c.0) b.listed a.listed (is_given also c.0 (λ bytes. frames_of bytes ≡ Ok b.listed) c.2 b.frames_are) c.3 in
     let both = both_tell archive others other more archives (λ o. TellsFrames lines o a.listed status text) (λ o. TellsFrames lines o b.listed other_status other_text) a.tells b.tells in
     one both.0 a.listed status other_status text other_text both.1 (subst (λ (s : List Frame). TellsFrames lines both.0 s other_status other_text) same both.2))
     (one_of_frames input archive others also other more alike archives)
     (λ status text at why a b. framed_fails input archive others also other more alike archives lines status text at why a b)
     (λ status text at why a b.
     framed_fails also other more input archive others (swapped input also alike) (alike_too archive others other more archives) lines status text at why a b)
-
-pub found_once : ((o : Operations) (uuid : List ℕ) (rows others : List FindRow) → IsFinds o uuid rows → IsFinds o uuid others → rows ≡ others)
-    → (uuid : List ℕ) (o : Operations) → TellOne (TellsFound o uuid) (TellsFound o uuid)
-found_once one uuid o status other_status text other_text a b =
-    let rows = one o uuid a.rows b.rows a.finds b.finds in
-    (a.status_is ∙ ap found_status rows ∙ sym b.status_is, a.text_is ∙ ap find_lines rows ∙ sym b.text_is)
-
-pub named_once : ((o : Operations) (name : List ℕ) (rows others : List NameRecord) → IsNames o name rows → IsNames o name others → rows ≡ others)
-    → (sought : List ℕ) (o : Operations) → TellOne (TellsNamed o sought) (TellsNamed o sought)
-named_once one sought o status other_status text other_text a b =
-    let rows = one o sought a.rows b.rows a.names b.names in
-    (a.status_is ∙ ap found_status rows ∙ sym b.status_is, a.text_is ∙ ap name_lines rows ∙ sym b.text_is)
-
-pub found_alike : {Q R S T : Type 0} (archive : Reader Q) (others : List (Reader R)) (also : Reader S) (more : List (Reader T)) (uuid : List ℕ)
-    → ((o : Operations) (sought : List ℕ) (rows other : List FindRow) → IsFinds o sought rows → IsFinds o sought other → rows ≡ other)
-    → ArchivesHoldAlike archive others also more → EndAlike (find archive others uuid) (find also more uuid)
-found_alike archive others also more uuid one alike = asked_alike archive others also more (λ o status text. TellsFound o uuid status text) (found_once one uuid) alike
-
-pub named_alike : {Q R S T : Type 0} (archive : Reader Q) (others : List (Reader R)) (also : Reader S) (more : List (Reader T)) (sought : List ℕ)
-    → ((o : Operations) (it : List ℕ) (rows other : List NameRecord) → IsNames o it rows → IsNames o it other → rows ≡ other)
-    → ArchivesHoldAlike archive others also more → EndAlike (name archive others sought) (name also more sought)
-named_alike archive others also more sought one alike = asked_alike archive others also more (λ o status text. TellsNamed o sought status text) (named_once one sought) alike
-
-pub answered_alike : {Q R S T : Type 0} (archive : Reader Q) (others : List (Reader R)) (also : Reader S) (more : List (Reader T)) (key : SliceKey) (load : Option ℕ) (lines : Bool) (addresses : List ℕ)
-    → ((o : Operations) → TellOne (TellsAddresses o key load lines addresses) (TellsAddresses o key load lines addresses))
-    → ArchivesHoldAlike archive others also more → EndAlike (symbolicate archive others key load lines addresses) (symbolicate also more key load lines addresses)
-answered_alike archive others also more key load lines addresses one alike =
-    asked_alike archive others also more (λ o status text. TellsAddresses o key load lines addresses status text) one alike
-
-pub rehearsed_alike : ((events : List Event) (seen other : List ModelEvent) → AreSeen events seen → AreSeen events other → seen ≡ other)
-    → {R S : Type 0} (x : Reader R) (y : Reader S) → HoldAlike x y → EndAlike (rehearse x) (rehearse y)
-rehearsed_alike one x y alike =
-    ends_alike (rehearse x) (rehearse y)
-    (λ status other_status text other_text a b.
-    let c = carried x y (λ bytes. script_of bytes ≡ Ok (a.sites, acts a.events)) alike a.script_is in
-    one_text one x y c.0 status other_status text other_text c.1 c.2 a b)
-    (λ at other why another a b alone alone_too. (a.0 ∙ sym b.0, one_script x y why another alike a.1 b.1 alone alone_too))
-    (λ status text at why a b.
-    let c = carried x y (λ bytes. script_of bytes ≡ Ok (a.sites, acts a.events)) alike a.script_is in
-    script_not_refused y c.0 a.sites (acts a.events) at why c.2 c.3 b)
-    (λ status text at why a b.
-    let c = carried y x (λ bytes. script_of bytes ≡ Ok (a.sites, acts a.events)) (swapped x y alike) a.script_is in
-    script_not_refused x c.0 a.sites (acts a.events) at why c.2 c.3 b)
