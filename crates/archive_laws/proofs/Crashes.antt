@@ -1,9 +1,7 @@
 -- The draft behind each of the calls.
-use Rattle.std.proofs.Common.{◌≡◌, ◌≢◌, ◌⊎◌, ℕ, Contains, zero, suc, true, false, List, [], ◌∷◌, ◌++◌, take, map, fold, length, Option, Some, refl, sym, ap, ◌∙◌, inl, inr, subst, append_assoc, arith}
+use Rattle.std.proofs.Common.{◌≡◌, ◌≢◌, ◌⊎◌, ℕ, Contains, zero, suc, true, false, List, [], ◌∷◌, ◌++◌, take, map, fold, length, Option, Some, refl, sym, ap, ◌∙◌, inl, inr, subst, append_assoc, arith, bytes_eq, append-nil, take_all}
 use Rattle.std.specs.List.{AllByRecursion, concat}
-use Rattle.std.specs.Str.{bytes_eq}
 use Rattle.std.proofs.lemmas.Bool.{and_parts, false_from_ne_true, or_right}
-use Rattle.std.proofs.lemmas.List.{append-nil, take_all}
 use Rattle.std.proofs.lemmas.List.Sums.{fold-append}
 use Rattle.std.proofs.lemmas.Slice.Eq.{bytes_eq-Decides}
 use Rattle.archive_files.specs.FileCalls.{FileCall, Creates, Opens, Writes, Syncs, Renames, SyncsFolder, Removes, FindsOther, Leads, are_probes, drafting, is_probe, publishing, writing}

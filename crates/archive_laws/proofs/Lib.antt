@@ -1,7 +1,6 @@
 pub mod Given
 pub mod Refusals
 pub mod Answerers
-pub mod Parts
 pub mod Coverings
 pub mod Complete
 pub mod Sides
@@ -11,5 +10,4 @@ pub mod Least
 pub mod Viewed
 pub mod FramesTold
 pub mod OneRehearsal
-pub mod OneEnd
 pub mod Crashes

@@ -1,7 +1,5 @@
 -- A script has one report.
-use Rattle.std.proofs.Common.{◌≡◌, ℕ, ◌+◌, List, [], ◌∷◌, ◌++◌, length, map, codes, refl, sym, ap, ap₂, ◌∙◌, subst, Ok, true, if◌then◌else◌}
-use Rattle.std.specs.Prelude.{slice_index_or}
-use Rattle.std.specs.Fmt.{decimal}
+use Rattle.std.proofs.Common.{◌≡◌, ℕ, ◌+◌, List, [], ◌∷◌, ◌++◌, length, map, codes, refl, sym, ap, ap₂, ◌∙◌, subst, Ok, true, if◌then◌else◌, slice_index_or, decimal}
 use Rattle.std.specs.List.{AllZip}
 use Rattle.archive_core.specs.Record.{retirement_record}
 use Rattle.exchange_model.specs.World as model

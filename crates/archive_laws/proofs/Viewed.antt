@@ -1,10 +1,9 @@
 -- What is told of addresses depends on the content alone: an answer's lines, and whether it is one symbol, do not depend on
 -- where its names lie.
-use Rattle.std.proofs.Common.{◌≡◌, ℕ, Bool, true, false, if◌then◌else◌, List, [], ◌∷◌, ◌++◌, map, length, codes, Option, Some, None, MatchOption, refl, sym, ap, ◌∙◌, subst}
+use Rattle.std.proofs.Common.{◌≡◌, ℕ, Bool, true, false, if◌then◌else◌, List, [], ◌∷◌, ◌++◌, map, length, codes, Option, Some, None, MatchOption, refl, sym, ap, ◌∙◌, subst, decimal}
 use Rattle.std.proofs.lemmas.List.{length-map}
 use Rattle.std.proofs.lemmas.List.Folds.{flat_map-map, list_all-map}
 use Rattle.std.specs.List.{AllByRecursion, flat_map, list_all}
-use Rattle.std.specs.Fmt.{decimal}
 use Rattle.macho_symbols.specs.Found.{FoundRecord}
 use Rattle.archive_core.specs.Content.{Operations}
 use Rattle.archive_core.specs.Lookup.{OwnRow, AnswerRecord, Unanswered, Alone, Disputed, IsAnswer, file_address, own_view, own_row, answer_view}
