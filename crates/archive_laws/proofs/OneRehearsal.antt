@@ -33,13 +33,9 @@ IsSeenAct (Deliver site message) seen = seen ≡ model.Deliver site message
 IsSeenAct (Save site) seen = seen ≡ model.Save site
 IsSeenAct (Stop site) seen = seen ≡ model.Stop site
 
-seen_by : (e : Event) (s : ModelEvent) → IsSeen e s → IsSeenAct (act_of e) s
-seen_by (event.Take site file) s is = is
-seen_by e s is = is
-
-by_seen : (e : Event) (s : ModelEvent) → IsSeenAct (act_of e) s → IsSeen e s
-by_seen (event.Take site file) s is = is
-by_seen e s is = is
+seen_as : (e : Event) (s : ModelEvent) → IsSeen e s ≡ IsSeenAct (act_of e) s
+seen_as (event.Take site file) s = refl
+seen_as e s = refl
 
 same_seen : (es fs : List Event) (ss : List ModelEvent) → acts es ≡ acts fs → AreSeen es ss → AreSeen fs ss
 same_seen [] [] ss same are = are
@@ -47,7 +43,7 @@ same_seen (e ∷ es) (f ∷ fs) [] same are = absurd are
 same_seen (e ∷ es) (f ∷ fs) (s ∷ ss) same are =
     let first : act_of e ≡ act_of f = cc in
     let rest : acts es ≡ acts fs = cc in
-    (by_seen f s (subst (λ a. IsSeenAct a s) first (seen_by e s are.0)), same_seen es fs ss rest are.1)
+    (subst (λ (P : Type 0). P) (seen_as e s ∙ ap (λ a. IsSeenAct a s) first ∙ sym (seen_as f s)) are.0, same_seen es fs ss rest are.1)
 same_seen es fs ss same are = cc
 
 -- the text of what is answered
