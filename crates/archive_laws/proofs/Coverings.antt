@@ -8,7 +8,7 @@ use Rattle.archive_core.specs.Content.{covering, is_covered}
 use Rattle.archive_core.proofs.Entries.{covering_admission}
 use Rattle.archive_core.proofs.Made.{and_left, and_right}
 use Rattle.archive_records.specs.declared.format.Format.{Format}
-use Rattle.archive_records.specs.declared.format.Format.TheVariants.{Archive, OldArchive, Operations, Summary}
+use Rattle.archive_records.specs.declared.format.Format.TheVariants.{Archive, OldArchive}
 use Rattle.archive_records.specs.declared.fault.RecordFaultKind.{RecordFaultKind}
 use Rattle.archive_records.specs.declared.fault.RecordFaultKind.TheVariants.{Covered}
 use Rattle.archive_records.specs.declared.fault.RecordFault.{RecordFault}
@@ -34,13 +34,10 @@ behind_covered : (file : Format) (records : List (List ℕ)) (rest : List ℕ) (
 behind_covered file records rest fault e (inl f) = (by_behind file records rest fault.kind e f.0, f.1)
 behind_covered file records rest fault e (inr t) = cc (sym e ∙ t.0)
 
-pub operations_uncovered : (text : List ℕ) (fault : RecordFault) → IsFaultOf Operations text fault → fault.kind ≢ Covered
-operations_uncovered text fault (inl m) e = no_magic_covers Operations text fault.kind e m.0
-operations_uncovered text fault (inr f) e = (behind_covered Operations f.0 f.1.rest fault e f.3).0
-
-pub summaries_uncovered : (text : List ℕ) (fault : RecordFault) → IsFaultOf Summary text fault → fault.kind ≢ Covered
-summaries_uncovered text fault (inl m) e = no_magic_covers Summary text fault.kind e m.0
-summaries_uncovered text fault (inr f) e = (behind_covered Summary f.0 f.1.rest fault e f.3).0
+pub uncovered : (file : Format) → ((records : List (List ℕ)) (rest : List ℕ) (kind : RecordFaultKind) → FailsBehind file records rest kind → ⊥)
+    → (text : List ℕ) (fault : RecordFault) → IsFaultOf file text fault → fault.kind ≢ Covered
+uncovered file none text fault (inl m) e = no_magic_covers file text fault.kind e m.0
+uncovered file none text fault (inr f) e = none f.0 f.1.rest fault.kind (behind_covered file f.0 f.1.rest fault e f.3).0
 
 -- ---- in words
 
@@ -107,8 +104,5 @@ told_covered text records front slice rest valid whole above there =
 
 -- a text of version 1 has no such fault
 pub old_uncovered : (text rest : List ℕ) (fault : RecordFault) → text ≡ old_magic ++ rest → IsFault text fault → fault.kind ≢ Covered
-old_uncovered text rest fault e f k = in_old (subst (λ (g : Format). IsFaultOf g text fault) (format_magic OldArchive refl text rest e) f)
-  where
-    in_old : IsFaultOf OldArchive text fault → ⊥
-    in_old (inl m) = no_magic_covers OldArchive text fault.kind k m.0
-    in_old (inr g) = (behind_covered OldArchive g.0 g.1.rest fault k g.3).0
+old_uncovered text rest fault e f =
+    uncovered OldArchive (λ _ _ _ none. none) text fault (subst (λ (file : Format). IsFaultOf file text fault) (format_magic OldArchive refl text rest e) f)

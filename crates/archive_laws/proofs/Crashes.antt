@@ -1,12 +1,11 @@
 -- The draft behind each of the calls.
-use Rattle.std.proofs.Common.{◌≡◌, ◌≢◌, ◌⊎◌, ℕ, Contains, zero, suc, true, false, List, [], ◌∷◌, ◌++◌, take, map, fold, length, Option, Some, refl, sym, ap, ◌∙◌, inl, inr, subst, append_assoc, arith}
-use Rattle.std.specs.List.{concat}
-use Rattle.std.specs.Str.{bytes_eq}
+use Rattle.std.proofs.Common.{◌≡◌, ◌≢◌, ◌⊎◌, ℕ, Contains, zero, suc, true, false, List, [], ◌∷◌, ◌++◌, take, map, fold, length, Option, Some, refl, sym, ap, ◌∙◌, inl, inr, subst, append_assoc, arith, bytes_eq, append-nil, take_all}
+use Rattle.std.specs.List.{AllByRecursion, concat}
 use Rattle.std.proofs.lemmas.Bool.{and_parts, false_from_ne_true, or_right}
-use Rattle.std.proofs.lemmas.List.{append-nil, take_all}
+use Rattle.std.proofs.lemmas.List.Sums.{fold-append}
 use Rattle.std.proofs.lemmas.Slice.Eq.{bytes_eq-Decides}
-use Rattle.archive_files.specs.FileCalls.{FileCall, Creates, Opens, Writes, Syncs, Renames, SyncsFolder, Removes, FindsFile, FindsOther, FindsNothing, FindsNoLink, Leads, FindsNoArchive, Agrees, Covers, Loses, are_probes, drafting, is_probe, publishing, writing}
-use Rattle.archive_files.specs.Publishing.{IsDescriptor, IsDraftRemoved, IsDrafted, IsReplaced, IsTargetOf, IsWritable, IsWrittenThrough, folder_of}
+use Rattle.archive_files.specs.FileCalls.{FileCall, Creates, Opens, Writes, Syncs, Renames, SyncsFolder, Removes, FindsOther, Leads, are_probes, drafting, is_probe, publishing, writing}
+use Rattle.archive_files.specs.Publishing.{IsDescriptor, IsDraftRemoved, IsDrafted, IsReplaced, IsTargetOf, IsWrittenThrough, folder_of}
 use Rattle.archive_files.specs.declared.replaceable.Replaces.{Replaces}
 use Rattle.archive_files.proofs.Publishings.{target_probes, tested_probes}
 use Rattle.archive_laws.specs.Crashes.{DraftState, MayBeAt, Old, New, Torn, Touched, behind, no_draft, replay}
@@ -17,16 +16,34 @@ pub record IsWhole (text : List ℕ) (d : DraftState) : Type 0 where
   pub bytes : d.renamed ≡ true → d.bytes ≡ text
   pub untouched : d.touched ≡ false
 
--- what was not renamed is so
-unrenamed : (text : List ℕ) (d : DraftState) → d.renamed ≡ false → d.touched ≡ false → IsWhole text d
-unrenamed text d still un = record { synced = λ yes. cc; bytes = λ yes. cc; untouched = un }
-
 -- It was not renamed, and the target not touched.
 abbrev IsStill : DraftState → Type 0
 IsStill d = (d.renamed ≡ false) × (d.touched ≡ false)
 
--- ---- calls that only ask
+still_whole : (text : List ℕ) (d : DraftState) → IsStill d → IsWhole text d
+still_whole text d still = record { synced = λ yes. cc still.0; bytes = λ yes. cc still.0; untouched = still.1 }
 
+-- ---- calls that leave it so
+
+abbrev IsOff : List ℕ → FileCall → Type 0
+IsOff target call = (d : DraftState) → IsStill d → IsStill (behind target d call)
+
+-- what holds of what is still holds behind any of such calls, and of others behind them where it holds there
+behind_off : (target : List ℕ) (P : DraftState → Type 0) → ((d : DraftState) → IsStill d → P d)
+    → (calls rest : List FileCall) (d : DraftState) (n : ℕ) → AllByRecursion (IsOff target) calls → IsStill d
+    → (IsStill (fold (behind target) d calls) → (m : ℕ) → P (fold (behind target) (fold (behind target) d calls) (take m rest)))
+    → P (fold (behind target) d (take n (calls ++ rest)))
+behind_off target P so [] rest d n off still then = then still n
+behind_off target P so (call ∷ calls) rest d zero off still then = so d still
+behind_off target P so (call ∷ calls) rest d (suc n) off still then =
+    behind_off target P so calls rest (behind target d call) n off.1 (off.0 d still) then
+
+both_off : (target : List ℕ) (calls more : List FileCall) → AllByRecursion (IsOff target) calls → AllByRecursion (IsOff target) more
+    → AllByRecursion (IsOff target) (calls ++ more)
+both_off target [] more off also = also
+both_off target (call ∷ calls) more off also = (off.0, both_off target calls more off.1 also)
+
+-- calls that only ask change nothing
 asks : (target : List ℕ) (d : DraftState) (call : FileCall) → is_probe call ≡ true → behind target d call ≡ d
 asks target d (Creates p) probe = cc
 asks target d (Opens p) probe = cc
@@ -37,167 +54,114 @@ asks target d (SyncsFolder p) probe = cc
 asks target d (Removes p) probe = cc
 asks target d call probe = refl
 
--- what holds behind any of some calls holds behind any of them where calls that only ask come first
-behind_probes : (target : List ℕ) (P : DraftState → Type 0) (probes rest : List FileCall) (n : ℕ) (d : DraftState)
-    → are_probes probes ≡ true → ((m : ℕ) → P (fold (behind target) d (take m rest)))
-    → P (fold (behind target) d (take n (probes ++ rest)))
-behind_probes target P [] rest n d are holds = holds n
-behind_probes target P (probe ∷ probes) rest zero d are holds = holds zero
-behind_probes target P (probe ∷ probes) rest (suc n) d are holds =
+all_ask : (target : List ℕ) (probes : List FileCall) → are_probes probes ≡ true
+    → AllByRecursion (IsOff target) probes × ((d : DraftState) → fold (behind target) d probes ≡ d)
+all_ask target [] are = (tt, λ d. refl)
+all_ask target (probe ∷ probes) are =
     let parts = and_parts (is_probe probe) (are_probes probes) are in
-    subst (λ e. P (fold (behind target) e (take n (probes ++ rest)))) (sym (asks target d probe parts.0))
-    (behind_probes target P probes rest n d parts.1 holds)
+    let rest = all_ask target probes parts.1 in (
+      ((λ d still. subst IsStill (sym (asks target d probe parts.0)) still), rest.0),
+      λ d. ap (λ e. fold (behind target) e probes) (asks target d probe parts.0) ∙ rest.1 d,
+    )
 
--- and they change nothing
-fold_probes : (target : List ℕ) (probes rest : List FileCall) (d : DraftState) → are_probes probes ≡ true
-    → fold (behind target) d (probes ++ rest) ≡ fold (behind target) d rest
-fold_probes target [] rest d are = refl
-fold_probes target (probe ∷ probes) rest d are =
-    let parts = and_parts (is_probe probe) (are_probes probes) are in
-    ap (λ e. fold (behind target) e (probes ++ rest)) (asks target d probe parts.0)
-    ∙ fold_probes target probes rest d parts.1
+-- and those that write put one piece behind another
+all_write : (target : List ℕ) (pieces : List (List ℕ))
+    → AllByRecursion (IsOff target) (map Writes pieces) × ((d : DraftState) → (fold (behind target) d (map Writes pieces)).bytes ≡ d.bytes ++ concat pieces)
+all_write target [] = (tt, λ d. sym (append-nil d.bytes))
+all_write target (piece ∷ pieces) =
+    let rest = all_write target pieces in
+    ((λ d still. still, rest.0), λ d. rest.1 (behind target d (Writes piece)) ∙ append_assoc d.bytes piece (concat pieces))
 
-module _ (draft target folder : List ℕ) (other : draft ≢ target) (tests : List FileCall) (are : are_probes tests ≡ true) where
-  abbrev placed : List FileCall
-  placed = publishing draft target folder
+module _ (draft target : List ℕ) (other : draft ≢ target) (probes : List FileCall) (pieces : List (List ℕ)) (tests : List FileCall)
+    (asked : are_probes probes ≡ true) (tested : are_probes tests ≡ true) where
+  -- a call at the draft
+  still_apart : (d : DraftState) → IsStill d → IsStill (behind target d (Removes draft))
+  still_apart d still = (still.0, rw still.1 (false_from_ne_true (bytes_eq draft target) (λ e. other ((bytes_eq-Decides draft target).0 e))))
 
-  abbrev last : List FileCall
-  last = tests ++ placed
+  -- all calls up to the tests
+  abbrev front : List FileCall
+  front = probes ++ drafting draft pieces ++ tests
 
-  -- two paths
-  apart : bytes_eq draft target ≡ false
-  apart = false_from_ne_true (bytes_eq draft target) (λ e. other ((bytes_eq-Decides draft target).0 e))
+  front_off : AllByRecursion (IsOff target) front
+  front_off =
+      both_off target (probes ++ drafting draft pieces) tests
+      (both_off target probes (drafting draft pieces) (all_ask target probes asked).0 (still_apart, (all_write target pieces).0)) (all_ask target tests tested).0
 
-  abbrev begun : DraftState
-  begun = behind target no_draft (Creates draft)
+  front_bytes : (replay target front).bytes ≡ concat pieces
+  front_bytes =
+      ap (λ e. e.bytes) (fold-append (behind target) no_draft (probes ++ drafting draft pieces) tests
+      ∙ (all_ask target tests tested).1 (fold (behind target) no_draft (probes ++ drafting draft pieces))
+      ∙ fold-append (behind target) no_draft probes (drafting draft pieces)
+      ∙ ap (λ e. fold (behind target) e (drafting draft pieces)) ((all_ask target probes asked).1 no_draft))
+      ∙ (all_write target pieces).1 (behind target no_draft (Creates draft))
 
-  -- behind some of the last three
-  three : (text : List ℕ) (d : DraftState) (n : ℕ) → IsStill d → d.bytes ≡ text
-      → IsWhole text (fold (behind target) d (take n placed))
-  three text d zero still is = unrenamed text d still.0 still.1
-  three text d (suc zero) still is = unrenamed text _ still.0 still.1
-  three text d (suc (suc zero)) still is = record { synced = λ _. refl; bytes = λ _. is; untouched = still.1 }
-  three text d (suc (suc (suc zero))) still is = record { synced = λ _. refl; bytes = λ _. is; untouched = still.1 }
-  three text d (suc (suc (suc (suc n)))) still is = record { synced = λ _. refl; bytes = λ _. is; untouched = still.1 }
-
-  ends : (text : List ℕ) (d : DraftState) (n : ℕ) → IsStill d → d.bytes ≡ text
-      → IsWhole text (fold (behind target) d (take n last))
-  ends text d n still is = behind_probes target (IsWhole text) tests placed n d are (λ m. three text d m still is)
-
-  -- behind some of them all
-  each : (text : List ℕ) (pieces : List (List ℕ)) (d : DraftState) (n : ℕ) → IsStill d → d.bytes ++ concat pieces ≡ text
-      → IsWhole text (fold (behind target) d (take n (map Writes pieces ++ last)))
-  each text [] d n still is = ends text d n still (sym (append-nil d.bytes) ∙ is)
-  each text (piece ∷ pieces) d zero still is = unrenamed text d still.0 still.1
-  each text (piece ∷ pieces) d (suc n) still is =
-      each text pieces (behind target d (Writes piece)) n still (append_assoc d.bytes piece (concat pieces) ∙ is)
-
-  prefix : (pieces : List (List ℕ)) (done : ℕ)
-      → IsWhole (concat pieces) (replay target (take done (drafting draft pieces ++ last)))
-  prefix pieces zero = unrenamed (concat pieces) no_draft refl refl
-  prefix pieces (suc n) = each (concat pieces) pieces begun n (refl, apart) refl
+  -- behind some of the calls, the last of which put the draft in its place
+  placed : (folder : List ℕ) (n : ℕ) → IsWhole (concat pieces) (replay target (take n (front ++ publishing draft target folder)))
+  placed folder n =
+      behind_off target (IsWhole (concat pieces)) (still_whole (concat pieces)) front (publishing draft target folder) no_draft n front_off (refl, refl) last
+    where
+      last : IsStill (replay target front) → (m : ℕ)
+          → IsWhole (concat pieces) (fold (behind target) (replay target front) (take m (publishing draft target folder)))
+      last still zero = still_whole (concat pieces) _ still
+      last still (suc zero) = still_whole (concat pieces) _ still
+      last still (suc (suc zero)) = record { synced = λ _. refl; bytes = λ _. front_bytes; untouched = still.1 }
+      last still (suc (suc (suc zero))) = record { synced = λ _. refl; bytes = λ _. front_bytes; untouched = still.1 }
+      last still (suc (suc (suc (suc m)))) = record { synced = λ _. refl; bytes = λ _. front_bytes; untouched = still.1 }
 
   -- behind all of them the renaming is on the disk
-  all : (pieces : List (List ℕ)) (d : DraftState) → (fold (behind target) d (map Writes pieces ++ last)).kept ≡ true
-  all [] d = ap (λ e. e.kept) (fold_probes target tests placed d are) ∙ or_right d.renamed (bytes_eq target target) ((bytes_eq-Decides target target).1 refl)
-  all (piece ∷ pieces) d = all pieces (behind target d (Writes piece))
-
-  at_end : (pieces : List (List ℕ)) → (replay target (drafting draft pieces ++ last)).kept ≡ true
-  at_end pieces = all pieces begun
-
-  removed_still : (d : DraftState) → IsStill d → IsStill (behind target d (Removes draft))
-  removed_still d still = (still.0, rw still.1 apart)
+  kept : (folder : List ℕ) → (replay target (front ++ publishing draft target folder)).kept ≡ true
+  kept folder =
+      ap (λ e. e.kept) (fold-append (behind target) no_draft front (publishing draft target folder))
+      ∙ or_right (replay target front).renamed (bytes_eq target target) ((bytes_eq-Decides target target).1 refl)
 
   -- what is removed was never renamed
-  ends_removed : (d : DraftState) (n : ℕ) → IsStill d → IsStill (fold (behind target) d (take n (Removes draft ∷ [])))
-  ends_removed d zero still = still
-  ends_removed d (suc zero) still = removed_still d still
-  ends_removed d (suc (suc n)) still = removed_still d still
+  removed : (rest : List FileCall) (n : ℕ) → AllByRecursion (IsOff target) rest → IsStill (replay target (take n (front ++ rest)))
+  removed rest n off =
+      subst (λ calls. IsStill (replay target (take n calls))) (append-nil (front ++ rest))
+      (behind_off target IsStill (λ d still. still) (front ++ rest) [] no_draft n (both_off target front rest front_off off) (refl, refl) last)
+    where
+      last : IsStill (replay target (front ++ rest)) → (m : ℕ) → IsStill (fold (behind target) (replay target (front ++ rest)) (take m []))
+      last still zero = still
+      last still (suc m) = still
 
-  ends_synced : (d : DraftState) (n : ℕ) → IsStill d
-      → IsStill (fold (behind target) d (take n (Syncs ∷ Removes draft ∷ [])))
-  ends_synced d zero still = still
-  ends_synced d (suc n) still = ends_removed (behind target d Syncs) n still
-
-  never : (rest : List FileCall)
-      → ((d : DraftState) (n : ℕ) → IsStill d → IsStill (fold (behind target) d (take n rest)))
-      → (pieces : List (List ℕ)) (d : DraftState) (n : ℕ) → IsStill d
-      → IsStill (fold (behind target) d (take n (map Writes pieces ++ rest)))
-  never rest stays [] d n still = stays d n still
-  never rest stays (piece ∷ pieces) d zero still = still
-  never rest stays (piece ∷ pieces) d (suc n) still = never rest stays pieces (behind target d (Writes piece)) n still
-
-  unplaced : (rest : List FileCall)
-      → ((d : DraftState) (n : ℕ) → IsStill d → IsStill (fold (behind target) d (take n rest)))
-      → (pieces : List (List ℕ)) (done : ℕ) → IsStill (replay target (take done (drafting draft pieces ++ rest)))
-  unplaced rest stays pieces zero = (refl, refl)
-  unplaced rest stays pieces (suc n) = never rest stays pieces begun n (refl, apart)
-
--- what such a draft leaves
-leaves : (text : List ℕ) (before left : Option (List ℕ)) (d : DraftState) → IsWhole text d → MayBeAt before d left
-    → (left ≡ before) ⊎ (left ≡ Some text)
-leaves text before _ d is (Old kept) = inl refl
-leaves text before _ d is (New renamed synced) = inr (ap (λ t. Some t) (is.bytes renamed))
-leaves text before _ d is (Torn renamed unsynced left) = cc (is.synced renamed)
-leaves text before _ d is (Touched touched left) = cc (is.untouched)
-
-leaves_text : (text : List ℕ) (before left : Option (List ℕ)) (d : DraftState) → IsWhole text d → d.kept ≡ true
-    → MayBeAt before d left → left ≡ Some text
-leaves_text text before _ d is kept (Old unkept) = cc
-leaves_text text before _ d is kept (New renamed synced) = ap (λ t. Some t) (is.bytes renamed)
-leaves_text text before _ d is kept (Torn renamed unsynced left) = cc (is.synced renamed)
-leaves_text text before _ d is kept (Touched touched left) = cc (is.untouched)
-
-leaves_it : (before left : Option (List ℕ)) (d : DraftState) → IsStill d → MayBeAt before d left → left ≡ before
-leaves_it before _ d still (Old kept) = refl
-leaves_it before _ d still (Touched touched left) = cc still.1
-leaves_it before _ d still a = cc still.0
-
--- ---- behind some of the calls, and behind all
-
--- the calls from the first that does more than ask
-flat : (probes drafted tests rest calls : List FileCall) → calls ≡ probes ++ drafted ++ tests ++ rest
-    → calls ≡ probes ++ (drafted ++ (tests ++ rest))
-flat probes drafted tests rest calls is =
-    is ∙ append_assoc (probes ++ drafted) tests rest ∙ append_assoc probes drafted (tests ++ rest)
-
-flat_removed : (probes drafted tests rest before calls : List FileCall) → before ≡ probes ++ drafted
-    → calls ≡ before ++ tests ++ rest → calls ≡ probes ++ (drafted ++ (tests ++ rest))
-flat_removed probes drafted tests rest before calls first is =
-    flat probes drafted tests rest calls (is ∙ ap (λ cs. cs ++ tests ++ rest) first)
+-- ---- what a crash leaves
 
 module _ (path text : List ℕ) (replaces : Replaces) (calls : List FileCall) (is : IsReplaced path replaces text calls) where
-  abbrev end : List FileCall
-  end = publishing is.draft is.target (folder_of is.target)
+  asked_first : are_probes is.probes ≡ true
+  asked_first = target_probes path is.target is.probes is.target_is
 
-  are_probed : are_probes is.tests ≡ true
-  are_probed = tested_probes replaces is.draft is.target is.tests is.tested
-
-  are_flat : calls ≡ is.probes ++ (drafting is.draft is.pieces ++ (is.tests ++ end))
-  are_flat = flat is.probes (drafting is.draft is.pieces) is.tests end calls is.calls_are
+  are_tested : are_probes is.tests ≡ true
+  are_tested = tested_probes replaces is.draft is.target is.tests is.tested
 
   whole_at : (done : ℕ) → IsWhole text (replay is.target (take done calls))
   whole_at done =
-      subst (λ cs. IsWhole text (replay is.target (take done cs))) (sym are_flat)
-      (subst (λ t. IsWhole t (replay is.target (take done (is.probes ++ (drafting is.draft is.pieces ++ (is.tests ++ end))))))
-      is.whole
-      (behind_probes is.target (IsWhole (concat is.pieces)) is.probes (drafting is.draft is.pieces ++ (is.tests ++ end)) done
-      no_draft (target_probes path is.target is.probes is.target_is)
-      (λ m. prefix is.draft is.target (folder_of is.target) is.beside.apart is.tests are_probed is.pieces m)))
+      subst (λ cs. IsWhole text (replay is.target (take done cs))) (sym is.calls_are)
+      (subst (λ t. IsWhole t (replay is.target (take done (front is.draft is.target is.beside.apart is.probes is.pieces is.tests asked_first are_tested
+      ++ publishing is.draft is.target (folder_of is.target))))) is.whole
+      (placed is.draft is.target is.beside.apart is.probes is.pieces is.tests asked_first are_tested (folder_of is.target) done))
 
   pub any_moment : (before left : Option (List ℕ)) (done : ℕ) → MayBeAt before (replay is.target (take done calls)) left
       → (left ≡ before) ⊎ (left ≡ Some text)
-  any_moment before left done may = leaves text before left _ (whole_at done) may
+  any_moment before left done may = leaves left _ (whole_at done) may
+    where
+      leaves : (left : Option (List ℕ)) (d : DraftState) → IsWhole text d → MayBeAt before d left → (left ≡ before) ⊎ (left ≡ Some text)
+      leaves _ d whole (Old unkept) = inl refl
+      leaves _ d whole (New renamed synced) = inr (ap Some (whole.bytes renamed))
+      leaves _ d whole (Torn renamed unsynced left) = cc (whole.synced renamed)
+      leaves _ d whole (Touched touched left) = cc (whole.untouched)
 
   pub at_the_end : (before left : Option (List ℕ)) → MayBeAt before (replay is.target calls) left → left ≡ Some text
   at_the_end before left may =
-      leaves_text text before left _
-      (subst (λ cs. IsWhole text (replay is.target cs)) (take_all (length calls) calls (omega arith))
-      (whole_at (length calls)))
-      (ap (λ cs. (replay is.target cs).kept) are_flat
-      ∙ ap (λ d. d.kept) (fold_probes is.target is.probes (drafting is.draft is.pieces ++ (is.tests ++ end)) no_draft
-      (target_probes path is.target is.probes is.target_is))
-      ∙ at_end is.draft is.target (folder_of is.target) is.beside.apart is.tests are_probed is.pieces) may
+      leaves left _
+      (subst (λ cs. IsWhole text (replay is.target cs)) (take_all (length calls) calls (omega arith)) (whole_at (length calls)))
+      (ap (λ cs. (replay is.target cs).kept) is.calls_are
+      ∙ kept is.draft is.target is.beside.apart is.probes is.pieces is.tests asked_first are_tested (folder_of is.target)) may
+    where
+      leaves : (left : Option (List ℕ)) (d : DraftState) → IsWhole text d → d.kept ≡ true → MayBeAt before d left → left ≡ Some text
+      leaves _ d whole kept (Old unkept) = cc
+      leaves _ d whole kept (New renamed synced) = ap Some (whole.bytes renamed)
+      leaves _ d whole kept (Torn renamed unsynced left) = cc (whole.synced renamed)
+      leaves _ d whole kept (Touched touched left) = cc (whole.untouched)
 
   pub place_is : (is.target ≡ path) ⊎ Contains calls (Leads path is.target)
   place_is = by_case is.target_is
@@ -207,42 +171,41 @@ module _ (path text : List ℕ) (replaces : Replaces) (calls : List FileCall) (i
       by_case (inr (inl file)) = inl file.0
       by_case (inr (inr link)) =
           inr (subst (λ cs. Contains cs (Leads path is.target))
-          (sym (are_flat ∙ ap (λ probes. probes ++ (drafting is.draft is.pieces ++ (is.tests ++ end))) link))
+          (sym (is.calls_are ∙ ap (λ probes. probes ++ drafting is.draft is.pieces ++ is.tests ++ publishing is.draft is.target (folder_of is.target)) link))
           (1, grind arith, refl))
-
-removed_at : (path : List ℕ) (calls : List FileCall) (done : ℕ) (is : IsDraftRemoved path calls)
-    → IsStill (replay is.target (take done calls))
-removed_at path calls done is =
-    let d : IsDrafted path is.draft is.target is.drafted = is.is_drafted in
-    let drafted = drafting is.draft d.pieces in
-    let asks_first = target_probes path is.target d.probes d.target_is in
-    let still : (rest : List FileCall)
-    → ((e : DraftState) (n : ℕ) → IsStill e → IsStill (fold (behind is.target) e (take n rest)))
-    → calls ≡ is.drafted ++ is.tests ++ rest → IsStill (replay is.target (take done calls)) =
-    λ rest stays are.
-    subst (λ cs. IsStill (replay is.target (take done cs)))
-    (sym (flat_removed d.probes drafted is.tests rest is.drafted calls d.calls_are are))
-    (behind_probes is.target IsStill d.probes (drafted ++ (is.tests ++ rest)) done no_draft asks_first
-    (λ m. unplaced is.draft is.target [] d.beside.apart [] refl (is.tests ++ rest)
-    (λ e n before. behind_probes is.target IsStill is.tests rest n e is.are_tests (λ k. stays e k before)) d.pieces m)) in
-    elim is.calls_are [
-      | inl removed ↦ still (Removes is.draft ∷ [])
-          (ends_removed is.draft is.target [] d.beside.apart [] refl) removed
-      | inr synced ↦ still (Syncs ∷ Removes is.draft ∷ [])
-          (ends_synced is.draft is.target [] d.beside.apart [] refl) synced
-    ]
 
 pub removed_leaves : (path : List ℕ) (calls : List FileCall) (before left : Option (List ℕ)) (done : ℕ)
     (is : IsDraftRemoved path calls) → MayBeAt before (replay is.target (take done calls)) left → left ≡ before
-removed_leaves path calls before left done is may = leaves_it before left _ (removed_at path calls done is) may
+removed_leaves path calls before left done is may =
+    elim is.calls_are [
+      | inl at_once ↦ leaves left _ (still_at (Removes is.draft ∷ []) at_once (apart, tt)) may
+      | inr synced ↦ leaves left _ (still_at (Syncs ∷ Removes is.draft ∷ []) synced ((λ d still. still), (apart, tt))) may
+    ]
+  where
+    drafted : IsDrafted path is.draft is.target is.drafted
+    drafted = is.is_drafted
+
+    apart : (d : DraftState) → IsStill d → IsStill (behind is.target d (Removes is.draft))
+    apart = still_apart is.draft is.target drafted.beside.apart [] [] [] refl refl
+
+    still_at : (rest : List FileCall) → calls ≡ is.drafted ++ is.tests ++ rest → AllByRecursion (IsOff is.target) rest
+        → IsStill (replay is.target (take done calls))
+    still_at rest are off =
+        subst (λ cs. IsStill (replay is.target (take done cs))) (sym (are ∙ ap (λ cs. cs ++ is.tests ++ rest) drafted.calls_are))
+        (removed is.draft is.target drafted.beside.apart drafted.probes drafted.pieces is.tests
+        (target_probes path is.target drafted.probes drafted.target_is) is.are_tests rest done off)
+
+    leaves : (left : Option (List ℕ)) (d : DraftState) → IsStill d → MayBeAt before d left → left ≡ before
+    leaves _ d still (Old unkept) = refl
+    leaves _ d still (New renamed synced) = cc still.0
+    leaves _ d still (Torn renamed unsynced left) = cc still.0
+    leaves _ d still (Touched touched left) = cc still.1
 
 -- what was written to is no regular file, as the system said, or a descriptor
 pub no_file : (path text : List ℕ) (calls : List FileCall) (is : IsWrittenThrough path text calls)
     → Contains calls (FindsOther path) ⊎ IsDescriptor path
-no_file path text calls is = by_case is.writable
-  where
-    by_case : IsWritable path is.probes → Contains calls (FindsOther path) ⊎ IsDescriptor path
-    by_case (inl other) =
-        inl (subst (λ cs. Contains cs (FindsOther path))
-        (sym (is.calls_are ∙ ap (λ probes. probes ++ writing path is.pieces) other)) (0, grind arith, refl))
-    by_case (inr descriptor) = inr descriptor.1
+no_file path text calls is = elim is.writable [
+  | inl other ↦ inl (subst (λ cs. Contains cs (FindsOther path))
+      (sym (is.calls_are ∙ ap (λ probes. probes ++ writing path is.pieces) other)) (0, grind arith, refl))
+  | inr descriptor ↦ inr descriptor.1
+]

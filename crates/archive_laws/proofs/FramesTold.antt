@@ -1,30 +1,24 @@
--- What is told of frames is what `symbolicate` tells of each, depends on the content alone, and is refused for a device alone.
-use Rattle.std.proofs.Common.{◌≡◌, ◌↔◌, ℕ, Bool, if◌then◌else◌, List, [], ◌∷◌, map, Option, Result, Ok, Err, refl, sym, ap, ◌∙◌, subst, arith, inl, inr}
+-- What is told of frames is what `symbolicate` tells of each, and depends on the content alone.
+use Rattle.std.proofs.Common.{◌≡◌, ◌↔◌, ℕ, Bool, if◌then◌else◌, List, [], ◌∷◌, map, Ok, refl, sym, ap, ◌∙◌, subst, arith, append-nil}
 use Rattle.std.specs.List.{AllByRecursion, AllZip, flat_map, list_all}
-use Rattle.std.proofs.lemmas.List.{append-nil}
+use Rattle.std.proofs.lemmas.List.Folds.{flat_map-map}
 use Rattle.archive_core.specs.Content.{Operations}
 use Rattle.archive_core.specs.Lookup.{AnswerRecord, IsAnswer}
 use Rattle.archive_core.specs.declared.keys.SliceKey.{SliceKey}
 use Rattle.archive_core.specs.declared.lookup.Where.{Where}
-use Rattle.archive_words.specs.Lines.{line_at}
-use Rattle.crash_frames.specs.Flaws.{frame_flaw}
 use Rattle.crash_frames.specs.Frames.{frames_of}
 use Rattle.crash_frames.specs.declared.frame.Frame.{Frame}
 use Rattle.report_text.specs.Answers.{answer_lines}
 use Rattle.source_frames.specs.AddressFrames.{AreFramesOf}
 use Rattle.source_frames.specs.Frames.{FrameRecord}
-use Rattle.byte_device.specs.declared.disks.CannotOpen.{CannotOpen}
-use Rattle.command_core.specs.declared.faults.InputName.{InputName}
 use Rattle.command_core.specs.declared.faults.Status.{Status}
 use Rattle.command_core.specs.declared.faults.Status.TheVariants.{Done, Partial}
-use Rattle.command_core.specs.declared.faults.Why.{Why}
-use Rattle.command_core.specs.declared.faults.Why.TheVariants.{Device as CannotRead, BadFrame, CannotOpen as NotOpened}
-use Rattle.address_queries.specs.Frames.{IsFrameAnswered, TellsFrames, MakesFramed, RefusesFrames, Told, IsToldAlone, SymbolicatesEach, is_done}
-use Rattle.command_core.specs.Inputs.{Reader, reader, Gives, HoldsContent, IsDeviceFault, IsFramesRefused, IsGiven}
+use Rattle.address_queries.specs.Frames.{IsFrameAnswered, TellsFrames, MakesFramed, Told, IsToldAlone, SymbolicatesEach, is_done}
+use Rattle.command_core.specs.Inputs.{Reader, IsGiven}
 use Rattle.address_queries.specs.Symbolicate.{Answered, IsAnswered, TellsAddresses, is_symbol, answers_status, answers_text}
-use Rattle.archive_laws.specs.Joins.{IsGivenJoin, IsMergedFile}
-use Rattle.archive_laws.proofs.Joins.{alone_held, as_merged, holds_join, join_refused, told_of_join}
-use Rattle.archive_laws.proofs.Given.{gives, is_given}
+use Rattle.archive_laws.specs.Joins.{IsGivenJoin}
+use Rattle.archive_laws.proofs.Joins.{holds_join, told_of_join}
+use Rattle.archive_laws.proofs.Given.{gives, is_given, one_value}
 use Rattle.archive_laws.proofs.Viewed.{alike_told, one_seen, seen}
 
 -- ---- an answer alone
@@ -37,8 +31,9 @@ all_done [] = refl
 all_done (row ∷ rows) = let rest = all_done rows in grind arith
 
 one_text : (rows : List Answered) → answers_text rows ≡ flat_map (λ (one : Told). one.text) (map alone_told rows)
-one_text [] = refl
-one_text (row ∷ rows) = rw (one_text rows, append-nil (answer_lines row.address row.answer row.frames)) refl
+one_text rows =
+    (λ i. flat_map (λ (row : Answered). sym (append-nil (answer_lines row.address row.answer row.frames)) i) rows)
+    ∙ sym (flat_map-map (λ (one : Told). one.text) alone_told rows)
 
 each_alone : {S T : Type 0} (lines : Bool) (input : Reader S) (others : List (Reader T)) (o : Operations) (frames : List Frame) (rows : List Answered) → IsGivenJoin input others o
     → AllZip (IsFrameAnswered lines o) frames rows → AllZip (IsToldAlone lines input others) frames (map alone_told rows)
@@ -81,7 +76,7 @@ pub frames_of_join : {R S T : Type 0} (lines : Bool) (input : Reader R) (first :
     → IsGiven input bytes → frames_of bytes ≡ Ok listed → IsGivenJoin first others o → MakesFramed lines input first others status text → TellsFrames lines o listed status text
 frames_of_join lines input first others bytes listed o status text is says given_join makes =
     let also = is_given input bytes (λ b. frames_of b ≡ Ok makes.listed) is makes.frames_are in
-    let frames : makes.listed ≡ listed = cc in
+    let frames = one_value (frames_of bytes) makes.listed listed also says in
     subst (λ (fs : List Frame). TellsFrames lines o fs status text) frames (told_of_join first others o given_join (λ p. TellsFrames lines p makes.listed status text) makes.tells)
 
 pub each_is : {R S T : Type 0} (lines : Bool) (input : Reader R) (first : Reader S) (others : List (Reader T)) (bytes : List ℕ) (listed : List Frame) (o : Operations) (status : Status) (text : List ℕ)
@@ -114,21 +109,6 @@ each_is lines input first others bytes listed o status text is says given_join =
           });
         }
 
--- what they tell is what the file tells that `merge` of them writes
-pub as_one : {Q R S T : Type 0} (lines : Bool) (input : Reader Q) (first : Reader R) (others : List (Reader S)) (file : Reader T) → IsMergedFile first others file → (status : Status) (text : List ℕ)
-    → MakesFramed lines input first others status text ↔ MakesFramed {T = S} lines input file [] status text
-as_one lines input first others file merged status text = (
-  λ m. record { listed = m.listed; frames_are = m.frames_are; tells = (as_merged first others file merged (λ p. TellsFrames lines p m.listed status text)).0 m.tells },
-  λ m. record { listed = m.listed; frames_are = m.frames_are; tells = (as_merged first others file merged (λ p. TellsFrames lines p m.listed status text)).1 m.tells },
-)
-
-pub as_alone : {Q R S : Type 0} (lines : Bool) (input : Reader Q) (first : Reader R) (status : Status) (text : List ℕ)
-    → MakesFramed {T = S} lines input first [] status text ↔ ((listed : List Frame) × Gives input (λ bytes. frames_of bytes ≡ Ok listed) × HoldsContent first (λ o. TellsFrames lines o listed status text))
-as_alone lines input first status text = (
-  λ m. (m.listed, m.frames_are, (alone_held first (λ o. TellsFrames lines o m.listed status text)).0 m.tells),
-  λ m. record { listed = m.0; frames_are = m.1; tells = (alone_held first (λ o. TellsFrames lines o m.0 status text)).1 m.2 },
-)
-
 -- ---- one report
 
 module _ (one : (o : Operations) (key : SliceKey) (place : Where) (answer other : AnswerRecord) → IsAnswer o key place answer → IsAnswer o key place other → answer ≡ other)
@@ -157,22 +137,3 @@ module _ (one : (o : Operations) (key : SliceKey) (place : Where) (answer other 
       one_told lines o makes.listed status other_status text other_text
       (frames_of_join lines input first others bytes makes.listed o status text is says first_given makes)
       (frames_of_join lines also other more bytes makes.listed o other_status other_text also_is says other_given other_makes)
-
--- ---- inputs that are accepted
-
-pub frames_alone : {S : Type 0} (left : S → Option (List ℕ)) (failures : S → ℕ) (old new : Result S CannotOpen) (bytes : List ℕ) (listed : List Frame) (why : Why)
-    → IsGiven (reader left failures old new) bytes → frames_of bytes ≡ Ok listed → IsFramesRefused (reader left failures old new) why → IsDeviceFault why
-frames_alone left failures (Ok source) new bytes listed NotOpened is says refused = refused
-frames_alone left failures (Err _) new bytes listed NotOpened is says refused = absurd is
-frames_alone left failures old new bytes listed CannotRead is says refused = tt
-frames_alone left failures old new bytes listed (BadFrame line flaw) is says refused =
-    let bad = is_given (reader left failures old new) bytes (λ b. (frames_of b ≡ Err line) × (flaw ≡ frame_flaw (line_at b line))) is refused.1 in cc (sym bad.0 ∙ says)
-frames_alone left failures old new bytes listed _ is says refused = absurd refused
-
-pub not_refused : {R S T : Type 0} (input : Reader R) (first : Reader S) (others : List (Reader T)) (bytes : List ℕ) (listed : List Frame) (o : Operations) (place : InputName) (why : Why)
-    → IsGiven input bytes → frames_of bytes ≡ Ok listed → IsGivenJoin first others o → RefusesFrames input first others place why → IsDeviceFault why
-not_refused input first others bytes listed o place why is says given_join refused =
-    elim refused [
-      | inl p ↦ frames_alone input.left input.failures input.old input.new bytes listed why is says p.0.1
-      | inr p ↦ join_refused first others o given_join place why p.2
-    ]

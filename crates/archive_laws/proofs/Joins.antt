@@ -1,22 +1,29 @@
--- What archives hold together, where their bytes are known.
+-- What archives hold together, where their bytes are known, and what is told of it.
 use Rattle.std.proofs.Common.{◌≡◌, ◌↔◌, ℕ, List, [], ◌∷◌, refl, sym, ap, ◌∙◌, subst, inl, inr}
 use Rattle.std.specs.List.{AllByRecursion, AllZip}
-use Rattle.archive_core.specs.Content.{Operations, IsContent, joined}
+use Rattle.archive_core.specs.Content.{Operations, IsContent, content_of, joined}
+use Rattle.archive_core.specs.Find.{IsFinds}
+use Rattle.archive_core.specs.Lists.{IsList}
+use Rattle.archive_core.specs.Names.{IsNames, NameRecord}
+use Rattle.archive_core.specs.declared.find.FindRow.{FindRow}
 use Rattle.archive_core.proofs.Made.{joined_content}
-use Rattle.archive_records.specs.Text.{IsArchiveOf, written}
+use Rattle.archive_records.specs.Text.{AreOperations, old_written, written}
+use Rattle.report_text.specs.Finds.{find_lines, list_lines}
+use Rattle.report_text.specs.Names.{name_lines}
 use Rattle.command_core.specs.declared.faults.InputName.{InputName}
+use Rattle.command_core.specs.declared.faults.Status.{Status}
 use Rattle.command_core.specs.declared.faults.Why.{Why}
 use Rattle.command_core.specs.Archives.{AreRefused, HoldTogether, merged}
+use Rattle.command_core.specs.Found.{TellsFound, found_status}
 use Rattle.command_core.specs.Inputs.{Reader, HoldsArchive, HoldsContent, IsDeviceFault, IsGiven, IsGivenArchive}
-use Rattle.archive_writing.specs.Merge.{merge}
-use Rattle.archive_laws.specs.Joins.{IsGivenJoin, IsMergedFile}
+use Rattle.archive_queries.specs.List.{MakesListed}
+use Rattle.archive_queries.specs.Name.{TellsNamed}
+use Rattle.archive_writing.specs.Merge.{MakesMerged, merge}
+use Rattle.archive_laws.specs.Joins.{IsGivenJoin, IsMergedFile, TellOne}
 use Rattle.archive_laws.proofs.Accepted.{merge_refused}
-use Rattle.archive_laws.proofs.Given.{contents_given, gives, one_given}
+use Rattle.archive_laws.proofs.Given.{contents_given, holds, one_given}
 
 -- ---- what is given is held
-
-holds : {S : Type 0} (input : Reader S) (o : Operations) → IsGivenArchive input o → HoldsArchive input o
-holds input o given = gives input given.0 (IsArchiveOf o) given.2 given.1
 
 each_holds : {S : Type 0} (files : List (Reader S)) (contents : List Operations) → AllZip IsGivenArchive files contents → AllZip HoldsArchive files contents
 each_holds [] [] given = tt
@@ -100,3 +107,51 @@ alone_held {S = S} archive IsTrue = (
     is_true = held.is_true;
   },
 )
+
+-- ---- texts of either version
+
+-- an input with what version 1 wrote of operations gives the content that they make
+pub old_given : {R : Type 0} (input : Reader R) (p : Operations) → AreOperations p → IsGiven input (old_written p) → IsGivenArchive input (content_of p)
+old_given input p are given = (old_written p, inr (record { operations = p; are = are; whole = refl; makes = refl }), given)
+
+pub new_given : {R : Type 0} (input : Reader R) (o : Operations) → IsGiven input (written o) → IsGivenArchive input o
+new_given input o given = (written o, inl refl, given)
+
+-- two archives make the join of what they give
+pub merged_two : {R S : Type 0} (input : Reader R) (file : Reader S) (o q content : Operations) (lines : List ℕ) → IsContent o → IsContent q → IsGivenArchive input o → IsGivenArchive file q
+    → MakesMerged input (file ∷ []) content lines → content ≡ joined o q
+merged_two input file o q content lines c d given other makes =
+    let first = one_given input o makes.before c makes.is_content given makes.archive in
+    let rest = contents_given (file ∷ []) (q ∷ []) makes.contents (d, tt) makes.are_contents (other, tt) makes.files_are in
+    makes.content_is ∙ (λ i. merged (first i) (rest i))
+
+-- ---- what is told once
+
+pub told_once : {Q R S T : Type 0} (archive : Reader Q) (others : List (Reader R)) (also : Reader S) (more : List (Reader T)) (o : Operations)
+    (Tells : Operations → Status → List ℕ → Type 0) → TellOne (Tells o) (Tells o) → IsGivenJoin archive others o → IsGivenJoin also more o
+    → TellOne (λ status text. HoldTogether archive others (λ p. Tells p status text)) (λ status text. HoldTogether also more (λ p. Tells p status text))
+told_once archive others also more o Tells one given also_given status other_status text other_text tells also_tells =
+    one status other_status text other_text
+    (told_of_join archive others o given (λ p. Tells p status text) tells)
+    (told_of_join also more o also_given (λ p. Tells p other_status other_text) also_tells)
+
+pub found_once : ((o : Operations) (uuid : List ℕ) (rows others : List FindRow) → IsFinds o uuid rows → IsFinds o uuid others → rows ≡ others)
+    → (o : Operations) (uuid : List ℕ) → TellOne (TellsFound o uuid) (TellsFound o uuid)
+found_once one o uuid status other_status text other_text a b =
+    let rows = one o uuid a.rows b.rows a.finds b.finds in
+    (a.status_is ∙ ap found_status rows ∙ sym b.status_is, a.text_is ∙ ap find_lines rows ∙ sym b.text_is)
+
+pub named_once : ((o : Operations) (name : List ℕ) (rows others : List NameRecord) → IsNames o name rows → IsNames o name others → rows ≡ others)
+    → (o : Operations) (sought : List ℕ) → TellOne (TellsNamed o sought) (TellsNamed o sought)
+named_once one o sought status other_status text other_text a b =
+    let rows = one o sought a.rows b.rows a.names b.names in
+    (a.status_is ∙ ap found_status rows ∙ sym b.status_is, a.text_is ∙ ap name_lines rows ∙ sym b.text_is)
+
+pub listed_once : ((o : Operations) (rows others : List FindRow) → IsList o rows → IsList o others → rows ≡ others)
+    → {R S : Type 0} (archive : Reader R) (other : Reader S) (o : Operations) → IsContent o → IsGivenArchive archive o → IsGivenArchive other o
+    → TellOne (MakesListed archive) (MakesListed other)
+listed_once one archive other o content given also_given status other_status text other_text a b =
+    let first = one_given archive o a.content content a.is_content given a.archive_is in
+    let second = one_given other o b.content content b.is_content also_given b.archive_is in
+    let rows = one o a.rows b.rows (subst (λ (p : Operations). IsList p a.rows) first a.lists) (subst (λ (p : Operations). IsList p b.rows) second b.lists) in
+    (a.status_is ∙ ap found_status rows ∙ sym b.status_is, a.text_is ∙ ap list_lines rows ∙ sym b.text_is)

@@ -1,7 +1,5 @@
--- A script has one report, and is refused for its device alone.
-use Rattle.std.proofs.Common.{◌≡◌, ℕ, ◌+◌, List, [], ◌∷◌, ◌++◌, length, map, codes, refl, sym, ap, ap₂, ◌∙◌, subst, Option, Result, Ok, Err, true, if◌then◌else◌}
-use Rattle.std.specs.Prelude.{slice_index_or}
-use Rattle.std.specs.Fmt.{decimal}
+-- A script has one report.
+use Rattle.std.proofs.Common.{◌≡◌, ℕ, ◌+◌, List, [], ◌∷◌, ◌++◌, length, map, codes, refl, sym, ap, ap₂, ◌∙◌, subst, Ok, true, if◌then◌else◌, slice_index_or, decimal}
 use Rattle.std.specs.List.{AllZip}
 use Rattle.archive_core.specs.Record.{retirement_record}
 use Rattle.exchange_model.specs.World as model
@@ -9,40 +7,18 @@ use Rattle.exchange_model.specs.World.{state, outcomes}
 use Rattle.archive_exchange.specs.InnerEvents.{SeenFile}
 use Rattle.archive_exchange.specs.ModelEvent.{ModelEvent, IsFile, IsSeen, AreSeen, OutcomeIs, row_told, fault_told}
 use Rattle.admission.specs.declared.fault.TakeFault.{TakeFault}
-use Rattle.archive_words.specs.Lines.{line_at}
-use Rattle.exchange_script.specs.Flaws.{script_flaw}
 use Rattle.exchange_script.specs.declared.event.Event.{Event}
 use Rattle.exchange_script.specs.declared.event.Event.TheVariants as event
 use Rattle.archive_exchange.specs.declared.outcome.Outcome.{Outcome}
 use Rattle.archive_exchange.specs.declared.outcome.Outcome.TheVariants.{Took, Retired, Refused}
 use Rattle.exchange_script.specs.Events.{Act, Take, Retire, Full, Ask, Reply, Deliver, Save, Stop, act_of}
-use Rattle.exchange_script.specs.Script.{Wrong, acts, script_of}
+use Rattle.exchange_script.specs.Script.{acts, script_of}
 use Rattle.rehearse.specs.EventLines.{event_fault_text, event_lines, outcome_text, sent_text, took_text}
 use Rattle.report_text.specs.Report.{line}
-use Rattle.byte_device.specs.declared.disks.CannotOpen.{CannotOpen}
-use Rattle.command_core.specs.declared.faults.InputName.{InputName}
 use Rattle.command_core.specs.declared.faults.Status.{Status}
-use Rattle.command_core.specs.declared.faults.Why.{Why}
-use Rattle.command_core.specs.declared.faults.Why.TheVariants.{Device as CannotRead, Script as Faulty, CannotOpen as NotOpened}
-use Rattle.command_core.specs.Inputs.{Reader, reader, IsDeviceFault, IsGiven, IsRefusedScript, IsScriptRefused}
+use Rattle.command_core.specs.Inputs.{Reader, IsGiven}
 use Rattle.rehearse.specs.Rehearse.{MakesRehearsed, TellsEvents, rehearsal_lines, site_lines}
-use Rattle.archive_laws.proofs.Given.{is_given}
-
--- ---- a script that is refused
-
-refused_so : {S : Type 0} (left : S → Option (List ℕ)) (failures : S → ℕ) (old new : Result S CannotOpen) (bytes : List ℕ) (listed : ℕ × List Act) (why : Why)
-    → IsGiven (reader left failures old new) bytes → script_of bytes ≡ Ok listed → IsScriptRefused (reader left failures old new) why → IsDeviceFault why
-refused_so left failures (Ok source) new bytes listed NotOpened is says refused = refused
-refused_so left failures (Err _) new bytes listed NotOpened is says refused = absurd is
-refused_so left failures old new bytes listed CannotRead is says refused = tt
-refused_so left failures old new bytes listed (Faulty fault line flaw) is says refused =
-    let bad = is_given (reader left failures old new) bytes (λ b. (script_of b ≡ Err (fault, line)) × (flaw ≡ script_flaw fault (line_at b line))) is refused.1 in cc (sym bad.0 ∙ says)
-refused_so left failures old new bytes listed _ is says refused = absurd refused
-
-pub script_not_refused : {S : Type 0} (script : Reader S) (bytes : List ℕ) (sites : ℕ) (events : List Act) (place : InputName) (why : Why)
-    → IsGiven script bytes → script_of bytes ≡ Ok (sites, events) → IsRefusedScript script place why → IsDeviceFault why
-script_not_refused script bytes sites events place why is says refused =
-    refused_so script.left script.failures script.old script.new bytes (sites, events) why is says refused.1
+use Rattle.archive_laws.proofs.Given.{is_given, one_value}
 
 -- ---- one report
 
@@ -57,13 +33,9 @@ IsSeenAct (Deliver site message) seen = seen ≡ model.Deliver site message
 IsSeenAct (Save site) seen = seen ≡ model.Save site
 IsSeenAct (Stop site) seen = seen ≡ model.Stop site
 
-seen_by : (e : Event) (s : ModelEvent) → IsSeen e s → IsSeenAct (act_of e) s
-seen_by (event.Take site file) s is = is
-seen_by e s is = is
-
-by_seen : (e : Event) (s : ModelEvent) → IsSeenAct (act_of e) s → IsSeen e s
-by_seen (event.Take site file) s is = is
-by_seen e s is = is
+seen_as : (e : Event) (s : ModelEvent) → IsSeen e s ≡ IsSeenAct (act_of e) s
+seen_as (event.Take site file) s = refl
+seen_as e s = refl
 
 same_seen : (es fs : List Event) (ss : List ModelEvent) → acts es ≡ acts fs → AreSeen es ss → AreSeen fs ss
 same_seen [] [] ss same are = are
@@ -71,7 +43,7 @@ same_seen (e ∷ es) (f ∷ fs) [] same are = absurd are
 same_seen (e ∷ es) (f ∷ fs) (s ∷ ss) same are =
     let first : act_of e ≡ act_of f = cc in
     let rest : acts es ≡ acts fs = cc in
-    (by_seen f s (subst (λ a. IsSeenAct a s) first (seen_by e s are.0)), same_seen es fs ss rest are.1)
+    (subst (λ (P : Type 0). P) (seen_as e s ∙ ap (λ a. IsSeenAct a s) first ∙ sym (seen_as f s)) are.0, same_seen es fs ss rest are.1)
 same_seen es fs ss same are = cc
 
 -- the text of what is answered
@@ -114,14 +86,6 @@ told_alike one sites es fs text other same p q =
     ∙ ap (λ lines. lines ++ site_lines w.held sites) (same_lines _ 0 p.told q.told (outcomes sites q.seen (length q.seen)) tells q.outcomes_are)
     ∙ sym q.text_is
 
-abbrev listed : ℕ → List Act → Result (ℕ × List Act) Wrong
-listed sites events = Ok (sites, events)
-
-same_said : (s t : ℕ) (xs ys : List Act) → listed s xs ≡ listed t ys → (s ≡ t) × (xs ≡ ys)
-same_said s t xs ys e =
-    let one : ℕ × List Act = (s, xs) in let other : ℕ × List Act = (t, ys) in
-    let both : one ≡ other = cc in (ap (λ p. p.0) both, ap (λ p. p.1) both)
-
 pub one_text : (one : (events : List Event) (seen other : List ModelEvent) → AreSeen events seen → AreSeen events other → seen ≡ other)
     {R S : Type 0} (script : Reader R) (other : Reader S) (bytes : List ℕ) (status other_status : Status) (text other_text : List ℕ)
     → IsGiven script bytes → IsGiven other bytes → MakesRehearsed script status text → MakesRehearsed other other_status other_text
@@ -129,6 +93,6 @@ pub one_text : (one : (events : List Event) (seen other : List ModelEvent) → A
 one_text one script other bytes status other_status text other_text is also p q =
     let first = is_given script bytes (λ b. script_of b ≡ Ok (p.sites, acts p.events)) is p.script_is in
     let second = is_given other bytes (λ b. script_of b ≡ Ok (q.sites, acts q.events)) also q.script_is in
-    let same = same_said p.sites q.sites (acts p.events) (acts q.events) (sym first ∙ second) in
-    let tells : TellsEvents q.sites p.events text = subst (λ (n : ℕ). TellsEvents n p.events text) same.0 p.tells in
-    (p.status_is ∙ sym q.status_is, told_alike one q.sites p.events q.events text other_text same.1 tells q.tells)
+    let same = one_value (script_of bytes) (p.sites, acts p.events) (q.sites, acts q.events) first second in
+    let tells : TellsEvents q.sites p.events text = subst (λ (n : ℕ). TellsEvents n p.events text) (ap (λ (said : ℕ × List Act). said.0) same) p.tells in
+    (p.status_is ∙ sym q.status_is, told_alike one q.sites p.events q.events text other_text (ap (λ (said : ℕ × List Act). said.1) same) tells q.tells)

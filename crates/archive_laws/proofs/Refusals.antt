@@ -1,11 +1,12 @@
 -- Two calls whose inputs hold the same refuse one of them, for one reason.
-use Rattle.std.proofs.Common.{◌≡◌, ◌⊎◌, ℕ, zero, suc, List, [], ◌∷◌, take, Option, Some, Result, Ok, Err, refl, sym, ap, ◌∙◌, subst, inl, inr}
-use Rattle.std.specs.Prelude.{IfSome, MatchResult, slice_get}
+use Rattle.std.proofs.Common.{◌≡◌, ◌≢◌, ◌⊎◌, ℕ, zero, suc, List, [], ◌∷◌, take, Option, Some, None, Result, Ok, Err, refl, sym, ap, ◌∙◌, subst, inl, inr, IfSome, MatchResult, slice_get}
 use Rattle.std.specs.List.{AllByRecursion}
+use Rattle.std.proofs.lemmas.Option.{IfSome_then}
 use Rattle.archive_records.specs.Fault.{IsFaultOf, IsOfText}
 use Rattle.archive_records.specs.Kind.{format_for}
-use Rattle.archive_records.specs.Reading.{Meaning, IsMeaning, IsTextOf}
+use Rattle.archive_records.specs.Reading.{Meaning, IsMeaning, IsOfMachine, IsTextOf}
 use Rattle.archive_records.specs.declared.fault.RecordFault.{RecordFault}
+use Rattle.archive_records.specs.declared.fault.RecordFaultKind.TheVariants.{OutOfMemory}
 use Rattle.archive_records.specs.declared.kind.TextKind.{TextKind}
 use Rattle.archive_records.specs.declared.kind.TextKind.TheVariants.{Archive as ArchiveFile}
 use Rattle.archive_records.proofs.Exact.{one_fault}
@@ -15,41 +16,30 @@ use Rattle.admission.specs.declared.fault.TakeFault.TheVariants.{OutOfMemory as 
 use Rattle.archive_words.specs.Lines.{line_at}
 use Rattle.crash_frames.specs.Flaws.{frame_flaw}
 use Rattle.crash_frames.specs.Frames.{frames_of}
-use Rattle.crash_frames.specs.declared.frame.Frame.{Frame}
-use Rattle.crash_frames.specs.declared.flaws.FrameFlaw.{FrameFlaw}
 use Rattle.exchange_script.specs.Flaws.{script_flaw}
 use Rattle.exchange_script.specs.Events.{Act}
 use Rattle.exchange_script.specs.Script.{Wrong, script_of}
-use Rattle.exchange_script.specs.declared.flaws.ScriptFlaw.{ScriptFlaw}
-use Rattle.exchange_script.specs.declared.script.ScriptFault.{ScriptFault}
 use Rattle.byte_device.specs.declared.disks.CannotOpen.{CannotOpen}
 use Rattle.command_core.specs.declared.faults.InputName.{InputName}
 use Rattle.command_core.specs.declared.faults.InputName.TheVariants.{Archive}
 use Rattle.command_core.specs.declared.faults.Why.{Why}
 use Rattle.command_core.specs.declared.faults.Why.TheVariants.{Device as CannotRead, Record, Take, Script as Faulty, CannotOpen as NotOpened, BadFrame}
-use Rattle.command_core.specs.Inputs.{Reader, reader, Gives, IsDeviceFault, IsGiven, IsArchive, IsAccepted, IsArchiveRefused, IsFileRefused, IsFirstRefused, IsFramesRefused, IsRefusedArchive, IsRefusedInTurn, IsScriptRefused, IsTextRefused}
+use Rattle.command_core.specs.Inputs.{Reader, reader, Gives, IsDeviceFault, IsGiven, IsArchive, IsAccepted, IsArchiveRefused, IsFileRefused, IsFirstRefused, IsFrames, IsFramesRefused, IsRefusedArchive, IsRefusedInTurn, IsScriptRefused, IsTextRefused}
+use Rattle.command_core.proofs.Readers.{by_device}
 use Rattle.archive_laws.specs.Refusals.{EachHoldAlike, HoldAlike, IsUnopened, RefuseOne}
-use Rattle.archive_laws.proofs.Accepted.{file, text}
-use Rattle.archive_laws.proofs.Given.{is_given, known}
+use Rattle.archive_laws.proofs.Given.{gives_then, is_given}
 
 abbrev pub NoDevice : Why → Type 0
 NoDevice why = IsDeviceFault why → ⊥
 
 -- ---- what one input gives the other gives
 
-pub unopened_gives : {S : Type 0} (input : Reader S) (P : List ℕ → Type 0) → IsUnopened input → Gives input P → ⊥
-unopened_gives {S = S} input P = by input.old
+unopened : {S : Type 0} (input : Reader S) (P : S → Type 0) → IsUnopened input → MatchResult input.old P (λ _. ⊥) → ⊥
+unopened {S = S} input P = by input.old
   where
-    by : (old : Result S CannotOpen) → MatchResult old (λ _. ⊥) (λ _. Unit {0}) → MatchResult old (λ source. IfSome (input.left source) P) (λ _. ⊥) → ⊥
-    by (Ok source) un gives = un
-    by (Err _) un gives = gives
-
-unopened_given : {S : Type 0} (input : Reader S) (bytes : List ℕ) → IsUnopened input → IsGiven input bytes → ⊥
-unopened_given {S = S} input bytes = by input.old
-  where
-    by : (old : Result S CannotOpen) → MatchResult old (λ _. ⊥) (λ _. Unit {0}) → MatchResult old (λ source. input.left source ≡ Some bytes) (λ _. ⊥) → ⊥
-    by (Ok source) un given = un
-    by (Err _) un given = given
+    by : (old : Result S CannotOpen) → MatchResult old (λ _. ⊥) (λ _. Unit {0}) → MatchResult old P (λ _. ⊥) → ⊥
+    by (Ok source) un is = un
+    by (Err _) un is = is
 
 pub swapped : {R S : Type 0} (x : Reader R) (y : Reader S) → HoldAlike x y → HoldAlike y x
 swapped x y (inl p) = inl (p.1, p.0)
@@ -61,10 +51,38 @@ each_swapped (x ∷ xs) (y ∷ ys) alike = (swapped x y alike.0, each_swapped xs
 each_swapped _ _ alike = absurd alike
 
 pub carried : {R S : Type 0} (x : Reader R) (y : Reader S) (P : List ℕ → Type 0) → HoldAlike x y → Gives x P → (bytes : List ℕ) × IsGiven x bytes × IsGiven y bytes × P bytes
-carried x y P (inl p) gives = absurd (unopened_gives x P p.0 gives)
+carried x y P (inl p) gives = absurd (unopened x (λ source. IfSome (x.left source) P) p.0 gives)
 carried x y P (inr p) gives = (p.0, p.1, p.2, is_given x p.0 P p.1 gives)
 
--- ---- one input of a kind
+-- ---- why an input is refused
+
+-- its device failed, it was not opened, or this is wrong with its bytes
+abbrev IsRefusedFor : {S : Type 0} → (Why → List ℕ → Type 0) → Reader S → Why → Type 0
+IsRefusedFor IsBad input why = IsDeviceFault why ⊎ (IsUnopened input × (why ≡ NotOpened)) ⊎ Gives input (IsBad why)
+
+-- an input that holds the same is refused for one reason
+one_reason : {R S : Type 0} (IsBad : Why → List ℕ → Type 0)
+    → ((bytes : List ℕ) (why another : Why) → IsBad why bytes → IsBad another bytes → NoDevice why → NoDevice another → why ≡ another)
+    → (x : Reader R) (y : Reader S) (why another : Why) → HoldAlike x y → IsRefusedFor IsBad x why → IsRefusedFor IsBad y another
+    → NoDevice why → NoDevice another → why ≡ another
+one_reason IsBad one x y why another alike (inl d) b alone alone_too = absurd (alone d)
+one_reason IsBad one x y why another alike a (inl d) alone alone_too = absurd (alone_too d)
+one_reason IsBad one x y why another alike (inr (inl p)) (inr (inl q)) alone alone_too = p.1 ∙ sym q.1
+one_reason IsBad one x y why another alike (inr (inl p)) (inr (inr b)) alone alone_too =
+    let c = carried y x (IsBad another) (swapped x y alike) b in absurd (unopened x (λ source. x.left source ≡ Some c.0) p.0 c.2)
+one_reason IsBad one x y why another alike (inr (inr a)) (inr (inl q)) alone alone_too =
+    let c = carried x y (IsBad why) alike a in absurd (unopened y (λ source. y.left source ≡ Some c.0) q.0 c.2)
+one_reason IsBad one x y why another alike (inr (inr a)) (inr (inr b)) alone alone_too =
+    let c = carried x y (IsBad why) alike a in one c.0 why another c.3 (is_given y c.0 (IsBad another) c.2 b) alone alone_too
+
+-- and where it is good in one call, for its device alone
+for_device : {R S : Type 0} (IsBad : Why → List ℕ → Type 0) (IsGood : List ℕ → Type 0) (x : Reader R) (y : Reader S) (why : Why)
+    → ((bytes : List ℕ) → IsGood bytes → IsBad why bytes → IsDeviceFault why) → HoldAlike x y → Gives x IsGood → IsRefusedFor IsBad y why → IsDeviceFault why
+for_device IsBad IsGood x y why good alike is (inl d) = d
+for_device IsBad IsGood x y why good alike is (inr (inl p)) =
+    let c = carried x y IsGood alike is in absurd (unopened y (λ source. y.left source ≡ Some c.0) p.0 c.2)
+for_device IsBad IsGood x y why good alike is (inr (inr bad)) =
+    let c = carried x y IsGood alike is in good c.0 c.3 (is_given y c.0 (IsBad why) c.2 bad)
 
 -- what is good in one call is refused in another for its device alone, and refusals are one
 pub record Agree {R S : Type 0} (Good : Reader R → Type 0) (Bad : Reader R → Why → Type 0) (Fine : Reader S → Type 0) (Ill : Reader S → Why → Type 0) : Type 0 where
@@ -72,154 +90,130 @@ pub record Agree {R S : Type 0} (Good : Reader R → Type 0) (Bad : Reader R →
   pub left : (x : Reader R) (y : Reader S) (another : Why) → HoldAlike x y → Good x → Ill y another → IsDeviceFault another
   pub right : (x : Reader R) (y : Reader S) (why : Why) → HoldAlike x y → Bad x why → Fine y → IsDeviceFault why
 
--- the text of a file
-text_fault : {S : Type 0} (kind : TextKind) (left : S → Option (List ℕ)) (failures : S → ℕ) (source : S) (new : Result S CannotOpen) (bytes : List ℕ) (why : Why) → left source ≡ Some bytes
-    → IsTextRefused kind (reader left failures (Ok source) new) why → NoDevice why → (fault : RecordFault) × (why ≡ Record fault) × IsFaultOf (format_for kind bytes) bytes fault
-text_fault kind left failures source new bytes why is refused alone =
-    let of_text : IsOfText refused.2.kind = (λ d. alone (subst IsDeviceFault (sym refused.3) d), refused.4) in
-    (refused.2, refused.3, known (left source) bytes (λ t. IsFaultOf (format_for kind t) t refused.2) is (refused.5.0.faulty of_text))
+-- ---- a text
 
-one_text_by : {R S : Type 0} (kind : TextKind) (left : R → Option (List ℕ)) (failures : R → ℕ) (old new : Result R CannotOpen) (left_too : S → Option (List ℕ)) (failures_too : S → ℕ) (old_too new_too : Result S CannotOpen) (why another : Why)
-    → HoldAlike (reader left failures old new) (reader left_too failures_too old_too new_too)
-    → IsTextRefused kind (reader left failures old new) why → IsTextRefused kind (reader left_too failures_too old_too new_too) another → NoDevice why → NoDevice another → why ≡ another
-one_text_by kind left failures (Err _) new left_too failures_too (Err _) new_too why another alike a b alone alone_too = a.0 ∙ sym b.0
-one_text_by kind left failures (Err _) new left_too failures_too (Ok _) new_too why another (inl p) a b alone alone_too = absurd p.1
-one_text_by kind left failures (Err _) new left_too failures_too (Ok _) new_too why another (inr p) a b alone alone_too = absurd p.1
-one_text_by kind left failures (Ok _) new left_too failures_too (Err _) new_too why another (inl p) a b alone alone_too = absurd p.0
-one_text_by kind left failures (Ok _) new left_too failures_too (Err _) new_too why another (inr p) a b alone alone_too = absurd p.2
-one_text_by kind left failures (Ok _) new left_too failures_too (Ok _) new_too why another (inl p) a b alone alone_too = absurd p.0
-one_text_by kind left failures (Ok source) new left_too failures_too (Ok other) new_too why another (inr p) a b alone alone_too =
-    let f = text_fault kind left failures source new p.0 why p.1 a alone in
-    let g = text_fault kind left_too failures_too other new_too p.0 another p.2 b alone_too in
-    f.1 ∙ ap Record (one_fault (format_for kind p.0) p.0 f.0 g.0 f.2 g.2) ∙ sym g.1
+abbrev IsBadText : TextKind → Why → List ℕ → Type 0
+IsBadText kind why bytes = (fault : RecordFault) × (why ≡ Record fault) × (NoDevice why → IsFaultOf (format_for kind bytes) bytes fault)
+    × ((m : Meaning kind) → IsMeaning kind m → IsTextOf kind m bytes → IsDeviceFault why)
+
+bad_text : (kind : TextKind) (left : Option (List ℕ)) (fault : RecordFault) (why : Why) → why ≡ Record fault → fault.kind ≢ OutOfMemory
+    → (IsOfText fault.kind → IfSome left (λ text. IsFaultOf (format_for kind text) text fault))
+    → IfSome left (λ text. (m : Meaning kind) → IsMeaning kind m → IsTextOf kind m text → IsOfMachine fault.kind) → IfSome left (IsBadText kind why)
+bad_text kind None fault why is other faulty alone = tt
+bad_text kind (Some text) fault why is other faulty alone =
+    (fault, is, λ apart. faulty (λ d. apart (subst IsDeviceFault (sym is) d), other), λ m are of. by_device fault why is other (alone m are of))
+
+text_form : {S : Type 0} (kind : TextKind) (left : S → Option (List ℕ)) (failures : S → ℕ) (old new : Result S CannotOpen) (why : Why)
+    → IsTextRefused kind (reader left failures old new) why → IsRefusedFor (IsBadText kind) (reader left failures old new) why
+text_form kind left failures (Err _) new why refused = inr (inl (tt, refused.0))
+text_form kind left failures (Ok source) new why refused =
+    inr (inr (bad_text kind (left source) refused.2 why refused.3 refused.4 refused.5.0.faulty refused.5.1))
+
+pub one_text : {R S : Type 0} (kind : TextKind) (x : Reader R) (y : Reader S) (why another : Why) → HoldAlike x y
+    → IsTextRefused kind x why → IsTextRefused kind y another → NoDevice why → NoDevice another → why ≡ another
+one_text kind x y why another alike a b =
+    one_reason (IsBadText kind)
+    (λ bytes v w f g alone alone_too. f.1 ∙ ap Record (one_fault (format_for kind bytes) bytes f.0 g.0 (f.2 alone) (g.2 alone_too)) ∙ sym g.1)
+    x y why another alike (text_form kind x.left x.failures x.old x.new why a) (text_form kind y.left y.failures y.old y.new another b)
 
 -- the input is a text of this kind
 abbrev pub Says : {S : Type 0} → TextKind → Reader S → Type 0
 Says kind input = (m : Meaning kind) × IsMeaning kind m × Gives input (IsTextOf kind m)
 
-pub one_text : {R S : Type 0} (kind : TextKind) (x : Reader R) (y : Reader S) (why another : Why) → HoldAlike x y → IsTextRefused kind x why → IsTextRefused kind y another → NoDevice why → NoDevice another → why ≡ another
-one_text kind x y why another = one_text_by kind x.left x.failures x.old x.new y.left y.failures y.old y.new why another
-
 pub text_accepted : {R S : Type 0} (kind : TextKind) (x : Reader R) (y : Reader S) (another : Why) → HoldAlike x y → Says kind x → IsTextRefused kind y another → IsDeviceFault another
 text_accepted kind x y another alike says refused =
-    let c = carried x y (IsTextOf kind says.0) alike says.2 in
-    text kind y.left y.failures y.old y.new says.0 c.0 another says.1 c.3 c.2 refused
-
-pub texts_agree : {R S : Type 0} (kind : TextKind) → Agree {R = R} {S = S} (Says kind) (IsTextRefused kind) (Says kind) (IsTextRefused kind)
-texts_agree kind = record {
-  one = one_text kind;
-  left = text_accepted kind;
-  right = λ x y why alike bad fine. text_accepted kind y x why (swapped x y alike) fine bad;
-}
+    for_device (IsBadText kind) (IsTextOf kind says.0) x y another (λ bytes of bad. bad.3 says.0 says.1 of) alike says.2
+    (text_form kind y.left y.failures y.old y.new another refused)
 
 pub archives_agree : {R S : Type 0} → Agree {R = R} {S = S} IsArchive IsArchiveRefused IsArchive IsArchiveRefused
-archives_agree = texts_agree ArchiveFile
+archives_agree = record {
+  one = one_text ArchiveFile;
+  left = text_accepted ArchiveFile;
+  right = λ x y why alike bad fine. text_accepted ArchiveFile y x why (swapped x y alike) fine bad;
+}
 
--- a file of slices
-module _ (one_take : (bytes : List ℕ) (f g : TakeFault) → IsTakeFault bytes f → IsTakeFault bytes g → f ≡ g)
-    (memory_alone : (bytes : List ℕ) (fault : TakeFault) → IsAcceptedFile bytes → IsTakeFault bytes fault → fault ≡ TakeOutOfMemory) where
-  take_fault : {S : Type 0} (left : S → Option (List ℕ)) (failures : S → ℕ) (source : S) (new : Result S CannotOpen) (bytes : List ℕ) (why : Why) → left source ≡ Some bytes
-      → IsFileRefused (reader left failures (Ok source) new) why → NoDevice why → (fault : TakeFault) × (why ≡ Take fault) × IsTakeFault bytes fault
-  take_fault left failures source new bytes why is (inl p) alone = absurd (alone (subst IsDeviceFault (sym p.0) tt))
-  take_fault left failures source new bytes why is (inr p) alone = (p.0, p.1, known (left source) bytes (λ b. IsTakeFault b p.0) is p.4)
+-- ---- a file of slices
 
-  one_file_by : {R S : Type 0} (left : R → Option (List ℕ)) (failures : R → ℕ) (old new : Result R CannotOpen) (left_too : S → Option (List ℕ)) (failures_too : S → ℕ) (old_too new_too : Result S CannotOpen) (why another : Why)
-      → HoldAlike (reader left failures old new) (reader left_too failures_too old_too new_too)
-      → IsFileRefused (reader left failures old new) why → IsFileRefused (reader left_too failures_too old_too new_too) another → NoDevice why → NoDevice another → why ≡ another
-  one_file_by left failures (Err _) new left_too failures_too (Err _) new_too why another alike a b alone alone_too = a.0 ∙ sym b.0
-  one_file_by left failures (Err _) new left_too failures_too (Ok _) new_too why another (inl p) a b alone alone_too = absurd p.1
-  one_file_by left failures (Err _) new left_too failures_too (Ok _) new_too why another (inr p) a b alone alone_too = absurd p.1
-  one_file_by left failures (Ok _) new left_too failures_too (Err _) new_too why another (inl p) a b alone alone_too = absurd p.0
-  one_file_by left failures (Ok _) new left_too failures_too (Err _) new_too why another (inr p) a b alone alone_too = absurd p.2
-  one_file_by left failures (Ok _) new left_too failures_too (Ok _) new_too why another (inl p) a b alone alone_too = absurd p.0
-  one_file_by left failures (Ok source) new left_too failures_too (Ok other) new_too why another (inr p) a b alone alone_too =
-      let f = take_fault left failures source new p.0 why p.1 a alone in
-      let g = take_fault left_too failures_too other new_too p.0 another p.2 b alone_too in
-      f.1 ∙ ap Take (one_take p.0 f.0 g.0 f.2 g.2) ∙ sym g.1
+abbrev IsBadFile : Why → List ℕ → Type 0
+IsBadFile why bytes = (fault : TakeFault) × (why ≡ Take fault) × (fault ≢ TakeOutOfMemory) × IsTakeFault bytes fault
 
-  file_accepted : {R S : Type 0} (x : Reader R) (y : Reader S) (another : Why) → HoldAlike x y → IsAccepted x → IsFileRefused y another → IsDeviceFault another
-  file_accepted x y another alike good refused =
-      let c = carried x y (λ b. b ≡ good.0) alike good.2 in
-      file memory_alone y.left y.failures y.old y.new c.0 another (subst IsAcceptedFile (sym c.3) good.1) c.2 refused
+file_form : {S : Type 0} (left : S → Option (List ℕ)) (failures : S → ℕ) (old new : Result S CannotOpen) (why : Why)
+    → IsFileRefused (reader left failures old new) why → IsRefusedFor IsBadFile (reader left failures old new) why
+file_form left failures (Err _) new why refused = inr (inl (tt, refused.0))
+file_form left failures (Ok source) new why (inl p) = inl (subst IsDeviceFault (sym p.0) tt)
+file_form left failures (Ok source) new why (inr p) = inr (inr (IfSome_then (left source) p.4 (λ bytes is. (p.0, p.1, p.2, is))))
 
-  pub files_agree : {R S : Type 0} → Agree {R = R} {S = S} IsAccepted IsFileRefused IsAccepted IsFileRefused
-  files_agree = record {
-    one = λ x y why another. one_file_by x.left x.failures x.old x.new y.left y.failures y.old y.new why another;
-    left = file_accepted;
-    right = λ x y why alike bad fine. file_accepted y x why (swapped x y alike) fine bad;
-  }
+pub file_accepted : ((bytes : List ℕ) (fault : TakeFault) → IsAcceptedFile bytes → IsTakeFault bytes fault → fault ≡ TakeOutOfMemory)
+    → {R S : Type 0} (x : Reader R) (y : Reader S) (another : Why) → HoldAlike x y → IsAccepted x → IsFileRefused y another → IsDeviceFault another
+file_accepted memory_alone x y another alike good refused =
+    for_device IsBadFile (λ bytes. bytes ≡ good.0) x y another
+    (λ bytes same bad. absurd (bad.2 (memory_alone bytes bad.0 (subst IsAcceptedFile (sym same) good.1) bad.3)))
+    alike good.2 (file_form y.left y.failures y.old y.new another refused)
 
--- frames
-abbrev IsBadLine : ℕ → FrameFlaw → List ℕ → Type 0
-IsBadLine line flaw bytes = (frames_of bytes ≡ Err line) × (flaw ≡ frame_flaw (line_at bytes line))
+pub files_agree : ((bytes : List ℕ) (f g : TakeFault) → IsTakeFault bytes f → IsTakeFault bytes g → f ≡ g)
+    → ((bytes : List ℕ) (fault : TakeFault) → IsAcceptedFile bytes → IsTakeFault bytes fault → fault ≡ TakeOutOfMemory)
+    → {R S : Type 0} → Agree {R = R} {S = S} IsAccepted IsFileRefused IsAccepted IsFileRefused
+files_agree one_take memory_alone = record {
+  one = λ x y why another alike a b. one_reason IsBadFile (λ bytes v w f g _ _. f.1 ∙ ap Take (one_take bytes f.0 g.0 f.3 g.3) ∙ sym g.1)
+      x y why another alike (file_form x.left x.failures x.old x.new why a) (file_form y.left y.failures y.old y.new another b);
+  left = file_accepted memory_alone;
+  right = λ x y why alike bad fine. file_accepted memory_alone y x why (swapped x y alike) fine bad;
+}
 
-one_line : (result : Result (List Frame) ℕ) (n m : ℕ) → result ≡ Err n → result ≡ Err m → n ≡ m
-one_line result n m a b = let both = sym a ∙ b in cc
+-- ---- frames and scripts
 
-frames_form : {S : Type 0} (left : S → Option (List ℕ)) (failures : S → ℕ) (old new : Result S CannotOpen) (why : Why) → IsFramesRefused (reader left failures old new) why → NoDevice why
-    → (IsUnopened (reader left failures old new) × (why ≡ NotOpened)) ⊎ ((line : ℕ) × (flaw : FrameFlaw) × (why ≡ BadFrame line flaw) × Gives (reader left failures old new) (IsBadLine line flaw))
-frames_form left failures (Ok _) new NotOpened refused alone = absurd refused
-frames_form left failures (Err _) new NotOpened refused alone = inl (tt, refl)
-frames_form left failures old new CannotRead refused alone = absurd (alone tt)
-frames_form left failures old new (BadFrame line flaw) refused alone = inr (line, flaw, refl, refused.1)
-frames_form left failures old new _ refused alone = absurd refused
+one_wrong : {X W : Type 0} (result : Result X W) (v w : W) → result ≡ Err v → result ≡ Err w → v ≡ w
+one_wrong result v w a b = let both = sym a ∙ b in cc
+
+abbrev IsBadFrames : Why → List ℕ → Type 0
+IsBadFrames why bytes = (line : ℕ) × (why ≡ BadFrame line (frame_flaw (line_at bytes line))) × (frames_of bytes ≡ Err line)
+
+frames_form : {S : Type 0} (left : S → Option (List ℕ)) (failures : S → ℕ) (old new : Result S CannotOpen) (why : Why)
+    → IsFramesRefused (reader left failures old new) why → IsRefusedFor IsBadFrames (reader left failures old new) why
+frames_form left failures (Ok _) new NotOpened refused = absurd refused
+frames_form left failures (Err _) new NotOpened refused = inr (inl (tt, refl))
+frames_form left failures old new CannotRead refused = inl tt
+frames_form left failures old new (BadFrame line flaw) refused =
+    inr (inr (gives_then (reader left failures old new) (λ bytes. (frames_of bytes ≡ Err line) × (flaw ≡ frame_flaw (line_at bytes line)))
+    (IsBadFrames (BadFrame line flaw)) (λ bytes bad. (line, ap (BadFrame line) bad.1, bad.0)) refused.1))
+frames_form left failures old new _ refused = absurd refused
 
 pub one_frames : {R S : Type 0} (x : Reader R) (y : Reader S) (why another : Why) → HoldAlike x y → IsFramesRefused x why → IsFramesRefused y another → NoDevice why → NoDevice another → why ≡ another
-one_frames x y why another alike a b alone alone_too =
-    elim (frames_form x.left x.failures x.old x.new why a alone) [
-      | inl p ↦ elim (frames_form y.left y.failures y.old y.new another b alone_too) [
-        | inl q ↦ p.1 ∙ sym q.1
-        | inr q ↦ absurd (unopened_given x (carried y x (IsBadLine q.0 q.1) (swapped x y alike) q.3).0 p.0 (carried y x (IsBadLine q.0 q.1) (swapped x y alike) q.3).2)
-      ]
-      | inr p ↦
-          let c = carried x y (IsBadLine p.0 p.1) alike p.3 in
-          elim (frames_form y.left y.failures y.old y.new another b alone_too) [
-            | inl q ↦ absurd (unopened_given y c.0 q.0 c.2)
-            | inr q ↦
-                let d = is_given y c.0 (IsBadLine q.0 q.1) c.2 q.3 in
-                let line = one_line (frames_of c.0) p.0 q.0 c.3.0 d.0 in
-                let flaw : p.1 ≡ q.1 = c.3.1 ∙ ap (λ n. frame_flaw (line_at c.0 n)) line ∙ sym d.1 in
-                p.2 ∙ (λ i. BadFrame (line i) (flaw i)) ∙ sym q.2
-          ]
-    ]
+one_frames x y why another alike a b =
+    one_reason IsBadFrames
+    (λ bytes v w f g _ _. f.1 ∙ ap (λ n. BadFrame n (frame_flaw (line_at bytes n))) (one_wrong (frames_of bytes) f.0 g.0 f.2 g.2) ∙ sym g.1)
+    x y why another alike (frames_form x.left x.failures x.old x.new why a) (frames_form y.left y.failures y.old y.new another b)
 
--- a script
-abbrev IsBadScript : ScriptFault → ℕ → Option ScriptFlaw → List ℕ → Type 0
-IsBadScript fault line flaw bytes = (script_of bytes ≡ Err (fault, line)) × (flaw ≡ script_flaw fault (line_at bytes line))
+pub frames_accepted : {R S : Type 0} (x : Reader R) (y : Reader S) (another : Why) → HoldAlike x y → IsFrames x → IsFramesRefused y another
+    → IsDeviceFault another
+frames_accepted x y another alike good refused =
+    for_device IsBadFrames (λ bytes. frames_of bytes ≡ Ok good.0) x y another (λ bytes says bad. cc (sym bad.2 ∙ says)) alike good.1
+    (frames_form y.left y.failures y.old y.new another refused)
 
-one_pair : (result : Result (ℕ × List Act) Wrong) (v w : Wrong) → result ≡ Err v → result ≡ Err w → v ≡ w
-one_pair result v w a b = let both = sym a ∙ b in cc
+abbrev IsBadScript : Why → List ℕ → Type 0
+IsBadScript why bytes = (wrong : Wrong) × (why ≡ Faulty wrong.0 wrong.1 (script_flaw wrong.0 (line_at bytes wrong.1))) × (script_of bytes ≡ Err wrong)
 
-one_wrong : (result : Result (ℕ × List Act) Wrong) (f g : ScriptFault) (n m : ℕ) → result ≡ Err (f, n) → result ≡ Err (g, m) → (f ≡ g) × (n ≡ m)
-one_wrong result f g n m a b = let same = one_pair result (f, n) (g, m) a b in (ap (λ (w : Wrong). w.0) same, ap (λ (w : Wrong). w.1) same)
-
-script_form : {S : Type 0} (left : S → Option (List ℕ)) (failures : S → ℕ) (old new : Result S CannotOpen) (why : Why) → IsScriptRefused (reader left failures old new) why → NoDevice why
-    → (IsUnopened (reader left failures old new) × (why ≡ NotOpened))
-    ⊎ ((fault : ScriptFault) × (line : ℕ) × (flaw : Option ScriptFlaw) × (why ≡ Faulty fault line flaw) × Gives (reader left failures old new) (IsBadScript fault line flaw))
-script_form left failures (Ok _) new NotOpened refused alone = absurd refused
-script_form left failures (Err _) new NotOpened refused alone = inl (tt, refl)
-script_form left failures old new CannotRead refused alone = absurd (alone tt)
-script_form left failures old new (Faulty fault line flaw) refused alone = inr (fault, line, flaw, refl, refused.1)
-script_form left failures old new _ refused alone = absurd refused
+script_form : {S : Type 0} (left : S → Option (List ℕ)) (failures : S → ℕ) (old new : Result S CannotOpen) (why : Why)
+    → IsScriptRefused (reader left failures old new) why → IsRefusedFor IsBadScript (reader left failures old new) why
+script_form left failures (Ok _) new NotOpened refused = absurd refused
+script_form left failures (Err _) new NotOpened refused = inr (inl (tt, refl))
+script_form left failures old new CannotRead refused = inl tt
+script_form left failures old new (Faulty fault line flaw) refused =
+    inr (inr (gives_then (reader left failures old new) (λ bytes. (script_of bytes ≡ Err (fault, line)) × (flaw ≡ script_flaw fault (line_at bytes line)))
+    (IsBadScript (Faulty fault line flaw)) (λ bytes bad. ((fault, line), ap (Faulty fault line) bad.1, bad.0)) refused.1))
+script_form left failures old new _ refused = absurd refused
 
 pub one_script : {R S : Type 0} (x : Reader R) (y : Reader S) (why another : Why) → HoldAlike x y → IsScriptRefused x why → IsScriptRefused y another → NoDevice why → NoDevice another → why ≡ another
-one_script x y why another alike a b alone alone_too =
-    elim (script_form x.left x.failures x.old x.new why a alone) [
-      | inl p ↦ elim (script_form y.left y.failures y.old y.new another b alone_too) [
-        | inl q ↦ p.1 ∙ sym q.1
-        | inr q ↦ absurd (unopened_given x (carried y x (IsBadScript q.0 q.1 q.2) (swapped x y alike) q.4).0 p.0 (carried y x (IsBadScript q.0 q.1 q.2) (swapped x y alike) q.4).2)
-      ]
-      | inr p ↦
-          let c = carried x y (IsBadScript p.0 p.1 p.2) alike p.4 in
-          elim (script_form y.left y.failures y.old y.new another b alone_too) [
-            | inl q ↦ absurd (unopened_given y c.0 q.0 c.2)
-            | inr q ↦
-                let d = is_given y c.0 (IsBadScript q.0 q.1 q.2) c.2 q.4 in
-                let wrong = one_wrong (script_of c.0) p.0 q.0 p.1 q.1 c.3.0 d.0 in
-                let flaw : p.2 ≡ q.2 = c.3.1 ∙ (λ i. script_flaw (wrong.0 i) (line_at c.0 (wrong.1 i))) ∙ sym d.1 in
-                p.3 ∙ (λ i. Faulty (wrong.0 i) (wrong.1 i) (flaw i)) ∙ sym q.3
-          ]
-    ]
+one_script x y why another alike a b =
+    one_reason IsBadScript
+    (λ bytes v w f g _ _. f.1 ∙ ap (λ (e : Wrong). Faulty e.0 e.1 (script_flaw e.0 (line_at bytes e.1))) (one_wrong (script_of bytes) f.0 g.0 f.2 g.2) ∙ sym g.1)
+    x y why another alike (script_form x.left x.failures x.old x.new why a) (script_form y.left y.failures y.old y.new another b)
+
+pub script_accepted : {R S : Type 0} (x : Reader R) (y : Reader S) (listed : ℕ × List Act) (another : Why) → HoldAlike x y
+    → Gives x (λ bytes. script_of bytes ≡ Ok listed) → IsScriptRefused y another → IsDeviceFault another
+script_accepted x y listed another alike good refused =
+    for_device IsBadScript (λ bytes. script_of bytes ≡ Ok listed) x y another (λ bytes says bad. cc (sym bad.2 ∙ says)) alike good
+    (script_form y.left y.failures y.old y.new another refused)
 
 -- ---- the first of a list
 

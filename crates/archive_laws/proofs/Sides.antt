@@ -73,15 +73,14 @@ module _ (t u : List ℕ) (xs ys : List (List ℕ)) where
   abbrev TextsOrStopped : Type 0
   TextsOrStopped = (IsArchiveText t × IsArchiveText u) ⊎ LeftStops t u xs ys ⊎ RightStops t u xs ys
 
-  by_last : HasMagic t → HasMagic u → (IsArchiveText t → ⊥) → (IsArchiveText u → ⊥) → EndsBelow ys xs ⊎ (EndsBelow ys xs → ⊥) → TextsOrStopped
-  by_last m n p q (inl below) = inr (inr (record { faulty = q; magic_left = m; first = inr (inr below) }))
-  by_last m n p q (inr above) = inr (inl (record { faulty = p; first = inr (n, inr above) }))
-
   by_texts : HasMagic t → HasMagic u → IsArchiveText t ⊎ (IsArchiveText t → ⊥) → IsArchiveText u ⊎ (IsArchiveText u → ⊥) → TextsOrStopped
   by_texts m n (inl x) (inl y) = inl (x, y)
   by_texts m n (inl x) (inr q) = inr (inr (record { faulty = q; magic_left = m; first = inr (inl x) }))
   by_texts m n (inr p) (inl y) = inr (inl (record { faulty = p; first = inr (n, inl y) }))
-  by_texts m n (inr p) (inr q) = by_last m n p q (below_or_not ys xs)
+  by_texts m n (inr p) (inr q) = elim (below_or_not ys xs) [
+    | inl below ↦ inr (inr (record { faulty = q; magic_left = m; first = inr (inr below) }))
+    | inr above ↦ inr (inl (record { faulty = p; first = inr (n, inr above) }))
+  ]
 
   pub texts_or_stopped : AreGoodRecords t xs → AreGoodRecords u ys → TextsOrStopped
   texts_or_stopped (inl l) (inl k) = by_texts (front_magic t xs l) (front_magic u ys k) (text_or_not t xs l) (text_or_not u ys k)

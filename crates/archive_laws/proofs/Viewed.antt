@@ -1,9 +1,9 @@
 -- What is told of addresses depends on the content alone: an answer's lines, and whether it is one symbol, do not depend on
 -- where its names lie.
-use Rattle.std.proofs.Common.{◌≡◌, ℕ, Bool, true, false, ◌&&◌, if◌then◌else◌, List, [], ◌∷◌, ◌++◌, map, length, codes, Option, Some, None, MatchOption, refl, sym, ap, ◌∙◌, subst}
+use Rattle.std.proofs.Common.{◌≡◌, ℕ, Bool, true, false, if◌then◌else◌, List, [], ◌∷◌, ◌++◌, map, length, codes, Option, Some, None, MatchOption, refl, sym, ap, ◌∙◌, subst, decimal}
 use Rattle.std.proofs.lemmas.List.{length-map}
-use Rattle.std.specs.List.{AllByRecursion, AllZip, flat_map, list_all}
-use Rattle.std.specs.Fmt.{decimal}
+use Rattle.std.proofs.lemmas.List.Folds.{flat_map-map, list_all-map}
+use Rattle.std.specs.List.{AllByRecursion, flat_map, list_all}
 use Rattle.macho_symbols.specs.Found.{FoundRecord}
 use Rattle.archive_core.specs.Content.{Operations}
 use Rattle.archive_core.specs.Lookup.{OwnRow, AnswerRecord, Unanswered, Alone, Disputed, IsAnswer, file_address, own_view, own_row, answer_view}
@@ -26,6 +26,7 @@ use Rattle.source_frames.specs.Frames.{FrameRecord}
 use Rattle.address_queries.proofs.Sourced.{answer_of, one_answering}
 use Rattle.address_queries.specs.Sources.{AreFramesAt, AreShown, IsSourced}
 use Rattle.address_queries.specs.Symbolicate.{asked_of, is_symbol, Answered, IsAnswered, answers_status, answers_text, TellsAddresses}
+use Rattle.archive_laws.proofs.Given.{one_zipped}
 
 abbrev seen_found : FoundRecord → List ℕ
 seen_found found =
@@ -78,27 +79,27 @@ symbol_seen : (answer : Answer) → is_symbol answer ≡ seen_symbol (answer_vie
 symbol_seen Unknown = refl
 symbol_seen answer = refl
 
-pub record ModelEvent : Type 0 where
+pub record Seen : Type 0 where
   pub address : ℕ
   pub answer : AnswerRecord
   pub frames : List (List FrameRecord)
 
-abbrev pub seen : Answered → ModelEvent
+abbrev pub seen : Answered → Seen
 seen row = record { address = row.address; answer = answer_view row.answer; frames = row.frames }
 
-text_seen : (rows : List Answered) → answers_text rows ≡ flat_map (λ (s : ModelEvent). seen_lines s.address s.answer s.frames) (map seen rows)
-text_seen [] = refl
-text_seen (row ∷ rows) = λ i. lines_seen row.address row.answer row.frames i ++ text_seen rows i
+text_seen : (rows : List Answered) → answers_text rows ≡ flat_map (λ (s : Seen). seen_lines s.address s.answer s.frames) (map seen rows)
+text_seen rows =
+    (λ i. flat_map (λ (row : Answered). lines_seen row.address row.answer row.frames i) rows)
+    ∙ sym (flat_map-map (λ (s : Seen). seen_lines s.address s.answer s.frames) seen rows)
 
-symbols_seen : (rows : List Answered) → list_all (λ row. is_symbol row.answer) rows ≡ list_all (λ (s : ModelEvent). seen_symbol s.answer) (map seen rows)
-symbols_seen [] = refl
-symbols_seen (row ∷ rows) = λ i. symbol_seen row.answer i && symbols_seen rows i
+symbols_seen : (rows : List Answered) → list_all (λ row. is_symbol row.answer) rows ≡ list_all (λ (s : Seen). seen_symbol s.answer) (map seen rows)
+symbols_seen rows = (λ i. list_all (λ (row : Answered). symbol_seen row.answer i) rows) ∙ sym (list_all-map (λ (s : Seen). seen_symbol s.answer) seen rows)
 
 -- answers that look alike are told alike
 pub alike_told : (rows others : List Answered) → map seen rows ≡ map seen others → (answers_status rows ≡ answers_status others) × (answers_text rows ≡ answers_text others)
 alike_told rows others same =
-    let symbols = symbols_seen rows ∙ ap (list_all (λ (s : ModelEvent). seen_symbol s.answer)) same ∙ sym (symbols_seen others) in
-    let lines = text_seen rows ∙ ap (flat_map (λ (s : ModelEvent). seen_lines s.address s.answer s.frames)) same ∙ sym (text_seen others) in
+    let symbols = symbols_seen rows ∙ ap (list_all (λ (s : Seen). seen_symbol s.answer)) same ∙ sym (symbols_seen others) in
+    let lines = text_seen rows ∙ ap (flat_map (λ (s : Seen). seen_lines s.address s.answer s.frames)) same ∙ sym (text_seen others) in
     (ap (λ (all : Bool). if all then Done else Partial) symbols, lines)
 
 -- ---- the same answers without their frames
@@ -117,22 +118,14 @@ bare_answered content key load (row ∷ rows) are = (
   bare_answered content key load rows are.1,
 )
 
-bare_symbols : (rows : List Answered) → list_all (λ (row : Answered). is_symbol row.answer) rows ≡ list_all (λ (row : Answered). is_symbol row.answer) (map bare rows)
-bare_symbols [] = refl
-bare_symbols (row ∷ rows) = ap (λ (all : Bool). is_symbol row.answer && all) (bare_symbols rows)
-
-bare_text : (rows : List Answered) → flat_map (λ (row : Answered). answer_lines row.address row.answer []) rows ≡ answers_text (map bare rows)
-bare_text [] = refl
-bare_text (row ∷ rows) = ap (λ (t : List ℕ). answer_lines row.address row.answer [] ++ t) (bare_text rows)
-
 pub without_lines : (content : Operations) (key : SliceKey) (load : Option ℕ) (addresses : List ℕ) (status : Status) (text : List ℕ) → (told : TellsAddresses content key load true addresses status text)
     → TellsAddresses content key load false addresses status (flat_map (λ (row : Answered). answer_lines row.address row.answer []) told.rows)
 without_lines content key load addresses status text told = record {
   rows = map bare told.rows;
   addresses_are = bare_addresses told.rows ∙ told.addresses_are;
   answered = bare_answered content key load told.rows told.answered;
-  status_is = told.status_is ∙ ap (λ (all : Bool). if all then Done else Partial) (bare_symbols told.rows);
-  text_is = bare_text told.rows;
+  status_is = told.status_is ∙ ap (λ (all : Bool). if all then Done else Partial) (sym (list_all-map (λ (row : Answered). is_symbol row.answer) bare told.rows));
+  text_is = sym (flat_map-map (λ (row : Answered). answer_lines row.address row.answer row.frames) bare told.rows);
 }
 
 -- ---- one telling
@@ -145,15 +138,9 @@ module _ (one : (o : Operations) (key : SliceKey) (place : Where) (answer other 
   one_place slice None frames other a b = a ∙ sym b
   one_place slice (Some address) frames other a b = single slice address frames other a b
 
-  one_each : (place : Where) (slices : List (List ℕ)) (frames others : List (List FrameRecord)) → AllZip (AreFramesAt place) slices frames → AllZip (AreFramesAt place) slices others → frames ≡ others
-  one_each place [] [] [] a b = refl
-  one_each place [] [] (y ∷ ys) a b = absurd b
-  one_each place (s ∷ slices) (x ∷ xs) [] a b = absurd b
-  one_each place (s ∷ slices) (x ∷ xs) (y ∷ ys) a b = λ i. one_place s (file_address s place) x y a.0 b.0 i ∷ one_each place slices xs ys a.1 b.1 i
-  one_each place _ _ others a b = absurd a
-
   one_shown : (lines : Bool) (place : Where) (slices : List (List ℕ)) (frames others : List (List FrameRecord)) → AreShown lines place slices frames → AreShown lines place slices others → frames ≡ others
-  one_shown true place slices frames others a b = one_each place slices frames others a b
+  one_shown true place slices frames others a b =
+      one_zipped (AreFramesAt place) (AreFramesAt place) (λ slice. one_place slice (file_address slice place)) slices frames others a b
   one_shown false place slices frames others a b = a ∙ sym b
 
   pub one_seen : (content : Operations) (key : SliceKey) (load : Option ℕ) (lines : Bool) (row other : Answered) → row.address ≡ other.address → IsAnswered content key load lines row → IsAnswered content key load lines other → seen row ≡ seen other

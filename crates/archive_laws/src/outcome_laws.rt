@@ -163,9 +163,7 @@ pub fn merged_is_least()
         → IsBelow o q
         → ((p : Operations) → Contains contents p → IsBelow p q)
         → IsBelow (merged o contents) q }
-{
-    contents_join();
-}
+{}
 
 /// What `merge` makes does not rest on the order of the FILEs, on one that is named twice, on which of the archives is
 /// IN, nor on FILEs that were merged among themselves before: it is what the operations of all of them make.

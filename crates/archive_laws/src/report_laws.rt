@@ -22,15 +22,15 @@ ghost use Rattle.address_queries.specs.Frames.{MakesFramed, SymbolicatesEach, Te
 ghost use Rattle.archive_queries.specs.List.{MakesListed, list};
 ghost use Rattle.archive_queries.specs.Name.{MakesNamed, TellsNamed, name};
 ghost use Rattle.address_queries.specs.Symbolicate.{MakesAnswered, TellsAddresses, symbolicate};
-ghost use Rattle.rehearse.specs.Rehearse.{rehearse, held_line};
+ghost use Rattle.rehearse.specs.Rehearse.{MakesRehearsed, rehearse, held_line};
 ghost use Rattle.archive_laws.specs.Joins.{AreDevicesAlone, IsGivenJoin, IsMergedFile, TellAlike, TellOne};
 ghost use Rattle.exchange_model.specs.Reached.{reached};
 ghost use Rattle.exchange_model.specs.World.{state};
 ghost use Rattle.archive_exchange.specs.ModelEvent.{ModelEvent};
 
 use crate::content_laws::{one_answer, one_find, one_find_name, one_list};
-use crate::text_laws::one_content;
 use admission::TakeFault;
+use archive_exchange::laws::one_meaning;
 use byte_device::Source;
 use exchange_model::laws::same_reached;
 use source_frames::laws::one_list_of_frames;
@@ -74,8 +74,8 @@ pub fn one_telling()
     one_list_of_frames();
 }
 
-/// Two calls whose archives hold one content together, and whose FRAMES hold the same bytes, give the same status and
-/// the same report, however many archives there are.
+/// Two calls whose archives hold one content together, and whose FRAMES or SCRIPT hold the same bytes, give the same
+/// status and the same report, however many archives there are.
 pub fn one_report<Q: Source, R: Source, S: Source, T: Source, U: Source, V: Source>()
     ensures find { (archive : Reader R) (others : List (Reader S)) (also : Reader T) (more : List (Reader U))
         (o : Operations) (uuid : List ℕ)
@@ -105,11 +105,15 @@ pub fn one_report<Q: Source, R: Source, S: Source, T: Source, U: Source, V: Sour
         → IsGivenJoin archive others o
         → IsGivenJoin other more o
         → TellOne (MakesFramed lines input archive others) (MakesFramed lines also other more) }
+    ensures rehearse { (script : Reader Q) (other : Reader R) (bytes : List ℕ)
+        → IsGiven script bytes
+        → IsGiven other bytes
+        → TellOne (MakesRehearsed script) (MakesRehearsed other) }
 {
     one_answer();
-    one_content();
     one_list();
     one_list_of_frames();
+    one_meaning();
     one_telling();
 }
 

@@ -1,4 +1,4 @@
-use Rattle.std.proofs.Common.{rules}
+use Rattle.std.proofs.Common.{refl}
 use Rattle.archive_core.proofs.Made.{contains_made, made_again}
 use Rattle.archive_core.proofs.Words.{made_content, covered_slice, live_in_content}
 use Rattle.archive_laws.proofs.content_laws.contents_in_words.Goals as goal
@@ -9,6 +9,6 @@ returns c = record {
   again = made_again;
   content = made_content;
   admission = covered_slice;
-  retirement = search rules;
+  retirement = λ _ _ _. refl;
   live = live_in_content;
 }

@@ -1,11 +1,6 @@
-use Rattle.std.proofs.Common.{refl}
-use Rattle.join_core.specs.Bound.{IsLeastAbove}
-use Rattle.archive_core.specs.Content.{Operations, IsContent, IsBelow, joined}
-use Rattle.archive_core.proofs.Joined.{joined as least_above}
+use Rattle.archive_core.specs.Content.{joined}
+use Rattle.archive_core.specs.Order.{joined_least as least}
 use Rattle.archive_laws.proofs.content_laws.contents_join.Goals as goal
-
-least : (o p : Operations) → IsContent o → IsContent p → IsLeastAbove IsContent IsBelow o p (joined o p)
-least o p a b = least_above o p (joined o p) a b refl
 
 pub returns : goal.returns
 returns c = record {

@@ -1,5 +1,4 @@
-use Rattle.std.proofs.Common.{◌≡◌, ℕ, List, [], ◌∷◌, length, Option, Some, None, MatchOption, refl, sym, ap, ◌∙◌, subst, arith}
-use Rattle.std.specs.Option.{option_map}
+use Rattle.std.proofs.Common.{◌≡◌, ℕ, List, [], ◌∷◌, length, Option, Some, None, MatchOption, refl, sym, ap, ◌∙◌, subst, arith, option_map}
 use Rattle.std.specs.List.{AllZip}
 use Rattle.sha2.specs.Sha256.{sha256}
 use Rattle.macho_symbols.specs.Symbols.{Tuple}
@@ -10,6 +9,7 @@ use Rattle.archive_core.specs.Lookup.{file_address, IsOwn, OwnRow, IsOwnRow, Ans
 use Rattle.archive_core.specs.declared.keys.SliceKey.{SliceKey}
 use Rattle.archive_core.specs.declared.lookup.Where.{Where}
 use Rattle.archive_laws.proofs.Answerers.{some_answering}
+use Rattle.archive_laws.proofs.Given.{one_zipped}
 use Rattle.address_queries.proofs.Sourced.{one_answering}
 use Rattle.archive_laws.proofs.content_laws.one_answer.Goals as goal
 
@@ -26,13 +26,6 @@ module _ (one : (image : List ℕ) (address : ℕ) (found other : Option Tuple) 
       let own = one_own slice (file_address slice asked) row.own other.own a.own_is b.own_is in
       λ i. record { digest = digest i; own = own i }
 
-  one_rows : (asked : Where) (slices : List (List ℕ)) (rows others : List OwnRow) → AllZip (IsOwnRow asked) slices rows → AllZip (IsOwnRow asked) slices others → rows ≡ others
-  one_rows asked [] [] [] a b = refl
-  one_rows asked [] [] (y ∷ ys) a b = absurd b
-  one_rows asked (s ∷ slices) (x ∷ xs) [] a b = absurd b
-  one_rows asked (s ∷ slices) (x ∷ xs) (y ∷ ys) a b = λ i. one_row asked s x y a.0 b.0 i ∷ one_rows asked slices xs ys a.1 b.1 i
-  one_rows asked _ _ others a b = absurd a
-
   one_answer_of : (asked : Where) (slices : List (List ℕ)) (answer other : AnswerRecord) → IsAnswerOf asked slices answer → IsAnswerOf asked slices other → answer ≡ other
   one_answer_of asked slices Unanswered Unanswered a b = refl
   one_answer_of asked slices Unanswered (Alone own) a b = cc (sym a ∙ b.1)
@@ -44,7 +37,8 @@ module _ (one : (image : List ℕ) (address : ℕ) (found other : Option Tuple) 
   one_answer_of asked slices (Alone own) (Disputed rows) a b = absurd (omega (arith, ap length a.1, b.0))
   one_answer_of asked slices (Disputed rows) Unanswered a b = absurd (omega (arith, ap length b, a.0))
   one_answer_of asked slices (Disputed rows) (Alone own) a b = absurd (omega (arith, ap length b.1, a.0))
-  one_answer_of asked slices (Disputed rows) (Disputed others) a b = ap Disputed (one_rows asked slices rows others a.1 b.1)
+  one_answer_of asked slices (Disputed rows) (Disputed others) a b =
+      ap Disputed (one_zipped (IsOwnRow asked) (IsOwnRow asked) (one_row asked) slices rows others a.1 b.1)
 
   one_answer : (o : Operations) (key : SliceKey) (asked : Where) (answer other : AnswerRecord) → IsAnswer o key asked answer → IsAnswer o key asked other → answer ≡ other
   one_answer o key asked answer other a b =

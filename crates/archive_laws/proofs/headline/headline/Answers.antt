@@ -1,4 +1,4 @@
-use Rattle.std.proofs.Common.{◌≡◌, ◌↔◌, ℕ, List, length, true, refl, ap, sym, subst}
+use Rattle.std.proofs.Common.{length, refl, ap, sym, subst}
 use Rattle.std.specs.Cmp.{both_ways}
 use Rattle.std.specs.Cmp.Lexicographic.{nat_list_cmp_total}
 use Rattle.std.specs.FinSet as set
@@ -12,12 +12,11 @@ use Rattle.exchange_model.specs.Reached.{reached}
 use Rattle.archive_exchange.specs.SiteState.{IsArchiveTextOf}
 use Rattle.archive_laws.proofs.headline.headline.Goals as goal
 
--- sets of the same operations make one content
-made_same : (o p : Operations) → ((r : List ℕ) → (set.contains o r ≡ true) ↔ (set.contains p r ≡ true)) → content_of o ≡ content_of p
-made_same o p same = ap content_of (same_set nat_list_cmp_total bytes_same o p (λ r. both_ways (set.contains o r) (set.contains p r) (same r).0 (same r).1))
-
 pub returns-clause-same_operations : goal.returns-clause-same_operations
-returns-clause-same_operations g c = λ sites others events later i j same. made_same (reached sites events i) (reached others later j) same
+returns-clause-same_operations g c = λ sites others events later i j same.
+    let o = reached sites events i in
+    let p = reached others later j in
+    ap content_of (same_set nat_list_cmp_total bytes_same o p (λ r. both_ways (set.contains o r) (set.contains p r) (same r).0 (same r).1))
 
 pub returns-clause-same_bytes : goal.returns-clause-same_bytes
 returns-clause-same_bytes g c = λ sites others events later i j same records.

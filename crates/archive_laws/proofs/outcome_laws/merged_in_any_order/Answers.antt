@@ -1,12 +1,13 @@
-use Rattle.archive_laws.proofs.Least.{merged_alike, input_alike, merged_before, merged_union}
+use Rattle.std.proofs.Common.{ap}
+use Rattle.archive_core.specs.Content.{Operations}
+use Rattle.command_core.specs.Archives.{merged}
+use Rattle.archive_laws.proofs.Least.{merged_alike, merged_before, merged_union}
 use Rattle.archive_laws.proofs.outcome_laws.merged_in_any_order.Goals as goal
 
 pub returns : goal.returns
-returns c =
-    let laws = c.contents_join.ensures in
-    record {
-      order = merged_alike laws.least laws.associative laws.commutative laws.idempotent laws.resumed;
-      input = input_alike laws.least laws.associative laws.commutative laws.idempotent laws.resumed;
-      grouping = merged_before laws.least laws.associative laws.commutative laws.idempotent laws.resumed;
-      union = λ o contents is _. merged_union o contents is.itself;
-    }
+returns c = record {
+  order = merged_alike;
+  input = λ o p contents a b. ap (λ (q : Operations). merged q contents) (c.contents_join.ensures.commutative o p a b);
+  grouping = λ o p contents others _ _ _ _. merged_before o p contents others;
+  union = λ o contents is _. merged_union o contents is.itself;
+}

@@ -1,6 +1,6 @@
 use Rattle.archive_core.specs.Content.{content_of}
 use Rattle.archive_records.proofs.Versions.{made_content}
-use Rattle.archive_laws.proofs.Migrated.{old_given, new_given}
+use Rattle.archive_laws.proofs.Joins.{old_given, new_given}
 use Rattle.archive_laws.proofs.Given.{one_given}
 use Rattle.archive_laws.proofs.outcome_laws.migrated.Goals as goal
 

@@ -1,7 +1,7 @@
 use Rattle.std.proofs.Common.{◌∙◌}
 use Rattle.archive_core.specs.Content.{content_of}
 use Rattle.archive_records.proofs.Versions.{made_content}
-use Rattle.archive_laws.proofs.Migrated.{old_given, new_given, merged_two}
+use Rattle.archive_laws.proofs.Joins.{old_given, new_given, merged_two}
 use Rattle.archive_laws.proofs.outcome_laws.migrated_before_or_after.Goals as goal
 
 pub returns : goal.returns

@@ -1,16 +1,22 @@
+use Rattle.std.proofs.Common.{◌≡◌, Ok, inl, inr}
+use Rattle.crash_frames.specs.Frames.{frames_of}
+use Rattle.exchange_script.specs.Script.{script_of}
 use Rattle.archive_laws.proofs.Accepted.{archive as archive_alone}
-use Rattle.archive_laws.proofs.FramesTold.{not_refused}
+use Rattle.archive_laws.proofs.Given.{gives}
 use Rattle.archive_laws.proofs.Joins.{join_refused}
-use Rattle.archive_laws.proofs.OneRehearsal.{script_not_refused}
+use Rattle.archive_laws.proofs.Refusals.{frames_accepted, script_accepted}
 use Rattle.archive_laws.proofs.report_laws.accepted_inputs_are_not_refused.Goals as goal
 
 pub returns : goal.returns
 returns g c = record {
-  find = λ archive others o uuid given at why refused. join_refused archive others o given at why refused;
+  find = λ archive others o uuid given. join_refused archive others o given;
   list = λ input o at why content given refused. archive_alone input o why content given refused.1;
-  name = λ archive others o sought given at why refused. join_refused archive others o given at why refused;
-  symbolicate = λ archive others o key load lines addresses given at why refused. join_refused archive others o given at why refused;
-  frames = λ lines input archive others bytes listed o is says given at why refused.
-      not_refused input archive others bytes listed o at why is says given refused;
-  rehearse = λ script bytes sites events is says at why refused. script_not_refused script bytes sites events at why is says refused;
+  name = λ archive others o sought given. join_refused archive others o given;
+  symbolicate = λ archive others o key load lines addresses given. join_refused archive others o given;
+  frames = λ lines input archive others bytes listed o is says given at why refused. elim refused [
+    | inl p ↦ frames_accepted input input why (inr (bytes, is, is)) (listed, gives input bytes (λ text. frames_of text ≡ Ok listed) is says) p.0.1
+    | inr p ↦ join_refused archive others o given at why p.2
+  ];
+  rehearse = λ script bytes sites events is says at why refused.
+      script_accepted script script (sites, events) why (inr (bytes, is, is)) (gives script bytes (λ text. script_of text ≡ Ok (sites, events)) is says) refused.1;
 }

@@ -1,7 +1,7 @@
 use Rattle.command_core.specs.Found.{TellsFound}
 use Rattle.archive_queries.specs.Name.{TellsNamed}
+use Rattle.address_queries.specs.Frames.{TellsFrames}
 use Rattle.address_queries.specs.Symbolicate.{TellsAddresses}
-use Rattle.archive_laws.proofs.FramesTold.{as_one}
 use Rattle.archive_laws.proofs.Joins.{as_merged}
 use Rattle.archive_laws.proofs.report_laws.asked_together.Goals as goal
 
@@ -11,5 +11,8 @@ returns g c = record {
   name = λ archive others file sought m status text. as_merged archive others file m (λ p. TellsNamed p sought status text);
   symbolicate = λ archive others file key load lines addresses m status text.
       as_merged archive others file m (λ p. TellsAddresses p key load lines addresses status text);
-  frames = λ lines input archive others file m status text. as_one lines input archive others file m status text;
+  frames = λ lines input archive others file m status text. (
+    λ t. record { listed = t.listed; frames_are = t.frames_are; tells = (as_merged archive others file m (λ p. TellsFrames lines p t.listed status text)).0 t.tells },
+    λ t. record { listed = t.listed; frames_are = t.frames_are; tells = (as_merged archive others file m (λ p. TellsFrames lines p t.listed status text)).1 t.tells },
+  );
 }
