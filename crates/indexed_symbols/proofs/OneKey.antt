@@ -42,7 +42,7 @@ module _ {I P : Type 0} (left : I → Option (List ℕ)) (failures : I → ℕ) 
   own_refused : (fault : CommandFault) → IsRefusal (λ at why. (others : List (List ℕ)) × (others ≡ keys) × AreRefusedAsking lines others named known at why) (AreUnfailedTogether named known) fault
       → IsRefusal (AreRefusedAsking lines keys named known) (AreUnfailedTogether named known) fault
   own_refused fault r =
-      refusal_of _ _ _ _ fault (λ at why x. subst (λ (ks : List (List ℕ)). AreRefusedAsking lines ks named known at why) x.1.0 x.1.1) (λ u. u) r
+      refusal_of _ _ _ _ fault (λ at why x. subst (λ (ks : List (List ℕ)). AreRefusedAsking lines ks named known at why) x.1 x.2) (λ u. u) r
 
   -- tables or slices are refused
   pub key_refused : (fault : CommandFault)
