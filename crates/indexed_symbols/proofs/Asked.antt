@@ -11,7 +11,6 @@ use Rattle.crash_frames.specs.declared.frame.Frame.{Frame}
 use Rattle.command_core.specs.Inputs.{IsRefusal}
 use Rattle.command_core.specs.declared.faults.CommandFault.{CommandFault}
 use Rattle.command_core.specs.declared.faults.CommandFault.TheVariants.{Input, OutOfMemory}
-use Rattle.command_inputs.proofs.Parts.{refusal_of}
 use Rattle.indexed_answers.specs.Among.{AreAnsweringAmong, EntryAt}
 use Rattle.indexed_answers.specs.AmongAsked.{AsksAmong, BlamesAmong, HasText, HaveTexts, each_known}
 use Rattle.indexed_answers.specs.AmongTold.{IsAnswerAmong}
@@ -20,7 +19,6 @@ use Rattle.indexed_answers.specs.declared.answers.Answers.{Answers}
 use Rattle.indexed_answers.specs.declared.answers.EntryAnswers.{EntryAnswers}
 use Rattle.indexed_answers.specs.declared.fault.AnswerFault.{AnswerFault}
 use Rattle.indexed_answers.specs.declared.fault.AnswerFault.TheVariants as answer
-use Rattle.indexed_symbols.specs.Asking.{AreTiedUnder}
 use Rattle.indexed_symbols.specs.Frames.{keys_of}
 use Rattle.indexed_symbols.specs.InnerAsking.{IsUntoldBy, NoneFailed, command_fault}
 use Rattle.indexed_symbols.specs.InnerPlaces.{AreAskedOf}
@@ -32,7 +30,7 @@ use Rattle.indexed_symbols.specs.declared.told.KeyAnswers.{KeyAnswers}
 pub one_key : (key : List ℕ) → Contains (key ∷ []) key
 one_key key = (0, omega arith, refl)
 
-only_key : (key other : List ℕ) → Contains (key ∷ []) other → key ≡ other
+pub only_key : (key other : List ℕ) → Contains (key ∷ []) other → key ≡ other
 only_key key other (zero, lt, e) = e
 only_key key other (suc n, lt, e) = absurd (omega (arith, lt))
 
@@ -60,45 +58,39 @@ module _ {D : Type 0} (whole : D → Option (List ℕ)) (failures : D → ℕ) (
   fault_told (answer.Device input offset) asks = record { key = key_bytes key; key_is = one_key (key_bytes key); answering = answering; are = are; fault = answer.Device input offset; told_as = refl; says = asks.says; counts = asks.counts }
   fault_told answer.OutOfMemory asks = asks.counts
 
--- ---- key by key
+-- ---- under several keys
 
 module _ {D : Type 0} (whole : D → Option (List ℕ)) (failures : D → ℕ) (lines : Bool) (all : List (List (List ℕ))) (first mid : List (Result D CannotOpen)) (texts_kept : each_known whole mid ≡ each_known whole first) where
+  texts_first : (texts : List (List ℕ)) → HaveTexts whole first texts → HaveTexts whole mid texts
+  texts_first texts have = subst (λ (ds : List (Result (Option (List ℕ)) CannotOpen)). AllZip HasText ds texts) (sym texts_kept) have
+
   -- what is true of later states is true of the first
   pub true_first : (one : KeyAnswers) → IsToldUnder (HaveTexts whole mid) all lines one → IsToldUnder (HaveTexts whole first) all lines one
-  true_first one told = λ texts have. told texts (subst (λ (ds : List (Result (Option (List ℕ)) CannotOpen)). AllZip HasText ds texts) (sym texts_kept) have)
+  true_first one told = λ texts have. told texts (texts_first texts have)
 
-  pub untold_first : (counts_kept : each_known failures mid ≡ each_known failures first) (new : List (Result D CannotOpen)) (key : List ℕ) (keys : List (List ℕ)) (fault : CommandFault) → Contains keys key
-      → IsRefusal (IsUntoldBy whole failures lines (key ∷ []) all mid new) (NoneFailed failures mid new) fault → IsRefusal (IsUntoldBy whole failures lines keys all first new) (NoneFailed failures first new) fault
-  untold_first counts_kept new key keys (Input at why) there r = record {
+  -- what is not told under some keys is not told under others, among which they are
+  pub untold_first : (counts_kept : each_known failures mid ≡ each_known failures first) (new : List (Result D CannotOpen)) (keys others : List (List ℕ))
+      (fault : CommandFault) → ((key : List ℕ) → Contains keys key → Contains others key)
+      → IsRefusal (IsUntoldBy whole failures lines keys all mid new) (NoneFailed failures mid new) fault
+      → IsRefusal (IsUntoldBy whole failures lines others all first new) (NoneFailed failures first new) fault
+  untold_first counts_kept new keys others (Input at why) among r = record {
     key = r.key;
-    key_is = subst (Contains keys) (only_key key r.key r.key_is) there;
+    key_is = among r.key r.key_is;
     answering = r.answering;
     are = r.are;
     fault = r.fault;
     told_as = r.told_as;
-    says = λ texts have. r.says texts (subst (λ (ds : List (Result (Option (List ℕ)) CannotOpen)). AllZip HasText ds texts) (sym texts_kept) have);
+    says = λ texts have. r.says texts (texts_first texts have);
     counts = subst (λ (olds : List (Result ℕ CannotOpen)). BlamesAmong lines r.answering olds (each_known failures new) r.fault) counts_kept r.counts;
   }
-  untold_first counts_kept new key keys OutOfMemory there r = r ∙ counts_kept
-  untold_first counts_kept new key keys fault there r = absurd r
+  untold_first counts_kept new keys others OutOfMemory among r = r ∙ counts_kept
+  untold_first counts_kept new keys others fault among r = absurd r
 
--- ---- the keys of frames
-
-abbrev keys_asked : List AskedPlace → List (List ℕ)
-keys_asked asked = map (λ (one : AskedPlace). key_bytes one.key) asked
-
-module _ (frames : List Frame) (asked : List AskedPlace) (of : AreAskedOf frames asked) where
-  among_frames : (key : List ℕ) → Contains (keys_asked asked) key → Contains (keys_of frames) key
-  among_frames key there =
-      let one = in_map (λ (a : AskedPlace). key_bytes a.key) asked key there in
-      let frame = of.of_frames one.0 one.1 in
-      let same : key ≡ key_bytes frame.0.key = one.2 ∙ ap (λ (a : AskedPlace). key_bytes a.key) frame.2 in
-      subst (Contains (keys_of frames)) (sym same) (to_map (λ (f : Frame). key_bytes f.key) frames frame.0 frame.1)
-
-  pub tied_of_frames : (all : List (List (List ℕ))) → AreTiedUnder (keys_asked asked) all → AreTiedUnder (keys_of frames) all
-  tied_of_frames all (key, there, tied) = (key, among_frames key there, tied)
-
-  pub untold_of_frames : {D : Type 0} (whole : D → Option (List ℕ)) (failures : D → ℕ) (lines : Bool) (all : List (List (List ℕ))) (old new : List (Result D CannotOpen)) (fault : CommandFault)
-      → IsRefusal (IsUntoldBy whole failures lines (keys_asked asked) all old new) (NoneFailed failures old new) fault → IsRefusal (IsUntoldBy whole failures lines (keys_of frames) all old new) (NoneFailed failures old new) fault
-  untold_of_frames whole failures lines all old new fault r =
-      refusal_of _ _ _ _ fault (λ at why u. record { key = u.key; key_is = among_frames u.key u.key_is; answering = u.answering; are = u.are; fault = u.fault; told_as = u.told_as; says = u.says; counts = u.counts }) (λ u. u) r
+-- the keys that are asked are those of frames
+pub among_frames : (frames : List Frame) (asked : List AskedPlace) → AreAskedOf frames asked → (key : List ℕ)
+    → Contains (map (λ (one : AskedPlace). key_bytes one.key) asked) key → Contains (keys_of frames) key
+among_frames frames asked of key there =
+    let one = in_map (λ (a : AskedPlace). key_bytes a.key) asked key there in
+    let frame = of.of_frames one.0 one.1 in
+    let same : key ≡ key_bytes frame.0.key = one.2 ∙ ap (λ (a : AskedPlace). key_bytes a.key) frame.2 in
+    subst (Contains (keys_of frames)) (sym same) (to_map (λ (f : Frame). key_bytes f.key) frames frame.0 frame.1)

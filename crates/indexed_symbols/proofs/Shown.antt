@@ -1,26 +1,26 @@
 -- What is shown of places, one after another.
 use Rattle.std.proofs.Common.{◌≡◌, ℕ, zero, suc, ◌+◌, ◌<◌, ◌⊎◌, if◌then◌else◌, Bool, false, List, [], ◌∷◌, ◌++◌, length, take, map, get_or, Option, Some, refl, sym, ap, ◌∙◌, subst, arith, inl, inr}
 use Rattle.std.specs.Prelude.{slice_get}
-use Rattle.std.specs.List.{All, AllZip}
+use Rattle.std.specs.List.{AllZip}
 use Rattle.std.proofs.Math.ListN.{length-map}
 use Rattle.std.proofs.lemmas.List.{flat_map_more, get_or-map, length-take, map-append, take_more}
 use Rattle.std.proofs.lemmas.List.Elements.{All-contains}
 use Rattle.std.proofs.lemmas.Option.{slice_get-get_or}
 use Rattle.source_frames.specs.Frames.{FrameRecord}
 use Rattle.archive_core.specs.Key.{key_bytes}
-use Rattle.archive_core.specs.Lookup.{AnswerRecord, answer_view}
+use Rattle.archive_core.specs.Lookup.{answer_view}
 use Rattle.archive_core.specs.declared.keys.SliceKey.{SliceKey}
 use Rattle.archive_core.specs.declared.lookup.Answer.{Answer}
 use Rattle.archive_core.specs.declared.lookup.Where.{Where}
 use Rattle.crash_frames.specs.declared.frame.Frame.{Frame}
 use Rattle.report_text.specs.Answers.{answer_lines}
 use Rattle.command_core.specs.declared.faults.Status.{Status}
-use Rattle.command_core.specs.declared.faults.Status.TheVariants.{Done, Partial}
+use Rattle.command_core.specs.declared.faults.Status.TheVariants.{Partial}
 use Rattle.command_core.proofs.Readers.{pairs_more}
 use Rattle.address_queries.proofs.Answered.{status_more}
 use Rattle.address_queries.specs.Symbolicate.{Answered, asked_of, is_symbol}
-use Rattle.indexed_answers.specs.AmongTold.{IsAnswerAmong}
 use Rattle.indexed_answers.specs.declared.answers.Answers.{Answers}
+use Rattle.indexed_answers.proofs.Columns.{zip_as}
 use Rattle.indexed_symbols.specs.Asking.{TellTables}
 use Rattle.indexed_symbols.specs.Frames.{IsFrameByTables, TellTablesOfFrames}
 use Rattle.indexed_symbols.specs.InnerPlaces.{AreAskedOf}
@@ -29,9 +29,6 @@ use Rattle.indexed_symbols.specs.declared.places.AskedPlace.{AskedPlace}
 use Rattle.indexed_symbols.specs.declared.told.KeyAnswers.{KeyAnswers}
 
 -- ---- frames
-
-pub no_frames : (told : List KeyAnswers) (lines : Bool) → ShowsFrames told lines [] Done []
-no_frames told lines = record { rows = []; answered = tt; status_is = refl; text_is = refl }
 
 -- no frames are shown if no lines are wanted
 pub none_shown : (lines : Bool) (answers : Answers) (number : ℕ) → lines ≡ false → shown_at lines answers number ≡ []
@@ -52,42 +49,31 @@ more_frames told lines frames i frame status next text printed answer one number
       text_is = printed_is ∙ ap (λ (t : List ℕ). t ++ answer_lines frame.address answer its) shown.text_is ∙ flat_map_more (λ (row : Answered). answer_lines row.address row.answer row.frames) [] shown.rows row;
     }
 
--- something is told of each
-pub told_each : (AreTexts : List (List ℕ) → Type 0) (all : List (List (List ℕ))) (lines : Bool) (frames : List Frame) (asked : List AskedPlace) (told : List KeyAnswers) → AreTold AreTexts all lines asked told → AreAskedOf frames asked → HaveToldEach told frames
-told_each AreTexts all lines frames asked told are of frame there =
-    let one = of.whole frame there in
-    let has = are.whole one.0 one.1 in
-    subst (λ (p : Where). HasTold told (key_bytes frame.key) p) one.3 (subst (λ (b : List ℕ). HasTold told b one.0.place) one.2 has)
+module _ {AreTexts : List (List ℕ) → Type 0} {all : List (List (List ℕ))} {lines : Bool} {asked : List AskedPlace} {told : List KeyAnswers}
+    (are : AreTold AreTexts all lines asked told) (frames : List Frame) where
+  -- something is told of each
+  pub told_each : AreAskedOf frames asked → HaveToldEach told frames
+  told_each of frame there =
+      let one = of.whole frame there in
+      subst (λ (p : Where). HasTold told (key_bytes frame.key) p) one.3 (subst (λ (b : List ℕ). HasTold told b one.0.place) one.2 (are.whole one.0 one.1))
 
-module _ (AreTexts : List (List ℕ) → Type 0) (all : List (List (List ℕ))) (lines : Bool) (told : List KeyAnswers) (are_true : All (IsToldUnder AreTexts all lines) told) where
   by_tables : (frame : Frame) (row : Answered) → IsFrameTold told lines frame row → IsFrameByTables AreTexts all lines frame row
   by_tables frame row (address_is, is) = (
     address_is,
     record {
-      answer_is = λ texts are.
-          let place = asked_of frame.load frame.address in
-          let one = All-contains (IsToldUnder AreTexts all lines) told is.one are_true is.stands.is_one in
-          let keyed : IsAnswerAmong texts all (key_bytes frame.key) lines place (answer_at is.one.answers is.number) (shown_at lines is.one.answers is.number) =
-          subst (λ (b : List ℕ). IsAnswerAmong texts all b lines place (answer_at is.one.answers is.number) (shown_at lines is.one.answers is.number)) is.stands.key_is (one texts are is.number place is.stands.place_is) in
-          let answered : IsAnswerAmong texts all (key_bytes frame.key) lines place (answer_view row.answer) (shown_at lines is.one.answers is.number) =
-          subst (λ (a : AnswerRecord). IsAnswerAmong texts all (key_bytes frame.key) lines place a (shown_at lines is.one.answers is.number)) (sym is.answer_is) keyed in
-          let here : IsAnswerAmong texts all (key_bytes frame.key) lines place (answer_view row.answer) row.frames =
-          subst (λ (fs : List (List FrameRecord)). IsAnswerAmong texts all (key_bytes frame.key) lines place (answer_view row.answer) fs) (sym is.frames_are) answered in
-          subst (λ (a : ℕ). IsAnswerAmong texts all (key_bytes frame.key) lines (asked_of frame.load a) (answer_view row.answer) row.frames) (sym address_is) here;
+      answer_is = λ texts given.
+          let one = All-contains (IsToldUnder AreTexts all lines) told is.one are.are_true is.stands.is_one in
+          rw (address_is, is.answer_is, is.frames_are, ← is.stands.key_is) (one texts given is.number (asked_of frame.load frame.address) is.stands.place_is);
       none_shown = λ none. is.frames_are ∙ none_shown lines is.one.answers is.number none;
     },
   )
 
-  each_by_tables : (frames : List Frame) (rows : List Answered) → AllZip (IsFrameTold told lines) frames rows → AllZip (IsFrameByTables AreTexts all lines) frames rows
-  each_by_tables [] [] a = tt
-  each_by_tables (frame ∷ frames) (row ∷ rows) a = (by_tables frame row a.0, each_by_tables frames rows a.1)
-  each_by_tables frames rows a = absurd a
-
   -- what is shown of frames is what tables tell of them
-  pub frames_by_tables : (frames : List Frame) (status : Status) (text : List ℕ) → ShowsFrames told lines frames status text → TellTablesOfFrames AreTexts all lines frames status text
-  frames_by_tables frames status text shown = record {
+  pub frames_by_tables : (status : Status) (text : List ℕ) → ShowsFrames told lines frames status text
+      → TellTablesOfFrames AreTexts all lines frames status text
+  frames_by_tables status text shown = record {
     rows = shown.rows;
-    answered = each_by_tables frames shown.rows shown.answered;
+    answered = zip_as (IsFrameTold told lines) (IsFrameByTables AreTexts all lines) frames shown.rows by_tables shown.answered;
     status_is = shown.status_is;
     text_is = shown.text_is;
   }
@@ -141,9 +127,7 @@ addresses_by_tables AreTexts all key load lines addresses places answers status 
       ∙ ap (λ (l : List Where). Some (get_or l k (asked_of load row.address))) places_are
       ∙ ap Some (get_or-map (asked_of load) addresses k d.address (asked_of load row.address) among ∙ ap (asked_of load) address) in
       record {
-        answer_is = λ texts are.
-            subst (λ (fs : List (List FrameRecord)). IsAnswerAmong texts all (key_bytes key) lines (asked_of load row.address) (answer_view row.answer) fs) (sym is.1)
-            (subst (λ (a : AnswerRecord). IsAnswerAmong texts all (key_bytes key) lines (asked_of load row.address) a (shown_at lines answers k)) (sym is.0) (told texts are k (asked_of load row.address) place));
+        answer_is = λ texts are. rw (is.1, is.0) (told texts are k (asked_of load row.address) place);
         none_shown = λ none. is.1 ∙ none_shown lines answers k none;
       };
   status_is = shown.status_is;
