@@ -1,11 +1,10 @@
 -- A slice that was sent, published and told.
-use Rattle.std.proofs.Common.{◌≡◌, ℕ, List, [], length, Option, Some, Result, Ok, Err, refl, sym, ap, ◌∙◌, subst, inr}
+use Rattle.std.proofs.Common.{◌≡◌, ℕ, List, [], length, Option, Some, Result, Ok, Err, sym, ap, ◌∙◌, subst, inr}
 use Rattle.std.specs.Io.KnownBytes.{Appends}
 use Rattle.sha2.specs.Sha256.{sha256}
 use Rattle.byte_device.specs.Devices.{FailedIn}
 use Rattle.archive_core.specs.declared.keys.SliceKey.{SliceKey}
-use Rattle.command_core.specs.Inputs.{Reader}
-use Rattle.command_core.specs.Outputs.{Outs, IsPublished, PublishesNothing, Publishes, Reports, Takes, Writer, out_of, writer}
+use Rattle.command_core.specs.Outputs.{Outs, IsPublished, Publishes, Reports, Takes, Writer, out_of, writer}
 use Rattle.command_core.specs.declared.faults.CommandFault.{CommandFault}
 use Rattle.command_core.specs.declared.faults.CommandFault.TheVariants.{Output, Report}
 use Rattle.command_core.specs.declared.faults.Status.{Status}
@@ -13,8 +12,7 @@ use Rattle.command_core.specs.declared.faults.Status.TheVariants.{Done}
 use Rattle.indexed_answers.specs.Among.{EntryAt}
 use Rattle.indexed_answers.specs.Named.{Names}
 use Rattle.indexed_answers.specs.declared.named.NamedSlice.{NamedSlice}
-use Rattle.slice_extraction.specs.Entries.{IsSliceOf, StopsSlice}
-use Rattle.slice_extraction.specs.InnerEntries.{PublishesSlice}
+use Rattle.slice_extraction.specs.Entries.{IsSliceOf}
 use Rattle.slice_extraction.specs.Wanted.{line_of, written_line}
 
 -- the line that an entry tells is that of its slice
@@ -24,12 +22,7 @@ same_line key named x slice names of =
     ∙ ap (λ (n : ℕ). line_of key (record { 0 = sha256 slice }) n) (names.size_is ∙ sym of.long)
 
 module _ {D T : Type 0} (out : Outs D T) (report : Writer) where
-  -- the slice was not sent
-  pub unsent_so : {P : Type 0} (archive : Reader P) (key : SliceKey) (x : EntryAt) (fault : CommandFault) → StopsSlice archive x (out_of out).draft fault → PublishesNothing (out_of out) → Takes report []
-      → PublishesSlice archive key x out report (Err fault)
-  unsent_so archive key x fault stops nothing unreported = inr (fault, refl, stops, nothing, unreported)
-
-  -- after it was
+  -- after it was sent
   module _ (mid : D) (slice : List ℕ) (took : Takes (writer out.held out.draft_failures out.old.draft mid) slice) where
     pub not_placed : (told : List ℕ) (fault : CommandFault) (n : ℕ) → fault ≡ Output n → n ≡ length slice → out.held out.new.draft ≡ out.held mid → out.draft_failures out.new.draft ≡ out.draft_failures mid
         → out.published out.new.target ≡ out.published out.old.target → FailedIn (out.failures out.old.target) (out.failures out.new.target) → Takes report [] → Publishes (out_of out) report slice told (Err fault)

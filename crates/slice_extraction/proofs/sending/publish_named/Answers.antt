@@ -1,41 +1,35 @@
-use Rattle.std.proofs.Common.{◌∙◌, inl, refl, sym}
+use Rattle.std.proofs.Common.{◌∙◌, inl, inr, refl, sym}
 use Rattle.std.proofs.lemmas.Result.{err_from_is_err_and}
 use Rattle.byte_device.proofs.Known.{Appends-none}
-use Rattle.command_core.specs.Inputs.{reader}
 use Rattle.command_core.specs.Outputs.{outs, writer}
 use Rattle.command_core.specs.declared.faults.CommandFault.TheVariants.{OutOfMemory}
 use Rattle.slice_extraction.specs.Wanted.{written_line}
-use Rattle.slice_extraction.proofs.Placed.{not_placed, placed_so, same_line, unsent_so}
+use Rattle.slice_extraction.proofs.Placed.{not_placed, placed_so, same_line}
 use Rattle.slice_extraction.proofs.Sent.{unbegun}
 use Rattle.slice_extraction.proofs.sending.publish_named.Goals as goal
 
 pub returns-in_err-clone : goal.returns-in_err-clone
 returns-in_err-clone g c =
-    let archive = reader g.P.Placed.whole g.P.Placed.failures c.args.archive.now c.args.archive.now in
-    let out = outs g.T.Draft.Sink.held g.T.Draft.Sink.failures g.T.Target.published g.T.Target.failures c.args.out.now c.args.out.now in
     let p = err_from_is_err_and c.from_residual.result c.from_residual.ensures.1 in
-    rw (p.1, p.2) (λ x names. unsent_so out _ archive c.args.key.now x OutOfMemory (unbegun archive x _ OutOfMemory (Appends-none _, refl) (refl, (Appends-none _, refl))) (refl, refl) (Appends-none _, refl))
+    rw (p.1, p.2) (λ x names. inr (OutOfMemory, refl, unbegun _ x _ OutOfMemory (Appends-none _, refl) (refl, (Appends-none _, refl)), (refl, refl),
+    (Appends-none _, refl)))
 
 pub returns-in_err-text : goal.returns-in_err-text
 returns-in_err-text g c =
-    let archive = reader g.P.Placed.whole g.P.Placed.failures c.args.archive.now c.args.archive.now in
-    let out = outs g.T.Draft.Sink.held g.T.Draft.Sink.failures g.T.Target.published g.T.Target.failures c.args.out.now c.args.out.now in
     let p = err_from_is_err_and c.from_residual-in_err-text.result c.from_residual-in_err-text.ensures.1 in
-    rw (p.1, p.2) (λ x names. unsent_so out _ archive c.args.key.now x OutOfMemory (unbegun archive x _ OutOfMemory (Appends-none _, refl) (refl, (Appends-none _, refl))) (refl, refl) (Appends-none _, refl))
+    rw (p.1, p.2) (λ x names. inr (OutOfMemory, refl, unbegun _ x _ OutOfMemory (Appends-none _, refl) (refl, (Appends-none _, refl)), (refl, refl),
+    (Appends-none _, refl)))
 
 pub returns-in_err-clone-2 : goal.returns-in_err-clone-2
 returns-in_err-clone-2 g c =
-    let archive = reader g.P.Placed.whole g.P.Placed.failures c.args.archive.now c.args.archive.now in
-    let out = outs g.T.Draft.Sink.held g.T.Draft.Sink.failures g.T.Target.published g.T.Target.failures c.args.out.now c.args.out.now in
     let p = err_from_is_err_and c.from_residual-in_err-clone-2.result c.from_residual-in_err-clone-2.ensures.1 in
-    rw (p.1, p.2) (λ x names. unsent_so out _ archive c.args.key.now x OutOfMemory (unbegun archive x _ OutOfMemory (Appends-none _, refl) (refl, (Appends-none _, refl))) (refl, refl) (Appends-none _, refl))
+    rw (p.1, p.2) (λ x names. inr (OutOfMemory, refl, unbegun _ x _ OutOfMemory (Appends-none _, refl) (refl, (Appends-none _, refl)), (refl, refl),
+    (Appends-none _, refl)))
 
 pub returns-in_err-send_named : goal.returns-in_err-send_named
 returns-in_err-send_named g c =
-    let archive = reader g.P.Placed.whole g.P.Placed.failures c.args.archive.now c.send_named.new.archive in
-    let out = outs g.T.Draft.Sink.held g.T.Draft.Sink.failures g.T.Target.published g.T.Target.failures c.args.out.now (record { draft = c.send_named.new.draft; target = c.args.out.now.target }) in
     let p = err_from_is_err_and c.from_residual-in_err-send_named.result c.from_residual-in_err-send_named.ensures.1 in
-    rw (p.1, p.2) (λ x names. unsent_so out _ archive c.args.key.now x c.in_err-send_named.field-0.0 (c.in_err-send_named.ensures x names) (refl, refl) (Appends-none _, refl))
+    rw (p.1, p.2) (λ x names. inr (c.in_err-send_named.field-0.0, refl, c.in_err-send_named.ensures x names, (refl, refl), (Appends-none _, refl)))
 
 pub returns-in_err-publish_output : goal.returns-in_err-publish_output
 returns-in_err-publish_output g c =
