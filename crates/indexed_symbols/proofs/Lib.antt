@@ -1,5 +1,4 @@
 pub mod Runs
 pub mod Shown
 pub mod States
-pub mod Asked
 pub mod Ended

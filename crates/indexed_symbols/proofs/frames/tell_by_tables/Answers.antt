@@ -3,8 +3,7 @@ use Rattle.std.proofs.lemmas.Result.{err_from_is_err_and}
 use Rattle.archive_core.specs.Key.{key_bytes}
 use Rattle.indexed_symbols.specs.Frames.{keys_of}
 use Rattle.indexed_symbols.specs.declared.places.AskedPlace.{AskedPlace}
-use Rattle.indexed_symbols.proofs.Asked.{among_frames, untold_first}
-use Rattle.indexed_symbols.proofs.Shown.{frames_by_tables, told_each}
+use Rattle.indexed_symbols.proofs.Shown.{among_frames, frames_by_tables, told_each, untold_first}
 use Rattle.indexed_symbols.proofs.frames.tell_by_tables.Goals as goal
 
 pub returns-in_err-told : goal.returns-in_err-told

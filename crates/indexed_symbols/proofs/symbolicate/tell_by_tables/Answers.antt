@@ -1,7 +1,6 @@
 use Rattle.std.proofs.Common.{◌∙◌}
 use Rattle.archive_core.specs.Key.{key_bytes}
-use Rattle.indexed_symbols.proofs.Asked.{one_key}
-use Rattle.indexed_symbols.proofs.Shown.{addresses_by_tables}
+use Rattle.indexed_symbols.proofs.Shown.{addresses_by_tables, one_key}
 use Rattle.indexed_symbols.proofs.symbolicate.tell_by_tables.Goals as goal
 
 pub returns-in_default : goal.returns-in_default

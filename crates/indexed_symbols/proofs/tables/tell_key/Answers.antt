@@ -1,5 +1,5 @@
 use Rattle.archive_core.specs.Key.{key_bytes}
-use Rattle.indexed_symbols.proofs.Asked.{fault_told, told_of}
+use Rattle.indexed_symbols.proofs.Shown.{fault_told, told_of}
 use Rattle.indexed_symbols.proofs.States.{opened_among}
 use Rattle.indexed_symbols.proofs.tables.tell_key.Goals as goal
 

@@ -10,7 +10,7 @@ use Rattle.indexed_answers.specs.AmongAsked.{HaveTexts}
 use Rattle.indexed_symbols.specs.InnerTold.{IsToldSoFar, IsToldUnder}
 use Rattle.indexed_symbols.specs.declared.places.AskedPlace.{AskedPlace}
 use Rattle.indexed_symbols.specs.declared.told.KeyAnswers.{KeyAnswers}
-use Rattle.indexed_symbols.proofs.Asked.{only_key, true_first, untold_first}
+use Rattle.indexed_symbols.proofs.Shown.{only_key, true_first, untold_first}
 use Rattle.indexed_symbols.proofs.Runs.{all_left, fewer_left, first_there, none_left, told_more}
 use Rattle.indexed_symbols.proofs.States.{opened_still}
 use Rattle.indexed_symbols.proofs.told.tell_keys.Goals as goal
