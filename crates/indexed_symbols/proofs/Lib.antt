@@ -1,8 +1,4 @@
-pub mod Halved
 pub mod Runs
 pub mod Shown
 pub mod States
-pub mod Asked
 pub mod Ended
-pub mod FramesEnded
-pub mod OneKey

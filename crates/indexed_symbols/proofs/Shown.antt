@@ -1,37 +1,116 @@
--- What is shown of places, one after another.
-use Rattle.std.proofs.Common.{◌≡◌, ℕ, zero, suc, ◌+◌, ◌<◌, ◌⊎◌, if◌then◌else◌, Bool, false, List, [], ◌∷◌, ◌++◌, length, take, map, get_or, Option, Some, refl, sym, ap, ◌∙◌, subst, arith, inl, inr}
+-- What is asked of tables, told by them and shown of it.
+use Rattle.std.proofs.Common.{◌≡◌, ℕ, zero, suc, ◌+◌, ◌<◌, ◌⊎◌, if◌then◌else◌, Bool, false, List, [], ◌∷◌, ◌++◌, length, take, map, get_or, Option, Some, refl, sym, ap, ◌∙◌, subst, arith, inl, inr, Result, Ok, Err}
 use Rattle.std.specs.Prelude.{slice_get}
-use Rattle.std.specs.List.{All, AllZip}
+use Rattle.std.specs.List.{AllZip, Contains}
 use Rattle.std.proofs.Math.ListN.{length-map}
 use Rattle.std.proofs.lemmas.List.{flat_map_more, get_or-map, length-take, map-append, take_more}
 use Rattle.std.proofs.lemmas.List.Elements.{All-contains}
-use Rattle.std.proofs.lemmas.Option.{slice_get-get_or}
+use Rattle.std.proofs.lemmas.Option.{slice_get-get_or, get_or_from_slice_get, slice_get_within}
+use Rattle.byte_device.specs.declared.disks.CannotOpen.{CannotOpen}
 use Rattle.source_frames.specs.Frames.{FrameRecord}
 use Rattle.archive_core.specs.Key.{key_bytes}
-use Rattle.archive_core.specs.Lookup.{AnswerRecord, answer_view}
+use Rattle.archive_core.specs.Lookup.{answer_view}
 use Rattle.archive_core.specs.declared.keys.SliceKey.{SliceKey}
 use Rattle.archive_core.specs.declared.lookup.Answer.{Answer}
 use Rattle.archive_core.specs.declared.lookup.Where.{Where}
+use Rattle.archive_core.proofs.Members.{in_map, to_map}
 use Rattle.crash_frames.specs.declared.frame.Frame.{Frame}
 use Rattle.report_text.specs.Answers.{answer_lines}
 use Rattle.command_core.specs.declared.faults.Status.{Status}
-use Rattle.command_core.specs.declared.faults.Status.TheVariants.{Done, Partial}
+use Rattle.command_core.specs.declared.faults.Status.TheVariants.{Partial}
 use Rattle.command_core.proofs.Readers.{pairs_more}
+use Rattle.command_core.specs.Inputs.{IsRefusal}
+use Rattle.command_core.specs.declared.faults.CommandFault.{CommandFault}
+use Rattle.command_core.specs.declared.faults.CommandFault.TheVariants.{Input, OutOfMemory}
 use Rattle.address_queries.proofs.Answered.{status_more}
 use Rattle.address_queries.specs.Symbolicate.{Answered, asked_of, is_symbol}
-use Rattle.indexed_answers.specs.AmongTold.{IsAnswerAmong}
 use Rattle.indexed_answers.specs.declared.answers.Answers.{Answers}
+use Rattle.indexed_answers.proofs.Columns.{zip_as}
+use Rattle.indexed_answers.specs.Among.{AreAnsweringAmong, EntryAt}
+use Rattle.indexed_answers.specs.AmongAsked.{AsksAmong, BlamesAmong, HasText, HaveTexts, each_known}
+use Rattle.indexed_answers.specs.AmongTold.{IsAnswerAmong}
+use Rattle.indexed_answers.specs.Views.{IsColumnAt, answer_of, row_at, shown_of}
+use Rattle.indexed_answers.specs.declared.answers.EntryAnswers.{EntryAnswers}
+use Rattle.indexed_answers.specs.declared.fault.AnswerFault.{AnswerFault}
+use Rattle.indexed_answers.specs.declared.fault.AnswerFault.TheVariants as faults
 use Rattle.indexed_symbols.specs.Asking.{TellTables}
-use Rattle.indexed_symbols.specs.Frames.{IsFrameByTables, TellTablesOfFrames}
+use Rattle.indexed_symbols.specs.Frames.{IsFrameByTables, TellTablesOfFrames, keys_of}
 use Rattle.indexed_symbols.specs.InnerPlaces.{AreAskedOf}
 use Rattle.indexed_symbols.specs.InnerTold.{AreTold, AreToldOf, HasTold, HaveToldEach, IsFrameTold, IsToldUnder, ShowsAddresses, ShowsFrames, StandsAt, answer_at, shown_at}
 use Rattle.indexed_symbols.specs.declared.places.AskedPlace.{AskedPlace}
 use Rattle.indexed_symbols.specs.declared.told.KeyAnswers.{KeyAnswers}
+use Rattle.indexed_symbols.specs.InnerAsking.{IsUntoldBy, NoneFailed, command_fault}
+
+-- one key is among one
+pub one_key : (key : List ℕ) → Contains (key ∷ []) key
+one_key key = (0, omega arith, refl)
+
+pub only_key : (key other : List ℕ) → Contains (key ∷ []) other → key ≡ other
+only_key key other (zero, lt, e) = e
+only_key key other (suc n, lt, e) = absurd (omega (arith, lt))
+
+-- ---- under one key
+
+module _ {D : Type 0} (whole : D → Option (List ℕ)) (failures : D → ℕ) (key : SliceKey) (all : List (List (List ℕ))) (answering : List EntryAt) (are : AreAnsweringAmong (key_bytes key) all answering) (old new : List (Result D CannotOpen)) (lines : Bool) (places : List Where) where
+  abbrev AreColumns : List (List ℕ) → Answers → Type 0
+  AreColumns texts answers = AllZip (IsColumnAt texts lines places) answering answers.columns.items
+
+  -- each column tells of each place
+  pub told_of : (answers : Answers) → AsksAmong whole failures lines answering old new (Ok answers) AreColumns
+      → ((texts : List (List ℕ)) (indexes : List (List (List ℕ))) (prefix : List ℕ) (answering : List EntryAt) (lines : Bool) (asked : List Where) (columns : List EntryAnswers) (number : ℕ) (none : Where)
+      → AreAnsweringAmong prefix indexes answering → AllZip (IsColumnAt texts lines asked) answering columns → number < length asked
+      → IsAnswerAmong texts indexes prefix lines (get_or asked number none) (answer_of (map (row_at number) columns)) (shown_of lines number columns))
+      → AreToldOf (HaveTexts whole old) all key lines places answers
+  told_of answers asks law = λ texts have number place at.
+      let is : get_or places number place ≡ place = get_or_from_slice_get places number place place at in
+      subst (λ (p : Where). IsAnswerAmong texts all (key_bytes key) lines p (answer_at answers number) (shown_at lines answers number)) is
+      (law texts all (key_bytes key) answering lines places answers.columns.items number place are (asks.says texts have) (slice_get_within places number place at))
+
+  -- a fault is told
+  pub fault_told : (fault : AnswerFault) → AsksAmong whole failures lines answering old new (Err fault) AreColumns → IsRefusal (IsUntoldBy whole failures lines (key_bytes key ∷ []) all old new) (NoneFailed failures old new) (command_fault fault)
+  fault_told (faults.Damaged input number) asks = record { key = key_bytes key; key_is = one_key (key_bytes key); answering = answering; are = are; fault = faults.Damaged input number; told_as = refl; says = asks.says; counts = asks.counts }
+  fault_told (faults.NoLines input number) asks = record { key = key_bytes key; key_is = one_key (key_bytes key); answering = answering; are = are; fault = faults.NoLines input number; told_as = refl; says = asks.says; counts = asks.counts }
+  fault_told (faults.Device input offset) asks = record { key = key_bytes key; key_is = one_key (key_bytes key); answering = answering; are = are; fault = faults.Device input offset; told_as = refl; says = asks.says; counts = asks.counts }
+  fault_told faults.OutOfMemory asks = asks.counts
+
+-- ---- under several keys
+
+module _ {D : Type 0} (whole : D → Option (List ℕ)) (failures : D → ℕ) (lines : Bool) (all : List (List (List ℕ))) (first mid : List (Result D CannotOpen)) (texts_kept : each_known whole mid ≡ each_known whole first) where
+  texts_first : (texts : List (List ℕ)) → HaveTexts whole first texts → HaveTexts whole mid texts
+  texts_first texts have = subst (λ (ds : List (Result (Option (List ℕ)) CannotOpen)). AllZip HasText ds texts) (sym texts_kept) have
+
+  -- what is true of later states is true of the first
+  pub true_first : (one : KeyAnswers) → IsToldUnder (HaveTexts whole mid) all lines one → IsToldUnder (HaveTexts whole first) all lines one
+  true_first one told = λ texts have. told texts (texts_first texts have)
+
+  -- what is not told under some keys is not told under others, among which they are
+  pub untold_first : (counts_kept : each_known failures mid ≡ each_known failures first) (new : List (Result D CannotOpen)) (keys others : List (List ℕ))
+      (fault : CommandFault) → ((key : List ℕ) → Contains keys key → Contains others key)
+      → IsRefusal (IsUntoldBy whole failures lines keys all mid new) (NoneFailed failures mid new) fault
+      → IsRefusal (IsUntoldBy whole failures lines others all first new) (NoneFailed failures first new) fault
+  untold_first counts_kept new keys others (Input at why) among r = record {
+    key = r.key;
+    key_is = among r.key r.key_is;
+    answering = r.answering;
+    are = r.are;
+    fault = r.fault;
+    told_as = r.told_as;
+    says = λ texts have. r.says texts (texts_first texts have);
+    counts = subst (λ (olds : List (Result ℕ CannotOpen)). BlamesAmong lines r.answering olds (each_known failures new) r.fault) counts_kept r.counts;
+  }
+  untold_first counts_kept new keys others OutOfMemory among r = r ∙ counts_kept
+  untold_first counts_kept new keys others fault among r = absurd r
+
+-- the keys that are asked are those of frames
+pub among_frames : (frames : List Frame) (asked : List AskedPlace) → AreAskedOf frames asked → (key : List ℕ)
+    → Contains (map (λ (one : AskedPlace). key_bytes one.key) asked) key → Contains (keys_of frames) key
+among_frames frames asked of key there =
+    let one = in_map (λ (a : AskedPlace). key_bytes a.key) asked key there in
+    let frame = of.of_frames one.0 one.1 in
+    let same : key ≡ key_bytes frame.0.key = one.2 ∙ ap (λ (a : AskedPlace). key_bytes a.key) frame.2 in
+    subst (Contains (keys_of frames)) (sym same) (to_map (λ (f : Frame). key_bytes f.key) frames frame.0 frame.1)
 
 -- ---- frames
-
-pub no_frames : (told : List KeyAnswers) (lines : Bool) → ShowsFrames told lines [] Done []
-no_frames told lines = record { rows = []; answered = tt; status_is = refl; text_is = refl }
 
 -- no frames are shown if no lines are wanted
 pub none_shown : (lines : Bool) (answers : Answers) (number : ℕ) → lines ≡ false → shown_at lines answers number ≡ []
@@ -52,42 +131,31 @@ more_frames told lines frames i frame status next text printed answer one number
       text_is = printed_is ∙ ap (λ (t : List ℕ). t ++ answer_lines frame.address answer its) shown.text_is ∙ flat_map_more (λ (row : Answered). answer_lines row.address row.answer row.frames) [] shown.rows row;
     }
 
--- something is told of each
-pub told_each : (AreTexts : List (List ℕ) → Type 0) (all : List (List (List ℕ))) (lines : Bool) (frames : List Frame) (asked : List AskedPlace) (told : List KeyAnswers) → AreTold AreTexts all lines asked told → AreAskedOf frames asked → HaveToldEach told frames
-told_each AreTexts all lines frames asked told are of frame there =
-    let one = of.whole frame there in
-    let has = are.whole one.0 one.1 in
-    subst (λ (p : Where). HasTold told (key_bytes frame.key) p) one.3 (subst (λ (b : List ℕ). HasTold told b one.0.place) one.2 has)
+module _ {AreTexts : List (List ℕ) → Type 0} {all : List (List (List ℕ))} {lines : Bool} {asked : List AskedPlace} {told : List KeyAnswers}
+    (are : AreTold AreTexts all lines asked told) (frames : List Frame) where
+  -- something is told of each
+  pub told_each : AreAskedOf frames asked → HaveToldEach told frames
+  told_each of frame there =
+      let one = of.whole frame there in
+      subst (λ (p : Where). HasTold told (key_bytes frame.key) p) one.3 (subst (λ (b : List ℕ). HasTold told b one.0.place) one.2 (are.whole one.0 one.1))
 
-module _ (AreTexts : List (List ℕ) → Type 0) (all : List (List (List ℕ))) (lines : Bool) (told : List KeyAnswers) (are_true : All (IsToldUnder AreTexts all lines) told) where
   by_tables : (frame : Frame) (row : Answered) → IsFrameTold told lines frame row → IsFrameByTables AreTexts all lines frame row
   by_tables frame row (address_is, is) = (
     address_is,
     record {
-      answer_is = λ texts are.
-          let place = asked_of frame.load frame.address in
-          let one = All-contains (IsToldUnder AreTexts all lines) told is.one are_true is.stands.is_one in
-          let keyed : IsAnswerAmong texts all (key_bytes frame.key) lines place (answer_at is.one.answers is.number) (shown_at lines is.one.answers is.number) =
-          subst (λ (b : List ℕ). IsAnswerAmong texts all b lines place (answer_at is.one.answers is.number) (shown_at lines is.one.answers is.number)) is.stands.key_is (one texts are is.number place is.stands.place_is) in
-          let answered : IsAnswerAmong texts all (key_bytes frame.key) lines place (answer_view row.answer) (shown_at lines is.one.answers is.number) =
-          subst (λ (a : AnswerRecord). IsAnswerAmong texts all (key_bytes frame.key) lines place a (shown_at lines is.one.answers is.number)) (sym is.answer_is) keyed in
-          let here : IsAnswerAmong texts all (key_bytes frame.key) lines place (answer_view row.answer) row.frames =
-          subst (λ (fs : List (List FrameRecord)). IsAnswerAmong texts all (key_bytes frame.key) lines place (answer_view row.answer) fs) (sym is.frames_are) answered in
-          subst (λ (a : ℕ). IsAnswerAmong texts all (key_bytes frame.key) lines (asked_of frame.load a) (answer_view row.answer) row.frames) (sym address_is) here;
+      answer_is = λ texts given.
+          let one = All-contains (IsToldUnder AreTexts all lines) told is.one are.are_true is.stands.is_one in
+          rw (address_is, is.answer_is, is.frames_are, ← is.stands.key_is) (one texts given is.number (asked_of frame.load frame.address) is.stands.place_is);
       none_shown = λ none. is.frames_are ∙ none_shown lines is.one.answers is.number none;
     },
   )
 
-  each_by_tables : (frames : List Frame) (rows : List Answered) → AllZip (IsFrameTold told lines) frames rows → AllZip (IsFrameByTables AreTexts all lines) frames rows
-  each_by_tables [] [] a = tt
-  each_by_tables (frame ∷ frames) (row ∷ rows) a = (by_tables frame row a.0, each_by_tables frames rows a.1)
-  each_by_tables frames rows a = absurd a
-
   -- what is shown of frames is what tables tell of them
-  pub frames_by_tables : (frames : List Frame) (status : Status) (text : List ℕ) → ShowsFrames told lines frames status text → TellTablesOfFrames AreTexts all lines frames status text
-  frames_by_tables frames status text shown = record {
+  pub frames_by_tables : (status : Status) (text : List ℕ) → ShowsFrames told lines frames status text
+      → TellTablesOfFrames AreTexts all lines frames status text
+  frames_by_tables status text shown = record {
     rows = shown.rows;
-    answered = each_by_tables frames shown.rows shown.answered;
+    answered = zip_as (IsFrameTold told lines) (IsFrameByTables AreTexts all lines) frames shown.rows by_tables shown.answered;
     status_is = shown.status_is;
     text_is = shown.text_is;
   }
@@ -141,9 +209,7 @@ addresses_by_tables AreTexts all key load lines addresses places answers status 
       ∙ ap (λ (l : List Where). Some (get_or l k (asked_of load row.address))) places_are
       ∙ ap Some (get_or-map (asked_of load) addresses k d.address (asked_of load row.address) among ∙ ap (asked_of load) address) in
       record {
-        answer_is = λ texts are.
-            subst (λ (fs : List (List FrameRecord)). IsAnswerAmong texts all (key_bytes key) lines (asked_of load row.address) (answer_view row.answer) fs) (sym is.1)
-            (subst (λ (a : AnswerRecord). IsAnswerAmong texts all (key_bytes key) lines (asked_of load row.address) a (shown_at lines answers k)) (sym is.0) (told texts are k (asked_of load row.address) place));
+        answer_is = λ texts are. rw (is.1, is.0) (told texts are k (asked_of load row.address) place);
         none_shown = λ none. is.1 ∙ none_shown lines answers k none;
       };
   status_is = shown.status_is;

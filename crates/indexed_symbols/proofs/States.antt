@@ -57,30 +57,19 @@ module _ {S : Type 0} (left : S → Option (List ℕ)) (failures : S → ℕ) wh
 
   -- ---- which are kept
 
-  kept_text : (x y : Result S CannotOpen) → IsKept left failures x y → known_of left y ≡ known_of left x
-  kept_text (Ok d) (Ok e) k = ap Ok k.0
-  kept_text (Err r) (Err q) k = ap Err k
-  kept_text x y k = absurd k
+  kept_one : (x y : Result S CannotOpen) → IsKept left failures x y → (known_of left y ≡ known_of left x) × (known_of failures y ≡ known_of failures x)
+  kept_one (Ok d) (Ok e) k = (ap Ok k.0, ap Ok k.1)
+  kept_one (Err r) (Err q) k = (ap Err k, ap Err k)
+  kept_one x y k = absurd k
 
-  pub kept_texts : (old new : List (Result S CannotOpen)) → AreAllKept left failures old new → each_known left new ≡ each_known left old
-  kept_texts [] [] k = refl
-  kept_texts (x ∷ xs) (y ∷ ys) k = λ i. kept_text x y k.0 i ∷ kept_texts xs ys k.1 i
-  kept_texts old new k = absurd k
-
-  kept_count : (x y : Result S CannotOpen) → IsKept left failures x y → known_of failures y ≡ known_of failures x
-  kept_count (Ok d) (Ok e) k = ap Ok k.1
-  kept_count (Err r) (Err q) k = ap Err k
-  kept_count x y k = absurd k
-
-  pub kept_counts : (old new : List (Result S CannotOpen)) → AreAllKept left failures old new → each_known failures new ≡ each_known failures old
-  kept_counts [] [] k = refl
-  kept_counts (x ∷ xs) (y ∷ ys) k = λ i. kept_count x y k.0 i ∷ kept_counts xs ys k.1 i
-  kept_counts old new k = absurd k
-
-  opened_kept : (x y : Result S CannotOpen) → IsOk x → IsKept left failures x y → IsOk y
-  opened_kept (Ok d) (Ok e) is k = refl
-  opened_kept (Ok d) (Err r) is k = absurd k
-  opened_kept (Err r) y is k = absurd (cc is)
+  pub all_kept : (old new : List (Result S CannotOpen)) → AreAllKept left failures old new
+      → (each_known left new ≡ each_known left old) × (each_known failures new ≡ each_known failures old)
+  all_kept [] [] k = (refl, refl)
+  all_kept (x ∷ xs) (y ∷ ys) k =
+      let one = kept_one x y k.0 in
+      let rest = all_kept xs ys k.1 in
+      (λ i. one.0 i ∷ rest.0 i, λ i. one.1 i ∷ rest.1 i)
+  all_kept old new k = absurd k
 
   opened_given : (x y : Result S CannotOpen) (IsTrue : List ℕ → Type 0) → Gives (reader left failures x y) IsTrue → IsOk x
   opened_given (Ok d) y IsTrue given = refl
@@ -91,7 +80,7 @@ module _ {S : Type 0} (left : S → Option (List ℕ)) (failures : S → ℕ) wh
   opened_read archives all old [] read kept = tt
   opened_read archives all [] (_ ∷ _) read kept = absurd kept
   opened_read (archive ∷ archives) (entries ∷ all) (x ∷ xs) (y ∷ ys) read kept =
-      (opened_kept x y (opened_given x y _ read.0.index_is) kept.0, opened_read archives all xs ys read.1 kept.1)
+      (opened_one left x y (kept_one x y kept.0).0 (opened_given x y _ read.0.index_is), opened_read archives all xs ys read.1 kept.1)
   opened_read archives all old new read kept = absurd read
 
   -- what was read with the first states was so whatever the last are

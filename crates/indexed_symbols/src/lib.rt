@@ -1,8 +1,7 @@
 //! The commands that answer addresses by indexes, over any devices and sinks.
 //!
-//! - `tables`: what the tables of indexes tell under a key;
+//! - `tables`: what the tables of indexes tell under a key, and the lines of it;
 //! - `places`: the places that frames mean, each once; `told`: what the tables tell of them;
-//! - `lines`: the lines of what is told of a place;
 //! - `symbolicate`, `frames`: a command each.
 //!
 //! # Why it is so
@@ -13,7 +12,6 @@
 #![tactic(auto)]
 
 mod frames;
-mod lines;
 mod places;
 mod symbolicate;
 mod tables;

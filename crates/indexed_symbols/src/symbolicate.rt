@@ -11,8 +11,7 @@ ghost use Rattle.indexed_symbols.specs.InnerAsking.{AreAllOpened, AsksEither, As
 ghost use Rattle.indexed_symbols.specs.InnerTold.{ShowsAddresses};
 ghost use Rattle.indexed_symbols.specs.Symbolicate.{symbolicate_at};
 
-use crate::lines::push_told;
-use crate::tables::tell_key;
+use crate::tables::{push_told, tell_key};
 use address_queries::{answer_each, places_of, status_behind};
 use archive_core::{Archive, SliceKey};
 use byte_device::{CannotOpen, Placed, Sink};

@@ -13,9 +13,8 @@ ghost use Rattle.indexed_symbols.specs.InnerPlaces.{asked_cmp, has_key};
 ghost use Rattle.indexed_symbols.specs.InnerTold.{AreInOrder, AreTold, HasTold, HaveToldEach, IsToldUnder};
 ghost use Rattle.indexed_symbols.specs.InnerTold.{ShowsFrames, StandsAt};
 
-use crate::lines::push_told;
 use crate::places::{AskedPlace, compare_places};
-use crate::tables::tell_key;
+use crate::tables::{push_told, tell_key};
 use address_queries::status_behind;
 use archive_core::{SliceKey, Where, compare_keys};
 use byte_device::{CannotOpen, Placed};

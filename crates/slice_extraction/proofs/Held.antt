@@ -49,10 +49,6 @@ listed_there o index r lt is =
     (in_listing nat_list_cmp_total bytes_same o r).0
     (subst (λ (s : List ℕ). Contains (listing o) s) (sym is) (Contains-get_or (listing o) index [] lt))
 
--- so is each that stands in the list
-pub there_listed : (o : Operations) (r : List ℕ) → contains o r ≡ true → Contains (listing o) r
-there_listed o r there = (in_listing nat_list_cmp_total bytes_same o r).1 there
-
 -- one record more was looked at
 pub looked_at : (o : Operations) (index : ℕ) (r : List ℕ) → index < length (listing o)
     → (Contains (take index (listing o)) r → ⊥) → (get_or (listing o) index [] ≡ r → ⊥) → Contains (take (index + 1) (listing o)) r → ⊥

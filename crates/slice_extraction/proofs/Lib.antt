@@ -1,6 +1,5 @@
 pub mod Held
 pub mod Extracted
 pub mod Sent
-pub mod Placed
 pub mod ByEntry
 pub mod Chosen

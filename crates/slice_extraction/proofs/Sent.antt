@@ -1,6 +1,7 @@
--- What was sent of the slice of an entry, or why it was not.
+-- What was sent of the slice of an entry, and told of it; or why it was not.
 use Rattle.std.proofs.Common.{◌≡◌, ℕ, ◌+◌, ◌<◌, List, [], take, drop, length, Option, Some, None, Result, Ok, Err, refl, sym, ap, ◌∙◌, subst, inl, inr, arith}
 use Rattle.std.specs.Prelude.{IfSome, MatchResult}
+use Rattle.sha2.specs.Sha256.{sha256}
 use Rattle.byte_device.specs.Devices.{stream}
 use Rattle.byte_device.specs.declared.disks.CannotOpen.{CannotOpen}
 use Rattle.byte_device.specs.Places.{Stands}
@@ -9,17 +10,21 @@ use Rattle.placed_passes.specs.Sending.{HaveOther, HaveSome, StopsSending, Hinde
 use Rattle.placed_passes.specs.declared.sending.SendFault.{SendFault}
 use Rattle.placed_passes.specs.declared.sending.SendFault.TheVariants.{Other, Device, Sink}
 use Rattle.command_core.specs.Inputs.{Gives, Reader, Unfailed, reader}
-use Rattle.command_core.specs.Outputs.{Takes, Writer, writer}
+use Rattle.command_core.specs.Outputs.{IsPublished, Out, Publishes, Reports, Takes, Writer, writer}
 use Rattle.command_core.specs.declared.faults.CommandFault.{CommandFault}
-use Rattle.command_core.specs.declared.faults.CommandFault.TheVariants.{Input}
+use Rattle.command_core.specs.declared.faults.CommandFault.TheVariants.{Input, Report}
 use Rattle.command_core.specs.declared.faults.InputName.TheVariants.{Archive, Index}
+use Rattle.command_core.specs.declared.faults.Status.{Status}
+use Rattle.command_core.specs.declared.faults.Status.TheVariants.{Done}
 use Rattle.command_core.specs.declared.faults.Why.TheVariants.{CannotOpen as NotOpened, Stale}
 use Rattle.indexed_answers.specs.Among.{EntryAt}
+use Rattle.archive_core.specs.declared.keys.SliceKey.{SliceKey}
 use Rattle.archive_index.specs.Entry.{offset_in}
 use Rattle.indexed_answers.specs.Named.{Names}
 use Rattle.indexed_answers.specs.declared.named.NamedSlice.{NamedSlice}
 use Rattle.slice_extraction.specs.Entries.{Hinders, HoldsSlice, IsSliceOf, StandFor, StopsSlice}
 use Rattle.slice_extraction.specs.InnerEntries.{told_fault}
+use Rattle.slice_extraction.specs.Wanted.{line_of, written_line}
 
 -- the draft was not begun
 pub unbegun : {P : Type 0} (archive : Reader P) (x : EntryAt) (draft : Writer) (fault : CommandFault) → Takes draft [] → Hinders archive x draft 0 fault → StopsSlice archive x draft fault
@@ -106,3 +111,16 @@ module _ {P W : Type 0} (whole : P → Option (List ℕ)) (failures : P → ℕ)
     held_back = λ some. holds_slice (stops.held_back some);
     hinders = hindered (length stops.bytes) fault stops.hinders;
   }
+
+-- the line that an entry tells is that of its slice
+pub same_line : (key : SliceKey) (named : NamedSlice) (x : EntryAt) (slice : List ℕ) → Names x named → IsSliceOf x slice → line_of key named.row.digest named.size ≡ written_line key slice
+same_line key named x slice names of =
+    ap (λ (d : List ℕ). line_of key (record { 0 = d }) named.size) (names.row.digest_is ∙ sym of.digest_is)
+    ∙ ap (λ (n : ℕ). line_of key (record { 0 = sha256 slice }) n) (names.size_is ∙ sym of.long)
+
+-- what is in place is published, whatever came of the report
+pub told_so : (out : Out) (report : Writer) (slice told : List ℕ) (result : Result Status CommandFault) → IsPublished out slice
+    → Reports report Done told result → Publishes out report slice told result
+told_so out report slice told (Ok ended) placed reported = (reported.0, placed, reported.1)
+told_so out report slice told (Err (Report n)) placed reported = (placed, reported)
+told_so out report slice told result placed reported = absurd reported

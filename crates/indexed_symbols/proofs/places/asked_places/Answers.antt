@@ -7,12 +7,11 @@ use Rattle.indexed_symbols.specs.InnerPlaces.{asked_cmp}
 use Rattle.indexed_symbols.proofs.Runs.{asked_are, asked_total, once_sorted}
 use Rattle.indexed_symbols.proofs.places.asked_places.Goals as goal
 
-pub returns-clause-are : goal.returns-clause-are
-returns-clause-are c =
+pub returns : goal.returns
+returns c =
     let once = dedup_same _ (eq_by_cmp asked_cmp) _ (λ x y b f x' y' called. search rules) _ _ c.dedup_by.ensures.filtered in
-    asked_are _ _ _ _ c.in_ok-asked.ensures c.sort_unstable_by.ensures.permutation once
-
-pub returns-clause-sorted : goal.returns-clause-sorted
-returns-clause-sorted c =
-    let once = dedup_same _ (eq_by_cmp asked_cmp) _ (λ x y b f x' y' called. search rules) _ _ c.dedup_by.ensures.filtered in
-    once_sorted _ _ (c.sort_unstable_by.ensures.sorted (λ (a b : AskedPlace). is_lt (asked_cmp a b)) (ranks_by asked_total (λ (a : AskedPlace). a)) (always_returns_same _ _ _ (λ a r g called. (search rules, search rules)))) once
+    record {
+      are = asked_are _ _ _ _ c.in_ok-asked.ensures c.sort_unstable_by.ensures.permutation once;
+      sorted = once_sorted _ _ (c.sort_unstable_by.ensures.sorted (λ (a b : AskedPlace). is_lt (asked_cmp a b)) (ranks_by asked_total (λ (a : AskedPlace). a))
+          (always_returns_same _ _ _ (λ a r g called. (search rules, search rules)))) once;
+    }

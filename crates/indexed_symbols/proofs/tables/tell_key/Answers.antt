@@ -1,24 +1,16 @@
-use Rattle.std.proofs.Common.{◌≡◌, ℕ, List, Option, Some, subst}
-use Rattle.std.specs.Prelude.{MatchOption}
 use Rattle.archive_core.specs.Key.{key_bytes}
-use Rattle.indexed_answers.specs.Among.{AreAnsweringAmong, AreTied, EntryAt}
-use Rattle.indexed_symbols.proofs.Asked.{fault_told, told_of}
+use Rattle.indexed_symbols.proofs.Shown.{fault_told, told_of}
 use Rattle.indexed_symbols.proofs.States.{opened_among}
 use Rattle.indexed_symbols.proofs.tables.tell_key.Goals as goal
 
--- those that were found answer
-answer : (prefix : List ℕ) (all : List (List (List ℕ))) (found : Option (List EntryAt)) (answering : List EntryAt) → found ≡ Some answering
-    → MatchOption found (AreTied prefix all) (AreAnsweringAmong prefix all) → AreAnsweringAmong prefix all answering
-answer prefix all found answering is told = subst (λ (o : Option (List EntryAt)). MatchOption o (AreTied prefix all) (AreAnsweringAmong prefix all)) is told
-
 pub answer_among-requires : goal.answer_among-requires
 answer_among-requires g c =
-    let are = answer (key_bytes c.args.key.now) c.args.read.now _ _ c.in-Some.is c.in_ok-answering.ensures in
+    let are = rw c.in-Some.is at c.in_ok-answering.ensures in
     opened_among {D = g.row.I.Denot} g.I.Placed.whole c.args.indexes.now (key_bytes c.args.key.now) c.args.read.now c.in-Some.answering c.requires.same c.requires.opened are
 
 pub returns-in-Ok : goal.returns-in-Ok
 returns-in-Ok g c =
-    let are = answer (key_bytes c.args.key.now) c.args.read.now _ _ c.in-Some.is c.in_ok-answering.ensures in
+    let are = rw c.in-Some.is at c.in_ok-answering.ensures in
     record {
       is = (
         told_of g.I.Placed.whole g.I.Placed.failures c.args.key.now c.args.read.now c.in-Some.answering are c.args.indexes.now c.answer_among.new.devices c.args.lines c.args.places.now c.in-Ok.answers c.in-Ok.ensures c.each_told.ensures.answer,
@@ -29,5 +21,5 @@ returns-in-Ok g c =
 
 pub returns : goal.returns
 returns g c =
-    let are = answer (key_bytes c.args.key.now) c.args.read.now _ _ c.in-Some.is c.in_ok-answering.ensures in
+    let are = rw c.in-Some.is at c.in_ok-answering.ensures in
     rw c.refusal.ensures (fault_told g.I.Placed.whole g.I.Placed.failures c.args.key.now c.args.read.now c.in-Some.answering are c.args.indexes.now c.answer_among.new.devices c.args.lines c.args.places.now c.in-Err.fault c.in-Err.ensures)

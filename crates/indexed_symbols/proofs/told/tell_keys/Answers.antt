@@ -1,6 +1,7 @@
-use Rattle.std.proofs.Common.{◌≡◌, ◌≤◌, List, [], ◌∷◌, Option, Some, None, refl, ap, sym, ◌∙◌, subst, map, length, arith}
-use Rattle.std.specs.Prelude.{MatchOption, slice_get}
+use Rattle.std.proofs.Common.{◌≡◌, List, [], ◌∷◌, Some, refl, ap, sym, ◌∙◌, subst, map, arith}
+use Rattle.std.specs.Prelude.{slice_get}
 use Rattle.std.specs.List.{Contains}
+use Rattle.std.proofs.lemmas.List.{nil_from_length}
 use Rattle.std.proofs.lemmas.List.Elements.{All-push}
 use Rattle.std.proofs.lemmas.Result.{err_from_is_err_and}
 use Rattle.archive_core.proofs.Members.{to_map}
@@ -9,21 +10,10 @@ use Rattle.indexed_answers.specs.AmongAsked.{HaveTexts}
 use Rattle.indexed_symbols.specs.InnerTold.{IsToldSoFar, IsToldUnder}
 use Rattle.indexed_symbols.specs.declared.places.AskedPlace.{AskedPlace}
 use Rattle.indexed_symbols.specs.declared.told.KeyAnswers.{KeyAnswers}
-use Rattle.indexed_symbols.proofs.Asked.{true_first, untold_first}
+use Rattle.indexed_symbols.proofs.Shown.{only_key, true_first, untold_first}
 use Rattle.indexed_symbols.proofs.Runs.{all_left, fewer_left, first_there, none_left, told_more}
 use Rattle.indexed_symbols.proofs.States.{opened_still}
 use Rattle.indexed_symbols.proofs.told.tell_keys.Goals as goal
-
-module _ {T : Type 0} (found : Option T) (IsNone : Type 0) (IsTrue : T → Type 0) (told : MatchOption found IsNone IsTrue) where
-  of_none : found ≡ None → IsNone
-  of_none is = subst (λ (o : Option T). MatchOption o IsNone IsTrue) is told
-
-  of_one : (one : T) → found ≡ Some one → IsTrue one
-  of_one one is = subst (λ (o : Option T). MatchOption o IsNone IsTrue) is told
-
-empty : (xs : List AskedPlace) → length xs ≤ 0 → xs ≡ []
-empty [] none = refl
-empty (x ∷ xs) none = absurd (omega (arith, none))
 
 pub keys-init : goal.keys-init
 keys-init g c = record {
@@ -42,13 +32,16 @@ pub returns-in_err-one : goal.returns-in_err-one
 returns-in_err-one g c =
     let p = err_from_is_err_and c.from_residual-in_err-one.result c.from_residual-in_err-one.ensures.1 in
     let key = there c.args.asked.now c.keys.left.now c.keys.told.items c.in-Some.first.now c.keys.invariant.so c.in-Some.ensures.value in
-    rw (p.1, p.2) (untold_first g.I.Placed.whole g.I.Placed.failures c.args.lines c.args.read.now c.args.indexes.now c.keys.indexes c.keys.invariant.texts c.keys.invariant.counts c.tell_run.new.indexes (key_bytes c.in-Some.first.now.key) _ c.in_err-one.field-0.0 key c.in_err-one.ensures)
+    let keys = map (λ (one : AskedPlace). key_bytes one.key) c.args.asked.now in
+    rw (p.1, p.2) (untold_first g.I.Placed.whole g.I.Placed.failures c.args.lines c.args.read.now c.args.indexes.now c.keys.indexes c.keys.invariant.texts
+    c.keys.invariant.counts c.tell_run.new.indexes (key_bytes c.in-Some.first.now.key ∷ []) keys c.in_err-one.field-0.0
+    (λ other is. subst (Contains keys) (only_key (key_bytes c.in-Some.first.now.key) other is) key) c.in_err-one.ensures)
 
 pub returns-in_default-2 : goal.returns-in_default-2
 returns-in_default-2 g c =
     let key = there c.args.asked.now c.keys.left.now c.keys.told.items c.in-Some.first.now c.keys.invariant.so c.in-Some.ensures.value in
     record {
-      is = ((key_bytes c.in-Some.first.now.key, key, of_none _ _ _ c.in_ok-one.ensures.is.0 c.in_default-2.is), c.in_ok-one.ensures.is.1 ∙ c.keys.invariant.texts);
+      is = ((key_bytes c.in-Some.first.now.key, key, rw c.in_default-2.is at c.in_ok-one.ensures.is.0), c.in_ok-one.ensures.is.1 ∙ c.keys.invariant.texts);
       unfailed = c.in_ok-one.ensures.unfailed ∙ c.keys.invariant.counts;
     }
 
@@ -57,7 +50,7 @@ keys-smaller g c = fewer_left c.in-Some.first.now c.keys.left.now c.in-Some.ensu
 
 pub keys-preserved : goal.keys-preserved
 keys-preserved g c =
-    let told = of_one _ _ _ c.in_ok-one.ensures.is.0 c.in-Some-2.one c.in-Some-2.is in
+    let told = rw c.in-Some-2.is at c.in_ok-one.ensures.is.0 in
     let places = told.1 ∙ ap (map (λ (asked : AskedPlace). asked.place)) c.split_at.ensures.front in
     let so = told_more c.args.asked.now c.keys.left.now c.keys.told.items c.keys.invariant.so c.in-Some.first.now c.in-Some.ensures.value c.run_len.result c.run_len.ensures.len c.in-Some-2.one told.0 places in
     let one = true_first g.I.Placed.whole g.I.Placed.failures c.args.lines c.args.read.now c.args.indexes.now c.keys.indexes c.keys.invariant.texts c.in-Some-2.one told.2 in
@@ -75,7 +68,9 @@ returns g c = record {
   is = (
     record {
       order = c.keys.invariant.so.order;
-      whole = none_left c.args.asked.now c.keys.told.items (subst (λ (left : List AskedPlace). IsToldSoFar c.args.asked.now left c.keys.told.items) (empty c.keys.left.now c.in_default.ensures.item.3) c.keys.invariant.so);
+      whole = none_left c.args.asked.now c.keys.told.items
+          (subst (λ (left : List AskedPlace). IsToldSoFar c.args.asked.now left c.keys.told.items)
+          (nil_from_length c.keys.left.now (omega (arith, c.in_default.ensures.item.3))) c.keys.invariant.so);
       are_true = c.keys.invariant.are_true;
     },
     c.keys.invariant.texts,

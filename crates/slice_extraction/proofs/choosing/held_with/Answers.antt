@@ -5,7 +5,8 @@ use Rattle.join_core.specs.Listing.{listing}
 use Rattle.join_core.proofs.Listing.{length_listing}
 use Rattle.archive_core.specs.Record.{admission_record}
 use Rattle.archive_core.proofs.Made.{bytes_same}
-use Rattle.slice_extraction.proofs.Held.{listed_there, live_there, looked_at, there_listed}
+use Rattle.archive_core.proofs.Members.{in_listing}
+use Rattle.slice_extraction.proofs.Held.{listed_there, live_there, looked_at}
 use Rattle.slice_extraction.proofs.choosing.held_with.Goals as goal
 
 pub returns-in-Some-clause-found : goal.returns-in-Some-clause-found
@@ -34,4 +35,4 @@ returns-clause-none g c = λ slice live digest_is.
     omega (arith, length_listing nat_list_cmp_total bytes_same o, c.len-index-end.ensures.len) in
     c.records.invariant slice live.under digest_is
     (subst (λ (rs : List (List ℕ)). Contains rs (admission_record slice))
-    (sym (take_all c.records.index (listing o) (omega (arith, end)))) (there_listed o (admission_record slice) live.admitted))
+    (sym (take_all c.records.index (listing o) (omega (arith, end)))) ((in_listing nat_list_cmp_total bytes_same o (admission_record slice)).1 live.admitted))

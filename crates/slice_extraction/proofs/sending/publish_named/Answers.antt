@@ -1,45 +1,37 @@
-use Rattle.std.proofs.Common.{◌∙◌, inl, refl, sym}
+use Rattle.std.proofs.Common.{◌∙◌, inl, inr, refl, sym}
 use Rattle.std.proofs.lemmas.Result.{err_from_is_err_and}
 use Rattle.byte_device.proofs.Known.{Appends-none}
-use Rattle.command_core.specs.Inputs.{reader}
-use Rattle.command_core.specs.Outputs.{outs, writer}
+use Rattle.command_core.specs.Outputs.{IsPublished, out_of, outs}
 use Rattle.command_core.specs.declared.faults.CommandFault.TheVariants.{OutOfMemory}
 use Rattle.slice_extraction.specs.Wanted.{written_line}
-use Rattle.slice_extraction.proofs.Placed.{not_placed, placed_so, same_line, unsent_so}
-use Rattle.slice_extraction.proofs.Sent.{unbegun}
+use Rattle.slice_extraction.proofs.Sent.{same_line, told_so, unbegun}
 use Rattle.slice_extraction.proofs.sending.publish_named.Goals as goal
 
 pub returns-in_err-clone : goal.returns-in_err-clone
 returns-in_err-clone g c =
-    let archive = reader g.P.Placed.whole g.P.Placed.failures c.args.archive.now c.args.archive.now in
-    let out = outs g.T.Draft.Sink.held g.T.Draft.Sink.failures g.T.Target.published g.T.Target.failures c.args.out.now c.args.out.now in
     let p = err_from_is_err_and c.from_residual.result c.from_residual.ensures.1 in
-    rw (p.1, p.2) (λ x names. unsent_so out _ archive c.args.key.now x OutOfMemory (unbegun archive x _ OutOfMemory (Appends-none _, refl) (refl, (Appends-none _, refl))) (refl, refl) (Appends-none _, refl))
+    rw (p.1, p.2) (λ x names. inr (OutOfMemory, refl, unbegun _ x _ OutOfMemory (Appends-none _, refl) (refl, (Appends-none _, refl)), (refl, refl),
+    (Appends-none _, refl)))
 
 pub returns-in_err-text : goal.returns-in_err-text
 returns-in_err-text g c =
-    let archive = reader g.P.Placed.whole g.P.Placed.failures c.args.archive.now c.args.archive.now in
-    let out = outs g.T.Draft.Sink.held g.T.Draft.Sink.failures g.T.Target.published g.T.Target.failures c.args.out.now c.args.out.now in
     let p = err_from_is_err_and c.from_residual-in_err-text.result c.from_residual-in_err-text.ensures.1 in
-    rw (p.1, p.2) (λ x names. unsent_so out _ archive c.args.key.now x OutOfMemory (unbegun archive x _ OutOfMemory (Appends-none _, refl) (refl, (Appends-none _, refl))) (refl, refl) (Appends-none _, refl))
+    rw (p.1, p.2) (λ x names. inr (OutOfMemory, refl, unbegun _ x _ OutOfMemory (Appends-none _, refl) (refl, (Appends-none _, refl)), (refl, refl),
+    (Appends-none _, refl)))
 
 pub returns-in_err-clone-2 : goal.returns-in_err-clone-2
 returns-in_err-clone-2 g c =
-    let archive = reader g.P.Placed.whole g.P.Placed.failures c.args.archive.now c.args.archive.now in
-    let out = outs g.T.Draft.Sink.held g.T.Draft.Sink.failures g.T.Target.published g.T.Target.failures c.args.out.now c.args.out.now in
     let p = err_from_is_err_and c.from_residual-in_err-clone-2.result c.from_residual-in_err-clone-2.ensures.1 in
-    rw (p.1, p.2) (λ x names. unsent_so out _ archive c.args.key.now x OutOfMemory (unbegun archive x _ OutOfMemory (Appends-none _, refl) (refl, (Appends-none _, refl))) (refl, refl) (Appends-none _, refl))
+    rw (p.1, p.2) (λ x names. inr (OutOfMemory, refl, unbegun _ x _ OutOfMemory (Appends-none _, refl) (refl, (Appends-none _, refl)), (refl, refl),
+    (Appends-none _, refl)))
 
 pub returns-in_err-send_named : goal.returns-in_err-send_named
 returns-in_err-send_named g c =
-    let archive = reader g.P.Placed.whole g.P.Placed.failures c.args.archive.now c.send_named.new.archive in
-    let out = outs g.T.Draft.Sink.held g.T.Draft.Sink.failures g.T.Target.published g.T.Target.failures c.args.out.now (record { draft = c.send_named.new.draft; target = c.args.out.now.target }) in
     let p = err_from_is_err_and c.from_residual-in_err-send_named.result c.from_residual-in_err-send_named.ensures.1 in
-    rw (p.1, p.2) (λ x names. unsent_so out _ archive c.args.key.now x c.in_err-send_named.field-0.0 (c.in_err-send_named.ensures x names) (refl, refl) (Appends-none _, refl))
+    rw (p.1, p.2) (λ x names. inr (c.in_err-send_named.field-0.0, refl, c.in_err-send_named.ensures x names, (refl, refl), (Appends-none _, refl)))
 
 pub returns-in_err-publish_output : goal.returns-in_err-publish_output
 returns-in_err-publish_output g c =
-    let out = outs g.T.Draft.Sink.held g.T.Draft.Sink.failures g.T.Target.published g.T.Target.failures c.args.out.now c.publish_output.new.out in
     let put = c.in_err-publish_output.ensures in
     let p = err_from_is_err_and c.from_residual-in_err-publish_output.result c.from_residual-in_err-publish_output.ensures.1 in
     rw (p.1, p.2) (λ x names.
@@ -48,20 +40,23 @@ returns-in_err-publish_output g c =
       sent.0,
       sent.1,
       sent.3,
-      not_placed out _ c.send_named.new.draft sent.0 sent.2 (written_line c.args.key.now sent.0) c.in_err-publish_output.field-0.0 c.args.named.now.size put.failed.0 (names.size_is ∙ sym sent.1.of.long)
-          put.held put.draft put.kept put.failed.1 (Appends-none _, refl),
+      rw put.failed.0 (
+        inr (names.size_is ∙ sym sent.1.of.long, record { took = (rw put.held sent.2.0, put.draft ∙ sent.2.1); kept = put.kept; failed = put.failed.1 }),
+        (Appends-none _, refl),
+      ),
     ))
 
 pub returns : goal.returns
 returns g c = λ x names.
     let out = outs g.T.Draft.Sink.held g.T.Draft.Sink.failures g.T.Target.published g.T.Target.failures c.args.out.now c.publish_output.new.out in
-    let report = writer g.W.Sink.held g.W.Sink.failures c.args.report.now c.publish_report.new.report in
     let put = c.in_ok-publish_output.ensures in
     let sent = c.in_ok-send_named.ensures x names in
-    inl (
-      sent.0,
-      sent.1,
-      sent.3,
-      placed_so out report c.send_named.new.draft sent.0 sent.2 put.published put.emptied put.draft put.unfailed c.deref.result.now (written_line c.args.key.now sent.0) c.publish_report.result
-          (c.deref.ensures ∙ c.in_ok-text.ensures ∙ same_line c.args.key.now c.args.named.now x sent.0 names sent.1.of) c.publish_report.ensures,
-    )
+    let line = c.deref.ensures ∙ c.in_ok-text.ensures ∙ same_line c.args.key.now c.args.named.now x sent.0 names sent.1.of in
+    let placed : IsPublished (out_of out) sent.0 = record {
+      published = rw put.published sent.2.0;
+      emptied = put.emptied;
+      draft_unfailed = put.draft ∙ sent.2.1;
+      unfailed = put.unfailed;
+    } in
+    inl (sent.0, sent.1, sent.3, told_so (out_of out) _ sent.0 (written_line c.args.key.now sent.0) c.publish_report.result placed
+    (rw line at c.publish_report.ensures))

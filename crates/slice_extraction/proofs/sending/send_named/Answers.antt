@@ -2,24 +2,20 @@ use Rattle.std.proofs.Common.{refl}
 use Rattle.std.proofs.lemmas.Result.{err_from_is_err_and}
 use Rattle.command_inputs.proofs.BorrowedSources.{borrowed_from}
 use Rattle.byte_device.proofs.Known.{Appends-none}
-use Rattle.command_core.specs.Inputs.{reader}
-use Rattle.command_core.specs.Outputs.{writer}
 use Rattle.command_core.specs.declared.faults.CommandFault.TheVariants.{OutOfMemory}
 use Rattle.slice_extraction.proofs.Sent.{sent, unbegun, unopened, unsent}
 use Rattle.slice_extraction.proofs.sending.send_named.Goals as goal
 
 pub returns-in_err-piece : goal.returns-in_err-piece
 returns-in_err-piece g c =
-    let archive = reader g.P.Placed.whole g.P.Placed.failures c.args.archive.now c.args.archive.now in
-    let draft = writer g.W.Sink.held g.W.Sink.failures c.args.draft.now c.args.draft.now in
     let p = err_from_is_err_and c.from_residual.result c.from_residual.ensures.1 in
-    rw (p.1, p.2) (λ x names. unbegun archive x draft OutOfMemory (Appends-none _, refl) (refl, (Appends-none _, refl)))
+    rw (p.1, p.2) (λ x names. unbegun _ x _ OutOfMemory (Appends-none _, refl) (refl, (Appends-none _, refl)))
 
 pub returns-in_err-device : goal.returns-in_err-device
 returns-in_err-device g c =
-    let draft = writer g.W.Sink.held g.W.Sink.failures c.args.draft.now c.args.draft.now in
     let p = err_from_is_err_and c.from_residual-in_err-device.result c.from_residual-in_err-device.ensures.1 in
-    rw (p.1, p.2) (λ x names. unopened g.P.Placed.whole g.P.Placed.failures c.args.archive.now c.args.named.now.input x draft c.in_err-device.field-0.0 names.input_is (Appends-none _, refl) c.in_err-device.ensures.source)
+    rw (p.1, p.2) (λ x names. unopened g.P.Placed.whole g.P.Placed.failures c.args.archive.now c.args.named.now.input x _ c.in_err-device.field-0.0
+    names.input_is (Appends-none _, refl) c.in_err-device.ensures.source)
 
 pub returns-in-Ok : goal.returns-in-Ok
 returns-in-Ok g c =

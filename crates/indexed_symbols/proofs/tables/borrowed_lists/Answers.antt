@@ -5,7 +5,7 @@ use Rattle.source_frames.specs.declared.frame.Frame.{Frame}
 use Rattle.report_text.specs.FrameLists.{list_view}
 use Rattle.indexed_answers.specs.Views.{borrowed_in}
 use Rattle.indexed_answers.proofs.Columns.{rows_more}
-use Rattle.indexed_symbols.proofs.lines.borrowed_lists.Goals as goal
+use Rattle.indexed_symbols.proofs.tables.borrowed_lists.Goals as goal
 
 pub lists-preserved : goal.lists-preserved
 lists-preserved c =
