@@ -1,7 +1,6 @@
 -- The numbers that a taker gave to names.
-use Rattle.std.proofs.Common.{◌≡◌, ◌≢◌, ◌∙◌, ℕ, zero, suc, ◌<◌, List, [], ◌∷◌, get_or, length, set, slice_get, Option, Some, refl, sym, ap, subst, inl, inr, arith}
+use Rattle.std.proofs.Common.{◌≡◌, ◌≢◌, ◌∙◌, ℕ, zero, suc, ◌<◌, List, [], ◌∷◌, get_or, length, set, slice_get, Option, Some, refl, sym, ap, subst, inl, inr, arith, length-set}
 use Rattle.std.proofs.lemmas.Bool.{cases_eq}
-use Rattle.std.proofs.lemmas.List.{length-set}
 use Rattle.std.proofs.lemmas.Option.{same_Some, slice_get_read, slice_get_within}
 use Rattle.function_links.specs.LinkViews.{link_view}
 use Rattle.function_links.specs.NameNumbers.{AreNamesNumbered}

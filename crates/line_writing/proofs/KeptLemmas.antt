@@ -1,7 +1,5 @@
 -- What is kept of frames: each thing once, told by number.
-use Rattle.std.proofs.Common.{◌≡◌, ℕ, zero, suc, ◌<◌, ◌≤◌, ◌^◌, true, false, List, [], ◌∷◌, ◌++◌, map, length, slice_get, get_or, Option, Some, refl, sym, ap, ◌∙◌, inl, inr, arith, ◌⊎◌, subst}
-use Rattle.std.specs.Ordering.{is_eq}
-use Rattle.std.specs.declared.cmp.Ordering.{Ordering}
+use Rattle.std.proofs.Common.{◌≡◌, ℕ, zero, suc, ◌<◌, ◌≤◌, ◌^◌, true, false, List, [], ◌∷◌, ◌++◌, map, length, slice_get, get_or, Option, Some, refl, sym, ap, ◌∙◌, inl, inr, arith, ◌⊎◌, subst, is_eq, Ordering}
 use Rattle.std.proofs.lemmas.Bool.{cases_eq}
 use Rattle.std.proofs.lemmas.List.{append-nil, append_assoc, get_or_append_left, get_or_push, length-append, length-map, length_push, map-append}
 use Rattle.line_programs.specs.Paths.{PathRecord}

@@ -1,14 +1,8 @@
 -- How texts, keys of files and keys of locations compare.
-use Rattle.std.proofs.Common.{◌≡◌, ℕ, true, List, [], map, refl, sym, ap, ◌∙◌, subst}
+use Rattle.std.proofs.Common.{◌≡◌, ℕ, true, List, [], map, refl, sym, ap, ◌∙◌, subst, IfOk, OnErr, Ordering, Less, Equal, Greater, Result, Ok, Err, map-id}
 use Rattle.std.specs.Cmp.Lexicographic.{slice_cmp}
 use Rattle.std.specs.Ordering.{is_eq, nat_cmp, ordering_then}
-use Rattle.std.specs.Result.{IfOk, OnErr}
-use Rattle.std.specs.declared.cmp.Ordering.{Ordering}
-use Rattle.std.specs.declared.cmp.Ordering.TheVariants.{Less, Equal, Greater}
-use Rattle.std.specs.declared.result.Result.{Result}
-use Rattle.std.specs.declared.result.Result.TheVariants.{Ok, Err}
 use Rattle.std.proofs.lemmas.Cmp.{nat_cmp_total, nat_list_cmp_total, tied_itself}
-use Rattle.std.proofs.lemmas.List.{map-id}
 use Rattle.std.proofs.lemmas.Map.Lookups.{exact_bytes, exact_unsigned}
 use Rattle.line_writing.specs.Kept.{IsNumberedIn}
 use Rattle.line_writing.specs.Marks.{mark_of}

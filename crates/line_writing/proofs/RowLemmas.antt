@@ -1,12 +1,8 @@
 -- Bytes, one part after another.
-use Rattle.std.proofs.Common.{◌≡◌, ℕ, zero, suc, ◌+◌, ◌<◌, ◌≤◌, List, [], ◌∷◌, ◌++◌, map, length, flat_map, get_or, take, drop, Option, Some, None, sym, ap, ◌∙◌, arith, append_assoc, nat_eq}
+use Rattle.std.proofs.Common.{◌≡◌, ℕ, zero, suc, ◌+◌, ◌<◌, ◌≤◌, List, [], ◌∷◌, ◌++◌, map, length, flat_map, get_or, take, drop, Option, Some, None, sym, ap, ◌∙◌, arith, append_assoc, nat_eq, MatchOption, SomeIff, OnOk, Result, Ok, Err}
 use Rattle.std.specs.Int.{w32, w64, to_be_bytes}
 use Rattle.std.specs.List.{concat}
 use Rattle.std.proofs.lemmas.List.{append-nil, drop_all, drop_more, flat_map_more, length-append, take_all, take_more, map_more}
-use Rattle.std.specs.Option.{MatchOption, SomeIff}
-use Rattle.std.specs.Result.{OnOk}
-use Rattle.std.specs.declared.result.Result.{Result}
-use Rattle.std.specs.declared.result.Result.TheVariants.{Ok, Err}
 use Rattle.line_tables.specs.LineText.{run_bytes, text_rows}
 use Rattle.line_tables.specs.Numbering.{number_in}
 use Rattle.line_tables.specs.Runs.{RunRecord, runs_after}

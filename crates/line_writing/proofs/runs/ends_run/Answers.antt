@@ -1,5 +1,4 @@
-use Rattle.std.proofs.Common.{◌+◌, length, sym}
-use Rattle.std.proofs.lemmas.Bool.{ltb-true}
+use Rattle.std.proofs.Common.{◌+◌, length, sym, ltb-true}
 use Rattle.line_writing.proofs.RunLemmas.{ends_some}
 use Rattle.line_writing.proofs.runs.ends_run.Goals as goal
 

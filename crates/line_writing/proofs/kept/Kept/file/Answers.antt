@@ -1,5 +1,4 @@
-use Rattle.std.proofs.Common.{List, ◌≡◌, sym, subst, Option}
-use Rattle.std.specs.Option.{option_map}
+use Rattle.std.proofs.Common.{List, ◌≡◌, sym, subst, Option, option_map}
 use Rattle.line_programs.specs.declared.path.PathParts.{PathParts}
 use Rattle.line_programs.specs.PathViews.{path_view}
 use Rattle.line_writing.specs.Kept.{IsKept, IsFile, KeptRecord}

@@ -1,5 +1,4 @@
-use Rattle.std.proofs.Common.{◌∙◌, ◌≡◌, ap, inl, inr, map, rules, subst, sym, List}
-use Rattle.std.specs.Option.{option_map}
+use Rattle.std.proofs.Common.{◌∙◌, ◌≡◌, ap, inl, inr, map, rules, subst, sym, List, option_map}
 use Rattle.std.proofs.lemmas.List.Sorted.{IsNonDecreasingBy-from_sort_by_key}
 use Rattle.line_tables.specs.LineTable.{FitsLines, no_lines}
 use Rattle.line_tables.specs.LineText.{line_text}
