@@ -1,16 +1,42 @@
 -- The unit of an address is that of the last boundary not above it.
-use Rattle.std.proofs.Common.{◌≡◌, ℕ, zero, suc, ◌<◌, ◌≤◌, ◌^◌, nat_lt, nat_le, List, length, get_or, Option, Some, None, refl, sym, ap, subst, ◌∙◌, inl, inr, ◌⊎◌, arith, Contains}
-use Rattle.std.proofs.lemmas.Bool.{cases_Bool, cases_lt, leb-true, leb-false, ltb-true, ltb-false}
+use Rattle.std.proofs.Common.{◌≡◌, ℕ, List, get_or, Option, Some, None, subst, ◌∙◌, Contains, zero, suc, ◌<◌, ◌≤◌, ◌^◌, nat_lt, nat_le, length, refl, sym, ap, inl, inr, ◌⊎◌, arith}
 use Rattle.std.proofs.lemmas.List.{get_or_default}
-use Rattle.std.proofs.lemmas.Option.{none-some}
+use Rattle.std.proofs.lemmas.Option.{none-some, same_Some}
+use Rattle.std.proofs.lemmas.Bool.{cases_Bool, cases_lt, leb-true, leb-false, ltb-true, ltb-false}
 use Rattle.source_frames.specs.DebugSections.{DebugSectionsRecord}
 use Rattle.source_frames.specs.UnitAddresses.{IsUnitOf}
+use Rattle.source_frames.proofs.UnitAddressLemmas.{one_place}
 use Rattle.waiting_indexes.specs.Rising.{AreRising}
 use Rattle.frame_turns.specs.Turns.{boundaries}
-use Rattle.source_frames.proofs.UnitAddressLemmas.{one_place}
 use Rattle.frame_turns.specs.UnitSteps.{AreUnitSteps, IsStep}
-use Rattle.frame_turns.proofs.FreeLemmas.{IsFree}
-use Rattle.frame_turns.proofs.StayLemmas.{unit_none_before, unit_stays}
+use Rattle.frame_turns.proofs.StayLemmas.{IsFree, unit_none_before, unit_stays}
+
+pub own_is : (s : DebugSectionsRecord) (a place own : ℕ) → IsUnitOf s a (Some own) → IsUnitOf s a (Some place) → own ≡ place
+own_is s a place own is other = same_Some own place (one_place s a (Some own) (Some place) is other)
+
+pub none_is : (s : DebugSectionsRecord) (a place : ℕ) → IsUnitOf s a None → IsUnitOf s a (Some place) → ⊥
+none_is s a place is other = none-some place (one_place s a None (Some place) is other)
+
+-- ---- boundaries with their units
+
+module _ (s : DebugSectionsRecord) (starts : List ℕ) (places : List (Option ℕ)) (steps : AreUnitSteps s starts places) (a : ℕ) (p : Option ℕ) where
+  pub step_unit : IsStep starts places a p → IsUnitOf s a p
+  step_unit (i, within, start, place) =
+      let is = steps.units.each i within in
+      let here = subst (λ (x : ℕ). IsUnitOf s x (get_or places i None)) start is in
+      subst (λ (o : Option ℕ). IsUnitOf s a o) place here
+
+  pub step_boundary : IsStep starts places a p → Contains (boundaries s) a
+  step_boundary (i, within, start, place) = (steps.all a).0 (i, within, get_or_default starts i a 0 within ∙ start)
+
+  pub boundary_step : Contains (boundaries s) a → IsUnitOf s a p → IsStep starts places a p
+  boundary_step h is =
+      let at = (steps.all a).1 h in
+      let start : get_or starts at.0 0 ≡ a = get_or_default starts at.0 0 a at.1 ∙ at.2 in
+      let here = subst (λ (x : ℕ). IsUnitOf s x (get_or places at.0 None)) start (steps.units.each at.0 at.1) in
+      (at.0, at.1, start, one_place s a (get_or places at.0 None) p here is)
+
+-- ---- the unit of an address is that of the last boundary not above it
 
 -- this is the last number of a list not above an address
 pub record IsLast (starts : List ℕ) (a n : ℕ) : Type 0 where

@@ -1,7 +1,7 @@
 use Rattle.std.proofs.Common.{◌+◌, ◌<◌, Bool, drop, get_or, length, sym, ap, ◌∙◌, arith}
 use Rattle.line_tables.specs.Runs.{go_on, runs_after, upper_half}
 use Rattle.line_writing.specs.StepViews.{step_starts}
-use Rattle.line_writing.proofs.RunLemmas.{counted_end, counted_join, not_false, not_true, runs_none, starts_long}
+use Rattle.line_writing.proofs.LoopLemmas.{counted_end, counted_join, not_false, not_true, runs_none, starts_long}
 use Rattle.line_writing.proofs.runs.count_runs.Goals as goal
 use Rattle.line_writing.proofs.runs.count_runs.Goals.{then-ends_run, else-ends_run}
 

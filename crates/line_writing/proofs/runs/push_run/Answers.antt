@@ -2,8 +2,7 @@ use Rattle.std.proofs.Common.{◌+◌, ◌++◌, ◌<◌, Bool, flat_map, get_or
 use Rattle.line_tables.specs.LineText.{run_bytes}
 use Rattle.line_tables.specs.Runs.{go_on, upper_half}
 use Rattle.line_writing.specs.StepViews.{step_starts}
-use Rattle.line_writing.proofs.RowLemmas.{then_on}
-use Rattle.line_writing.proofs.RunLemmas.{not_false, not_true, run_pushed, runs_join, start_at, starts_long}
+use Rattle.line_writing.proofs.LoopLemmas.{then_on, not_false, not_true, run_pushed, runs_join, start_at, starts_long}
 use Rattle.line_writing.proofs.runs.push_run.Goals as goal
 
 pub returns-then-not-ends_run : goal.returns-then-not-ends_run

@@ -1,4 +1,4 @@
-use Rattle.line_writing.proofs.RowLemmas.{file_pushed, then_on}
+use Rattle.line_writing.proofs.LoopLemmas.{file_pushed, then_on}
 use Rattle.line_writing.proofs.kept.Kept.push_file.Goals as goal
 
 pub returns : goal.returns

@@ -1,4 +1,4 @@
-use Rattle.line_writing.proofs.RowLemmas.{location_pushed, then_on}
+use Rattle.line_writing.proofs.LoopLemmas.{location_pushed, then_on}
 use Rattle.line_writing.proofs.kept.Kept.push_location.Goals as goal
 
 pub returns : goal.returns

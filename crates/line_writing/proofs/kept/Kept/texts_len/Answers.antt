@@ -1,7 +1,7 @@
 use Rattle.std.proofs.Common.{ap, arith, length}
 use Rattle.line_writing.specs.Kept.{text_at}
 use Rattle.line_writing.specs.KeptViews.{kept_view}
-use Rattle.line_writing.proofs.RowLemmas.{left_more, match_none, none_not, too_much}
+use Rattle.line_writing.proofs.LoopLemmas.{left_more, match_none, none_not, too_much}
 use Rattle.line_writing.proofs.kept.Kept.texts_len.Goals as goal
 
 pub returns-in_err-left : goal.returns-in_err-left

@@ -2,7 +2,7 @@ use Rattle.std.proofs.Common.{◌∙◌, ◌++◌, ap, length}
 use Rattle.std.specs.Int.{w64, to_be_bytes}
 use Rattle.line_tables.specs.Runs.{runs_after}
 use Rattle.line_writing.specs.StepViews.{step_starts}
-use Rattle.line_writing.proofs.RowLemmas.{head_pushed, then_on}
+use Rattle.line_writing.proofs.LoopLemmas.{head_pushed, then_on}
 use Rattle.line_writing.proofs.parts.Parts.push_head.Goals as goal
 
 pub returns : goal.returns
