@@ -5,11 +5,11 @@ use Rattle.std.specs.Prelude.{filter_map}
 use Rattle.std.specs.List.{cons_option, concat}
 use Rattle.std.specs.Int.{w32, w64, to_be_bytes}
 use Rattle.std.proofs.lemmas.List.{map-append, reverse-append, length-append, length-map}
-use Rattle.std.proofs.lemmas.Option.{same_Some}
 use Rattle.std.proofs.lemmas.List.Elements.{All-head, All-tail, All-cons, All-nil}
 use Rattle.line_programs.specs.Paths.{PathRecord}
 use Rattle.source_frames.specs.Frames.{FrameRecord}
-use Rattle.line_tables.specs.LineText.{chains_of, chains_in, files_in, texts_in, innermost_name, innermost_path, path_texts, LineParts, file_bytes, head_bytes, line_text, location_bytes, parts_of, run_bytes, step_bytes, table_bytes, text_rows}
+use Rattle.line_tables.specs.LineText.{chains_of, chains_in, files_in, texts_in, innermost_name, innermost_path, path_texts, LineParts, file_bytes, head_bytes}
+use Rattle.line_tables.specs.LineText.{line_text, location_bytes, parts_of, run_bytes, step_bytes, table_bytes, text_rows}
 use Rattle.line_tables.specs.Numbering.{numbered_after, same_chain, same_path, same_text}
 use Rattle.line_tables.specs.Steps.{StepRecord, starts_of}
 use Rattle.line_tables.proofs.SameLemmas.{chain_decides, path_decides, text_decides}
@@ -27,21 +27,12 @@ use Rattle.line_writing.specs.declared.step.Step.{Step}
 use Rattle.line_writing.proofs.KeptLemmas.{chain_step, chain_none, callers_step, callers_none}
 use Rattle.line_writing.proofs.FirstUsesLemmas.{Each, each_append, told_after, each_after, told_number, told_or_zero}
 
--- the first and the rest of chains
-abbrev first_or : FrameRecord → List FrameRecord → FrameRecord
-first_or d [] = d
-first_or d (f ∷ fs) = f
-
-abbrev rest_of : List FrameRecord → List FrameRecord
-rest_of [] = []
-rest_of (f ∷ fs) = fs
-
 at_apart : {A : Type 0} (count : ℕ) (f : ℕ → A) → ((m n : ℕ) → IsNumber count m → IsNumber count n → f m ≡ f n → m ≡ n) → (m n : ℕ) → m ≤ count → n ≤ count → at_number f m ≡ at_number f n → m ≡ n
 at_apart count f apart zero zero a b e = refl
 at_apart count f apart zero (suc n) a b e = cc e
 at_apart count f apart (suc m) zero a b e = cc e
 at_apart count f apart (suc m) (suc n) a b e =
-    apart (suc m) (suc n) (record { some = omega arith; within = a }) (record { some = omega arith; within = b }) (same_Some (f (suc m)) (f (suc n)) e)
+    apart (suc m) (suc n) (record { some = omega arith; within = a }) (record { some = omega arith; within = b }) (cc e)
 
 module _ (k : KeptRecord) (kept : IsKept k) where
   pub file_apart : (m n : ℕ) → IsNumber (length k.files) m → IsNumber (length k.files) n → file_at k m ≡ file_at k n → m ≡ n
@@ -55,12 +46,8 @@ module _ (k : KeptRecord) (kept : IsKept k) where
 
   chain_apart_within : (room m n : ℕ) → m ≤ room → m ≤ length k.locations → n ≤ length k.locations → chain_at k m ≡ chain_at k n → m ≡ n
   chain_apart_within room zero zero r a b e = refl
-  chain_apart_within room zero (suc n) r a b e =
-      let gone : ◌≡◌ {A = List FrameRecord} [] (frame_of_key k (location_key_at k (suc n)) ∷ chain_at k (location_key_at k (suc n)).caller) = sym (chain_none k) ∙ e ∙ chain_step k kept n b in
-      cc gone
-  chain_apart_within room (suc m) zero r a b e =
-      let gone : ◌≡◌ {A = List FrameRecord} (frame_of_key k (location_key_at k (suc m)) ∷ chain_at k (location_key_at k (suc m)).caller) [] = sym (chain_step k kept m a) ∙ e ∙ chain_none k in
-      cc gone
+  chain_apart_within room zero (suc n) r a b e = cc (chain_none k, chain_step k kept n b)
+  chain_apart_within room (suc m) zero r a b e = cc (chain_none k, chain_step k kept m a)
   chain_apart_within zero (suc m) (suc n) r a b e = absurd (omega arith)
   chain_apart_within (suc room) (suc m) (suc n) r a b e =
       let p : LocationKey = location_key_at k (suc m) in
@@ -68,15 +55,13 @@ module _ (k : KeptRecord) (kept : IsKept k) where
       let one = kept.each_location (suc m) (record { some = omega arith; within = a }) in
       let two = kept.each_location (suc n) (record { some = omega arith; within = b }) in
       let both : ◌≡◌ {A = List FrameRecord} (frame_of_key k p ∷ chain_at k p.caller) (frame_of_key k q ∷ chain_at k q.caller) = sym (chain_step k kept m a) ∙ e ∙ chain_step k kept n b in
-      let frame : frame_of_key k p ≡ frame_of_key k q = ap (first_or (frame_of_key k p)) both in
-      let rest : chain_at k p.caller ≡ chain_at k q.caller = ap rest_of both in
+      let frame : frame_of_key k p ≡ frame_of_key k q = cc both in
+      let rest : chain_at k p.caller ≡ chain_at k q.caller = cc both in
       let name : p.name ≡ q.name = at_apart (length k.texts) (text_at k) kept.texts p.name q.name one.name two.name (ap (λ (f : FrameRecord). f.name) frame) in
       let file : p.file ≡ q.file = at_apart (length k.files) (file_at k) file_apart p.file q.file one.file two.file (ap (λ (f : FrameRecord). f.path) frame) in
-      let line : p.line ≡ q.line = ap (λ (f : FrameRecord). f.line) frame in
-      let column : p.column ≡ q.column = ap (λ (f : FrameRecord). f.column) frame in
       let caller : p.caller ≡ q.caller = chain_apart_within room p.caller q.caller (omega (arith, one.caller, r)) (omega (arith, one.caller, a)) (omega (arith, two.caller, b)) rest in
       kept.locations (suc m) (suc n) (record { some = omega arith; within = a }) (record { some = omega arith; within = b })
-      (λ i. record { name = name i; file = file i; line = line i; column = column i; caller = caller i })
+      (λ i. record { name = name i; file = file i; line = (frame i).line; column = (frame i).column; caller = caller i })
 
   pub chain_apart : (m n : ℕ) → m ≤ length k.locations → n ≤ length k.locations → chain_at k m ≡ chain_at k n → m ≡ n
   chain_apart m n a b e = chain_apart_within m m n (omega arith) a b e
@@ -124,72 +109,69 @@ module _ (k : KeptRecord) (kept : IsKept k) where
 
   -- ---- chains
 
-  chain_uses : (steps : List Step) → HaveLocations k steps → flat_map (λ (s : StepRecord). chains_of s.frames) (map (step_of k) steps) ≡ map (chain_at k) (location_uses k steps)
-  chain_uses [] h = refl
-  chain_uses (s ∷ steps) h =
-      (λ i. chains_are k kept s.location (All-head (λ (t : Step). t.location ≤ length k.locations) s steps h) i ++ chain_uses steps (All-tail (λ (t : Step). t.location ≤ length k.locations) s steps h) i)
-      ∙ sym (map-append (chain_at k) (reverse (callers_of k s.location)) (location_uses k steps))
-
-  pub location_uses_are : (steps : List Step) → HaveLocations k steps → Each IsLocationNumber (location_uses k steps)
-  location_uses_are [] h = tt
-  location_uses_are (s ∷ steps) h =
-      each_append IsLocationNumber (reverse (callers_of k s.location)) (location_uses k steps)
-      (reversed_each k kept IsLocationNumber (callers_of k s.location) (callers_are k kept s.location (All-head (λ (t : Step). t.location ≤ length k.locations) s steps h)))
-      (location_uses_are steps (All-tail (λ (t : Step). t.location ≤ length k.locations) s steps h))
+  location_uses_told : (steps : List Step) → HaveLocations k steps
+      → (flat_map (λ (s : StepRecord). chains_of s.frames) (map (step_of k) steps) ≡ map (chain_at k) (location_uses k steps))
+      × Each IsLocationNumber (location_uses k steps)
+  location_uses_told [] h = (refl, tt)
+  location_uses_told (s ∷ steps) h =
+      let numbers : List ℕ = callers_of k s.location in
+      let here = All-head (λ (t : Step). t.location ≤ length k.locations) s steps h in
+      let rest = location_uses_told steps (All-tail (λ (t : Step). t.location ≤ length k.locations) s steps h) in (
+        (λ i. chains_are k kept s.location here i ++ rest.0 i) ∙ sym (map-append (chain_at k) (reverse numbers) (location_uses k steps)),
+        each_append IsLocationNumber (reverse numbers) (location_uses k steps)
+            (reversed_each k kept IsLocationNumber numbers (callers_are k kept s.location here)) rest.1,
+      )
 
   pub chains_told : (steps : List Step) → HaveLocations k steps → chains_in (map (step_of k) steps) ≡ map (chain_at k) (numbered_after nat_eq [] (location_uses k steps))
   unfolding chains_in
   chains_told steps h =
-      ap (numbered_after same_chain []) (chain_uses steps h)
-      ∙ told_after IsLocationNumber (chain_at k) same_chain chain_decides (λ m n a b. chain_apart k kept m n a.within b.within) [] (location_uses k steps) tt (location_uses_are steps h)
+      ap (numbered_after same_chain []) (location_uses_told steps h).0
+      ∙ told_after IsLocationNumber (chain_at k) same_chain chain_decides (λ m n a b. chain_apart k kept m n a.within b.within) [] (location_uses k steps) tt (location_uses_told steps h).1
 
   -- ---- files
 
-  maybe_told : {A : Type 0} (f : ℕ → A) (n : ℕ) (rest : List A) (numbers : List ℕ) → rest ≡ map f numbers → cons_option (at_number f n) rest ≡ map f (some_number n ++ numbers)
-  maybe_told f zero rest numbers e = e
-  maybe_told f (suc i) rest numbers e = ap (λ l. f (suc i) ∷ l) e
+  some_told : {A : Type 0} (count : ℕ) (f : ℕ → A) (n : ℕ) (rest : List A) (numbers : List ℕ) → n ≤ count
+      → (rest ≡ map f numbers) × Each (IsNumber count) numbers
+      → (cons_option (at_number f n) rest ≡ map f (some_number n ++ numbers)) × Each (IsNumber count) (some_number n ++ numbers)
+  some_told count f zero rest numbers h is = is
+  some_told count f (suc i) rest numbers h is = (ap (λ l. f (suc i) ∷ l) is.0, (record { some = omega arith; within = h }, is.1))
 
-  path_of : (n : ℕ) → IsLocationNumber n → innermost_path (chain_at k n) ≡ at_number (file_at k) (location_key_at k n).file
-  path_of zero is = absurd (omega (arith, is.some))
-  path_of (suc i) is = ap innermost_path (chain_step k kept i is.within)
+  -- what innermost frames have that a number of their keys tells of
+  module _ {A : Type 0} (count : ℕ) (f : ℕ → A) (field : LocationKey → ℕ) (within : (n : ℕ) → IsLocationNumber n → field (location_key_at k n) ≤ count)
+      (innermost : List FrameRecord → Option A)
+      (first : (key : LocationKey) (rest : List FrameRecord) → innermost (frame_of_key k key ∷ rest) ≡ at_number f (field key)) where
+    abbrev uses : List ℕ → List ℕ
+    uses locations = flat_map (λ n. some_number (field (location_key_at k n))) locations
 
-  name_of : (n : ℕ) → IsLocationNumber n → innermost_name (chain_at k n) ≡ at_number (text_at k) (location_key_at k n).name
-  name_of zero is = absurd (omega (arith, is.some))
-  name_of (suc i) is = ap innermost_name (chain_step k kept i is.within)
+    uses_told : (locations : List ℕ) → Each IsLocationNumber locations
+        → (filter_map innermost (map (chain_at k) locations) ≡ map f (uses locations)) × Each (IsNumber count) (uses locations)
+    uses_told [] each = (refl, tt)
+    uses_told (zero ∷ locations) each = absurd (omega (arith, each.0.some))
+    uses_told (suc i ∷ locations) each =
+        let key : LocationKey = location_key_at k (suc i) in
+        let others : List A = filter_map innermost (map (chain_at k) locations) in
+        let rest = some_told count f (field key) others (uses locations) (within (suc i) each.0) (uses_told locations each.1) in
+        (ap (λ (o : Option A). cons_option o others) (ap innermost (chain_step k kept i each.0.within) ∙ first key (chain_at k key.caller)) ∙ rest.0, rest.1)
 
-  paths_told : (locations : List ℕ) → Each IsLocationNumber locations → filter_map innermost_path (map (chain_at k) locations) ≡ map (file_at k) (file_uses k locations)
-  paths_told [] each = refl
-  paths_told (n ∷ locations) each =
-      ap (λ (o : Option PathRecord). cons_option o (filter_map innermost_path (map (chain_at k) locations))) (path_of n each.0)
-      ∙ maybe_told (file_at k) (location_key_at k n).file (filter_map innermost_path (map (chain_at k) locations)) (file_uses k locations) (paths_told locations each.1)
-
-  some_each : (count n : ℕ) → n ≤ count → Each (IsNumber count) (some_number n)
-  some_each count zero h = tt
-  some_each count (suc i) h = (record { some = omega arith; within = h }, tt)
-
-  pub file_uses_are : (locations : List ℕ) → Each IsLocationNumber locations → Each (IsNumber (length k.files)) (file_uses k locations)
-  file_uses_are [] each = tt
-  file_uses_are (n ∷ locations) each =
-      each_append (IsNumber (length k.files)) (some_number (location_key_at k n).file) (file_uses k locations) (some_each (length k.files) (location_key_at k n).file (kept.each_location n each.0).file) (file_uses_are locations each.1)
+  file_uses_told : (locations : List ℕ) → Each IsLocationNumber locations
+      → (filter_map innermost_path (map (chain_at k) locations) ≡ map (file_at k) (file_uses k locations))
+      × Each (IsNumber (length k.files)) (file_uses k locations)
+  file_uses_told =
+      uses_told (length k.files) (file_at k) (λ (key : LocationKey). key.file) (λ n is. (kept.each_location n is).file) innermost_path (λ key rest. refl)
 
   pub files_told : (locations : List ℕ) → Each IsLocationNumber locations → files_in (map (chain_at k) locations) ≡ map (file_at k) (numbered_after nat_eq [] (file_uses k locations))
   unfolding files_in
   files_told locations each =
-      ap (numbered_after same_path []) (paths_told locations each)
-      ∙ told_after (IsNumber (length k.files)) (file_at k) same_path path_decides (file_apart k kept) [] (file_uses k locations) tt (file_uses_are locations each)
+      ap (numbered_after same_path []) (file_uses_told locations each).0
+      ∙ told_after (IsNumber (length k.files)) (file_at k) same_path path_decides (file_apart k kept) [] (file_uses k locations) tt (file_uses_told locations each).1
 
   -- ---- texts
 
-  names_told : (locations : List ℕ) → Each IsLocationNumber locations → filter_map innermost_name (map (chain_at k) locations) ≡ map (text_at k) (name_uses k locations)
-  names_told [] each = refl
-  names_told (n ∷ locations) each =
-      ap (λ (o : Option (List ℕ)). cons_option o (filter_map innermost_name (map (chain_at k) locations))) (name_of n each.0)
-      ∙ maybe_told (text_at k) (location_key_at k n).name (filter_map innermost_name (map (chain_at k) locations)) (name_uses k locations) (names_told locations each.1)
-
-  name_uses_are : (locations : List ℕ) → Each IsLocationNumber locations → Each (IsNumber (length k.texts)) (name_uses k locations)
-  name_uses_are [] each = tt
-  name_uses_are (n ∷ locations) each =
-      each_append (IsNumber (length k.texts)) (some_number (location_key_at k n).name) (name_uses k locations) (some_each (length k.texts) (location_key_at k n).name (kept.each_location n each.0).name) (name_uses_are locations each.1)
+  name_uses_told : (locations : List ℕ) → Each IsLocationNumber locations
+      → (filter_map innermost_name (map (chain_at k) locations) ≡ map (text_at k) (name_uses k locations))
+      × Each (IsNumber (length k.texts)) (name_uses k locations)
+  name_uses_told =
+      uses_told (length k.texts) (text_at k) (λ (key : LocationKey). key.name) (λ n is. (kept.each_location n is).name) innermost_name (λ key rest. refl)
 
   path_texts_told : (files : List ℕ) → flat_map path_texts (map (file_at k) files) ≡ map (text_at k) (path_uses k files)
   path_texts_told [] = refl
@@ -201,14 +183,14 @@ module _ (k : KeptRecord) (kept : IsKept k) where
       let is = kept.each_file n each.0 in (is.base, (is.directory, (is.name, path_uses_are files each.1)))
 
   pub text_uses_are : (locations files : List ℕ) → Each IsLocationNumber locations → Each (IsNumber (length k.files)) files → Each (IsNumber (length k.texts)) (name_uses k locations ++ path_uses k files)
-  text_uses_are locations files a b = each_append (IsNumber (length k.texts)) (name_uses k locations) (path_uses k files) (name_uses_are locations a) (path_uses_are files b)
+  text_uses_are locations files a b = each_append (IsNumber (length k.texts)) (name_uses k locations) (path_uses k files) (name_uses_told locations a).1 (path_uses_are files b)
 
   pub texts_told : (locations files : List ℕ) → Each IsLocationNumber locations → Each (IsNumber (length k.files)) files
       → texts_in (map (chain_at k) locations) (map (file_at k) files) ≡ map (text_at k) (numbered_after nat_eq [] (name_uses k locations ++ path_uses k files))
   unfolding texts_in
   texts_told locations files a b =
       ap (numbered_after same_text [])
-      ((λ i. names_told locations a i ++ path_texts_told files i) ∙ sym (map-append (text_at k) (name_uses k locations) (path_uses k files)))
+      ((λ i. (name_uses_told locations a).0 i ++ path_texts_told files i) ∙ sym (map-append (text_at k) (name_uses k locations) (path_uses k files)))
       ∙ told_after (IsNumber (length k.texts)) (text_at k) same_text text_decides kept.texts [] (name_uses k locations ++ path_uses k files) tt (text_uses_are locations files a b)
 
 -- ---- the bytes of a table, by numbers and as they are defined
@@ -307,10 +289,10 @@ module _ (k : KeptRecord) (kept : IsKept k) where
 
   module _ (steps : List Step) (h : HaveLocations k steps) (locations files texts : List ℕ) (orders : AreOrders k steps locations files texts) where
     are_locations : Each (IsNumber (length k.locations)) locations
-    are_locations = subst (Each (IsNumber (length k.locations))) (sym orders.locations_are) (each_after (IsNumber (length k.locations)) [] _ tt (location_uses_are k kept steps h))
+    are_locations = subst (Each (IsNumber (length k.locations))) (sym orders.locations_are) (each_after (IsNumber (length k.locations)) [] _ tt (location_uses_told k kept steps h).1)
 
     are_files : Each (IsNumber (length k.files)) files
-    are_files = subst (Each (IsNumber (length k.files))) (sym orders.files_are) (each_after (IsNumber (length k.files)) [] _ tt (file_uses_are k kept locations are_locations))
+    are_files = subst (Each (IsNumber (length k.files))) (sym orders.files_are) (each_after (IsNumber (length k.files)) [] _ tt (file_uses_told k kept locations are_locations).1)
 
     are_texts : Each (IsNumber (length k.texts)) texts
     are_texts = subst (Each (IsNumber (length k.texts))) (sym orders.texts_are) (each_after (IsNumber (length k.texts)) [] _ tt (text_uses_are k kept locations files are_locations are_files))
@@ -349,28 +331,9 @@ module _ (k : KeptRecord) (kept : IsKept k) where
     pub too_long : (room : ℕ) → room < length (text_of_parts k steps locations files texts) → FitsLines room (map (step_of k) steps) → ⊥
     too_long room long fit = omega (arith, long, fit.size, ap length line_text_is)
 
-    longer_after : (one two : List ℕ) → length two ≤ length (one ++ two)
-    longer_after one two = omega (arith, length-append one two)
-
     texts_within : length (concat (texts_at k texts)) ≤ length (text_of_parts k steps locations files texts)
     unfolding text_of_parts
-    texts_within =
-        let last : List ℕ = concat (texts_at k texts) in
-        let rows : List ℕ = text_rows 0 (texts_at k texts) in
-        let fs : List ℕ = file_rows k texts files in
-        let ls : List ℕ = location_rows k locations files texts locations in
-        let ss : List ℕ = flat_map (step_row locations) steps in
-        let rs : List ℕ = flat_map run_bytes (runs_after 0 (step_starts steps)) in
-        let head : List ℕ = head_of (length (runs_after 0 (step_starts steps))) (length steps) (length locations) (length files) (length texts) (length last) in
-        omega (
-          arith,
-          longer_after rows last,
-          longer_after fs (rows ++ last),
-          longer_after ls (fs ++ (rows ++ last)),
-          longer_after ss (ls ++ (fs ++ (rows ++ last))),
-          longer_after rs (ss ++ (ls ++ (fs ++ (rows ++ last)))),
-          longer_after head (rs ++ (ss ++ (ls ++ (fs ++ (rows ++ last))))),
-        )
+    texts_within = simp length-append (omega arith)
 
     pub too_much_text : (room most : ℕ) → most ≡ min room 4294967295 → most < length (concat (texts_at k texts)) → FitsLines room (map (step_of k) steps) → ⊥
     too_much_text room most is more fit =
