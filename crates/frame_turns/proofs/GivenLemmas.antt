@@ -1,12 +1,14 @@
 -- Turns that were given.
-use Rattle.std.proofs.Common.{◌≡◌, ℕ, ◌+◌, ◌-◌, ◌<◌, ◌≤◌, ◌^◌, nat_lt, List, [], ◌∷◌, ◌++◌, length, get_or, map, take, Option, Some, None, refl, sym, ap, subst, ◌∙◌, inl, inr, arith, append_assoc, length-append, ◌↔◌, All, Contains, option_and_then}
+use Rattle.std.proofs.Common.{AllPairs, ◌≡◌, ℕ, ◌+◌, ◌-◌, ◌<◌, ◌≤◌, ◌^◌, List, [], ◌∷◌, ◌++◌, length, get_or, map, take, Option, Some, None, refl, sym, ap}
+use Rattle.std.proofs.Common.{subst, ◌∙◌, inl, inr, arith, append_assoc, length-append, ◌↔◌, All, Contains, option_and_then}
 use Rattle.std.specs.Prelude.{◌↔◌}
 use Rattle.std.specs.List.{All, Contains}
 use Rattle.std.specs.BTreeMap as tree_map
-use Rattle.std.proofs.lemmas.Bool.{cases_Bool, ltb-true, ltb-false}
+use Rattle.std.proofs.lemmas.Bool.{cases_lt}
 use Rattle.std.proofs.lemmas.List.{append-nil, get_or_default, get_or_append_left, get_or-append_right, map-append, take_all, take_more, get_or-take}
 use Rattle.std.proofs.lemmas.List.{length-take-le}
-use Rattle.std.proofs.lemmas.List.Elements.{All-append, All-contains, All-contains_itself, All-map, All-weaker, Contains-append_left, Contains-append_right, All-nil, Contains-append_cases}
+use Rattle.std.proofs.lemmas.List.Elements.{All-append, All-contains, All-contains_itself, All-map, All-weaker, Contains-append_left, Contains-append_right}
+use Rattle.std.proofs.lemmas.List.Elements.{All-nil, Contains-append_cases, Contains-get_or}
 use Rattle.std.proofs.lemmas.Option.{none-some}
 use Rattle.source_frames.specs.AddressFrames.{AreFramesBy, AreFramesIn}
 use Rattle.source_frames.specs.DebugSections.{DebugSectionsRecord}
@@ -29,26 +31,23 @@ use Rattle.frame_turns.proofs.ByUnitLemmas.{in_one, of_one}
 pub distinct_by : (xs : List ℕ) → AreRising xs → AreDistinct xs
 distinct_by xs rising i j d less within same = omega (arith, rising i j d less within, same)
 
-pub distinct_append : (xs ys : List ℕ) → AreDistinct xs → AreDistinct ys → ((a : ℕ) → Contains xs a → Contains ys a → ⊥) → AreDistinct (xs ++ ys)
-distinct_append xs ys one other apart i j d less within same = elim (cases_Bool (nat_lt j (length xs))) [
-  | inl inside ↦
-      let jn = ltb-true j (length xs) inside in
-      one i j d less jn (sym (get_or_append_left xs ys d i (omega arith)) ∙ same ∙ get_or_append_left xs ys d j jn)
-  | inr past ↦
-      let jn : length xs ≤ j = ltb-false j (length xs) past in
+-- what holds of each number and each later one
+pub pairs_append : (R : ℕ → ℕ → Type 0) (xs ys : List ℕ) → AllPairs R xs → AllPairs R ys
+    → ((a b : ℕ) → Contains xs a → Contains ys b → R a b) → AllPairs R (xs ++ ys)
+pairs_append R xs ys one other apart i j d less within = elim (cases_lt j (length xs)) [
+  | inl jn ↦ rw (get_or_append_left xs ys d i (omega arith), get_or_append_left xs ys d j jn) (one i j d less jn)
+  | inr jn ↦
       let jr : j - length xs < length ys = omega (arith, within, length-append xs ys, jn) in
-      let jv : get_or (xs ++ ys) j d ≡ get_or ys (j - length xs) d = get_or-append_right xs ys (length xs) j d refl jn in
-      elim (cases_Bool (nat_lt i (length xs))) [
-        | inl inside ↦
-            let in' = ltb-true i (length xs) inside in
-            let value : get_or xs i d ≡ get_or ys (j - length xs) d = sym (get_or_append_left xs ys d i in') ∙ same ∙ jv in
-            apart (get_or xs i d) (i, in', get_or_default xs i (get_or xs i d) d in')
-            (j - length xs, jr, get_or_default ys (j - length xs) (get_or xs i d) d jr ∙ sym value)
-        | inr beyond ↦
-            let in' : length xs ≤ i = ltb-false i (length xs) beyond in
-            other (i - length xs) (j - length xs) d (omega (arith, less, in', jn)) jr (sym (get_or-append_right xs ys (length xs) i d refl in') ∙ same ∙ jv)
-      ]
+      rw (get_or-append_right xs ys (length xs) j d refl jn) (elim (cases_lt i (length xs)) [
+        | inl in' ↦
+            rw (get_or_append_left xs ys d i in')
+            (apart (get_or xs i d) (get_or ys (j - length xs) d) (Contains-get_or xs i d in') (Contains-get_or ys (j - length xs) d jr))
+        | inr in' ↦ rw (get_or-append_right xs ys (length xs) i d refl in') (other (i - length xs) (j - length xs) d (omega (arith, less, in', jn)) jr)
+      ])
 ]
+
+pub distinct_append : (xs ys : List ℕ) → AreDistinct xs → AreDistinct ys → ((a : ℕ) → Contains xs a → Contains ys a → ⊥) → AreDistinct (xs ++ ys)
+distinct_append xs ys one other apart = pairs_append (λ a b. a ≡ b → ⊥) xs ys one other (λ a b h k e. apart a h (subst (Contains ys) (sym e) k))
 
 -- ---- what is taken, one list after another
 
@@ -66,9 +65,6 @@ takes_next P Q R f xs i within first then =
 
 pub takes_all : (P Q : List TurnRecord → Type 0) (f : ℕ → TurnRecord) (xs : List ℕ) (n : ℕ) → length xs ≤ n → Takes P Q (map f (take n xs)) → Takes P Q (map f xs)
 takes_all P Q f xs n all h = subst (λ (ys : List ℕ). Takes P Q (map f ys)) (take_all n xs all) h
-
-pub takes_zero : (P : List TurnRecord → Type 0) (f : ℕ → TurnRecord) (xs : List ℕ) → Takes P P (map f (take 0 xs))
-takes_zero P f xs = takes_none P
 
 -- ---- addresses with their frames
 

@@ -1,9 +1,10 @@
 -- The numbers that a taker gave to names, paths and links.
-use Rattle.std.proofs.Common.{◌≡◌, ◌≢◌, ◌∙◌, ℕ, zero, suc, ◌<◌, List, [], ◌∷◌, get_or, length, set, slice_get, Option, Some, refl, sym, ap, subst, inl, inr, arith, length-set, ◌+◌, ◌-◌, ◌≤◌, ◌++◌, None, option_map, nat_cmp}
+use Rattle.std.proofs.Common.{◌≡◌, ◌≢◌, ◌∙◌, ℕ, zero, suc, ◌<◌, List, [], ◌∷◌, get_or, length, set, slice_get, Option, Some, refl, sym, ap, subst, inl, inr}
+use Rattle.std.proofs.Common.{arith, length-set, ◌+◌, ◌-◌, ◌≤◌, ◌++◌, None, option_map, nat_cmp}
 use Rattle.std.specs.BTreeMap as tree_map
 use Rattle.std.proofs.lemmas.Bool.{cases_eq, cases_lt}
 use Rattle.std.proofs.lemmas.Option.{same_Some, slice_get_read, slice_get_within, IfSome_then, get_or_from_slice_get, slice_get-get_or, slice_get-map}
-use Rattle.std.proofs.lemmas.List.{get_or_append_left, get_or-append_right, length-map, length_push}
+use Rattle.std.proofs.lemmas.List.{get_or_append_left, get_or-append_right, get_or-set_same, length-map, length_push}
 use Rattle.function_links.specs.LinkViews.{link_view, links_view}
 use Rattle.function_links.specs.NameNumbers.{AreNamesNumbered}
 use Rattle.function_links.specs.declared.links.Link.{Link}
@@ -25,9 +26,7 @@ use Rattle.frame_turns.proofs.GivenLemmas.{takes_more}
 
 -- an element after a write
 set_here : {X : Type 0} (xs : List X) (i : ℕ) (x : X) → i < length xs → slice_get (set xs i x) i ≡ Some x
-set_here [] i x h = absurd (omega (arith, h))
-set_here (y ∷ ys) zero x h = refl
-set_here (y ∷ ys) (suc i) x h = set_here ys i x (omega (arith, h))
+set_here xs i x h = slice_get-get_or (set xs i x) i x (omega (arith, h, length-set xs i x)) ∙ ap Some (get_or-set_same xs i x x h)
 
 set_elsewhere : {X : Type 0} (xs : List X) (i j : ℕ) (x : X) → j ≢ i → slice_get (set xs i x) j ≡ slice_get xs j
 set_elsewhere [] i j x h = refl
@@ -118,8 +117,11 @@ module _ (P P' : ℕ → Option (List ℕ) → Type 0) (F F' : Option ℕ → Li
 
 -- ---- links
 
-pub link_there : (links : List Link) (i : ℕ) (link : Link) → i < length links → link ≡ get_or links i link → slice_get (links_view links) i ≡ Some (link_view link)
-link_there links i link within here = slice_get-map link_view links i ∙ ap (option_map link_view) (slice_get_read links (length links) i link refl within here)
+pub link_there : (links : List Link) (all : List Linked) (index : ℕ) (link : Link) → index ≡ length all
+    → length all < length links → link ≡ get_or links index link → slice_get (links_view links) (length all) ≡ Some (link_view link)
+link_there links all index link is within here =
+    slice_get-map link_view links (length all)
+    ∙ ap (option_map link_view) (slice_get_read links (length links) (length all) link refl within (here ∙ ap (λ n. get_or links n link) is))
 
 pub linked_at : (P : ℕ → Option (List ℕ) → Type 0) (F : Option ℕ → List FrameRecord → Type 0) (lines : LinesRecord) (links : List LinkRecord) (i : ℕ) (link : LinkRecord) (linked : Linked) → slice_get links i ≡ Some link
     → IsLinked P F lines links link linked → IsLinkedAt P F lines links i linked
@@ -156,10 +158,8 @@ frames_of_link lines links place number n link outer is at before are =
 
 pub frames_with_link : (lines : LinesRecord) (links : List LinkRecord) (row : Option Row) (number n : ℕ) (frames : List FrameRecord) → number ≡ suc n → AreFramesOfLink lines links (location_of_row row) number frames
     → AreFramesOfRowAndLink lines links row number frames
-frames_with_link lines links None number n frames is are =
-    subst (λ (m : ℕ). AreFramesOfRowAndLink lines links None m frames) (sym is) (subst (λ (m : ℕ). AreFramesOfLink lines links (location_of_row None) m frames) is are)
-frames_with_link lines links (Some row) number n frames is are =
-    subst (λ (m : ℕ). AreFramesOfRowAndLink lines links (Some row) m frames) (sym is) (subst (λ (m : ℕ). AreFramesOfLink lines links (location_of_row (Some row)) m frames) is are)
+frames_with_link lines links None number n frames is are = rw is (rw is at are)
+frames_with_link lines links (Some row) number n frames is are = rw is (rw is at are)
 
 pub frames_of_row_alone : (lines : LinesRecord) (links : List LinkRecord) (row : Option Row) (number : ℕ) → number ≡ 0 → AreFramesOfRowAndLink lines links row number (row_frames lines row)
 frames_of_row_alone lines links None number none = subst (λ (m : ℕ). AreFramesOfRowAndLink lines links None m []) (sym none) refl

@@ -1,8 +1,8 @@
 -- The unit of an address is that of the last boundary not above it.
-use Rattle.std.proofs.Common.{◌≡◌, ℕ, List, get_or, Option, Some, None, subst, ◌∙◌, Contains, zero, suc, ◌<◌, ◌≤◌, ◌^◌, nat_lt, nat_le, length, refl, sym, ap, inl, inr, ◌⊎◌, arith}
+use Rattle.std.proofs.Common.{◌≡◌, ℕ, List, get_or, Option, Some, None, subst, ◌∙◌, Contains, zero, suc, ◌<◌, ◌≤◌, ◌^◌, length, refl, ap, inl, inr, ◌⊎◌, arith}
 use Rattle.std.proofs.lemmas.List.{get_or_default}
 use Rattle.std.proofs.lemmas.Option.{none-some, same_Some}
-use Rattle.std.proofs.lemmas.Bool.{cases_Bool, cases_lt, leb-true, leb-false, ltb-true, ltb-false}
+use Rattle.std.proofs.lemmas.Bool.{cases_lt, cases_order}
 use Rattle.source_frames.specs.DebugSections.{DebugSectionsRecord}
 use Rattle.source_frames.specs.UnitAddresses.{IsUnitOf}
 use Rattle.source_frames.proofs.UnitAddressLemmas.{one_place}
@@ -44,51 +44,44 @@ pub record IsLast (starts : List ℕ) (a n : ℕ) : Type 0 where
   pub here : get_or starts n 0 ≤ a
   pub after : (k : ℕ) → n < k → k < length starts → a < get_or starts k 0
 
+-- no start lies between the last one and the address
+pub none_after_last : (starts : List ℕ) (a n t : ℕ) → AreRising starts → IsLast starts a n → Contains starts t → get_or starts n 0 < t → a < t
+none_after_last starts a n t rising last (j, within, is) above =
+    let at : get_or starts j 0 ≡ t = get_or_default starts j 0 t within ∙ is in
+    elim (cases_order n j) [
+      | inl same ↦ let here : get_or starts n 0 ≡ t = ap (λ k. get_or starts k 0) same ∙ at in absurd (omega (arith, here, above))
+      | inr other ↦ elim other [
+        | inl later ↦ let u = last.after j later within in omega (arith, u, at)
+        | inr before ↦ let r = rising j n 0 before last.within in absurd (omega (arith, r, at, above))
+      ]
+    ]
+
 module _ (s : DebugSectionsRecord) (starts : List ℕ) (places : List (Option ℕ)) (a : ℕ) (steps : AreUnitSteps s starts places) where
   -- no boundary lies from the last start on up to the address
   free_after : (n : ℕ) → IsLast starts a n → IsFree (get_or starts n 0) a (boundaries s)
   free_after n last = record {
-    none = λ t h between.
-        let at = (steps.all t).1 h in
-        let is : get_or starts at.0 0 ≡ t = get_or_default starts at.0 0 t at.1 ∙ at.2 in
-        elim (cases_Bool (nat_lt n at.0)) [
-          | inl above ↦ omega (arith, last.after at.0 (ltb-true n at.0 above) at.1, is, between.1)
-          | inr not ↦ elim (cases_Bool (nat_lt at.0 n)) [
-            | inl below ↦ omega (arith, steps.rising at.0 n 0 (ltb-true at.0 n below) last.within, is, between.0)
-            | inr same ↦
-                let e : at.0 ≡ n = omega (arith, ltb-false n at.0 not, ltb-false at.0 n same) in
-                let start : get_or starts n 0 ≡ t = ap (λ k. get_or starts k 0) (sym e) ∙ is in
-                omega (arith, start, between.0)
-          ]
-        ];
+    none = λ t h between. let past = none_after_last starts a n t steps.rising last ((steps.all t).1 h) between.0 in omega (arith, past, between.1);
   }
 
   pub unit_at_last : (n : ℕ) → a < 2 ^ 64 → IsLast starts a n → IsUnitOf s a (get_or places n None)
-  unit_at_last n fits last = elim (cases_Bool (nat_lt (get_or starts n 0) a)) [
-    | inl less ↦ unit_stays s (get_or starts n 0) a (get_or places n None) (ltb-true (get_or starts n 0) a less) fits (free_after n last) (steps.units.each n last.within)
+  unit_at_last n fits last = elim (cases_lt (get_or starts n 0) a) [
+    | inl less ↦ unit_stays s (get_or starts n 0) a (get_or places n None) less fits (free_after n last) (steps.units.each n last.within)
     | inr not ↦
-        let same : get_or starts n 0 ≡ a = omega (arith, ltb-false (get_or starts n 0) a not, last.here) in
+        let same : get_or starts n 0 ≡ a = omega (arith, not, last.here) in
         subst (λ (x : ℕ). IsUnitOf s x (get_or places n None)) same (steps.units.each n last.within)
   ]
 
 -- among the first so many numbers, one is the last not above an address, or all are above it
 last_below : (starts : List ℕ) (a n : ℕ) → n ≤ length starts → ((k : ℕ) → n ≤ k → k < length starts → a < get_or starts k 0) → ((m : ℕ) × IsLast starts a m) ⊎ ((k : ℕ) → k < length starts → a < get_or starts k 0)
 last_below starts a zero within above = inr (λ k inside. above k (omega arith) inside)
-last_below starts a (suc n) within above = elim (cases_Bool (nat_le (get_or starts n 0) a)) [
-  | inl here ↦ inl (
-    n,
-    record {
-      within = omega arith;
-      here = leb-true (get_or starts n 0) a here;
-      after = λ k less inside. above k (omega arith) inside;
-    },
-  )
-  | inr past ↦ last_below starts a n (omega arith) (λ k from inside. elim (cases_Bool (nat_lt n k)) [
-    | inl less ↦ above k (omega (arith, ltb-true n k less)) inside
+last_below starts a (suc n) within above = elim (cases_lt a (get_or starts n 0)) [
+  | inl past ↦ last_below starts a n (omega arith) (λ k from inside. elim (cases_lt n k) [
+    | inl less ↦ above k (omega (arith, less)) inside
     | inr not ↦
-        let same : k ≡ n = omega (arith, ltb-false n k not, from) in
-        subst (λ (m : ℕ). a < get_or starts m 0) (sym same) (omega (arith, leb-false (get_or starts n 0) a past))
+        let same : n ≡ k = omega (arith, not, from) in
+        subst (λ (m : ℕ). a < get_or starts m 0) same past
   ])
+  | inr here ↦ inl (n, record { within = omega arith; here = here; after = λ k less inside. above k (omega arith) inside })
 ]
 
 -- each address has its unit, or none
@@ -113,18 +106,3 @@ last_step s starts places a place steps fits is = elim (last_below starts a (len
   | inl last ↦ (last.0, last.1, (last.0, last.1.within, refl, one_place s a (get_or places last.0 None) (Some place) (unit_at_last s starts places a steps last.0 fits last.1) is))
   | inr above ↦ absurd (none-some place (one_place s a None (Some place) (nowhere s starts places a steps above) is))
 ]
-
--- no start lies between it and the address
-pub none_after_last : (starts : List ℕ) (a n t : ℕ) → AreRising starts → IsLast starts a n → Contains starts t → get_or starts n 0 < t → a < t
-none_after_last starts a n t rising last (j, within, is) above =
-    let at : get_or starts j 0 ≡ t = get_or_default starts j 0 t within ∙ is in
-    elim (cases_lt n j) [
-      | inl later ↦ let u = last.after j later within in omega (arith, u, at)
-      | inr not ↦ elim (cases_lt j n) [
-        | inl before ↦ let w = last.within in let r = rising j n 0 before w in absurd (omega (arith, r, at, above))
-        | inr same ↦
-            let e : n ≡ j = omega (arith, not, same) in
-            let here : get_or starts n 0 ≡ t = ap (λ k. get_or starts k 0) e ∙ at in
-            absurd (omega (arith, here, above))
-      ]
-    ]
