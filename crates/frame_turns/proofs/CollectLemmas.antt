@@ -1,7 +1,5 @@
 -- Numbers that are collected one after another.
-use Rattle.std.proofs.Common.{◌≡◌, ℕ, ◌-◌, List, [], ◌∷◌, ◌++◌, length, Option, Some, None, sym, ap, ◌∙◌, append_assoc}
-use Rattle.std.specs.Prelude.{flat_map}
-use Rattle.std.proofs.lemmas.List.{append-nil}
+use Rattle.std.proofs.Common.{◌≡◌, ℕ, ◌-◌, List, [], ◌∷◌, ◌++◌, length, Option, Some, None, sym, ap, ◌∙◌, append_assoc, flat_map, append-nil}
 use Rattle.code_ranges.specs.Aranges.{aranges_of}
 use Rattle.code_ranges.specs.declared.arange.Arange.{Arange}
 use Rattle.dwarf_numbers.specs.Sequences.{placed, placed_from}

@@ -1,48 +1,53 @@
 -- Turns that were given.
-use Rattle.std.proofs.Common.{◌≡◌, ℕ, ◌+◌, ◌-◌, ◌<◌, ◌≤◌, ◌^◌, nat_lt, List, [], ◌∷◌, ◌++◌, length, get_or, map, take, Option, Some, None, refl, sym, ap, subst, ◌∙◌, inl, inr, arith, append_assoc, length-append}
+use Rattle.std.proofs.Common.{AllPairs, ◌≡◌, ℕ, ◌+◌, ◌-◌, ◌<◌, ◌≤◌, ◌^◌, List, [], ◌∷◌, ◌++◌, length, get_or, map, take, Option, Some, None, refl, sym, ap}
+use Rattle.std.proofs.Common.{subst, ◌∙◌, inl, inr, arith, append_assoc, length-append, ◌↔◌, All, Contains, option_and_then}
 use Rattle.std.specs.Prelude.{◌↔◌}
 use Rattle.std.specs.List.{All, Contains}
-use Rattle.std.specs.Option.{option_and_then}
-use Rattle.std.proofs.lemmas.Bool.{cases_Bool, ltb-true, ltb-false}
-use Rattle.std.proofs.lemmas.List.{append-nil, get_or_default, get_or_append_left, get_or-append_right, map-append, take_all, take_more}
+use Rattle.std.specs.BTreeMap as tree_map
+use Rattle.std.proofs.lemmas.Bool.{cases_lt}
+use Rattle.std.proofs.lemmas.List.{append-nil, get_or_default, get_or_append_left, get_or-append_right, map-append, take_all, take_more, get_or-take}
+use Rattle.std.proofs.lemmas.List.{length-take-le}
 use Rattle.std.proofs.lemmas.List.Elements.{All-append, All-contains, All-contains_itself, All-map, All-weaker, Contains-append_left, Contains-append_right}
+use Rattle.std.proofs.lemmas.List.Elements.{All-nil, Contains-append_cases, Contains-get_or}
 use Rattle.std.proofs.lemmas.Option.{none-some}
 use Rattle.source_frames.specs.AddressFrames.{AreFramesBy, AreFramesIn}
 use Rattle.source_frames.specs.DebugSections.{DebugSectionsRecord}
 use Rattle.source_frames.specs.DebugUnits.{UnitRecord}
 use Rattle.source_frames.specs.Frames.{FrameRecord}
 use Rattle.source_frames.specs.UnitAddresses.{IsUnitOf, read_unit}
-use Rattle.frame_turns.specs.Given.{Takes, TurnRecord, AreDistinct, AreTurnsBy, AreTurnsIn, AreTurnsWithUnits, HasUnit, IsTurnWithFrames, addresses}
 use Rattle.waiting_indexes.specs.Rising.{AreRising}
+use Rattle.frame_turns.specs.Given.{Takes, TurnRecord, AreDistinct, AreTurnsBy, AreTurnsIn, AreTurnsWithUnits, HasUnit, IsTurnWithFrames, addresses}
 use Rattle.frame_turns.specs.Turns.{IsTurnBy, IsUnitTurn}
 use Rattle.frame_turns.specs.UnitSteps.{AreUnitSteps, IsStep}
-use Rattle.frame_turns.proofs.OwnLemmas.{boundary_step, none_is, own_is, step_boundary, step_unit}
+use Rattle.frame_turns.specs.ByProgram.{AreBoundariesBy, places}
+use Rattle.frame_turns.specs.ByUnit.{addresses_under}
+use Rattle.frame_turns.specs.declared.by_unit.AddressList.{AddressList}
+use Rattle.frame_turns.specs.declared.unit_by_unit.UnitBoundaries.{UnitBoundaries}
+use Rattle.frame_turns.proofs.UnitStepLemmas.{boundary_step, none_is, own_is, step_boundary, step_unit, last_step}
+use Rattle.frame_turns.proofs.ByUnitLemmas.{in_one, of_one}
 
 -- ---- numbers that are distinct
 
 pub distinct_by : (xs : List ℕ) → AreRising xs → AreDistinct xs
 distinct_by xs rising i j d less within same = omega (arith, rising i j d less within, same)
 
-pub distinct_append : (xs ys : List ℕ) → AreDistinct xs → AreDistinct ys → ((a : ℕ) → Contains xs a → Contains ys a → ⊥) → AreDistinct (xs ++ ys)
-distinct_append xs ys one other apart i j d less within same = elim (cases_Bool (nat_lt j (length xs))) [
-  | inl inside ↦
-      let jn = ltb-true j (length xs) inside in
-      one i j d less jn (sym (get_or_append_left xs ys d i (omega arith)) ∙ same ∙ get_or_append_left xs ys d j jn)
-  | inr past ↦
-      let jn : length xs ≤ j = ltb-false j (length xs) past in
+-- what holds of each number and each later one
+pub pairs_append : (R : ℕ → ℕ → Type 0) (xs ys : List ℕ) → AllPairs R xs → AllPairs R ys
+    → ((a b : ℕ) → Contains xs a → Contains ys b → R a b) → AllPairs R (xs ++ ys)
+pairs_append R xs ys one other apart i j d less within = elim (cases_lt j (length xs)) [
+  | inl jn ↦ rw (get_or_append_left xs ys d i (omega arith), get_or_append_left xs ys d j jn) (one i j d less jn)
+  | inr jn ↦
       let jr : j - length xs < length ys = omega (arith, within, length-append xs ys, jn) in
-      let jv : get_or (xs ++ ys) j d ≡ get_or ys (j - length xs) d = get_or-append_right xs ys (length xs) j d refl jn in
-      elim (cases_Bool (nat_lt i (length xs))) [
-        | inl inside ↦
-            let in' = ltb-true i (length xs) inside in
-            let value : get_or xs i d ≡ get_or ys (j - length xs) d = sym (get_or_append_left xs ys d i in') ∙ same ∙ jv in
-            apart (get_or xs i d) (i, in', get_or_default xs i (get_or xs i d) d in')
-            (j - length xs, jr, get_or_default ys (j - length xs) (get_or xs i d) d jr ∙ sym value)
-        | inr beyond ↦
-            let in' : length xs ≤ i = ltb-false i (length xs) beyond in
-            other (i - length xs) (j - length xs) d (omega (arith, less, in', jn)) jr (sym (get_or-append_right xs ys (length xs) i d refl in') ∙ same ∙ jv)
-      ]
+      rw (get_or-append_right xs ys (length xs) j d refl jn) (elim (cases_lt i (length xs)) [
+        | inl in' ↦
+            rw (get_or_append_left xs ys d i in')
+            (apart (get_or xs i d) (get_or ys (j - length xs) d) (Contains-get_or xs i d in') (Contains-get_or ys (j - length xs) d jr))
+        | inr in' ↦ rw (get_or-append_right xs ys (length xs) i d refl in') (other (i - length xs) (j - length xs) d (omega (arith, less, in', jn)) jr)
+      ])
 ]
+
+pub distinct_append : (xs ys : List ℕ) → AreDistinct xs → AreDistinct ys → ((a : ℕ) → Contains xs a → Contains ys a → ⊥) → AreDistinct (xs ++ ys)
+distinct_append xs ys one other apart = pairs_append (λ a b. a ≡ b → ⊥) xs ys one other (λ a b h k e. apart a h (subst (Contains ys) (sym e) k))
 
 -- ---- what is taken, one list after another
 
@@ -60,9 +65,6 @@ takes_next P Q R f xs i within first then =
 
 pub takes_all : (P Q : List TurnRecord → Type 0) (f : ℕ → TurnRecord) (xs : List ℕ) (n : ℕ) → length xs ≤ n → Takes P Q (map f (take n xs)) → Takes P Q (map f xs)
 takes_all P Q f xs n all h = subst (λ (ys : List ℕ). Takes P Q (map f ys)) (take_all n xs all) h
-
-pub takes_zero : (P : List TurnRecord → Type 0) (f : ℕ → TurnRecord) (xs : List ℕ) → Takes P P (map f (take 0 xs))
-takes_zero P f xs = takes_none P
 
 -- ---- addresses with their frames
 
@@ -153,3 +155,99 @@ all_turns s without with one other units = record { each = each; all = all; once
         let lonely = All-contains (λ (x : ℕ). IsUnitOf s x None) (addresses without) a lone h in
         let unit = All-contains (HasUnit s) (addresses with) a housed k in
         none_is s a unit.0 lonely unit.1))
+
+-- ---- how far the units were gone over
+
+-- the unit of an address is at one of some offsets
+abbrev pub IsAmong : DebugSectionsRecord → List ℕ → ℕ → Type 0
+IsAmong s done a = (place : ℕ) × Contains done place × IsUnitOf s a (Some place)
+
+-- the turns of the units at so many first offsets were given
+pub record SoFar (s : DebugSectionsRecord) (all : List ℕ) (count : ℕ) (given : List TurnRecord) : Type 0 where
+  pub each : All (λ t. IsAmong s (take count all) t.address × IsTurnWithFrames s t) given
+  pub every : (a place : ℕ) → Contains (take count all) place → IsUnitOf s a (Some place) → IsTurnBy s a → Contains (addresses given) a
+  pub once : AreDistinct (addresses given)
+
+pub far_start : (s : DebugSectionsRecord) (all : List ℕ) → SoFar s all 0 []
+far_start s all = record {
+  each = All-nil (λ (t : TurnRecord). IsAmong s [] t.address × IsTurnWithFrames s t);
+  every = λ a place h is turn. let w = h.1 in absurd (omega (arith, w));
+  once = λ i j d less within. absurd (omega (arith, within));
+}
+
+module _ (s : DebugSectionsRecord) (all : List ℕ) (count place : ℕ) (given new : List TurnRecord) (within : count < length all) (here : place ≡ get_or all count 0)
+    (distinct : AreDistinct all) (far : SoFar s all count given) (are : AreTurnsIn s (Some place) new) where
+  split : addresses (given ++ new) ≡ addresses given ++ addresses new
+  split = map-append (λ (t : TurnRecord). t.address) given new
+
+  grown : take (count + 1) all ≡ take count all ++ place ∷ []
+  grown = subst (λ (x : ℕ). take (count + 1) all ≡ take count all ++ x ∷ []) (sym here) (take_more all count 0 within)
+
+  in_grown : (p : ℕ) → Contains (take count all ++ place ∷ []) p → Contains (take (count + 1) all) p
+  in_grown p h = subst (λ (xs : List ℕ). Contains xs p) (sym grown) h
+
+  old : (a : ℕ) → IsAmong s (take count all) a → IsAmong s (take (count + 1) all) a
+  old a h = (h.0, in_grown h.0 (Contains-append_left (take count all) (place ∷ []) h.0 h.1), h.2)
+
+  added : (a : ℕ) → IsUnitOf s a (Some place) → IsAmong s (take (count + 1) all) a
+  added a is = (place, in_grown place (Contains-append_right (take count all) (place ∷ []) place (of_one place place refl)), is)
+
+  each_more : All (λ t. IsAmong s (take (count + 1) all) t.address × IsTurnWithFrames s t) (given ++ new)
+  each_more = All-append (λ (t : TurnRecord). IsAmong s (take (count + 1) all) t.address × IsTurnWithFrames s t) given new
+      (All-weaker (λ (t : TurnRecord). IsAmong s (take count all) t.address × IsTurnWithFrames s t) (λ (t : TurnRecord). IsAmong s (take (count + 1) all) t.address × IsTurnWithFrames s t)
+      (λ t h. (old t.address h.0, h.1)) given far.each)
+      (All-weaker (λ (t : TurnRecord). IsUnitOf s t.address (Some place) × IsTurnWithFrames s t) (λ (t : TurnRecord). IsAmong s (take (count + 1) all) t.address × IsTurnWithFrames s t)
+      (λ t h. (added t.address h.0, h.1)) new are.each)
+
+  every_more : (a own : ℕ) → Contains (take (count + 1) all) own → IsUnitOf s a (Some own) → IsTurnBy s a → Contains (addresses (given ++ new)) a
+  every_more a own h is turn = subst (λ (xs : List ℕ). Contains xs a) (sym split)
+      (elim (Contains-append_cases (take count all) (place ∷ []) own (subst (λ (xs : List ℕ). Contains xs own) grown h)) [
+        | inl before ↦ Contains-append_left (addresses given) (addresses new) a (far.every a own before is turn)
+        | inr one ↦
+            let same : own ≡ place = sym (in_one place own one) in
+            Contains-append_right (addresses given) (addresses new) a (are.all a (subst (λ (p : ℕ). IsUnitOf s a (Some p)) same is) turn)
+      ])
+
+  done : All (IsAmong s (take count all)) (addresses given)
+  done = All-map (IsAmong s (take count all)) (λ (t : TurnRecord). t.address) given
+      (All-weaker (λ (t : TurnRecord). IsAmong s (take count all) t.address × IsTurnWithFrames s t) (λ (t : TurnRecord). IsAmong s (take count all) t.address) (λ t h. h.0) given far.each)
+
+  owned : All (λ (a : ℕ). IsUnitOf s a (Some place)) (addresses new)
+  owned = All-map (λ (a : ℕ). IsUnitOf s a (Some place)) (λ (t : TurnRecord). t.address) new
+      (All-weaker (λ (t : TurnRecord). IsUnitOf s t.address (Some place) × IsTurnWithFrames s t) (λ (t : TurnRecord). IsUnitOf s t.address (Some place)) (λ t h. h.0) new are.each)
+
+  -- the offset is none of those before it
+  not_before : Contains (take count all) place → ⊥
+  not_before (i, inside, is) =
+      let less : i < count = omega (arith, inside, length-take-le count all (omega (arith, within))) in
+      let value : get_or all i 0 ≡ place = sym (get_or-take count all i 0 less) ∙ get_or_default (take count all) i 0 place inside ∙ is in
+      distinct i count 0 less within (value ∙ here)
+
+  apart_from : (a : ℕ) → Contains (addresses given) a → Contains (addresses new) a → ⊥
+  apart_from a before after =
+      let was = All-contains (IsAmong s (take count all)) (addresses given) a done before in
+      let is = All-contains (λ (x : ℕ). IsUnitOf s x (Some place)) (addresses new) a owned after in
+      let same : was.0 ≡ place = own_is s a place was.0 was.2 is in
+      not_before (subst (λ (p : ℕ). Contains (take count all) p) same was.1)
+
+  pub far_more : SoFar s all (count + 1) (given ++ new)
+  far_more = record {
+    each = each_more;
+    every = every_more;
+    once = subst (λ (xs : List ℕ). AreDistinct xs) (sym split) (distinct_append (addresses given) (addresses new) far.once (distinct_by (addresses new) are.rising) apart_from);
+  }
+
+pub far_end : (s : DebugSectionsRecord) (starts : List ℕ) (at : List (Option ℕ)) (by_unit : tree_map.BTreeMap ℕ AddressList) (units : List UnitBoundaries) (count : ℕ) (given : List TurnRecord)
+    → AreUnitSteps s starts at → ((place a : ℕ) → Contains (addresses_under by_unit place) a ↔ IsStep starts at a (Some place)) → AreBoundariesBy by_unit units
+    → length (places units) ≤ count → SoFar s (places units) count given → AreTurnsWithUnits s given
+far_end s starts at by_unit units count given steps under are past far =
+    let all : take count (places units) ≡ places units = take_all count (places units) past in
+    record {
+      each = All-weaker (λ (t : TurnRecord). IsAmong s (take count (places units)) t.address × IsTurnWithFrames s t) (λ (t : TurnRecord). HasUnit s t.address × IsTurnWithFrames s t)
+          (λ t h. ((h.0.0, h.0.2), h.1)) given far.each;
+      all = λ a place is turn.
+          let step = last_step s starts at a place steps turn.0 is in
+          let there = are.every place (get_or starts step.0 0) ((under place (get_or starts step.0 0)).1 step.2) in
+          far.every a place (subst (λ (xs : List ℕ). Contains xs place) (sym all) there) is turn;
+      once = far.once;
+    }

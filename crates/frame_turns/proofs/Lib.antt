@@ -1,12 +1,8 @@
 mod ByUnitLemmas
 mod CollectLemmas
-mod FreeLemmas
 mod GivenLemmas
-mod LoopLemmas
 mod MergeLemmas
-mod NameLemmas
 mod NumberLemmas
-mod OwnLemmas
 mod ProgramLemmas
 mod StartLemmas
 mod StayLemmas

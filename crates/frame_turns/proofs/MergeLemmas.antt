@@ -1,10 +1,9 @@
 -- Turns of a unit from an address on, one after another.
-use Rattle.std.proofs.Common.{◌≡◌, ℕ, ◌+◌, ◌-◌, ◌<◌, ◌≤◌, ◌^◌, List, [], ◌∷◌, ◌++◌, length, get_or, take, Option, Some, None, refl, sym, subst, inl, inr, arith, length-append}
-use Rattle.std.specs.Prelude.{IfSome, IfNone}
-use Rattle.std.specs.List.{All, Contains}
+use Rattle.std.proofs.Common.{◌≡◌, ℕ, ◌+◌, ◌-◌, ◌<◌, ◌≤◌, ◌^◌, List, [], ◌∷◌, ◌++◌, length, get_or, take, Option, Some, None, refl, sym, subst, inl, inr, arith}
+use Rattle.std.proofs.Common.{IfSome, IfNone, All, Contains}
 use Rattle.std.specs.Option.{option_map_or}
 use Rattle.std.proofs.lemmas.Bool.{cases_eq, cases_lt}
-use Rattle.std.proofs.lemmas.List.{get_or_append_left, get_or-append_right, get_or_default, map-append, take_all, take_more}
+use Rattle.std.proofs.lemmas.List.{map-append, take_all, take_more}
 use Rattle.std.proofs.lemmas.List.Elements.{All-append, All-contains, All-map, All-nil, All-push, All-weaker, Contains-append_cases, Contains-append_left, Contains-append_right, Contains-get_or}
 use Rattle.std.proofs.lemmas.Option.{same_Some}
 use Rattle.source_frames.specs.Frames.{FrameRecord}
@@ -12,28 +11,12 @@ use Rattle.waiting_indexes.specs.Rising.{AreRising, IsCountBelow}
 use Rattle.frame_turns.specs.Between.{AreFramesAt, AreTurnsBetween, AreTurnsFrom, IsBelow, IsFrom, IsMerged, IsNextAbove, IsNextStart, IsStart, IsTurnOfParts, PartsRecord}
 use Rattle.frame_turns.specs.Given.{TurnRecord, addresses}
 use Rattle.frame_turns.proofs.ByUnitLemmas.{in_one, of_one}
+use Rattle.frame_turns.proofs.GivenLemmas.{pairs_append}
 
 -- ---- numbers that rise
 
-pub rising_append : (xs ys : List ℕ) → AreRising xs → AreRising ys → ((a b : ℕ) → Contains xs a → Contains ys b → a < b) → AreRising (xs ++ ys)
-rising_append xs ys one other apart i j d less within = elim (cases_lt j (length xs)) [
-  | inl jn ↦
-      let in' : i < length xs = omega (arith, less, jn) in
-      let r = one i j d less jn in
-      let a = get_or_append_left xs ys d i in' in let b = get_or_append_left xs ys d j jn in
-      subst (λ (n : ℕ). n < get_or (xs ++ ys) j d) (sym a) (subst (λ (n : ℕ). get_or xs i d < n) (sym b) r)
-  | inr jn ↦
-      let jr : j - length xs < length ys = omega (arith, within, length-append xs ys, jn) in
-      let b : get_or (xs ++ ys) j d ≡ get_or ys (j - length xs) d = get_or-append_right xs ys (length xs) j d refl jn in
-      subst (λ (n : ℕ). get_or (xs ++ ys) i d < n) (sym b) (elim (cases_lt i (length xs)) [
-        | inl in' ↦
-            subst (λ (n : ℕ). n < get_or ys (j - length xs) d) (sym (get_or_append_left xs ys d i in'))
-            (apart (get_or xs i d) (get_or ys (j - length xs) d) (i, in', get_or_default xs i (get_or xs i d) d in') (j - length xs, jr, get_or_default ys (j - length xs) (get_or ys (j - length xs) d) d jr))
-        | inr in' ↦
-            subst (λ (n : ℕ). n < get_or ys (j - length xs) d) (sym (get_or-append_right xs ys (length xs) i d refl in'))
-            (other (i - length xs) (j - length xs) d (omega (arith, less, in', jn)) jr)
-      ])
-]
+rising_append : (xs ys : List ℕ) → AreRising xs → AreRising ys → ((a b : ℕ) → Contains xs a → Contains ys b → a < b) → AreRising (xs ++ ys)
+rising_append xs ys one other apart = pairs_append (λ a b. a < b) xs ys one other apart
 
 pub rising_one : (a : ℕ) → AreRising (a ∷ [])
 rising_one a i j d less within = absurd (omega (arith, less, within))

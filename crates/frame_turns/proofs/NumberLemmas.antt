@@ -1,29 +1,90 @@
--- The numbers that a taker gave to paths and links.
-use Rattle.std.proofs.Common.{◌≡◌, ℕ, zero, suc, ◌+◌, ◌-◌, ◌<◌, ◌≤◌, List, [], ◌∷◌, ◌++◌, length, get_or, slice_get, Option, Some, None, refl, sym, ap, subst, ◌∙◌, inl, inr, arith}
-use Rattle.std.specs.Option.{option_map}
-use Rattle.std.specs.Ordering.{nat_cmp}
+-- The numbers that a taker gave to names, paths and links.
+use Rattle.std.proofs.Common.{◌≡◌, ◌≢◌, ◌∙◌, ℕ, zero, suc, ◌<◌, List, [], ◌∷◌, get_or, length, set, slice_get, Option, Some, refl, sym, ap, subst, inl, inr}
+use Rattle.std.proofs.Common.{arith, length-set, ◌+◌, ◌-◌, ◌≤◌, ◌++◌, None, option_map, nat_cmp}
 use Rattle.std.specs.BTreeMap as tree_map
-use Rattle.std.proofs.lemmas.Bool.{cases_lt}
-use Rattle.std.proofs.lemmas.Option.{IfSome_then, get_or_from_slice_get, same_Some, slice_get-get_or, slice_get-map, slice_get_read, slice_get_within}
-use Rattle.std.proofs.lemmas.List.{get_or_append_left, get_or-append_right, length-map, length_push}
-use Rattle.function_links.specs.Links.{AreFramesOfLink, AreFramesOfRowAndLink, LinkRecord, frame_at_place}
+use Rattle.std.proofs.lemmas.Bool.{cases_eq, cases_lt}
+use Rattle.std.proofs.lemmas.Option.{same_Some, slice_get_read, slice_get_within, IfSome_then, get_or_from_slice_get, slice_get-get_or, slice_get-map}
+use Rattle.std.proofs.lemmas.List.{get_or_append_left, get_or-append_right, get_or-set_same, length-map, length_push}
 use Rattle.function_links.specs.LinkViews.{link_view, links_view}
 use Rattle.function_links.specs.NameNumbers.{AreNamesNumbered}
 use Rattle.function_links.specs.declared.links.Link.{Link}
 use Rattle.function_links.specs.declared.links.Links.{Links}
+use Rattle.function_links.specs.Links.{AreFramesOfLink, AreFramesOfRowAndLink, LinkRecord, frame_at_place}
 use Rattle.line_programs.specs.Paths.{PathRecord}
 use Rattle.line_programs.specs.declared.registers.Row.{Row}
 use Rattle.source_frames.specs.Frames.{FrameRecord, path_in, location_of_row}
 use Rattle.source_frames.specs.UnitLines.{LinesRecord}
 use Rattle.source_frames.specs.declared.frame.SourceLocation.{SourceLocation}
-use Rattle.frame_turns.specs.Given.{Takes, TurnRecord}
 use Rattle.frame_turns.specs.Taking.{StillTells}
-use Rattle.frame_turns.specs.UnitNumbers.{AreLinked, AreNameNumbers, ArePartsTold, ArePathNumbers, IsLinked, IsLinkedAt, row_frames}
-use Rattle.frame_turns.specs.declared.merging.UnitParts.{UnitParts}
+use Rattle.frame_turns.specs.UnitNumbers.{AreNameNumbers, AreLinked, ArePartsTold, ArePathNumbers, IsLinked, IsLinkedAt, row_frames}
+use Rattle.frame_turns.specs.Given.{Takes, TurnRecord}
 use Rattle.frame_turns.specs.declared.names.Names.{Names}
+use Rattle.frame_turns.specs.declared.merging.UnitParts.{UnitParts}
 use Rattle.frame_turns.specs.declared.numbers.Linked.{Linked}
 use Rattle.frame_turns.specs.declared.numbers.Paths.{Paths}
 use Rattle.frame_turns.proofs.GivenLemmas.{takes_more}
+
+-- an element after a write
+set_here : {X : Type 0} (xs : List X) (i : ℕ) (x : X) → i < length xs → slice_get (set xs i x) i ≡ Some x
+set_here xs i x h = slice_get-get_or (set xs i x) i x (omega (arith, h, length-set xs i x)) ∙ ap Some (get_or-set_same xs i x x h)
+
+set_elsewhere : {X : Type 0} (xs : List X) (i j : ℕ) (x : X) → j ≢ i → slice_get (set xs i x) j ≡ slice_get xs j
+set_elsewhere [] i j x h = refl
+set_elsewhere (y ∷ ys) zero zero x h = absurd (h refl)
+set_elsewhere (y ∷ ys) zero (suc j) x h = refl
+set_elsewhere (y ∷ ys) (suc i) zero x h = refl
+set_elsewhere (y ∷ ys) (suc i) (suc j) x h = set_elsewhere ys i j x (λ e. h (ap suc e))
+
+-- none is kept
+pub no_names : (P : ℕ → Option (List ℕ) → Type 0) (links : Links) (names : Names) → length names.by_number.items ≡ links.name_count → ((n number : ℕ) → slice_get names.by_number.items n ≡ Some (Some number) → ⊥) → AreNameNumbers P links names
+no_names P links names count none = record { count = count; each = λ i link number there is. absurd (none link.name_number number is) }
+
+-- links of one number have one name
+same_name : (count : ℕ) (links : List Link) (i j : ℕ) (a b : Link) → AreNamesNumbered count links → slice_get links i ≡ Some a → slice_get links j ≡ Some b → a.name_number ≡ b.name_number → (link_view a).name ≡ (link_view b).name
+same_name count links i j a b numbered at_a at_b same =
+    same_Some (link_view a).name (link_view b).name (sym (numbered.each i a at_a) ∙ (ap (λ n. slice_get numbered.names n) same ∙ numbered.each j b at_b))
+
+pub number_within : (links : Links) (i : ℕ) (link : Link) → AreNamesNumbered links.name_count links.links.items → slice_get links.links.items i ≡ Some link → link.name_number < links.name_count
+number_within links i link numbered there =
+    let w = slice_get_within numbered.names link.name_number (link_view link).name (numbered.each i link there) in let n = numbered.count_is in omega (arith, w, n)
+
+-- one more is kept
+pub names_more : (P Q : ℕ → Option (List ℕ) → Type 0) (links : Links) (names next : Names) (i number : ℕ) (link : Link) → AreNamesNumbered links.name_count links.links.items → StillTells P Q → AreNameNumbers P links names → slice_get links.links.items i ≡ Some link
+    → Q number (link_view link).name → next.by_number.items ≡ set names.by_number.items link.name_number (Some number) → AreNameNumbers Q links next
+names_more P Q links names next i number link numbered still are there tells wrote = record {
+  count = ap (λ (l : List (Option ℕ)). length l) wrote ∙ (length-set names.by_number.items link.name_number (Some number) ∙ are.count);
+  each = λ j other told at_j is.
+      let now : slice_get (set names.by_number.items link.name_number (Some number)) other.name_number ≡ Some (Some told) = ap (λ (l : List (Option ℕ)). slice_get l other.name_number) (sym wrote) ∙ is in
+      elim (cases_eq other.name_number link.name_number) [
+        | inl same ↦
+            let within : link.name_number < length names.by_number.items = let w = number_within links i link numbered there in let n = are.count in omega (arith, w, n) in
+            let here : slice_get (set names.by_number.items link.name_number (Some number)) other.name_number ≡ Some (Some number) =
+            ap (λ n. slice_get (set names.by_number.items link.name_number (Some number)) n) same ∙ set_here names.by_number.items link.name_number (Some number) within in
+            let equal : number ≡ told = cc (here, now) in
+            let name = same_name links.name_count links.links.items i j link other numbered there at_j (sym same) in
+            subst (λ n. Q n (link_view other).name) equal (subst (λ (n : Option (List ℕ)). Q number n) name tells)
+        | inr not ↦ still told (link_view other).name (are.each j other told at_j (sym (set_elsewhere names.by_number.items link.name_number other.name_number (Some number) not) ∙ now))
+      ];
+}
+
+-- ---- what is read
+
+pub link_read : (links : Links) (index : ℕ) (link : Link) → index < length links.links.items → link ≡ get_or links.links.items index link → slice_get links.links.items index ≡ Some link
+link_read links index link within is = slice_get_read links.links.items (length links.links.items) index link refl within is
+
+pub same_link : (P : ℕ → Option (List ℕ) → Type 0) (links : Links) (index number : ℕ) (link other : Link) → slice_get links.links.items index ≡ Some link → slice_get links.links.items index ≡ Some other → P number (link_view link).name → P number (link_view other).name
+same_link P links index number link other there at_other tells = subst (λ (l : Link). P number (link_view l).name) (same_Some link other (sym there ∙ at_other)) tells
+
+pub slot_within : (P : ℕ → Option (List ℕ) → Type 0) (links : Links) (names : Names) (index : ℕ) (link : Link) → AreNamesNumbered links.name_count links.links.items → AreNameNumbers P links names → slice_get links.links.items index ≡ Some link → link.name_number < length names.by_number.items
+slot_within P links names index link numbered are there = let w = number_within links index link numbered there in let n = are.count in omega (arith, w, n)
+
+pub known_name : (P : ℕ → Option (List ℕ) → Type 0) (links : Links) (names : Names) (index known : ℕ) (link : Link) (slot : Option ℕ) → AreNamesNumbered links.name_count links.links.items → AreNameNumbers P links names → slice_get links.links.items index ≡ Some link
+    → slot ≡ get_or names.by_number.items link.name_number slot → slot ≡ Some known → P known (link_view link).name
+known_name P links names index known link slot numbered are there read is =
+    let at_slot : slice_get names.by_number.items link.name_number ≡ Some slot = slice_get_read names.by_number.items (length names.by_number.items) link.name_number slot refl (slot_within P links names index link numbered are there) read in
+    are.each index link known there (at_slot ∙ ap (λ (s : Option ℕ). Some s) is)
+
+-- ---- the numbers that a taker gave to paths and links
 
 pub takes_nothing : (P Q R : List TurnRecord → Type 0) → Takes P Q [] → Takes Q R [] → Takes P R []
 takes_nothing P Q R first then = takes_more P Q R [] [] first then
@@ -56,8 +117,11 @@ module _ (P P' : ℕ → Option (List ℕ) → Type 0) (F F' : Option ℕ → Li
 
 -- ---- links
 
-pub link_there : (links : List Link) (i : ℕ) (link : Link) → i < length links → link ≡ get_or links i link → slice_get (links_view links) i ≡ Some (link_view link)
-link_there links i link within here = slice_get-map link_view links i ∙ ap (option_map link_view) (slice_get_read links (length links) i link refl within here)
+pub link_there : (links : List Link) (all : List Linked) (index : ℕ) (link : Link) → index ≡ length all
+    → length all < length links → link ≡ get_or links index link → slice_get (links_view links) (length all) ≡ Some (link_view link)
+link_there links all index link is within here =
+    slice_get-map link_view links (length all)
+    ∙ ap (option_map link_view) (slice_get_read links (length links) (length all) link refl within (here ∙ ap (λ n. get_or links n link) is))
 
 pub linked_at : (P : ℕ → Option (List ℕ) → Type 0) (F : Option ℕ → List FrameRecord → Type 0) (lines : LinesRecord) (links : List LinkRecord) (i : ℕ) (link : LinkRecord) (linked : Linked) → slice_get links i ≡ Some link
     → IsLinked P F lines links link linked → IsLinkedAt P F lines links i linked
@@ -94,10 +158,8 @@ frames_of_link lines links place number n link outer is at before are =
 
 pub frames_with_link : (lines : LinesRecord) (links : List LinkRecord) (row : Option Row) (number n : ℕ) (frames : List FrameRecord) → number ≡ suc n → AreFramesOfLink lines links (location_of_row row) number frames
     → AreFramesOfRowAndLink lines links row number frames
-frames_with_link lines links None number n frames is are =
-    subst (λ (m : ℕ). AreFramesOfRowAndLink lines links None m frames) (sym is) (subst (λ (m : ℕ). AreFramesOfLink lines links (location_of_row None) m frames) is are)
-frames_with_link lines links (Some row) number n frames is are =
-    subst (λ (m : ℕ). AreFramesOfRowAndLink lines links (Some row) m frames) (sym is) (subst (λ (m : ℕ). AreFramesOfLink lines links (location_of_row (Some row)) m frames) is are)
+frames_with_link lines links None number n frames is are = rw is (rw is at are)
+frames_with_link lines links (Some row) number n frames is are = rw is (rw is at are)
 
 pub frames_of_row_alone : (lines : LinesRecord) (links : List LinkRecord) (row : Option Row) (number : ℕ) → number ≡ 0 → AreFramesOfRowAndLink lines links row number (row_frames lines row)
 frames_of_row_alone lines links None number none = subst (λ (m : ℕ). AreFramesOfRowAndLink lines links None m []) (sym none) refl

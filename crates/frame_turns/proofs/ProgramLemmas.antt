@@ -1,15 +1,15 @@
 -- Units that are taken out one after another, and put in another order.
-use Rattle.std.proofs.Common.{◌≡◌, ◌≢◌, ℕ, ◌<◌, ◌==◌, ◌⊎◌, false, eqb, List, [], ◌∷◌, ◌++◌, length, get_or, Option, Some, None, refl, sym, ap, subst, ◌∙◌, inl, inr, arith}
-use Rattle.std.specs.Prelude.{◌↔◌}
-use Rattle.std.specs.List.{All, Contains, IsDistinct}
-use Rattle.std.specs.List.Sorted.{IsPermutation}
-use Rattle.std.specs.Ordering.{nat_cmp}
+use Rattle.std.proofs.Common.{◌≡◌, ◌≢◌, ℕ, ◌<◌, ◌==◌, ◌⊎◌, false, eqb, List, [], ◌∷◌, ◌++◌, length, get_or, Option, Some, None, refl, sym, ap, subst, ◌∙◌, inl}
+use Rattle.std.proofs.Common.{inr, arith, ◌↔◌, IsPermutation, nat_cmp}
+use Rattle.std.specs.List.{All, Contains}
 use Rattle.std.specs.BTreeMap as tree_map
 use Rattle.std.proofs.lemmas.Bool.{cases_Bool, eqb-true, eq-eqb}
+use Rattle.std.proofs.lemmas.Bool.Decides.{Decides-eqb, same_from_decides}
 use Rattle.std.proofs.lemmas.List.{get_or-map, map-append}
 use Rattle.std.proofs.lemmas.List.Elements.{All-get_or, All-push, Contains-append_cases, Contains-append_left, Contains-append_right}
 use Rattle.std.proofs.lemmas.List.Sorted.{All-permutation, Contains-permutation, IsPermutation-map}
-use Rattle.std.proofs.lemmas.Map.Keys.{IsDistinct-IsPermutation, IsDistinct-from_apart, apart_from_distinct}
+use Rattle.std.proofs.lemmas.Map.Keys.{IsDistinct-IsPermutation}
+use Rattle.std.proofs.lemmas.Map.Made.{AllPairs-from_IsDistinct, IsDistinct-from_AllPairs}
 use Rattle.std.proofs.lemmas.Option.{none-some}
 use Rattle.source_frames.specs.AddressFrames.{rows_of}
 use Rattle.source_frames.specs.DebugSections.{DebugSectionsRecord}
@@ -114,25 +114,13 @@ all_listed before now all none far = record {
   once = far.once;
 }
 
-apart_numbers : (xs : List ℕ) → AreDistinct xs → (i j d : ℕ) → i < j → j < length xs → eqb (get_or xs i d) (get_or xs j d) ≡ false
-apart_numbers xs once i j d less within = elim (cases_Bool (eqb (get_or xs i d) (get_or xs j d))) [
-  | inl t ↦ absurd (once i j d less within (eqb-true (get_or xs i d) (get_or xs j d) t))
-  | inr f ↦ f
-]
-
-flips : (x y : ℕ) → eqb x y ≡ eqb y x
-flips x y = elim (cases_Bool (eqb x y)) [
-  | inl t ↦ t ∙ sym (eq-eqb y x (sym (eqb-true x y t)))
-  | inr f ↦ elim (cases_Bool (eqb y x)) [
-    | inl t ↦ absurd (cc (f, eq-eqb x y (sym (eqb-true y x t))))
-    | inr g ↦ f ∙ sym g
-  ]
-]
-
 once_moved : (xs ys : List ℕ) → IsPermutation xs ys → AreDistinct xs → AreDistinct ys
-once_moved xs ys moved once i j d less within same =
-    let distinct : IsDistinct eqb ys = IsDistinct-IsPermutation eqb flips xs ys moved (IsDistinct-from_apart eqb xs (apart_numbers xs once)) in
-    cc (apart_from_distinct eqb ys i j d distinct less within, eq-eqb (get_or ys i d) (get_or ys j d) same)
+once_moved xs ys moved once =
+    AllPairs-from_IsDistinct {eq = eqb} Decides-eqb ys
+    (IsDistinct-IsPermutation eqb flips xs ys moved (IsDistinct-from_AllPairs {eq = eqb} Decides-eqb xs once))
+  where
+    flips : (x y : ℕ) → eqb x y ≡ eqb y x
+    flips x y = same_from_decides (eqb x y) (eqb y x) (Decides-eqb x y) (λ t. sym (eqb-true y x t), λ e. eq-eqb y x (sym e))
 
 pub in_order : (before now : tree_map.BTreeMap ℕ AddressList) (all sorted : List UnitBoundaries) → IsPermutation all sorted → ((place : ℕ) → at now place ≡ None) → AreListed before now all → AreBoundariesBy before sorted
 in_order before now all sorted moved none far =

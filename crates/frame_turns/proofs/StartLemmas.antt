@@ -1,6 +1,6 @@
 -- Steps that are gone over together.
-use Rattle.std.proofs.Common.{◌≡◌, ℕ, zero, suc, ◌+◌, ◌<◌, ◌≤◌, nat_lt, nat_le, true, false, List, [], ◌∷◌, length, get_or, slice_get, Option, Some, None, refl, sym, ap, subst, ◌∙◌, inl, inr, arith}
-use Rattle.std.specs.List.{Contains}
+use Rattle.std.proofs.Common.{◌≡◌, ℕ, zero, suc, ◌+◌, ◌<◌, ◌≤◌, nat_lt, nat_le, true, false, List, [], ◌∷◌, length, get_or, slice_get, Option, Some, None, refl}
+use Rattle.std.proofs.Common.{sym, ap, subst, ◌∙◌, inl, inr, arith, Contains}
 use Rattle.std.specs.List.Sorted.{IsPartitionedBy, IsPartitionPoint}
 use Rattle.std.proofs.lemmas.Bool.{cases_Bool, cases_eq, cases_lt, leb-true, leb-false, ltb-true, ltb-false}
 use Rattle.std.proofs.lemmas.Bool.Decides.{nat_tests}
@@ -114,52 +114,50 @@ not_before starts address count next a to is h above =
     let l = is.above at.0 at.1 at.2 in let e = at.3 in omega (arith, l, e)
 
 module _ (rows links : List ℕ) (row link address : ℕ) (rows_rise : AreRising rows) (links_rise : AreRising links) (rows_to : IsCountTo rows address row) (links_to : IsCountTo links address link) where
-  next_by : (next : ℕ) → address < next → IsStart rows links next → IsCountBelow rows next row → IsCountBelow links next link → IsNextStart rows links address row link (Some next)
-  next_by next above is r l = (
-    above,
-    is,
-    λ a h past. elim h [
-      | inl x ↦ not_before rows address row next a rows_to r x past
-      | inr x ↦ not_before links address link next a links_to l x past
-    ],
-    r,
-    l,
-  )
+  next_by : (next : ℕ) → address < next → IsStart rows links next
+      → ((first : ℕ) → Some first ≡ slice_get rows row → next ≤ first) → ((first : ℕ) → Some first ≡ slice_get links link → next ≤ first)
+      → IsNextStart rows links address row link (Some next)
+  next_by next above is upto_row upto_link =
+      let r = count_upto rows address row next rows_rise rows_to above upto_row in
+      let l = count_upto links address link next links_rise links_to above upto_link in (
+        above,
+        is,
+        λ a h past. elim h [
+          | inl x ↦ not_before rows address row next a rows_to r x past
+          | inr x ↦ not_before links address link next a links_to l x past
+        ],
+        r,
+        l,
+      )
+
+  -- the next start of rows, or of links, that the other ones do not stand before
+  next_row : (r : ℕ) → Some r ≡ slice_get rows row → ((first : ℕ) → Some first ≡ slice_get links link → r ≤ first)
+      → IsNextStart rows links address row link (Some r)
+  next_row r re upto =
+      let at = within_of rows row r re in
+      let above : address < r = omega (arith, rows_to.above row (omega arith) at.0, at.1) in
+      next_by r above (inl (row, at.0, get_or_default rows row r 0 at.0 ∙ at.1))
+      (λ first e. let s : first ≡ r = same_Some first r (e ∙ sym re) in omega (arith, s)) upto
+
+  next_link : (l : ℕ) → Some l ≡ slice_get links link → ((first : ℕ) → Some first ≡ slice_get rows row → l ≤ first)
+      → IsNextStart rows links address row link (Some l)
+  next_link l le upto =
+      let at = within_of links link l le in
+      let above : address < l = omega (arith, links_to.above link (omega arith) at.0, at.1) in
+      next_by l above (inr (link, at.0, get_or_default links link l 0 at.0 ∙ at.1)) upto
+      (λ first e. let s : first ≡ l = same_Some first l (e ∙ sym le) in omega (arith, s))
 
   of_both : (r l : Option ℕ) → r ≡ slice_get rows row → l ≡ slice_get links link → IsNextStart rows links address row link (least r l)
   of_both None None re le = λ a h. elim h [
     | inl x ↦ none_after rows address row a rows_to re x
     | inr x ↦ none_after links address link a links_to le x
   ]
-  of_both (Some r) None re le =
-      let at = within_of rows row r re in
-      let above : address < r = let u = rows_to.above row (omega arith) at.0 in let e = at.1 in omega (arith, u, e) in
-      next_by r above (inl (row, at.0, get_or_default rows row r 0 at.0 ∙ at.1))
-      (count_upto rows address row r rows_rise rows_to above (λ first e. let s : first ≡ r = same_Some first r (e ∙ sym re) in omega (arith, s)))
-      (count_upto links address link r links_rise links_to above (λ first e. absurd (none-some first (le ∙ sym e))))
-  of_both None (Some l) re le =
-      let at = within_of links link l le in
-      let above : address < l = let u = links_to.above link (omega arith) at.0 in let e = at.1 in omega (arith, u, e) in
-      next_by l above (inr (link, at.0, get_or_default links link l 0 at.0 ∙ at.1))
-      (count_upto rows address row l rows_rise rows_to above (λ first e. absurd (none-some first (re ∙ sym e))))
-      (count_upto links address link l links_rise links_to above (λ first e. let s : first ≡ l = same_Some first l (e ∙ sym le) in omega (arith, s)))
-  of_both (Some r) (Some l) re le =
-      let here = within_of rows row r re in
-      let there = within_of links link l le in
-      let high : address < r = let u = rows_to.above row (omega arith) here.0 in let e = here.1 in omega (arith, u, e) in
-      let above : address < l = let u = links_to.above link (omega arith) there.0 in let e = there.1 in omega (arith, u, e) in
-      elim (cases_Bool (nat_le r l)) [
-        | inl first ↦
-            let low = leb-true r l first in
-            rw first (next_by r high (inl (row, here.0, get_or_default rows row r 0 here.0 ∙ here.1))
-            (count_upto rows address row r rows_rise rows_to high (λ f e. let s : f ≡ r = same_Some f r (e ∙ sym re) in omega (arith, s)))
-            (count_upto links address link r links_rise links_to high (λ f e. let s : f ≡ l = same_Some f l (e ∙ sym le) in omega (arith, s, low))))
-        | inr not ↦
-            let low = leb-false r l not in
-            rw not (next_by l above (inr (link, there.0, get_or_default links link l 0 there.0 ∙ there.1))
-            (count_upto rows address row l rows_rise rows_to above (λ f e. let s : f ≡ r = same_Some f r (e ∙ sym re) in omega (arith, s, low)))
-            (count_upto links address link l links_rise links_to above (λ f e. let s : f ≡ l = same_Some f l (e ∙ sym le) in omega (arith, s))))
-      ]
+  of_both (Some r) None re le = next_row r re (λ first e. absurd (none-some first (le ∙ sym e)))
+  of_both None (Some l) re le = next_link l le (λ first e. absurd (none-some first (re ∙ sym e)))
+  of_both (Some r) (Some l) re le = elim (cases_Bool (nat_le r l)) [
+    | inl first ↦ rw first (next_row r re (λ f e. let s : f ≡ l = same_Some f l (e ∙ sym le) in omega (arith, s, leb-true r l first)))
+    | inr not ↦ rw not (next_link l le (λ f e. let s : f ≡ r = same_Some f r (e ∙ sym re) in omega (arith, s, leb-false r l not)))
+  ]
 
   pub next_is : (r l found : Option ℕ) → r ≡ slice_get rows row → l ≡ slice_get links link → found ≡ least r l → IsNextStart rows links address row link found
   next_is r l found re le e = subst (λ (o : Option ℕ). IsNextStart rows links address row link o) (sym e) (of_both r l re le)

@@ -1,7 +1,6 @@
 -- The turns of a unit are those from its boundaries on.
-use Rattle.std.proofs.Common.{◌≡◌, ℕ, zero, suc, ◌+◌, ◌<◌, ◌≤◌, ◌^◌, List, [], ◌∷◌, length, get_or, map, Option, Some, None, refl, sym, ap, subst, ◌∙◌, inl, inr, arith}
-use Rattle.std.specs.Prelude.{◌↔◌, flat_map, reverse}
-use Rattle.std.specs.List.{Contains}
+use Rattle.std.proofs.Common.{◌≡◌, ℕ, zero, suc, ◌+◌, ◌<◌, ◌≤◌, ◌^◌, List, [], ◌∷◌, length, get_or, map, Option, Some, None, refl, sym, ap, subst, ◌∙◌, inl}
+use Rattle.std.proofs.Common.{inr, arith, ◌↔◌, flat_map, reverse, Contains}
 use Rattle.std.proofs.lemmas.Bool.{cases_eq}
 use Rattle.std.proofs.lemmas.List.{get_or_default}
 use Rattle.std.proofs.lemmas.List.Elements.{All-weaker, Contains-append_cases, Contains-append_left, Contains-append_right}
@@ -24,11 +23,9 @@ use Rattle.frame_turns.specs.Between.{AreFramesAt, AreSteps, AreTurnsFrom, IsCou
 use Rattle.frame_turns.specs.Given.{AreTurnsIn, IsTurnWithFrames, TurnRecord}
 use Rattle.frame_turns.specs.Turns.{IsTurnBy, boundaries, ends_of, unit_turns}
 use Rattle.frame_turns.specs.UnitSteps.{AreUnitSteps, IsStep}
-use Rattle.frame_turns.proofs.FreeLemmas.{IsFree}
-use Rattle.frame_turns.proofs.OwnLemmas.{own_is, step_boundary, step_unit}
+use Rattle.frame_turns.proofs.StayLemmas.{IsFree, unit_stays}
+use Rattle.frame_turns.proofs.UnitStepLemmas.{own_is, step_boundary, step_unit, last_step, none_after_last}
 use Rattle.frame_turns.proofs.StartLemmas.{count_at_start, step_some}
-use Rattle.frame_turns.proofs.StayLemmas.{unit_stays}
-use Rattle.frame_turns.proofs.UnitStepLemmas.{last_step, none_after_last}
 
 -- the frames of a row and a link are those of the row and of the entries of the link
 frames_of_chain : (s : DebugSectionsRecord) (lines : LinesRecord) (unit : UnitRecord) (links : List LinkRecord) (row : Option Row) (number : ℕ) (entries : List EntryRecord) (frames : List FrameRecord)

@@ -1,8 +1,7 @@
 -- The turns of a unit between two boundaries, merged from the steps of its rows and of its links: the words of inner
 -- functions. No contract of a public one has them.
 use Rattle.std.specs.Prelude.{ℕ, List, ◌≡◌, ◌<◌, ◌≤◌, ◌^◌, ◌⊎◌, length, slice_index, nat_le, if◌then◌else◌}
-use Rattle.std.specs.Prelude.{Option, Some, None, IfSome, MatchOption}
-use Rattle.std.specs.List.{All, Contains}
+use Rattle.std.specs.Prelude.{Option, Some, None, IfSome, MatchOption, All, Contains}
 use Rattle.function_links.specs.Links.{AreFramesOfRowAndLink, LinkRecord}
 use Rattle.function_links.specs.LinkViews.{links_view}
 use Rattle.function_links.specs.declared.links.Links.{Links}

@@ -1,13 +1,11 @@
 -- Units in another order than that of their offsets, each with its boundaries: the words of inner functions. No
 -- contract of a public one has them.
-use Rattle.std.specs.Prelude.{ℕ, List, map, ◌↔◌, Option}
-use Rattle.std.specs.List.{All, Contains}
+use Rattle.std.specs.Prelude.{ℕ, List, map, ◌↔◌, Option, All, Contains, []}
 use Rattle.std.specs.BTreeMap as tree_map
 use Rattle.line_programs.specs.Header.{program_of}
 use Rattle.line_programs.specs.Machine.{initial, rows_from}
 use Rattle.line_programs.specs.declared.registers.Row.{Row}
 use Rattle.dwarf_numbers.specs.Units.{unit_of}
-use Rattle.std.specs.Prelude.{[]}
 use Rattle.std.specs.Option.{option_and_then, option_map_or}
 use Rattle.row_steps.specs.RowSteps.{AreRowSteps}
 use Rattle.source_frames.specs.DebugSections.{DebugSectionsRecord}
@@ -37,5 +35,4 @@ rows_at sections offset =
 
 -- the rows are those of the program
 abbrev pub AreRowsOfLast : DebugSectionsRecord → LastRows → Type 0
-AreRowsOfLast sections last =
-    AreRowSteps (rows_at sections last.program) last.rows.starts.items last.rows.rows.items
+AreRowsOfLast sections last = AreRowSteps (rows_at sections last.program) last.rows.starts.items last.rows.rows.items

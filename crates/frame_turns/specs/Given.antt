@@ -1,6 +1,5 @@
 -- The frames at the turns of an image, as they are given to a taker.
-use Rattle.std.specs.Prelude.{ℕ, List, [], ◌++◌, ◌≡◌, ◌<◌, length, map, slice_index_or, Option, Some}
-use Rattle.std.specs.List.{All, Contains}
+use Rattle.std.specs.Prelude.{ℕ, List, [], ◌++◌, ◌≡◌, ◌<◌, length, map, slice_index_or, Option, Some, All, Contains}
 use Rattle.source_frames.specs.AddressFrames.{AreFramesBy}
 use Rattle.source_frames.specs.DebugSections.{DebugSectionsRecord, debug_sections}
 use Rattle.source_frames.specs.Frames.{FrameRecord}

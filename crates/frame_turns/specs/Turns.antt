@@ -1,7 +1,6 @@
 -- The addresses at which the frames of an image may change.
-use Rattle.std.specs.Prelude.{ℕ, List, [], ◌∷◌, ◌++◌, ◌+◌, ◌^◌, ◌<◌, nat_lt, map, flat_map}
-use Rattle.std.specs.Prelude.{◌⊎◌, if◌then◌else◌}
-use Rattle.std.specs.List.{Contains}
+use Rattle.std.specs.Prelude.{ℕ, List, [], ◌∷◌, ◌++◌, ◌+◌, ◌^◌, ◌<◌, nat_lt, map, flat_map, ◌⊎◌, if◌then◌else◌}
+use Rattle.std.specs.Prelude.{Contains}
 use Rattle.dwarf_numbers.specs.Sequences.{placed}
 use Rattle.dwarf_numbers.specs.Units.{unit_at}
 use Rattle.code_ranges.specs.Aranges.{aranges_of}
@@ -50,8 +49,7 @@ IsUnitTurn sections address =
 
 -- an address at which the frames may change: the unit may, or the frames in the unit
 abbrev pub IsTurnBy : DebugSectionsRecord → ℕ → Type 0
-IsTurnBy sections address =
-    (address < 2 ^ 64) × (Contains (boundaries sections) address ⊎ IsUnitTurn sections address)
+IsTurnBy sections address = (address < 2 ^ 64) × (Contains (boundaries sections) address ⊎ IsUnitTurn sections address)
 
 -- an address at which the frames of an image may change
 abbrev pub IsTurn : List ℕ → ℕ → Type 0

@@ -1,6 +1,5 @@
 -- The units of the addresses of an image, from one boundary to the next.
-use Rattle.std.specs.Prelude.{ℕ, List, ◌≡◌, ◌<◌, ◌↔◌, length, slice_index, slice_index_or, Option, None}
-use Rattle.std.specs.List.{Contains}
+use Rattle.std.specs.Prelude.{ℕ, List, ◌≡◌, ◌<◌, ◌↔◌, length, slice_index, slice_index_or, Option, None, Contains}
 use Rattle.source_frames.specs.DebugSections.{DebugSectionsRecord}
 use Rattle.source_frames.specs.UnitAddresses.{AreUnitsOf}
 use Rattle.waiting_indexes.specs.Rising.{AreRising}

@@ -1,9 +1,9 @@
 -- What is kept of frames: each thing once, told by number.
-use Rattle.std.proofs.Common.{◌≡◌, ℕ, zero, suc, ◌<◌, ◌≤◌, ◌^◌, true, false, List, [], ◌∷◌, ◌++◌, map, length, slice_get, get_or, Option, Some, refl, sym, ap, ◌∙◌, inl, inr, arith, ◌⊎◌, subst}
-use Rattle.std.specs.Ordering.{is_eq}
-use Rattle.std.specs.declared.cmp.Ordering.{Ordering}
+use Rattle.std.proofs.Common.{◌≡◌, ℕ, zero, suc, ◌<◌, ◌≤◌, ◌^◌, true, false, List, [], ◌∷◌, ◌++◌, map, length, slice_get, get_or, Option, Some, refl, sym, ap}
+use Rattle.std.proofs.Common.{◌∙◌, inl, inr, arith, ◌⊎◌, subst, is_eq, Ordering, option_map}
 use Rattle.std.proofs.lemmas.Bool.{cases_eq}
-use Rattle.std.proofs.lemmas.List.{append-nil, append_assoc, get_or_append_left, get_or_push, length-append, length-map, length_push, map-append}
+use Rattle.std.proofs.lemmas.List.{append-nil, append_assoc, get_or-map, get_or_append_left, get_or_push, length-append, length-map, length_push, map-append}
+use Rattle.std.proofs.lemmas.Option.{get_or_from_slice_get, slice_get-get_or, slice_get-map, slice_get_within}
 use Rattle.line_programs.specs.Paths.{PathRecord}
 use Rattle.source_frames.specs.Frames.{FrameRecord}
 use Rattle.line_writing.specs.Kept.{KeptRecord, numbered_or, at_number, text_at, file_key_at, path_of_key, file_at, location_key_at, frame_of_key, callers_within, callers_of, chain_within, chain_at, IsFileKey, IsLocationKey, IsKept, IsNumberedIn, GoesOn, Grows, IsName, IsKeyOf, IsFile, IsLocation}
@@ -22,21 +22,6 @@ or_last : {A : Type 0} (xs : List A) (x d : A) (n : ℕ) → n ≡ suc (length x
 or_last xs x d zero e = absurd (omega (arith, e))
 or_last xs x d (suc i) e = get_or_push xs x d i (omega (arith, e))
 
-or_get : {A : Type 0} (xs : List A) (d x : A) (i : ℕ) → slice_get xs i ≡ Some x → (get_or xs i d ≡ x) × (i < length xs)
-or_get [] d x i e = cc e
-or_get (y ∷ ys) d x zero e = (cc e, omega arith)
-or_get (y ∷ ys) d x (suc i) e = let h = or_get ys d x i e in (h.0, omega (arith, h.1))
-
-slice_get-map : {A B : Type 0} (f : A → B) (xs : List A) (i : ℕ) (x : A) → slice_get xs i ≡ Some x → slice_get (map f xs) i ≡ Some (f x)
-slice_get-map f [] i x e = cc e
-slice_get-map f (y ∷ ys) zero x e = let same : y ≡ x = cc e in ap (λ z. Some (f z)) same
-slice_get-map f (y ∷ ys) (suc i) x e = slice_get-map f ys i x e
-
-slice_get-unmap : {A B : Type 0} (f : A → B) (xs : List A) (i : ℕ) → i < length xs → (x : A) × (slice_get xs i ≡ Some x)
-slice_get-unmap f [] i h = absurd (omega arith)
-slice_get-unmap f (y ∷ ys) zero h = (y, refl)
-slice_get-unmap f (y ∷ ys) (suc i) h = slice_get-unmap f ys i (omega arith)
-
 longer : {A : Type 0} (xs : List A) (x : A) → length (xs ++ x ∷ []) ≡ suc (length xs)
 longer xs x = omega (arith, length_push xs x)
 
@@ -45,11 +30,10 @@ module _ {K A : Type 0} (cmp : K → K → Ordering) (f : K → A) (exact : (a b
   pub told_by : (d : A) (old : List K) (key : K) (n : ℕ) (new : List K) → IsNumbered cmp old key n new → IsNumberedIn d (map f old) (f key) n (map f new)
   told_by d old key n new h =
       let there = h.there in
-      let at : slice_get (map f new) there.0 ≡ Some (f there.1) = slice_get-map f new there.0 there.1 there.3 in
-      let found = or_get (map f new) d (f there.1) there.0 at in
+      let at : slice_get (map f new) there.0 ≡ Some (f there.1) = slice_get-map f new there.0 ∙ ap (option_map f) there.3 in
       record {
-        is_number = record { some = omega (arith, there.2); within = omega (arith, there.2, found.1) };
-        is = ap (numbered_or (map f new) d) there.2 ∙ found.0 ∙ sym (exact key there.1 there.4);
+        is_number = record { some = omega (arith, there.2); within = omega (arith, there.2, slice_get_within (map f new) there.0 (f there.1) at) };
+        is = ap (numbered_or (map f new) d) there.2 ∙ get_or_from_slice_get (map f new) there.0 (f there.1) d at ∙ sym (exact key there.1 there.4);
         kept = elim h.kept [
           | inl e ↦ inl (ap (map f) e)
           | inr e ↦ inr (ap (map f) e.0 ∙ map-append f old (key ∷ []), other e.1)
@@ -59,12 +43,9 @@ module _ {K A : Type 0} (cmp : K → K → Ordering) (f : K → A) (exact : (a b
       other : ((i : ℕ) (k : K) → slice_get old i ≡ Some k → is_eq (cmp key k) ≡ false) → (m : ℕ) → IsNumber (length (map f old)) m → numbered_or (map f old) d m ≡ f key → ⊥
       other none zero is e = omega (arith, is.some)
       other none (suc i) is e =
-          let w = slice_get-unmap f old i (omega (arith, is.within, length-map old f)) in
-          let found = or_get (map f old) d (f w.0) i (slice_get-map f old i w.0 w.1) in
-          let alike : f key ≡ f w.0 = sym e ∙ found.0 in
-          let yes = same key w.0 alike in
-          let no = none i w.0 w.1 in
-          cc (yes, no)
+          let within : i < length old = omega (arith, is.within, length-map old f) in
+          let alike : f key ≡ f (get_or old i key) = sym e ∙ get_or-map f old i key d within in
+          cc (same key (get_or old i key) alike, none i (get_or old i key) (slice_get-get_or old i key within))
 
 -- ---- one thing more
 
@@ -212,44 +193,35 @@ module _ (k : KeptRecord) (kept : IsKept k) where
   caller_below : (i : ℕ) → suc i ≤ length k.locations → (location_key_at k (suc i)).caller ≤ i
   caller_below i within = omega (arith, (kept.each_location (suc i) (record { some = omega arith; within = within })).caller)
 
-  chain_rooms : (one two n : ℕ) → n ≤ one → n ≤ two → n ≤ length k.locations → chain_within k one n ≡ chain_within k two n
-  unfolding chain_within
-  chain_rooms zero zero zero a b within = refl
-  chain_rooms zero (suc two) zero a b within = refl
-  chain_rooms zero two (suc i) a b within = absurd (omega arith)
-  chain_rooms (suc one) zero zero a b within = refl
-  chain_rooms (suc one) (suc two) zero a b within = refl
-  chain_rooms (suc one) zero (suc i) a b within = absurd (omega arith)
-  chain_rooms (suc one) (suc two) (suc i) a b within =
-      let less : (location_key_at k (suc i)).caller ≤ i = caller_below i within in
-      ap (λ fs. frame_of_key k (location_key_at k (suc i)) ∷ fs)
-      (chain_rooms one two (location_key_at k (suc i)).caller (omega (arith, less, a)) (omega (arith, less, b)) (omega (arith, less, within)))
+  rooms : (one two n : ℕ) → n ≤ one → n ≤ two → n ≤ length k.locations
+      → (chain_within k one n ≡ chain_within k two n) × (callers_within k one n ≡ callers_within k two n)
+  unfolding chain_within callers_within
+  rooms zero zero zero a b within = (refl, refl)
+  rooms zero (suc two) zero a b within = (refl, refl)
+  rooms (suc one) zero zero a b within = (refl, refl)
+  rooms (suc one) (suc two) zero a b within = (refl, refl)
+  rooms zero two (suc i) a b within = absurd (omega arith)
+  rooms (suc one) zero (suc i) a b within = absurd (omega arith)
+  rooms (suc one) (suc two) (suc i) a b within =
+      let key : LocationKey = location_key_at k (suc i) in
+      let less : key.caller ≤ i = caller_below i within in
+      let rest = rooms one two key.caller (omega (arith, less, a)) (omega (arith, less, b)) (omega (arith, less, within)) in
+      (ap (λ fs. frame_of_key k key ∷ fs) rest.0, ap (λ ns. suc i ∷ ns) rest.1)
 
   -- a location has its frame, and then those of the one that it is inlined into
   pub chain_step : (i : ℕ) → suc i ≤ length k.locations → chain_at k (suc i) ≡ frame_of_key k (location_key_at k (suc i)) ∷ chain_at k (location_key_at k (suc i)).caller
   unfolding chain_at chain_within
   chain_step i within =
-      let less : (location_key_at k (suc i)).caller ≤ i = caller_below i within in
-      ap (λ fs. frame_of_key k (location_key_at k (suc i)) ∷ fs)
-      (chain_rooms i (location_key_at k (suc i)).caller (location_key_at k (suc i)).caller less (omega arith) (omega (arith, less, within)))
-
-  callers_rooms : (one two n : ℕ) → n ≤ one → n ≤ two → n ≤ length k.locations → callers_within k one n ≡ callers_within k two n
-  unfolding callers_within
-  callers_rooms zero zero zero a b within = refl
-  callers_rooms zero (suc two) zero a b within = refl
-  callers_rooms zero two (suc i) a b within = absurd (omega arith)
-  callers_rooms (suc one) zero zero a b within = refl
-  callers_rooms (suc one) (suc two) zero a b within = refl
-  callers_rooms (suc one) zero (suc i) a b within = absurd (omega arith)
-  callers_rooms (suc one) (suc two) (suc i) a b within =
-      let less : (location_key_at k (suc i)).caller ≤ i = caller_below i within in
-      ap (λ ns. suc i ∷ ns) (callers_rooms one two (location_key_at k (suc i)).caller (omega (arith, less, a)) (omega (arith, less, b)) (omega (arith, less, within)))
+      let key : LocationKey = location_key_at k (suc i) in
+      let less : key.caller ≤ i = caller_below i within in
+      ap (λ fs. frame_of_key k key ∷ fs) (rooms i key.caller key.caller less (omega arith) (omega (arith, less, within))).0
 
   pub callers_step : (i : ℕ) → suc i ≤ length k.locations → callers_of k (suc i) ≡ suc i ∷ callers_of k (location_key_at k (suc i)).caller
   unfolding callers_of callers_within
   callers_step i within =
-      let less : (location_key_at k (suc i)).caller ≤ i = caller_below i within in
-      ap (λ ns. suc i ∷ ns) (callers_rooms i (location_key_at k (suc i)).caller (location_key_at k (suc i)).caller less (omega arith) (omega (arith, less, within)))
+      let key : LocationKey = location_key_at k (suc i) in
+      let less : key.caller ≤ i = caller_below i within in
+      ap (λ ns. suc i ∷ ns) (rooms i key.caller key.caller less (omega arith) (omega (arith, less, within))).1
 
 pub chain_none : (k : KeptRecord) → chain_at k 0 ≡ []
 unfolding chain_at chain_within

@@ -1,14 +1,7 @@
-mod NumbersLemmas
-mod FirstUsesLemmas
 mod KeptLemmas
 mod KeyLemmas
-mod NumberedLemmas
-mod ApartLemmas
-mod PartLemmas
+mod FirstUsesLemmas
 mod LoopLemmas
-mod RowLemmas
-mod RunLemmas
-mod BytesLemmas
+mod PartLemmas
 mod StoreLemmas
 mod LeastLemmas
-mod AddedLemmas

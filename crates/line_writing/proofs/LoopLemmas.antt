@@ -1,30 +1,35 @@
 -- Steps of loops over numbers.
-use Rattle.std.proofs.Common.{◌≡◌, ◌≢◌, ℕ, zero, suc, ◌+◌, ◌-◌, ◌<◌, ◌≤◌, ◌^◌, nat_eq, nat_lt, ◌&&◌, Bool, true, false, cond, List, [], ◌∷◌, ◌++◌, map, length, flat_map, reverse, get_or, take, drop, slice_get, Some, refl, sym, ap, ◌∙◌, inl, inr, arith, subst, append_assoc}
-use Rattle.std.specs.Prelude.{All}
-use Rattle.std.proofs.lemmas.Bool.{cases_Bool, eqb-true, eq-eqb, ltb-true, ne_eqb}
-use Rattle.std.proofs.lemmas.List.{append-nil, at_drop_more, drop_all, flat_map_more, nil_from_length, reverse-append, take_more}
+use Rattle.std.proofs.Common.{◌≡◌, ◌≢◌, ℕ, zero, suc, ◌+◌, ◌-◌, ◌<◌, ◌≤◌, ◌^◌, nat_eq, nat_lt, ◌&&◌, Bool, true, false, cond, List, [], ◌∷◌, ◌++◌, map, length}
+use Rattle.std.proofs.Common.{flat_map, reverse, get_or, take, drop, slice_get, Some, refl, sym, ap, ◌∙◌, arith, subst, append_assoc, All, OnErr, Result, Ok}
+use Rattle.std.proofs.Common.{Err, option_map, not}
+use Rattle.std.specs.Int.{w32, w64, to_be_bytes}
+use Rattle.std.specs.List.{concat}
+use Rattle.std.proofs.lemmas.Bool.{and_parts, eq-eqb, false_from_ne_true, ltb-true, ne_eqb, not-false, not-true}
+use Rattle.std.proofs.lemmas.List.{append-nil, at_drop_more, drop_all, flat_map_more, nil_from_length, reverse-append, take_more, drop_more, length-append}
+use Rattle.std.proofs.lemmas.List.{take_all, map_more, at_drop_all, get_or-map, length-map}
 use Rattle.std.proofs.lemmas.List.Elements.{All-from_get_or}
-use Rattle.std.proofs.lemmas.List.Folds.{list_all-map, list_all_at}
-use Rattle.std.specs.Result.{OkIff, OnErr}
-use Rattle.std.specs.declared.result.Result.{Result}
-use Rattle.std.specs.declared.result.Result.TheVariants.{Ok, Err}
+use Rattle.std.proofs.lemmas.List.Folds.{concat-append, list_all-map, list_all_at}
+use Rattle.std.proofs.lemmas.Option.{get_or_from_slice_get, slice_get-map}
+pub use Rattle.std.proofs.lemmas.Result.{on_ok_weaker}
 use Rattle.source_frames.specs.Frames.{FrameRecord}
 use Rattle.source_frames.specs.FrameViews.{frame_view}
 use Rattle.source_frames.specs.declared.frame.Frame.{Frame}
-use Rattle.line_tables.specs.Numbering.{numbered_after, numbered_with}
-use Rattle.line_tables.proofs.NumberingLemmas.{IsExact, after-append}
+use Rattle.line_tables.specs.Numbering.{numbered_after, numbered_with, number_in}
+use Rattle.line_tables.proofs.NumberingLemmas.{after-append}
+use Rattle.line_tables.specs.LineText.{run_bytes, text_rows}
+use Rattle.line_tables.specs.Runs.{RunRecord, runs_after, go_on, upper_half}
 use Rattle.line_writing.specs.Kept.{KeptRecord, numbered_or, location_key_at, callers_of, IsKept, IsLocation, Grows}
 use Rattle.line_writing.specs.Lines.{have_few_lines}
 use Rattle.line_writing.specs.Numbering.{IsNumber}
-use Rattle.line_writing.specs.StepViews.{changed_after}
+use Rattle.line_writing.specs.StepViews.{changed_after, step_starts}
+use Rattle.line_writing.specs.PartBytes.{file_row, file_rows, location_row, location_rows, step_row, texts_at}
+use Rattle.line_writing.specs.WholeText.{head_of, text_of_parts}
 use Rattle.line_writing.specs.declared.keys.LocationKey.{LocationKey}
 use Rattle.line_writing.specs.declared.step.Step.{Step}
+use Rattle.line_writing.specs.declared.keys.FileKey.{FileKey}
 use Rattle.line_writing.proofs.KeptLemmas.{callers_none, callers_step, chain_none, stays}
-use Rattle.line_writing.proofs.NumberedLemmas.{at_each}
-use Rattle.line_writing.proofs.ApartLemmas.{callers_are}
-
-exact_numbers : IsExact nat_eq
-exact_numbers x y = (eqb-true x y, eq-eqb x y)
+use Rattle.line_writing.proofs.FirstUsesLemmas.{at_each, exact_numbers}
+use Rattle.line_writing.proofs.PartLemmas.{callers_are}
 
 -- nothing more
 pub after_none : (order : List ℕ) → order ≡ numbered_after nat_eq order []
@@ -86,12 +91,9 @@ callers_all k kept n count before numbers within none is same =
 
 pub told_at : {K A : Type 0} (f : K → A) (keys : List K) (d : A) (n : ℕ) (x : K) → 0 < n → slice_get keys (n - 1) ≡ Some x → f x ≡ numbered_or (map f keys) d n
 told_at f keys d zero x some e = absurd (omega arith)
-told_at f keys d (suc i) x some e = sym (found keys i (subst (λ j. slice_get keys j ≡ Some x) (omega arith) e))
-  where
-    found : (keys : List _) (i : ℕ) → slice_get keys i ≡ Some x → get_or (map f keys) i d ≡ f x
-    found [] i e = cc e
-    found (y ∷ keys) zero e = let same : y ≡ x = cc e in ap f same
-    found (y ∷ keys) (suc i) e = found keys i e
+told_at f keys d (suc i) x some e =
+    let here : slice_get keys i ≡ Some x = subst (λ j. slice_get keys j ≡ Some x) (omega arith) e in
+    sym (get_or_from_slice_get (map f keys) i (f x) d (slice_get-map f keys i ∙ ap (option_map f) here))
 
 -- ---- frames
 
@@ -131,34 +133,172 @@ pub callers_here : (before numbers callers : List ℕ) → before ≡ [] → num
 callers_here before numbers callers none is = is ∙ ap (λ l. l ++ callers) none
 
 -- frames that are too wide
-not_below : (a b : ℕ) → (a < b → ⊥) → nat_lt a b ≡ false
-not_below a b h = elim (cases_Bool (nat_lt a b)) [
-  | inl t ↦ absurd (h (ltb-true a b t))
-  | inr f ↦ f
-]
-
-and_false : (b : Bool) → (b && false) ≡ false
-and_false true = refl
-and_false false = refl
-
-pub err_not : {E : Type 0} (r : Result ℕ E) (P : Type 0) (v : ℕ) (e : E) → OkIff r P v → r ≡ Err e → P → ⊥
-err_not (Ok x) P v e h is p = cc is
-err_not (Err x) P v e h is p = h p
-
-pub wide_line : (frames : List Frame) (i : ℕ) (d : Frame) → i < length frames → ((get_or frames i d).line < 2 ^ 32 → ⊥) → have_few_lines (map (λ f. frame_view f) frames) ≡ false
-wide_line frames i d less wide =
-    let no : nat_lt (get_or frames i d).line (2 ^ 32) ≡ false = not_below (get_or frames i d).line (2 ^ 32) wide in
+pub wide : (frames : List Frame) (i : ℕ) (d : Frame) → i < length frames → ((get_or frames i d).line < 2 ^ 32 → (get_or frames i d).column < 2 ^ 32 → ⊥)
+    → have_few_lines (map (λ f. frame_view f) frames) ≡ false
+wide frames i d less none =
+    let few : Frame → Bool = λ f. nat_lt f.line (2 ^ 32) && nat_lt f.column (2 ^ 32) in
     list_all-map (λ (f : FrameRecord). nat_lt f.line (2 ^ 32) && nat_lt f.column (2 ^ 32)) (λ (f : Frame). frame_view f) frames
-    ∙ list_all_at (λ (f : Frame). nat_lt f.line (2 ^ 32) && nat_lt f.column (2 ^ 32)) frames i d less (ap (λ b. b && nat_lt (get_or frames i d).column (2 ^ 32)) no)
-
-pub wide_column : (frames : List Frame) (i : ℕ) (d : Frame) → i < length frames → ((get_or frames i d).column < 2 ^ 32 → ⊥) → have_few_lines (map (λ f. frame_view f) frames) ≡ false
-wide_column frames i d less wide =
-    let no : nat_lt (get_or frames i d).column (2 ^ 32) ≡ false = not_below (get_or frames i d).column (2 ^ 32) wide in
-    list_all-map (λ (f : FrameRecord). nat_lt f.line (2 ^ 32) && nat_lt f.column (2 ^ 32)) (λ (f : Frame). frame_view f) frames
-    ∙ list_all_at (λ (f : Frame). nat_lt f.line (2 ^ 32) && nat_lt f.column (2 ^ 32)) frames i d less (ap (λ b. nat_lt (get_or frames i d).line (2 ^ 32) && b) no ∙ and_false (nat_lt (get_or frames i d).line (2 ^ 32)))
+    ∙ list_all_at few frames i d less (false_from_ne_true (few (get_or frames i d)) (λ t.
+    let both = and_parts (nat_lt (get_or frames i d).line (2 ^ 32)) (nat_lt (get_or frames i d).column (2 ^ 32)) t in
+    none (ltb-true (get_or frames i d).line (2 ^ 32) both.0) (ltb-true (get_or frames i d).column (2 ^ 32) both.1)))
 
 -- ---- by what a call gave
 
 pub on_err_any : {T E : Type 0} (r : Result T E) (Q : Type 0) → Q → OnErr r Q
 on_err_any (Ok x) Q q = tt
 on_err_any (Err e) Q q = q
+
+-- ---- bytes, one part after another
+
+-- rows of one more
+pub rows_more : {X : Type 0} (f : X → List ℕ) (xs : List X) (i : ℕ) (d : X) (old now next : List ℕ) → i < length xs → next ≡ now ++ f (get_or xs i d) → now ≡ old ++ flat_map f (take i xs) → next ≡ old ++ flat_map f (take (i + 1) xs)
+rows_more f xs i d old now next less step before =
+    step ∙ ap (λ l. l ++ f (get_or xs i d)) before ∙ flat_map_more f old (take i xs) (get_or xs i d) ∙ ap (λ l. old ++ flat_map f l) (sym (take_more xs i d less))
+
+pub two_parts : (old one two a b : List ℕ) → one ≡ old ++ a → two ≡ one ++ b → two ≡ old ++ (a ++ b)
+two_parts old one two a b p q = q ∙ ap (λ l. l ++ b) p ∙ append_assoc old a b
+
+-- ---- texts
+
+pub concat_more : (f : ℕ → List ℕ) (xs : List ℕ) (i : ℕ) → i < length xs → concat (map f (take (i + 1) xs)) ≡ concat (map f (take i xs)) ++ f (get_or xs i 0)
+concat_more f xs i less =
+    ap concat (map_more f xs i 0 less) ∙ concat-append (map f (take i xs)) (f (get_or xs i 0) ∷ [])
+    ∙ ap (λ l. concat (map f (take i xs)) ++ l) (append-nil (f (get_or xs i 0)))
+
+pub concat_front : (f : ℕ → List ℕ) (n : ℕ) (xs : List ℕ) → length (concat (map f (take n xs))) ≤ length (concat (map f xs))
+concat_front f zero xs = omega arith
+concat_front f (suc n) [] = omega arith
+concat_front f (suc n) (x ∷ xs) = omega (arith, concat_front f n xs, length-append (f x) (concat (map f (take n xs))), length-append (f x) (concat (map f xs)))
+
+pub rest_is : (f : ℕ → List ℕ) (xs : List ℕ) (i : ℕ) → i < length xs → map f (drop i xs) ≡ f (get_or xs i 0) ∷ map f (drop (i + 1) xs)
+rest_is f xs i less = ap (map f) (drop_more xs i 0 less)
+
+pub rest_long : (f : ℕ → List ℕ) (xs : List ℕ) (i : ℕ) → i < length xs → length (concat (map f (drop i xs))) ≡ length (f (get_or xs i 0)) + length (concat (map f (drop (i + 1) xs)))
+rest_long f xs i less = ap (λ (ts : List (List ℕ)). length (concat ts)) (rest_is f xs i less) ∙ length-append (f (get_or xs i 0)) (concat (map f (drop (i + 1) xs)))
+
+-- the row of one more text
+pub text_row_next : (f : ℕ → List ℕ) (xs : List ℕ) (i place len next : ℕ) (now one two whole : List ℕ) → i < length xs → len ≡ length (f (get_or xs i 0)) → next ≡ place + len → one ≡ now ++ to_be_bytes w32 place → two ≡ one ++ to_be_bytes w32 len
+    → now ++ text_rows place (map f (drop i xs)) ≡ whole → two ++ text_rows next (map f (drop (i + 1) xs)) ≡ whole
+unfolding text_rows
+text_row_next f xs i place len next now one two whole less is_len is_next first second e =
+    let rest : List (List ℕ) = map f (drop (i + 1) xs) in
+    let row : List ℕ = to_be_bytes w32 place ++ to_be_bytes w32 len in
+    (λ j. two_parts now one two (to_be_bytes w32 place) (to_be_bytes w32 len) first second j ++ text_rows (is_next j) rest)
+    ∙ append_assoc now row (text_rows (place + len) rest)
+    ∙ ap (λ n. now ++ ((to_be_bytes w32 place ++ to_be_bytes w32 n) ++ text_rows (place + n) rest)) is_len
+    ∙ ap (λ ts. now ++ text_rows place ts) (sym (rest_is f xs i less))
+    ∙ e
+
+pub text_rows_end : (f : ℕ → List ℕ) (xs : List ℕ) (i place : ℕ) (now whole : List ℕ) → length xs ≤ i → now ++ text_rows place (map f (drop i xs)) ≡ whole → now ≡ whole
+unfolding text_rows
+text_rows_end f xs i place now whole past e = sym (append-nil now) ∙ ap (λ l. now ++ text_rows place (map f l)) (sym (drop_all i xs past)) ∙ e
+
+-- one more text
+pub text_next : (f : ℕ → List ℕ) (xs : List ℕ) (i : ℕ) (now next whole : List ℕ) → i < length xs → next ≡ now ++ f (get_or xs i 0) → now ++ concat (map f (drop i xs)) ≡ whole → next ++ concat (map f (drop (i + 1) xs)) ≡ whole
+text_next f xs i now next whole less step e =
+    ap (λ l. l ++ concat (map f (drop (i + 1) xs))) step ∙ append_assoc now (f (get_or xs i 0)) (concat (map f (drop (i + 1) xs)))
+    ∙ ap (λ ts. now ++ concat ts) (sym (rest_is f xs i less)) ∙ e
+
+pub texts_end : (f : ℕ → List ℕ) (xs : List ℕ) (i : ℕ) (now whole : List ℕ) → length xs ≤ i → now ++ concat (map f (drop i xs)) ≡ whole → now ≡ whole
+texts_end f xs i now whole past e = sym (append-nil now) ∙ ap (λ l. now ++ concat (map f l)) (sym (drop_all i xs past)) ∙ e
+
+pub rows_end : {X : Type 0} (f : X → List ℕ) (xs : List X) (i : ℕ) (old now : List ℕ) → length xs ≤ i → now ≡ old ++ flat_map f (take i xs) → now ≡ old ++ flat_map f xs
+rows_end f xs i old now past e = e ∙ ap (λ l. old ++ flat_map f l) (take_all i xs past)
+
+-- the rows of a file and of a location
+pub file_pushed : (texts : List ℕ) (key of : FileKey) (a b c : ℕ) (old one two three : List ℕ) → key ≡ of → a ≡ number_in nat_eq texts key.base → b ≡ number_in nat_eq texts key.directory → c ≡ number_in nat_eq texts key.name
+    → one ≡ old ++ to_be_bytes w32 a → two ≡ one ++ to_be_bytes w32 b → three ≡ two ++ to_be_bytes w32 c → three ≡ old ++ file_row texts of
+unfolding file_row
+file_pushed texts key of a b c old one two three is p q r x y z = simp (z, y, x, p, q, r, is, append_assoc)
+
+pub location_pushed : (locations files texts : List ℕ) (key of : LocationKey) (a b c : ℕ) (old one two three four five : List ℕ) → key ≡ of → a ≡ number_in nat_eq texts key.name → b ≡ number_in nat_eq files key.file → c ≡ number_in nat_eq locations key.caller
+    → one ≡ old ++ to_be_bytes w32 a → two ≡ one ++ to_be_bytes w32 b → three ≡ two ++ to_be_bytes w32 key.line → four ≡ three ++ to_be_bytes w32 key.column → five ≡ four ++ to_be_bytes w32 c
+    → five ≡ old ++ location_row locations files texts of
+unfolding location_row
+location_pushed locations files texts key of a b c old one two three four five is p q r v w x y z = simp (z, y, x, w, v, p, q, r, is, append_assoc)
+
+-- the head of a table
+pub head_pushed : (runs steps locations files texts bytes : ℕ) (old a b c d e f h : List ℕ) → a ≡ old ++ to_be_bytes w64 1 → b ≡ a ++ to_be_bytes w64 runs → c ≡ b ++ to_be_bytes w64 steps → d ≡ c ++ to_be_bytes w64 locations → e ≡ d ++ to_be_bytes w64 files → f ≡ e ++ to_be_bytes w64 texts → h ≡ f ++ to_be_bytes w64 bytes
+    → h ≡ old ++ head_of runs steps locations files texts bytes
+unfolding head_of
+head_pushed runs steps locations files texts bytes old a b c d e f h p q r s t u v = simp (v, u, t, s, r, q, p, append_assoc)
+
+-- all of a table
+pub all_pushed : (k : KeptRecord) (steps : List Step) (locations files texts : List ℕ) (len : ℕ) (old a b c d e f h : List ℕ) → len ≡ length (concat (texts_at k texts)) → old ≡ []
+    → a ≡ old ++ head_of (length (runs_after 0 (step_starts steps))) (length steps) (length locations) (length files) (length texts) len → b ≡ a ++ flat_map run_bytes (runs_after 0 (step_starts steps)) → c ≡ b ++ flat_map (step_row locations) steps
+    → d ≡ c ++ location_rows k locations files texts locations → e ≡ d ++ file_rows k texts files → f ≡ e ++ text_rows 0 (texts_at k texts) → h ≡ f ++ concat (texts_at k texts) → h ≡ text_of_parts k steps locations files texts
+unfolding text_of_parts
+all_pushed k steps locations files texts len old a b c d e f h is none p q r s t u v = simp (v, u, t, s, r, q, p, none, is, append_assoc)
+
+-- texts that are too long
+pub too_much : (f : ℕ → List ℕ) (xs : List ℕ) (i left most len : ℕ) → i < length xs → left + length (concat (map f (take i xs))) ≡ most → len ≡ length (f (get_or xs i 0)) → (len ≤ left → ⊥) → most < length (concat (map f xs))
+too_much f xs i left most len less so_far is more =
+    omega (arith, so_far, is, more, concat_front f (i + 1) xs, ap length (concat_more f xs i less), length-append (concat (map f (take i xs))) (f (get_or xs i 0)))
+
+pub left_more : (f : ℕ → List ℕ) (xs : List ℕ) (i left most len next : ℕ) → i < length xs → left + length (concat (map f (take i xs))) ≡ most → len ≡ length (f (get_or xs i 0)) → next + len ≡ left → next + length (concat (map f (take (i + 1) xs))) ≡ most
+left_more f xs i left most len next less so_far is e =
+    omega (arith, so_far, is, e, ap length (concat_more f xs i less), length-append (concat (map f (take i xs))) (f (get_or xs i 0)))
+
+-- ---- the runs of steps, one step after another
+
+pub starts_long : (steps : List Step) → length (step_starts steps) ≡ length steps
+starts_long steps = length-map steps (λ (s : Step). s.start)
+
+pub start_at : (steps : List Step) (i : ℕ) (d : Step) → i < length steps → get_or (step_starts steps) i 0 ≡ (get_or steps i d).start
+start_at steps i d l = get_or-map (λ (s : Step). s.start) steps i d 0 l
+
+-- whether the starts from an index on go on
+go_on_at : (starts : List ℕ) (i upper : ℕ) → i < length starts → go_on upper (drop i starts) ≡ nat_eq (upper_half (get_or starts i 0)) upper
+unfolding go_on
+go_on_at starts i upper l = at_drop_more (go_on upper) starts i 0 l
+
+pub ends_some : (steps : List Step) (i : ℕ) (next d : Step) (a b : ℕ) → i + 1 < length steps → next ≡ get_or steps (i + 1) next → a ≡ upper_half next.start → b ≡ upper_half (get_or steps i d).start
+    → not (nat_eq a b) ≡ not (go_on (upper_half (get_or (step_starts steps) i 0)) (drop (i + 1) (step_starts steps)))
+ends_some steps i next d a b within is one other =
+    let there : get_or (step_starts steps) (i + 1) 0 ≡ next.start = start_at steps (i + 1) next within ∙ ap (λ (s : Step). s.start) (sym is) in
+    let x : a ≡ upper_half (get_or (step_starts steps) (i + 1) 0) = one ∙ ap upper_half (sym there) in
+    let y : b ≡ upper_half (get_or (step_starts steps) i 0) = other ∙ ap upper_half (sym (start_at steps i d (omega (arith, within)))) in
+    (λ j. not (nat_eq (x j) (y j))) ∙ ap not (sym (go_on_at (step_starts steps) (i + 1) (upper_half (get_or (step_starts steps) i 0)) (omega (arith, within, starts_long steps))))
+
+-- the runs from an index on, after the step there
+pub runs_join : (starts : List ℕ) (i : ℕ) → i < length starts → not (go_on (upper_half (get_or starts i 0)) (drop (i + 1) starts)) ≡ false → runs_after i (drop i starts) ≡ runs_after (i + 1) (drop (i + 1) starts)
+unfolding runs_after
+runs_join starts i l e =
+    let rest : List RunRecord = runs_after (i + 1) (drop (i + 1) starts) in
+    at_drop_more (runs_after i) starts i 0 l ∙ ap (λ b. cond b rest (record { upper = upper_half (get_or starts i 0); steps = i + 1 } ∷ rest)) (not-false (go_on (upper_half (get_or starts i 0)) (drop (i + 1) starts)) e)
+
+pub runs_end : (starts : List ℕ) (i : ℕ) → i < length starts → not (go_on (upper_half (get_or starts i 0)) (drop (i + 1) starts)) ≡ true
+    → runs_after i (drop i starts) ≡ record { upper = upper_half (get_or starts i 0); steps = i + 1 } ∷ runs_after (i + 1) (drop (i + 1) starts)
+unfolding runs_after
+runs_end starts i l e =
+    let rest : List RunRecord = runs_after (i + 1) (drop (i + 1) starts) in
+    at_drop_more (runs_after i) starts i 0 l ∙ ap (λ b. cond b rest (record { upper = upper_half (get_or starts i 0); steps = i + 1 } ∷ rest)) (not-true (go_on (upper_half (get_or starts i 0)) (drop (i + 1) starts)) e)
+
+pub runs_none : (starts : List ℕ) (i : ℕ) → length starts ≤ i → runs_after i (drop i starts) ≡ []
+unfolding runs_after
+runs_none starts i past = at_drop_all (runs_after i) starts i past
+
+-- ---- counted
+
+pub counted_end : (starts : List ℕ) (i count whole : ℕ) → i < length starts → not (go_on (upper_half (get_or starts i 0)) (drop (i + 1) starts)) ≡ true → count + length (runs_after i (drop i starts)) ≡ whole
+    → count + 1 + length (runs_after (i + 1) (drop (i + 1) starts)) ≡ whole
+counted_end starts i count whole l e is = omega (arith, is, ap length (runs_end starts i l e))
+
+pub counted_join : (starts : List ℕ) (i count whole : ℕ) → i < length starts → not (go_on (upper_half (get_or starts i 0)) (drop (i + 1) starts)) ≡ false → count + length (runs_after i (drop i starts)) ≡ whole
+    → count + length (runs_after (i + 1) (drop (i + 1) starts)) ≡ whole
+counted_join starts i count whole l e is = omega (arith, is, ap length (runs_join starts i l e))
+
+-- ---- written
+
+pub run_pushed : (starts : List ℕ) (i a b : ℕ) (old one two : List ℕ) → i < length starts → not (go_on (upper_half (get_or starts i 0)) (drop (i + 1) starts)) ≡ true → a ≡ upper_half (get_or starts i 0) → b ≡ i + 1
+    → one ≡ old ++ to_be_bytes w32 a → two ≡ one ++ to_be_bytes w32 b → two ++ flat_map run_bytes (runs_after (i + 1) (drop (i + 1) starts)) ≡ old ++ flat_map run_bytes (runs_after i (drop i starts))
+unfolding run_bytes
+run_pushed starts i a b old one two l e upper count p q =
+    let rest : List ℕ = flat_map run_bytes (runs_after (i + 1) (drop (i + 1) starts)) in
+    let high : List ℕ = to_be_bytes w32 (upper_half (get_or starts i 0)) in
+    let low : List ℕ = to_be_bytes w32 (i + 1) in
+    ap (λ l. l ++ rest) (two_parts old one two high low (p ∙ ap (λ n. old ++ to_be_bytes w32 n) upper) (q ∙ ap (λ n. one ++ to_be_bytes w32 n) count))
+    ∙ append_assoc old (high ++ low) rest ∙ ap (λ rs. old ++ flat_map run_bytes rs) (sym (runs_end starts i l e))
+
+pub runs_pushed : (starts : List ℕ) (i : ℕ) (now whole : List ℕ) → length starts ≤ i → now ++ flat_map run_bytes (runs_after i (drop i starts)) ≡ whole → now ≡ whole
+runs_pushed starts i now whole past e = sym (append-nil now) ∙ ap (λ rs. now ++ flat_map run_bytes rs) (sym (runs_none starts i past)) ∙ e

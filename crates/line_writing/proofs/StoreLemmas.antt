@@ -17,8 +17,8 @@ use Rattle.line_writing.specs.StepViews.{HaveLocations, changed_after, step_of}
 use Rattle.line_writing.specs.StoreViews.{taken_steps}
 use Rattle.line_writing.specs.declared.step.Step.{Step}
 use Rattle.line_writing.proofs.KeptLemmas.{chain_none, chain_same, location_stays, name_stays, path_stays}
-use Rattle.line_writing.proofs.NumberedLemmas.{told_same}
-use Rattle.line_writing.proofs.ApartLemmas.{chain_apart}
+use Rattle.line_writing.proofs.FirstUsesLemmas.{told_same}
+use Rattle.line_writing.proofs.PartLemmas.{chain_apart}
 
 -- ---- what is kept grows
 

@@ -33,8 +33,7 @@ file_key_at k number = numbered_or k.files (record { base = 0; directory = 0; na
 
 -- the path that a key tells of
 abbrev pub path_of_key : KeptRecord → FileKey → PathRecord
-path_of_key k key =
-    record { base = text_at k key.base; directory = text_at k key.directory; name = text_at k key.name }
+path_of_key k key = record { base = text_at k key.base; directory = text_at k key.directory; name = text_at k key.name }
 
 -- the path of the file of a number
 abbrev pub file_at : KeptRecord → ℕ → PathRecord
@@ -59,8 +58,7 @@ frame_of_key k key =
 unfoldable pub callers_within : KeptRecord → ℕ → ℕ → List ℕ
 callers_within k zero number = []
 callers_within k (suc room) zero = []
-callers_within k (suc room) (suc index) =
-    suc index ∷ callers_within k room (location_key_at k (suc index)).caller
+callers_within k (suc room) (suc index) = suc index ∷ callers_within k room (location_key_at k (suc index)).caller
 
 -- the numbers of a location and of those that it is inlined into, the innermost first
 unfoldable pub callers_of : KeptRecord → ℕ → List ℕ

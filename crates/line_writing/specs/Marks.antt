@@ -1,6 +1,5 @@
 -- The mark of a text, by which texts are told apart before their bytes.
-use Rattle.std.specs.Prelude.{ℕ, List, ◌+◌, ◌*◌, ◌%◌, ◌^◌}
-use Rattle.std.specs.List.{fold}
+use Rattle.std.specs.Prelude.{ℕ, List, ◌+◌, ◌*◌, ◌%◌, ◌^◌, fold}
 
 -- the mark of a text that has one byte more
 abbrev pub mark_with : ℕ → ℕ → ℕ

@@ -1,6 +1,4 @@
-use Rattle.std.proofs.Common.{ℕ, Some, None}
-use Rattle.std.specs.Prelude.{◌↔◌}
-use Rattle.std.specs.List.{Contains}
+use Rattle.std.proofs.Common.{ℕ, Some, None, ◌↔◌, Contains}
 use Rattle.frame_turns.specs.ByUnit.{addresses_under}
 use Rattle.frame_turns.specs.UnitSteps.{IsStepWithin}
 use Rattle.frame_turns.proofs.by_unit.by_unit.Given as goal

@@ -8,8 +8,7 @@ use Rattle.source_frames.specs.UnitLines.{LinesRecord}
 use Rattle.frame_turns.specs.UnitNumbers.{AreLinked}
 use Rattle.frame_turns.specs.declared.numbers.Linked.{Linked}
 use Rattle.frame_turns.proofs.GivenLemmas.{takes_none}
-use Rattle.frame_turns.proofs.NameLemmas.{no_names}
-use Rattle.frame_turns.proofs.NumberLemmas.{takes_nothing}
+use Rattle.frame_turns.proofs.NumberLemmas.{no_names, takes_nothing}
 use Rattle.frame_turns.proofs.numbers.all_linked.Goals as goal
 
 none_linked : (P : ℕ → Option (List ℕ) → Type 0) (F : Option ℕ → List FrameRecord → Type 0) (lines : LinesRecord) (links : List LinkRecord) (all : List Linked) → all ≡ [] → AreLinked P F lines links (length all) all

@@ -1,4 +1,4 @@
-use Rattle.std.proofs.Common.{◌≡◌, ◌≤◌, ◌<◌, ◌-◌, ◌∙◌, [], ℕ, suc, List, ap, get_or, length, refl, sym, subst, arith}
+use Rattle.std.proofs.Common.{◌≡◌, ◌≤◌, ◌<◌, ◌-◌, [], suc, List, length, refl, sym, subst, arith}
 use Rattle.std.proofs.lemmas.Option.{slice_get_read}
 use Rattle.function_links.specs.LinkViews.{link_view, links_view}
 use Rattle.source_frames.specs.FrameViews.{lines_view}
@@ -18,8 +18,7 @@ returns-then-link-eq0-clause-linked g c =
     let all : List Linked = c.args.all.now.items in
     let next : Linked = record { name = c.in_ok-name.name; callers = c.no_frames-callers.result } in
     let count : c.len-index.result ≡ length all = omega (arith, c.len-index.ensures, c.args.all.now.ok.0) in
-    let linked_here : link ≡ get_or c.args.links.now.links.items (length all) link = c.index-link.ensures ∙ ap (λ (n : ℕ). get_or c.args.links.now.links.items n link) count in
-    let there = link_there c.args.links.now.links.items (length all) link c.requires.within linked_here in
+    let there = link_there c.args.links.now.links.items all c.len-index.result link count c.requires.within c.index-link.ensures in
     let told = c.in_ok-name.ensures.is link (slice_get_read c.args.links.now.links.items (length c.args.links.now.links.items) c.len-index.result link refl (omega (arith, count, c.requires.within)) c.index-link.ensures) in
     let is = linked_at N F lines links (length all) (link_view link) next there (record { name = told; outer = []; are_outer = c.if-link-eq0.true; callers = c.no_frames-callers.ensures }) in
     let before = linked_still (g.T.FrameTaker.tells_name c.args.taker.now) N (g.T.FrameTaker.tells_frames c.args.taker.now) F c.name_of.ensures.names c.name_of.ensures.frames lines links (length all) all c.requires.linked in
@@ -30,8 +29,7 @@ index-outer-requires g c =
     let link = c.index-link.result.now in
     let all : List Linked = c.args.all.now.items in
     let count : c.len-index.result ≡ length all = omega (arith, c.len-index.ensures, c.args.all.now.ok.0) in
-    let linked_here : link ≡ get_or c.args.links.now.links.items (length all) link = c.index-link.ensures ∙ ap (λ (n : ℕ). get_or c.args.links.now.links.items n link) count in
-    let there = link_there c.args.links.now.links.items (length all) link c.requires.within linked_here in
+    let there = link_there c.args.links.now.links.items all c.len-index.result link count c.requires.within c.index-link.ensures in
     let low : link.caller ≤ length all = c.requires.callers (length all) (link_view link) there in
     omega (arith, low, c.if-link-eq0.false, c.args.all.now.ok.0)
 
@@ -41,22 +39,15 @@ frames-requires g c = λ κs.
     let link = c.index-link.result.now in
     let all : List Linked = c.args.all.now.items in
     let count : c.len-index.result ≡ length all = omega (arith, c.len-index.ensures, c.args.all.now.ok.0) in
-    let linked_here : link ≡ get_or c.args.links.now.links.items (length all) link = c.index-link.ensures ∙ ap (λ (n : ℕ). get_or c.args.links.now.links.items n link) count in
-    let there = link_there c.args.links.now.links.items (length all) link c.requires.within linked_here in
+    let there = link_there c.args.links.now.links.items all c.len-index.result link count c.requires.within c.index-link.ensures in
     let low : link.caller ≤ length all = c.requires.callers (length all) (link_view link) there in
     let n = link.caller - 1 in
     let within : n < length all = omega (arith, low, c.if-link-eq0.false) in
     let inside : n < length c.args.links.now.links.items = omega (arith, within, c.requires.within) in
-    let of = numbers_of (g.T.FrameTaker.tells_name c.args.taker.now) (g.T.FrameTaker.tells_frames c.args.taker.now) lines c.args.links.now.links.items (length all) all n c.index-outer.result.now c.requires.linked within c.index-outer.ensures inside in (
-      (refl, tt),
-      (
-        (of.0.name, c.number.ensures.names _ _ (c.name_of.ensures.names _ _ of.2.name)),
-        (
-          (path_in lines link.call.file, c.in_ok-path.ensures.is),
-          (of.2.outer, c.number.ensures.frames _ _ (c.name_of.ensures.frames _ _ of.2.callers)),
-        ),
-      ),
-    )
+    let of = numbers_of (g.T.FrameTaker.tells_name c.args.taker.now) (g.T.FrameTaker.tells_frames c.args.taker.now) lines c.args.links.now.links.items (length all) all n c.index-outer.result.now c.requires.linked within c.index-outer.ensures inside in
+    let named = c.number.ensures.names _ _ (c.name_of.ensures.names _ _ of.2.name) in
+    let called = c.number.ensures.frames _ _ (c.name_of.ensures.frames _ _ of.2.callers) in
+    ((refl, tt), ((of.0.name, named), ((path_in lines link.call.file, c.in_ok-path.ensures.is), (of.2.outer, called))))
 
 pub returns-clause-linked : goal.returns-clause-linked
 returns-clause-linked g c =
@@ -70,8 +61,7 @@ returns-clause-linked g c =
     let all : List Linked = c.args.all.now.items in
     let next : Linked = record { name = c.in_ok-name.name; callers = c.in_ok-callers.callers } in
     let count : c.len-index.result ≡ length all = omega (arith, c.len-index.ensures, c.args.all.now.ok.0) in
-    let linked_here : link ≡ get_or c.args.links.now.links.items (length all) link = c.index-link.ensures ∙ ap (λ (n : ℕ). get_or c.args.links.now.links.items n link) count in
-    let there = link_there c.args.links.now.links.items (length all) link c.requires.within linked_here in
+    let there = link_there c.args.links.now.links.items all c.len-index.result link count c.requires.within c.index-link.ensures in
     let low : link.caller ≤ length all = c.requires.callers (length all) (link_view link) there in
     let n = link.caller - 1 in
     let within : n < length all = omega (arith, low, c.if-link-eq0.false) in

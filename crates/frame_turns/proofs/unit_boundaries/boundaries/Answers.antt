@@ -1,6 +1,4 @@
-use Rattle.std.proofs.Common.{ℕ, List, subst}
-use Rattle.std.specs.Prelude.{◌↔◌}
-use Rattle.std.specs.List.{Contains}
+use Rattle.std.proofs.Common.{ℕ, List, subst, ◌↔◌, Contains}
 use Rattle.source_frames.specs.SectionsViews.{sections_view}
 use Rattle.frame_turns.proofs.CollectLemmas.{boundaries_are}
 use Rattle.frame_turns.proofs.unit_boundaries.boundaries.Goals as goal

@@ -1,5 +1,4 @@
-use Rattle.std.proofs.Common.{◌≡◌, ◌++◌}
-use Rattle.std.specs.Prelude.{flat_map}
+use Rattle.std.proofs.Common.{◌≡◌, ◌++◌, flat_map}
 use Rattle.frame_turns.specs.Turns.{ends_of_tuple}
 use Rattle.frame_turns.proofs.unit_boundaries.push_tuples.Given as goal
 

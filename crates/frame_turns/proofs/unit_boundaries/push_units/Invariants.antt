@@ -1,5 +1,4 @@
-use Rattle.std.proofs.Common.{◌≡◌, ◌≤◌, ◌++◌, length}
-use Rattle.std.specs.Prelude.{flat_map}
+use Rattle.std.proofs.Common.{◌≡◌, ◌≤◌, ◌++◌, length, flat_map}
 use Rattle.dwarf_numbers.specs.Sequences.{placed, placed_from}
 use Rattle.dwarf_numbers.specs.Units.{unit_at}
 use Rattle.frame_turns.specs.Turns.{ends_of}

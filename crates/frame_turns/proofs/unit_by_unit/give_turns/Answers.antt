@@ -1,5 +1,4 @@
-use Rattle.std.proofs.Common.{[], ◌++◌, ℕ, List, None, map, refl, subst, sym}
-use Rattle.std.specs.List.{Contains}
+use Rattle.std.proofs.Common.{[], ◌++◌, ℕ, List, None, map, refl, subst, sym, Contains}
 use Rattle.source_frames.specs.DebugSections.{DebugSectionsRecord}
 use Rattle.source_frames.specs.Frames.{FrameRecord}
 use Rattle.source_frames.specs.SectionsViews.{sections_view}

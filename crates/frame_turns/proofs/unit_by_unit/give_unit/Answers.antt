@@ -1,5 +1,4 @@
-use Rattle.std.proofs.Common.{◌≡◌, ◌∙◌, [], ℕ, List, Some, ap, map, refl, subst, sym}
-use Rattle.std.specs.List.{Contains}
+use Rattle.std.proofs.Common.{◌≡◌, ◌∙◌, [], ℕ, List, Some, ap, map, refl, subst, sym, Contains}
 use Rattle.line_programs.specs.declared.registers.Row.{Row}
 use Rattle.row_steps.specs.RowSteps.{AreRowSteps}
 use Rattle.source_frames.specs.AddressFrames.{rows_of}
@@ -12,7 +11,7 @@ use Rattle.frame_turns.specs.Between.{AreTurnsFrom, parts_of}
 use Rattle.frame_turns.specs.ByProgram.{rows_at}
 use Rattle.frame_turns.specs.Given.{Takes}
 use Rattle.frame_turns.proofs.GivenLemmas.{bare_turns, none_read, takes_more, turn_with}
-use Rattle.frame_turns.proofs.OwnLemmas.{step_boundary}
+use Rattle.frame_turns.proofs.UnitStepLemmas.{step_boundary}
 use Rattle.frame_turns.proofs.ProgramLemmas.{rows_of_unit}
 use Rattle.frame_turns.proofs.UnitTurnLemmas.{are_steps, turns_in_unit}
 use Rattle.frame_turns.proofs.unit_by_unit.give_unit.Goals as goal

@@ -5,8 +5,7 @@ use Rattle.row_steps.specs.RowSteps.{AreRowSteps}
 use Rattle.source_frames.specs.SectionsViews.{sections_view}
 use Rattle.frame_turns.specs.ByProgram.{AreBoundariesBy, places}
 use Rattle.frame_turns.specs.declared.unit_by_unit.UnitBoundaries.{UnitBoundaries}
-use Rattle.frame_turns.proofs.GivenLemmas.{takes_more, takes_none}
-use Rattle.frame_turns.proofs.LoopLemmas.{far_end, far_more, far_start}
+use Rattle.frame_turns.proofs.GivenLemmas.{takes_more, takes_none, far_end, far_more, far_start}
 use Rattle.frame_turns.proofs.ProgramLemmas.{listed_at, no_rows_at, place_at}
 use Rattle.frame_turns.proofs.unit_by_unit.give_units.Goals as goal
 

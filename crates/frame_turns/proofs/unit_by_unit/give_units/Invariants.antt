@@ -2,7 +2,7 @@ use Rattle.std.proofs.Common.{List}
 use Rattle.frame_turns.specs.ByProgram.{AreRowsOfLast, places}
 use Rattle.frame_turns.specs.Given.{Takes, TurnRecord}
 use Rattle.source_frames.specs.SectionsViews.{sections_view}
-use Rattle.frame_turns.proofs.LoopLemmas.{SoFar}
+use Rattle.frame_turns.proofs.GivenLemmas.{SoFar}
 use Rattle.frame_turns.proofs.unit_by_unit.give_units.Given as goal
 
 abbrev pub invariant-loop-unit : goal.invariant-loop-unit

@@ -2,12 +2,12 @@ use Rattle.std.proofs.Common.{◌≡◌, ◌<◌, ◌^◌, ◌∙◌, [], arith,
 use Rattle.std.proofs.Math.Facts.{Fits-lt-pow}
 use Rattle.std.proofs.lemmas.List.{get_or_default}
 use Rattle.frame_turns.specs.Given.{without_frames}
-use Rattle.frame_turns.proofs.GivenLemmas.{takes_all, takes_next, takes_zero}
+use Rattle.frame_turns.proofs.GivenLemmas.{takes_all, takes_next, takes_none}
 use Rattle.frame_turns.proofs.unit_by_unit.give_without.Goals as goal
 
 pub loop-address-init : goal.loop-address-init
 loop-address-init g c = record {
-  taken = takes_zero (g.T.FrameTaker.has_taken c.args.taker.now) (λ a. without_frames a) c.args.addresses.now;
+  taken = takes_none (g.T.FrameTaker.has_taken c.args.taker.now);
   none = c.no_frames-none.ensures;
 }
 

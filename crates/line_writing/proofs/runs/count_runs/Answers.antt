@@ -1,7 +1,7 @@
-use Rattle.std.proofs.Common.{◌+◌, ◌<◌, Bool, drop, get_or, length, sym, ap, ◌∙◌, arith}
-use Rattle.line_tables.specs.Runs.{go_on, runs_after, upper_half}
+use Rattle.std.proofs.Common.{◌<◌, length, sym, ap, ◌∙◌, arith}
+use Rattle.line_tables.specs.Runs.{runs_after}
 use Rattle.line_writing.specs.StepViews.{step_starts}
-use Rattle.line_writing.proofs.RunLemmas.{counted_end, counted_join, not_false, not_true, runs_none, starts_long}
+use Rattle.line_writing.proofs.LoopLemmas.{counted_end, counted_join, runs_none, starts_long}
 use Rattle.line_writing.proofs.runs.count_runs.Goals as goal
 use Rattle.line_writing.proofs.runs.count_runs.Goals.{then-ends_run, else-ends_run}
 
@@ -10,7 +10,6 @@ steps-preserved c =
     let starts = step_starts c.args.steps.now in
     let index = c.steps.index in
     let inside : index < length starts = omega (arith, c.steps-test.true, starts_long c.args.steps.now) in
-    let goes : Bool = go_on (upper_half (get_or starts index 0)) (drop (index + 1) starts) in
     record {
       few = elim c.if-ends_run.branch [
         | then-ends_run w ↦ omega (arith, c.steps.invariant.few, w.count-is)
@@ -18,9 +17,9 @@ steps-preserved c =
       ];
       is = elim c.if-ends_run.branch [
         | then-ends_run w ↦
-            omega (arith, w.count-is, counted_end starts index c.steps.count (length (runs_after 0 starts)) inside (not_true goes (sym c.ends_run.ensures ∙ w.if-ends_run.true)) c.steps.invariant.is)
+            omega (arith, w.count-is, counted_end starts index c.steps.count (length (runs_after 0 starts)) inside (sym c.ends_run.ensures ∙ w.if-ends_run.true) c.steps.invariant.is)
         | else-ends_run w ↦
-            omega (arith, w.count-is, counted_join starts index c.steps.count (length (runs_after 0 starts)) inside (not_false goes (sym c.ends_run.ensures ∙ w.if-ends_run.false)) c.steps.invariant.is)
+            omega (arith, w.count-is, counted_join starts index c.steps.count (length (runs_after 0 starts)) inside (sym c.ends_run.ensures ∙ w.if-ends_run.false) c.steps.invariant.is)
       ];
     }
 

@@ -1,6 +1,5 @@
-use Rattle.std.proofs.Common.{◌+◌, length, sym}
-use Rattle.std.proofs.lemmas.Bool.{ltb-true}
-use Rattle.line_writing.proofs.RunLemmas.{ends_some}
+use Rattle.std.proofs.Common.{◌+◌, length, sym, ltb-true}
+use Rattle.line_writing.proofs.LoopLemmas.{ends_some}
 use Rattle.line_writing.proofs.runs.ends_run.Goals as goal
 
 pub returns-in-Some : goal.returns-in-Some

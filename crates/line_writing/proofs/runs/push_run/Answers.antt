@@ -1,24 +1,20 @@
-use Rattle.std.proofs.Common.{◌+◌, ◌++◌, ◌<◌, Bool, flat_map, get_or, drop, length, refl, sym, ap, ◌∙◌, arith}
+use Rattle.std.proofs.Common.{◌+◌, ◌++◌, ◌<◌, flat_map, length, refl, sym, ap, ◌∙◌, arith}
 use Rattle.line_tables.specs.LineText.{run_bytes}
-use Rattle.line_tables.specs.Runs.{go_on, upper_half}
+use Rattle.line_tables.specs.Runs.{upper_half}
 use Rattle.line_writing.specs.StepViews.{step_starts}
-use Rattle.line_writing.proofs.RowLemmas.{then_on}
-use Rattle.line_writing.proofs.RunLemmas.{not_false, not_true, run_pushed, runs_join, start_at, starts_long}
+use Rattle.line_writing.proofs.LoopLemmas.{on_ok_weaker, run_pushed, runs_join, start_at, starts_long}
 use Rattle.line_writing.proofs.runs.push_run.Goals as goal
 
 pub returns-then-not-ends_run : goal.returns-then-not-ends_run
 returns-then-not-ends_run c =
     let starts = step_starts c.args.steps.now in
-    let goes : Bool = go_on (upper_half (get_or starts c.args.index 0)) (drop (c.args.index + 1) starts) in
     let inside : c.args.index < length starts = omega (arith, c.requires.inside, starts_long c.args.steps.now) in
-    ap (λ rs. c.args.text.now.items ++ flat_map run_bytes rs) (sym (runs_join starts c.args.index inside (not_false goes (sym c.ends_run.ensures ∙ c.if-not-ends_run.true))))
+    ap (λ rs. c.args.text.now.items ++ flat_map run_bytes rs) (sym (runs_join starts c.args.index inside (sym c.ends_run.ensures ∙ c.if-not-ends_run.true)))
 
 pub returns : goal.returns
 returns c =
     let starts = step_starts c.args.steps.now in
-    let goes : Bool = go_on (upper_half (get_or starts c.args.index 0)) (drop (c.args.index + 1) starts) in
     let inside : c.args.index < length starts = omega (arith, c.requires.inside, starts_long c.args.steps.now) in
-    then_on c.push_u32-2.result _ _ c.push_u32-2.ensures
-    (λ last.
-    run_pushed starts c.args.index c.upper_half.result (c.args.index + 1) c.args.text.now.items c.push_u32.new.text.items c.push_u32-2.new.text.items inside (not_true goes (sym c.ends_run.ensures ∙ c.if-not-ends_run.false))
-    (c.upper_half.ensures ∙ ap upper_half (sym (start_at c.args.steps.now c.args.index (record { start = 0; location = 0 }) c.requires.inside))) refl c.in_ok-push_u32.ensures last)
+    on_ok_weaker c.push_u32-2.result
+    (run_pushed starts c.args.index c.upper_half.result (c.args.index + 1) c.args.text.now.items c.push_u32.new.text.items c.push_u32-2.new.text.items inside (sym c.ends_run.ensures ∙ c.if-not-ends_run.false)
+    (c.upper_half.ensures ∙ ap upper_half (sym (start_at c.args.steps.now c.args.index (record { start = 0; location = 0 }) c.requires.inside))) refl c.in_ok-push_u32.ensures) c.push_u32-2.ensures

@@ -2,7 +2,7 @@ use Rattle.std.proofs.Common.{◌∙◌, ◌++◌, flat_map, arith}
 use Rattle.line_tables.specs.LineText.{run_bytes}
 use Rattle.line_tables.specs.Runs.{runs_after}
 use Rattle.line_writing.specs.StepViews.{step_starts}
-use Rattle.line_writing.proofs.RunLemmas.{runs_pushed, starts_long}
+use Rattle.line_writing.proofs.LoopLemmas.{runs_pushed, starts_long}
 use Rattle.line_writing.proofs.runs.push_runs.Goals as goal
 
 pub steps-preserved : goal.steps-preserved

@@ -1,5 +1,4 @@
-use Rattle.std.proofs.Common.{◌≡◌, ◌-◌, ◌^◌, List}
-use Rattle.std.specs.Prelude.{IfSome}
+use Rattle.std.proofs.Common.{◌≡◌, ◌-◌, ◌^◌, List, IfSome}
 use Rattle.std.specs.Option.{option_map_or}
 use Rattle.source_frames.specs.FrameViews.{lines_view}
 use Rattle.waiting_indexes.specs.Rising.{IsCountBelow}

@@ -2,7 +2,7 @@ use Rattle.std.proofs.Common.{Some, arith, refl}
 use Rattle.std.specs.Vec.{with_item}
 use Rattle.frame_turns.specs.declared.names.Names.{Names}
 use Rattle.frame_turns.proofs.GivenLemmas.{takes_none}
-use Rattle.frame_turns.proofs.NameLemmas.{known_name, link_read, names_more, same_link, slot_within}
+use Rattle.frame_turns.proofs.NumberLemmas.{known_name, link_read, names_more, same_link, slot_within}
 use Rattle.frame_turns.proofs.names.Names.name_of.Goals as goal
 
 pub index-requires : goal.index-requires

@@ -1,5 +1,4 @@
-use Rattle.std.proofs.Common.{◌≡◌, length, reverse, nat_eq, vec_len}
-use Rattle.std.specs.Prelude.{All}
+use Rattle.std.proofs.Common.{◌≡◌, length, reverse, nat_eq, vec_len, All}
 use Rattle.line_tables.specs.Numbering.{numbered_after}
 use Rattle.line_writing.specs.Numbering.{IsNumber}
 use Rattle.line_writing.proofs.first_uses.FirstUses.take_back.Given as goal

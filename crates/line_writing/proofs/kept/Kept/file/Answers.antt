@@ -1,5 +1,4 @@
-use Rattle.std.proofs.Common.{List, ◌≡◌, sym, subst, Option}
-use Rattle.std.specs.Option.{option_map}
+use Rattle.std.proofs.Common.{List, sym, subst, Option, option_map}
 use Rattle.line_programs.specs.declared.path.PathParts.{PathParts}
 use Rattle.line_programs.specs.PathViews.{path_view}
 use Rattle.line_writing.specs.Kept.{IsKept, IsFile, KeptRecord}
@@ -7,7 +6,7 @@ use Rattle.line_writing.specs.KeptViews.{kept_view}
 use Rattle.line_writing.specs.Numbers.{IsNumbered}
 use Rattle.line_writing.specs.declared.keys.FileKey.{FileKey}
 use Rattle.line_writing.proofs.KeptLemmas.{file_kept, is_file}
-use Rattle.line_writing.proofs.KeyLemmas.{file_cmp, file_told, then_ok, either_way}
+use Rattle.line_writing.proofs.KeyLemmas.{file_cmp, file_told, IfOk-weaker, either_way}
 use Rattle.line_writing.proofs.kept.Kept.file.Goals as goal
 
 pub invariant_of-self : goal.invariant_of-self
@@ -15,15 +14,14 @@ invariant_of-self c =
     let k : KeptRecord = kept_view c.file_key.new.self in
     record {
       right =
-          either_way c.number.result (λ n. IsNumbered file_cmp c.file_key.new.self.files c.in_ok-key.key n c.number.new.self) (c.number.new.self ≡ c.file_key.new.self.files)
-          (IsKept (record k { files = c.number.new.self })) c.number.ensures.numbered c.number.ensures.unchanged
+          either_way c.number.result _ _ _ c.number.ensures.numbered c.number.ensures.unchanged
           (λ n h. file_kept k c.file_key.new.self.right c.number.new.self c.in_ok-key.key n (file_told c.file_key.new.self.files c.in_ok-key.key n c.number.new.self h) c.in_ok-key.ensures.is.is_key)
           (λ e. subst (λ (l : List FileKey). IsKept (record k { files = l })) (sym e) c.file_key.new.self.right);
     }
 
 pub returns-clause-is : goal.returns-clause-is
 returns-clause-is c =
-    then_ok c.number.result (λ n. IsNumbered file_cmp c.file_key.new.self.files c.in_ok-key.key n c.number.new.self) _ c.number.ensures.numbered
+    IfOk-weaker c.number.result (λ n. IsNumbered file_cmp c.file_key.new.self.files c.in_ok-key.key n c.number.new.self) _
     (λ n h.
     subst (λ (o : Option PathParts). IsFile (record (kept_view c.file_key.new.self) { files = c.number.new.self }) n (option_map path_view o)) (sym c.in-Some.is)
-    (is_file (kept_view c.file_key.new.self) c.number.new.self c.in_ok-key.key n (path_view c.in-Some.path) (file_told c.file_key.new.self.files c.in_ok-key.key n c.number.new.self h) c.in_ok-key.ensures.is))
+    (is_file (kept_view c.file_key.new.self) c.number.new.self c.in_ok-key.key n (path_view c.in-Some.path) (file_told c.file_key.new.self.files c.in_ok-key.key n c.number.new.self h) c.in_ok-key.ensures.is)) c.number.ensures.numbered

@@ -4,7 +4,7 @@ use Rattle.line_writing.specs.Kept.{IsLocation, KeptRecord, chain_at, frame_of_k
 use Rattle.line_writing.specs.KeptViews.{kept_view}
 use Rattle.line_writing.specs.declared.keys.LocationKey.{LocationKey}
 use Rattle.line_writing.proofs.KeptLemmas.{chain_same, grows_on, location_of, longer_on, name_stays}
-use Rattle.line_writing.proofs.KeyLemmas.{then_ok}
+use Rattle.line_writing.proofs.KeyLemmas.{IfOk-weaker}
 use Rattle.line_writing.proofs.kept.Kept.location.Goals as goal
 
 pub location_number-requires-clause-name : goal.location_number-requires-clause-name
@@ -34,7 +34,7 @@ returns-clause-is c =
     let named : KeptRecord = kept_view c.name.new.self in
     let filed : KeptRecord = kept_view c.file.new.self in
     let key : LocationKey = record { name = c.in_ok-name.name; file = c.in_ok-file.file; line = c.args.line; column = c.args.column; caller = c.args.caller } in
-    then_ok c.location_number.result (λ n. IsLocation (kept_view c.location_number.new.self) n (frame_of_key filed key ∷ chain_at filed key.caller)) _ c.location_number.ensures.is
+    IfOk-weaker c.location_number.result (λ n. IsLocation (kept_view c.location_number.new.self) n (frame_of_key filed key ∷ chain_at filed key.caller)) _
     (λ n is. location_of filed (kept_view c.location_number.new.self) key (frame_view c.args.frame.now) (chain_at old c.args.caller) n
     (name_stays named filed c.name.new.self.right c.file.ensures.grows key.name (frame_view c.args.frame.now).name c.in_ok-name.ensures.is).is c.in_ok-file.ensures.is.is c.requires.line c.requires.column
-    (chain_same old filed (grows_on old named filed c.name.ensures.grows c.file.ensures.grows) c.args.self.now.right c.args.caller c.requires.caller) is)
+    (chain_same old filed (grows_on old named filed c.name.ensures.grows c.file.ensures.grows) c.args.self.now.right c.args.caller c.requires.caller) is) c.location_number.ensures.is

@@ -1,10 +1,10 @@
-use Rattle.std.proofs.Common.{List, ◌≡◌, sym, subst, arith}
+use Rattle.std.proofs.Common.{List, sym, subst, arith}
 use Rattle.line_writing.specs.Kept.{Grows, IsKept, KeptRecord}
 use Rattle.line_writing.specs.KeptViews.{kept_view}
 use Rattle.line_writing.specs.Numbers.{IsNumbered}
 use Rattle.line_writing.specs.declared.keys.LocationKey.{LocationKey}
 use Rattle.line_writing.proofs.KeptLemmas.{located, located_grows, located_kept}
-use Rattle.line_writing.proofs.KeyLemmas.{location_cmp, location_told, then_ok, either_way}
+use Rattle.line_writing.proofs.KeyLemmas.{location_cmp, location_told, IfOk-weaker, either_way}
 use Rattle.line_writing.proofs.LoopLemmas.{grows_none}
 use Rattle.line_writing.proofs.kept.Kept.location_number.Goals as goal
 
@@ -13,8 +13,7 @@ invariant_of-self c =
     let k : KeptRecord = kept_view c.args.self.now in
     record {
       right =
-          either_way c.number.result (λ n. IsNumbered location_cmp c.args.self.now.locations c.args.key n c.number.new.self) (c.number.new.self ≡ c.args.self.now.locations)
-          (IsKept (record k { locations = c.number.new.self })) c.number.ensures.numbered c.number.ensures.unchanged
+          either_way c.number.result _ _ _ c.number.ensures.numbered c.number.ensures.unchanged
           (λ n h. located_kept k c.args.self.now.right c.args.key c.requires.name c.requires.file c.requires.caller (omega arith) (omega arith) c.number.new.self n (location_told c.args.self.now.locations c.args.key n c.number.new.self h))
           (λ e. subst (λ (l : List LocationKey). IsKept (record k { locations = l })) (sym e) c.args.self.now.right);
     }
@@ -22,13 +21,12 @@ invariant_of-self c =
 pub returns-clause-grows : goal.returns-clause-grows
 returns-clause-grows c =
     let k : KeptRecord = kept_view c.args.self.now in
-    either_way c.number.result (λ n. IsNumbered location_cmp c.args.self.now.locations c.args.key n c.number.new.self) (c.number.new.self ≡ c.args.self.now.locations)
-    (Grows k (record k { locations = c.number.new.self })) c.number.ensures.numbered c.number.ensures.unchanged
+    either_way c.number.result _ _ _ c.number.ensures.numbered c.number.ensures.unchanged
     (λ n h. located_grows k c.args.self.now.right c.args.key c.requires.name c.requires.file c.requires.caller (omega arith) (omega arith) c.number.new.self n (location_told c.args.self.now.locations c.args.key n c.number.new.self h))
     (λ e. subst (λ (l : List LocationKey). Grows k (record k { locations = l })) (sym e) (grows_none k))
 
 pub returns-clause-is : goal.returns-clause-is
 returns-clause-is c =
     let k : KeptRecord = kept_view c.args.self.now in
-    then_ok c.number.result (λ n. IsNumbered location_cmp c.args.self.now.locations c.args.key n c.number.new.self) _ c.number.ensures.numbered
-    (λ n h. located k c.args.self.now.right c.args.key c.requires.name c.requires.file c.requires.caller (omega arith) (omega arith) c.number.new.self n (location_told c.args.self.now.locations c.args.key n c.number.new.self h))
+    IfOk-weaker c.number.result (λ n. IsNumbered location_cmp c.args.self.now.locations c.args.key n c.number.new.self) _
+    (λ n h. located k c.args.self.now.right c.args.key c.requires.name c.requires.file c.requires.caller (omega arith) (omega arith) c.number.new.self n (location_told c.args.self.now.locations c.args.key n c.number.new.self h)) c.number.ensures.numbered

@@ -2,7 +2,7 @@ use Rattle.std.proofs.Common.{arith}
 use Rattle.line_writing.specs.Kept.{file_key_at}
 use Rattle.line_writing.specs.KeptViews.{kept_view}
 use Rattle.line_writing.specs.PartBytes.{file_row}
-use Rattle.line_writing.proofs.RowLemmas.{rows_end, rows_more}
+use Rattle.line_writing.proofs.LoopLemmas.{rows_end, rows_more}
 use Rattle.line_writing.proofs.kept.Kept.push_files.Goals as goal
 
 pub loop-number-preserved : goal.loop-number-preserved

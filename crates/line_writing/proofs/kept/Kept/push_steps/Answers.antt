@@ -1,7 +1,7 @@
 use Rattle.std.proofs.Common.{◌∙◌, ◌++◌, ap, arith}
 use Rattle.std.specs.Int.{w32, to_be_bytes}
 use Rattle.line_writing.specs.PartBytes.{step_row}
-use Rattle.line_writing.proofs.RowLemmas.{rows_end, rows_more, two_parts}
+use Rattle.line_writing.proofs.LoopLemmas.{rows_end, rows_more, two_parts}
 use Rattle.line_writing.proofs.kept.Kept.push_steps.Goals as goal
 
 pub loop-step-preserved : goal.loop-step-preserved

@@ -1,7 +1,7 @@
 use Rattle.std.proofs.Common.{ap, arith, length, refl}
 use Rattle.line_writing.specs.Kept.{text_at}
 use Rattle.line_writing.specs.KeptViews.{kept_view}
-use Rattle.line_writing.proofs.RowLemmas.{rest_long, text_row_next, text_rows_end}
+use Rattle.line_writing.proofs.LoopLemmas.{rest_long, text_row_next, text_rows_end}
 use Rattle.line_writing.proofs.kept.Kept.push_text_rows.Goals as goal
 
 pub overflow_cast-len : goal.overflow_cast-len

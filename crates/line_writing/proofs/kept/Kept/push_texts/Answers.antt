@@ -1,7 +1,7 @@
 use Rattle.std.proofs.Common.{◌∙◌, ◌++◌, ap, arith}
 use Rattle.line_writing.specs.Kept.{text_at}
 use Rattle.line_writing.specs.KeptViews.{kept_view}
-use Rattle.line_writing.proofs.RowLemmas.{text_next, texts_end}
+use Rattle.line_writing.proofs.LoopLemmas.{text_next, texts_end}
 use Rattle.line_writing.proofs.kept.Kept.push_texts.Goals as goal
 
 pub loop-text-preserved : goal.loop-text-preserved

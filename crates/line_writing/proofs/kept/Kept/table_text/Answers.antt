@@ -3,7 +3,7 @@ use Rattle.std.specs.List.{concat}
 use Rattle.line_tables.specs.LineText.{text_rows}
 use Rattle.line_writing.specs.KeptViews.{kept_view}
 use Rattle.line_writing.specs.PartBytes.{file_rows, location_rows, texts_at}
-use Rattle.line_writing.proofs.RowLemmas.{all_pushed}
+use Rattle.line_writing.proofs.LoopLemmas.{all_pushed}
 use Rattle.line_writing.proofs.kept.Kept.table_text.Goals as goal
 
 pub returns : goal.returns

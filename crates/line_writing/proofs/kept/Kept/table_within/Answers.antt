@@ -2,7 +2,7 @@ use Rattle.std.proofs.Common.{◌∙◌, ◌≡◌, ◌≤◌, ◌<◌, ap, arit
 use Rattle.std.specs.List.{concat}
 use Rattle.line_writing.specs.KeptViews.{kept_view}
 use Rattle.line_writing.specs.PartBytes.{texts_at}
-use Rattle.line_writing.proofs.BytesLemmas.{fits, line_text_is, too_long, too_much_text}
+use Rattle.line_writing.proofs.PartLemmas.{fits, line_text_is, too_long, too_much_text}
 use Rattle.line_writing.proofs.kept.Kept.table_within.Goals as goal
 
 pub returns-in_default : goal.returns-in_default

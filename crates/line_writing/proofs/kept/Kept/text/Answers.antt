@@ -1,10 +1,10 @@
-use Rattle.std.proofs.Common.{◌∙◌, List, ◌≡◌, map, sym, subst}
+use Rattle.std.proofs.Common.{◌∙◌, List, map, sym, subst}
 use Rattle.line_writing.specs.Kept.{IsKept, KeptRecord}
 use Rattle.line_writing.specs.KeptViews.{kept_view}
 use Rattle.line_writing.specs.Numbers.{IsNumbered}
 use Rattle.line_writing.specs.declared.keys.TextKey.{TextKey}
 use Rattle.line_writing.proofs.KeptLemmas.{text_kept}
-use Rattle.line_writing.proofs.KeyLemmas.{text_cmp, text_told, then_ok, either_way}
+use Rattle.line_writing.proofs.KeyLemmas.{text_cmp, text_told, IfOk-weaker, either_way}
 use Rattle.line_writing.proofs.kept.Kept.text.Goals as goal
 
 pub invariant_of-self : goal.invariant_of-self
@@ -12,13 +12,12 @@ invariant_of-self c =
     let k : KeptRecord = kept_view c.args.self.now in
     record {
       right =
-          either_way c.number.result (λ n. IsNumbered text_cmp c.args.self.now.texts c.of.result n c.number.new.self) (c.number.new.self ≡ c.args.self.now.texts)
-          (IsKept (record k { texts = map (λ (t : TextKey). t.text.now) c.number.new.self })) c.number.ensures.numbered c.number.ensures.unchanged
+          either_way c.number.result _ _ _ c.number.ensures.numbered c.number.ensures.unchanged
           (λ n h. text_kept k c.args.self.now.right (map (λ (t : TextKey). t.text.now) c.number.new.self) c.of.result.text.now n (text_told c.args.self.now.texts c.of.result n c.number.new.self h))
           (λ e. subst (λ (l : List TextKey). IsKept (record k { texts = map (λ (t : TextKey). t.text.now) l })) (sym e) c.args.self.now.right);
     }
 
 pub returns-clause-is : goal.returns-clause-is
 returns-clause-is c =
-    then_ok c.number.result (λ n. IsNumbered text_cmp c.args.self.now.texts c.of.result n c.number.new.self) _ c.number.ensures.numbered
-    (λ n h. let t = text_told c.args.self.now.texts c.of.result n c.number.new.self h in record { is_number = t.is_number; is = t.is ∙ c.of.ensures })
+    IfOk-weaker c.number.result (λ n. IsNumbered text_cmp c.args.self.now.texts c.of.result n c.number.new.self) _
+    (λ n h. let t = text_told c.args.self.now.texts c.of.result n c.number.new.self h in record { is_number = t.is_number; is = t.is ∙ c.of.ensures }) c.number.ensures.numbered

@@ -1,13 +1,12 @@
 use Rattle.std.proofs.Common.{ap, arith, length}
 use Rattle.line_writing.specs.Kept.{text_at}
 use Rattle.line_writing.specs.KeptViews.{kept_view}
-use Rattle.line_writing.proofs.RowLemmas.{left_more, match_none, none_not, too_much}
+use Rattle.line_writing.proofs.LoopLemmas.{left_more, too_much}
 use Rattle.line_writing.proofs.kept.Kept.texts_len.Goals as goal
 
 pub returns-in_err-left : goal.returns-in_err-left
 returns-in_err-left c =
-    match_none c.from_residual.result _ _ c.from_residual.ensures
-    (too_much (text_at (kept_view c.args.self.now)) c.args.texts.now c.loop-text.text-index c.loop-text.left c.args.most (length c.text_of.result.now) c.loop-text-test.true c.loop-text.invariant (ap length c.text_of.ensures) (none_not c.checked_sub.result _ _ c.checked_sub.ensures c.in_err-left.was))
+    rw c.from_residual.ensures (too_much (text_at (kept_view c.args.self.now)) c.args.texts.now c.loop-text.text-index c.loop-text.left c.args.most (length c.text_of.result.now) c.loop-text-test.true c.loop-text.invariant (ap length c.text_of.ensures) (rw c.in_err-left.was at c.checked_sub.ensures))
 
 pub loop-text-preserved : goal.loop-text-preserved
 loop-text-preserved c =

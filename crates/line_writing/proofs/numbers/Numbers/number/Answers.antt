@@ -1,6 +1,6 @@
 use Rattle.std.proofs.Common.{arith, subst, sym}
 use Rattle.line_writing.specs.Numbers.{IsNumbered}
-use Rattle.line_writing.proofs.NumbersLemmas.{numbered_more, numbered_now}
+use Rattle.line_writing.proofs.KeyLemmas.{numbered_more, numbered_now}
 use Rattle.line_writing.proofs.numbers.Numbers.number.Goals as goal
 
 pub invariant_of-self-in_default-insert : goal.invariant_of-self-in_default-insert

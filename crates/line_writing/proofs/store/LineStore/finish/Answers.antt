@@ -1,5 +1,4 @@
-use Rattle.std.proofs.Common.{◌∙◌, ◌≡◌, ap, inl, inr, map, rules, subst, sym, List}
-use Rattle.std.specs.Option.{option_map}
+use Rattle.std.proofs.Common.{◌∙◌, ◌≡◌, ap, inl, inr, map, rules, subst, sym, List, option_map}
 use Rattle.std.proofs.lemmas.List.Sorted.{IsNonDecreasingBy-from_sort_by_key}
 use Rattle.line_tables.specs.LineTable.{FitsLines, no_lines}
 use Rattle.line_tables.specs.LineText.{line_text}
@@ -8,7 +7,7 @@ use Rattle.line_writing.specs.StepViews.{HaveLocations, changed_after, step_of}
 use Rattle.line_writing.specs.StoreViews.{StoreRecord}
 use Rattle.line_writing.specs.WholeText.{IsTextIfFits}
 use Rattle.line_writing.specs.declared.step.Step.{Step}
-use Rattle.line_writing.proofs.KeyLemmas.{then_ok}
+use Rattle.line_writing.proofs.KeyLemmas.{IfOk-weaker}
 use Rattle.line_writing.proofs.StoreLemmas.{changed_are, least_are, written}
 use Rattle.line_writing.proofs.store.LineStore.finish.Goals as goal
 
@@ -32,8 +31,8 @@ returns-in-None c =
     let k = kept_view c.self.inside.kept in
     let found = subst (λ o. IsTextIfFits c.args.room (map (step_of k) c.deref-2.result.now) (option_map (λ t. t.items) o)) c.in-None.is c.in_ok-bytes.ensures in
     let not = subst (λ (l : List Step). FitsLines c.args.room (map (step_of k) l) → ⊥) c.deref-2.ensures.value found in
-    then_ok c.no_lines-in-None.result (λ bytes. bytes.items ≡ no_lines) _ c.no_lines-in-None.ensures
+    IfOk-weaker c.no_lines-in-None.result (λ bytes. bytes.items ≡ no_lines) _
     (λ bytes is.
     written k c.self.inside.kept.right c.args.room c.self.inside.too_wide c.self.inside.steps.items c.in_ok-changed.changed.items c.args.self.taken bytes.items c.if-too_wide.false (ap (λ (s : StoreRecord). s.taken) c.self.view_is)
     (least_are k c.self.inside.kept.right c.self.inside.steps.items c.sort_unstable_by_key.new.self.items c.in_ok-changed.changed.items c.self.invariant c.sort_unstable_by_key.ensures.permutation
-    (IsNonDecreasingBy-from_sort_by_key (λ (s : Step). s.start) c.sort_unstable_by_key.new.self.items c.sort_unstable_by_key.ensures.sorted (λ a r q k. search rules)) (c.in_ok-changed.ensures ∙ ap (changed_after 0) c.deref.ensures.value)) (inr (not, is)))
+    (IsNonDecreasingBy-from_sort_by_key (λ (s : Step). s.start) c.sort_unstable_by_key.new.self.items c.sort_unstable_by_key.ensures.sorted (λ a r q k. search rules)) (c.in_ok-changed.ensures ∙ ap (changed_after 0) c.deref.ensures.value)) (inr (not, is))) c.no_lines-in-None.ensures
