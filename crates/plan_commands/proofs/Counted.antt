@@ -6,10 +6,9 @@ use Rattle.clap.specs.Words.{Text}
 use Rattle.command_line.specs.Arguments.{Argument, Count, Flag, Often, Once, Perhaps, Several, Values, are_values_of, form_of, is_formed, reads, reads_kind}
 use Rattle.command_line.specs.Lines.{Line, inputs_of, texts_by, texts_of}
 use Rattle.command_line.specs.Table.{Signature, arguments_named, frames_command, index_paths, is_listed, lines_flag, signature_named}
+use Rattle.command_line.specs.declared.commands.{Kind.Kind, Role.Role}
 use Rattle.command_line.specs.declared.commands.Form.TheVariants as forms
-use Rattle.command_line.specs.declared.commands.Kind.{Kind}
 use Rattle.command_line.specs.declared.commands.Kind.TheVariants as kinds
-use Rattle.command_line.specs.declared.commands.Role.{Role}
 use Rattle.command_line.specs.declared.commands.Role.TheVariants as roles
 use Rattle.plan_commands.specs.Plans.{IsPlanOf, has_to_stand, least_inputs, least_of}
 use Rattle.plan_commands.specs.declared.plans.Plan.{Plan}

@@ -1,21 +1,16 @@
 -- Archives and indexes that are handed on, and the query that they make.
 use Rattle.std.proofs.Common.{◌≡◌, ℕ, ◌<◌, List, [], ◌∷◌, ◌++◌, length, take, drop, Option, Result, Bool, false, Err, refl, ap, sym, subst, arith, inl, inr}
-use Rattle.std.proofs.KnownBytes.{Appends-nil}
-use Rattle.std.proofs.lemmas.Bool.{le-ltb, lt-ltb}
-use Rattle.std.proofs.lemmas.Bool.Decides.{nat_tests}
-use Rattle.std.proofs.Math.Seq.{drop-append_seam, take-append_seam}
+use Rattle.std.proofs.{KnownBytes.Appends-nil, Math.Seq.drop-append_seam, Math.Seq.take-append_seam}
+use Rattle.std.proofs.lemmas.Bool.{le-ltb, lt-ltb, Decides.nat_tests}
 use Rattle.std.specs.Prelude.{◌==◌}
-use Rattle.command_core.specs.Ends.{EndsReport, Query}
-use Rattle.command_core.specs.Outputs.{Writer, writer}
-use Rattle.command_core.specs.declared.faults.CommandFault.{CommandFault}
-use Rattle.command_core.specs.declared.faults.Status.{Status}
+use Rattle.command_core.specs.{Ends.EndsReport, Ends.Query, Outputs.Writer, Outputs.writer}
+use Rattle.command_core.specs.declared.faults.{CommandFault.CommandFault, Status.Status}
+use Rattle.command_core.specs.Inputs.{Reader, reader, readers}
 use Rattle.byte_device.specs.declared.disks.CannotOpen.{CannotOpen}
 use Rattle.archive_core.specs.declared.keys.SliceKey.{SliceKey}
-use Rattle.command_core.specs.Inputs.{Reader, reader, readers}
 use Rattle.command_core.proofs.Readers.{readers_long}
 use Rattle.indexed_queries.specs.Find.{find_together}
-use Rattle.indexed_symbols.specs.Frames.{frames_at}
-use Rattle.indexed_symbols.specs.Symbolicate.{symbolicate_at}
+use Rattle.indexed_symbols.specs.{Frames.frames_at, Symbolicate.symbolicate_at}
 use Rattle.plan_commands.specs.QueryDispatch.{IsAlone, find_of, frames_of, if_paired, paired, symbolicate_of}
 
 -- ---- inputs in two parts

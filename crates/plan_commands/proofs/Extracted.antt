@@ -1,23 +1,15 @@
 -- How `extract` ends over archives and indexes that are handed on.
 use Rattle.std.proofs.Common.{◌≡◌, ◌∙◌, ℕ, ◌<◌, List, [], ◌∷◌, length, Option, Result, true, ◌==◌, true≢false, Err, refl, ap, sym, subst, arith, inl, inr}
-use Rattle.std.proofs.KnownBytes.{Appends-nil}
-use Rattle.std.proofs.lemmas.Bool.{le-ltb, lt-ltb, ne_eqb}
+use Rattle.std.proofs.{KnownBytes.Appends-nil, lemmas.Bool.le-ltb, lemmas.Bool.lt-ltb, lemmas.Bool.ne_eqb}
 use Rattle.std.specs.Io.KnownBytes.{Appends}
-use Rattle.archive_core.specs.declared.keys.Digest.{Digest}
-use Rattle.archive_core.specs.declared.keys.SliceKey.{SliceKey}
+use Rattle.archive_core.specs.declared.keys.{Digest.Digest, SliceKey.SliceKey}
 use Rattle.byte_device.specs.declared.disks.CannotOpen.{CannotOpen}
-use Rattle.command_core.specs.Inputs.{Reader, reader, readers}
+use Rattle.command_core.specs.{Inputs.Reader, Inputs.reader, Inputs.readers, declared.outputs.Output.Output as Out}
 use Rattle.command_core.specs.Outputs.{Outs, Takes, Writer, out_of}
-use Rattle.command_core.specs.declared.faults.CommandFault.{CommandFault}
-use Rattle.command_core.specs.declared.faults.CommandFault.TheVariants.{Input}
-use Rattle.command_core.specs.declared.faults.InputName.{InputName}
-use Rattle.command_core.specs.declared.faults.InputName.TheVariants.{Archive, Index}
-use Rattle.command_core.specs.declared.faults.Why.{Why}
-use Rattle.command_core.specs.declared.faults.Why.TheVariants.{NoArchive, NoIndex}
-use Rattle.command_core.specs.declared.faults.Status.{Status}
-use Rattle.command_core.specs.declared.outputs.Output.{Output as Out}
-use Rattle.slice_extraction.specs.Extract.{Extraction, Extracts, extract}
-use Rattle.slice_extraction.specs.Indexed.{extract_at}
+use Rattle.command_core.specs.declared.faults.{CommandFault.CommandFault, CommandFault.TheVariants.Input, Status.Status}
+use Rattle.command_core.specs.declared.faults.InputName.{InputName, TheVariants.Archive, TheVariants.Index}
+use Rattle.command_core.specs.declared.faults.Why.{Why, TheVariants.NoArchive, TheVariants.NoIndex}
+use Rattle.slice_extraction.specs.{Extract.Extraction, Extract.Extracts, Extract.extract, Indexed.extract_at}
 use Rattle.plan_commands.specs.QueryDispatch.{IsAlone, extract_of, extraction_if_paired, paired}
 use Rattle.command_core.proofs.Readers.{readers_long}
 

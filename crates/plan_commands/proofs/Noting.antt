@@ -5,13 +5,9 @@ use Rattle.clap.specs.Words.{Text}
 use Rattle.command_line.specs.Lines.{Line, error_kinds, line_of}
 use Rattle.archive_files.specs.declared.replaceable.OutFault.{OutFault}
 use Rattle.archive_writing.specs.declared.notes.Note.{Note}
-use Rattle.command_core.specs.declared.failures.Failure.{Failure}
-use Rattle.command_core.specs.declared.faults.CommandFault.{CommandFault}
-use Rattle.command_core.specs.declared.faults.Status.{Status}
-use Rattle.command_core.specs.Outputs.{Writer}
-use Rattle.command_core.specs.Statuses.{status_of}
-use Rattle.plan_commands.specs.Ends.{Ran}
-use Rattle.plan_commands.specs.Files.{Calls, IsCarriedOut, IsDone, command_fault_of}
+use Rattle.command_core.specs.{declared.failures.Failure.Failure, Outputs.Writer, Statuses.status_of}
+use Rattle.command_core.specs.declared.faults.{CommandFault.CommandFault, Status.Status}
+use Rattle.plan_commands.specs.{Ends.Ran, Files.Calls, Files.IsCarriedOut, Files.IsDone, Files.command_fault_of}
 use Rattle.error_lines.specs.StandardError.{SaysFailure, SaysNotes}
 
 both_on : {X E A : Type 0} (r : Result X E) (x y z : A) → OnOk r (x ≡ y) → OnOk r (y ≡ z) → OnOk r (x ≡ z)

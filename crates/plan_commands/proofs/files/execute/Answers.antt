@@ -1,17 +1,13 @@
 use Rattle.std.proofs.Common.{◌≡◌, ◌∙◌, ℕ, List, [], ◌++◌, Some, None, refl, ap, inl, option_map, string_bytes, subst, sym, append-nil}
-use mathlib.Core.Logic.{∥∥₁_map}
 use Rattle.std.proofs.lemmas.Result.{err_from_is_err_and}
+use mathlib.Core.Logic.{∥∥₁_map}
 use Rattle.std.specs.Io.KnownBytes.{Appends}
-use Rattle.archive_files.specs.FileCalls.{bytes_in}
+use Rattle.archive_files.specs.{FileCalls.bytes_in, Publishing.IsPublished, Publishing.IsRemoved, Publishing.account}
 use Rattle.archive_files.specs.OutFiles.{draft_account, is_settled, published_account, publishing_calls, Untouched, stage_of}
-use Rattle.archive_files.specs.Publishing.{IsPublished, IsRemoved, account}
-use Rattle.command_line.specs.LineView.{line_view}
-use Rattle.command_line.specs.Lines.{inputs_of}
+use Rattle.command_line.specs.{LineView.line_view, Lines.inputs_of}
 use Rattle.plan_commands.specs.Files.{command_fault_of}
 use Rattle.plan_commands.proofs.OutPublished.{draft_took, first_from, none_asked, nothing_taken, nothing_there, published_there, settled_of, settled_without_calls}
-use Rattle.plan_commands.proofs.Noting.{told_done}
-use Rattle.plan_commands.proofs.Outcomes.{carried_outcome}
-use Rattle.plan_commands.proofs.Saying.{none_called}
+use Rattle.plan_commands.proofs.{Noting.told_done, Saying.none_called, Outcomes.carried_outcome}
 use Rattle.plan_commands.proofs.files.execute.Goals as goal
 use Rattle.archive_writing.proofs.Taking.{always as on_any}
 

@@ -1,5 +1,4 @@
-use Rattle.std.proofs.Common.{◌∙◌, length, refl, sym}
-use Rattle.std.proofs.lemmas.Result.{err_from_is_err_and}
+use Rattle.std.proofs.{Common.◌∙◌, Common.length, Common.refl, Common.sym, lemmas.Result.err_from_is_err_and}
 use Rattle.indexed_queries.specs.Find.{find_together}
 use Rattle.command_core.proofs.Readers.{readers_long}
 use Rattle.plan_commands.proofs.Dispatched.{alone_refused, apart, find_by, not_none, paired_kept, some_read}

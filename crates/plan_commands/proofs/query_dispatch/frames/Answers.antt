@@ -1,5 +1,4 @@
-use Rattle.std.proofs.Common.{refl}
-use Rattle.std.proofs.lemmas.Result.{err_from_is_err_and}
+use Rattle.std.proofs.{Common.refl, lemmas.Result.err_from_is_err_and}
 use Rattle.command_core.specs.Inputs.{reader}
 use Rattle.indexed_symbols.specs.Frames.{frames_at}
 use Rattle.plan_commands.proofs.Dispatched.{alone_refused, frames_by, not_none, paired_kept, some_read}

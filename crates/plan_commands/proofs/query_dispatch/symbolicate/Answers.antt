@@ -1,5 +1,4 @@
-use Rattle.std.proofs.Common.{refl}
-use Rattle.std.proofs.lemmas.Result.{err_from_is_err_and}
+use Rattle.std.proofs.{Common.refl, lemmas.Result.err_from_is_err_and}
 use Rattle.indexed_symbols.specs.Symbolicate.{symbolicate_at}
 use Rattle.plan_commands.proofs.Dispatched.{alone_refused, not_none, paired_kept, some_read, symbolicate_by}
 use Rattle.plan_commands.proofs.query_dispatch.symbolicate.Goals as goal
