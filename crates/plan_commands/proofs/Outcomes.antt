@@ -9,7 +9,7 @@ use Rattle.byte_device.specs.declared.disks.CannotOpen.{CannotOpen}
 use Rattle.command_core.specs.declared.faults.{CommandFault.CommandFault, InputName.InputName, Status.Status, Why.Why}
 use Rattle.command_core.specs.declared.faults.CommandFault.TheVariants.{Input, Output, Report, OutOfMemory}
 use Rattle.command_core.specs.declared.{outputs.Output.Output as Out, faults.Why.TheVariants.CannotOpen as NotOpened}
-use Rattle.command_core.specs.{Ends.Command, Ends.Ends, Ends.EndsStreamed, Ends.Query, Ends.Streamed, Inputs.readers}
+use Rattle.command_core.specs.{Inputs.readers, Ends.Command, Ends.Ends, Ends.EndsStreamed, Ends.Query, Ends.Streamed}
 use Rattle.command_core.specs.Outputs.{FailsAt, IsKept, Outs, Publishes, Writer, out_of, report_of}
 use Rattle.archive_files.specs.{InputStates.Told, declared.input_state.Unopened.Unopened}
 use Rattle.archive_writing.specs.declared.notes.Note.{Note}
