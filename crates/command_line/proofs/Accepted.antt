@@ -1,22 +1,17 @@
 -- A line that `clap` accepts names a command, with a value at each name that has to have one.
 use Rattle.std.proofs.Common.{arith, ◌≡◌, ◌∙◌, ◌&&◌, ◌||◌, Bool, true, false, not, refl, sym, ap, List, [], ◌∷◌, Option, Some, None, IsSome, is_some, option_map, codes}
+use Rattle.std.proofs.lemmas.{Bool.and_from, Bool.not-true, Bool.or_left, Slice.Eq.bytes_eq-Decides}
 use Rattle.std.specs.Prelude.{find, option_and_then, slice_get, unwrap_or}
-use Rattle.std.specs.List.{list_all, list_any}
-use Rattle.std.specs.Option.{option_map_or}
-use Rattle.std.specs.Str.{bytes_eq}
-use Rattle.std.proofs.lemmas.Bool.{and_from, not-true, or_left}
-use Rattle.std.proofs.lemmas.Slice.Eq.{bytes_eq-Decides}
+use Rattle.std.specs.{List.list_all, List.list_any, Option.option_map_or, Str.bytes_eq}
 use Rattle.clap.specs.Words.{App, Row, Rule, Shape, Text, built, first_of, subcommand_of, takes}
 use Rattle.clap.specs.Walk.{answers_to, is_empty, nothing_held, rows_after, stop_after}
 use Rattle.clap.specs.Simple.{argument_words, entered, is_simple, label_of, names_of, rows_at}
 use Rattle.clap.specs.Takes.{built_takes, entered_passes, is_given, is_valid, level_passes}
-use Rattle.clap.proofs.SimpleLemmas.{is_nil}
-use Rattle.clap.proofs.WalkLemmas.{both}
+use Rattle.clap.proofs.{SimpleLemmas.is_nil, WalkLemmas.both}
 use Rattle.command_line.specs.Arguments.{Argument, Count, Flag, Often, Perhaps, flag, form_of, perhaps, several}
-use Rattle.command_line.specs.Commands.{symarch_command}
+use Rattle.command_line.specs.{Commands.symarch_command, declared.commands.Form.Form}
 use Rattle.command_line.specs.Lines.{all_values, are_accepted, asked_of, has_form, have_forms, is_set, line_at, line_in, named_command, values_at, values_spelled, words_by}
 use Rattle.command_line.specs.Table.{Signature, signature_named}
-use Rattle.command_line.specs.declared.commands.Form.{Form}
 use Rattle.command_line.proofs.Filled.{are_filled, found_passes, is_filled, lets_name, lets_stop, level, want_values}
 
 -- ---- tests

@@ -1,26 +1,18 @@
 -- Words are accepted exactly where they have no kind of error, at any command whose defaults pass. Both definitions go
 -- step by step, and each step gives no kind exactly where it passes.
 use Rattle.std.proofs.Common.{◌≡◌, ◌∙◌, ◌&&◌, ◌||◌, ℕ, zero, suc, Bool, true, false, not, cond, refl, sym, ap, arith, nat_le, List, [], ◌∷◌, length, drop, Option, Some, None, is_some, chars, encode_utf8, find}
-use Rattle.std.specs.Prelude.{slice_get}
-use Rattle.std.specs.List.{list_all, list_any}
-use Rattle.std.specs.Option.{option_map_or}
 use Rattle.std.proofs.lemmas.Bool.Decides.{nat_tests}
-use Rattle.clap.specs.Facts.{unwrap_or_range}
+use Rattle.std.specs.{Prelude.slice_get, Option.option_map_or, List.list_all, List.list_any}
+use Rattle.clap.specs.{Facts.unwrap_or_range, Lexer.long_of, Lexer.short_of, ValueTests.accepts, Values.is_request}
 use Rattle.clap.specs.Faults.{action_fault, bundle_step_fault, check_fault, default_fault, defaults_fault, entered_fault, fault_of, flag_word_fault, flags_fault, has_free_rules, is_simple_and_free, level_fault, long_fault, option_fault, other_fault, react_fault, settle_fault, short_fault, step_fault, stray_fault, turn_fault, use_fault, values_fault, walk_fault}
 use Rattle.clap.specs.Kinds.{Kinds, or_else, range_kinds, request_kinds, value_kinds}
-use Rattle.clap.specs.Lexer.{long_of, short_of}
 use Rattle.clap.specs.Simple.{App, Shape, argument_words, built, entered, is_simple, label_of, names_of}
 use Rattle.clap.specs.Takes.{action_passes, built_takes, bundle_step_passes, default_passes, entered_passes, flag_word_passes, flags_pass, is_given, is_valid, level_passes, long_passes, option_passes, other_passes, react_passes, settle_passes, short_passes, step_passes, takes, turn_passes, use_passes, values_pass, walk_passes}
-use Rattle.clap.specs.ValueTests.{accepts}
-use Rattle.clap.specs.Values.{is_request}
 use Rattle.clap.specs.Walk.{Held, Names, Row, Rule, Step, Text, Walk, action_of, answers_to, arg_by_id, arg_by_index, arg_by_long, arg_by_short, attached_value, finished, is_pending, most_values, next, nothing_held, reacted, settled, subcommand, subcommand_met, takes_several, takes_values, trailing, value, values_or_missing, walk, walk_from, walked, with_default, word_met}
-use Rattle.clap.specs.declared.builder.action.ArgAction.{ArgAction}
-use Rattle.clap.specs.declared.builder.value_parser.ValueParser.{ValueParser}
+use Rattle.clap.specs.declared.builder.{action.ArgAction.ArgAction, value_parser.ValueParser.ValueParser}
 use Rattle.clap.proofs.WalkLemmas.{both}
-use Rattle.command_line.specs.Commands.{symarch_command}
-use Rattle.command_line.specs.Lines.{are_accepted, error_kinds}
-use Rattle.command_line.proofs.Filled.{found_passes}
-use Rattle.command_line.proofs.Simple.{symarch_free}
+use Rattle.command_line.specs.{Commands.symarch_command, Lines.are_accepted, Lines.error_kinds}
+use Rattle.command_line.proofs.{Filled.found_passes, Simple.symarch_free}
 
 -- no kind of error
 abbrev none : Kinds → Bool
@@ -74,55 +66,51 @@ use_none again a vs rows =
 
 -- ---- flags
 
-settle_none : (c : List Rule) (again : Bool) (h : Held) → none (settle_fault c again h) ≡ settle_passes c again h
-settle_none c again h = where_some _ _ [] h.pending true refl
-    (λ p _. where_some _ _ [] (arg_by_id c p.0) true refl (λ a _. use_none again a p.1 h.rows))
+module _ (c : List Rule) (again : Bool) where
+  settle_none : (h : Held) → none (settle_fault c again h) ≡ settle_passes c again h
+  settle_none h = where_some _ _ [] h.pending true refl
+      (λ p _. where_some _ _ [] (arg_by_id c p.0) true refl (λ a _. use_none again a p.1 h.rows))
 
-react_none : (c : List Rule) (again : Bool) (a : Rule) (vs : List Text) (h : Held)
-    → none (react_fault c again a vs h) ≡ react_passes c again a vs h
-react_none c again a vs h = joined _ _ _ _ (settle_none c again h) (use_none again a vs (settled c h).rows)
+  react_none : (a : Rule) (vs : List Text) (h : Held) → none (react_fault c again a vs h) ≡ react_passes c again a vs h
+  react_none a vs h = joined _ _ _ _ (settle_none h) (use_none again a vs (settled c h).rows)
 
-option_none : (c : List Rule) (again : Bool) (a : Rule) (v : Option Text) (h : Held)
-    → none (option_fault c again a v h) ≡ option_passes c again a v h
-option_none c again a (Some v) h = react_none c again a (v ∷ []) h
-option_none c again a None h = settle_none c again h
+  option_none : (a : Rule) (v : Option Text) (h : Held) → none (option_fault c again a v h) ≡ option_passes c again a v h
+  option_none a (Some v) h = react_none a (v ∷ []) h
+  option_none a None h = settle_none h
 
-long_none : (c : List Rule) (again : Bool) (found : Option Rule) (v : Option Text) (h : Held)
-    → none (long_fault c again found v h) ≡ long_passes c again found v h
-long_none c again None v h = refl
-long_none c again (Some a) (Some v) h = picked (takes_values a) _ _ _ _ (option_none c again a (Some v) h) refl
-long_none c again (Some a) None h =
-    picked (takes_values a) _ _ _ _ (option_none c again a None h) (react_none c again a [] h)
+  long_none : (found : Option Rule) (v : Option Text) (h : Held)
+      → none (long_fault c again found v h) ≡ long_passes c again found v h
+  long_none None v h = refl
+  long_none (Some a) (Some v) h = picked (takes_values a) _ _ _ _ (option_none a (Some v) h) refl
+  long_none (Some a) None h = picked (takes_values a) _ _ _ _ (option_none a None h) (react_none a [] h)
 
-short_none : (c : List Rule) (again : Bool) (found : Option Rule) (rest : Text) (h : Held) (fault : Held → Kinds)
-    (passes : Held → Bool) → ((k : Held) → none (fault k) ≡ passes k)
-    → none (short_fault c again found rest h fault) ≡ short_passes c again found rest h passes
-short_none c again None rest h fault passes same = refl
-short_none c again (Some a) rest h fault passes same =
-    picked (takes_values a) _ _ _ _ (option_none c again a (attached_value rest) h)
-    (joined _ _ _ _ (react_none c again a [] h) (same (reacted c a [] h)))
+  short_none : (found : Option Rule) (rest : Text) (h : Held) (fault : Held → Kinds) (passes : Held → Bool)
+      → ((k : Held) → none (fault k) ≡ passes k)
+      → none (short_fault c again found rest h fault) ≡ short_passes c again found rest h passes
+  short_none None rest h fault passes same = refl
+  short_none (Some a) rest h fault passes same =
+      picked (takes_values a) _ _ _ _ (option_none a (attached_value rest) h)
+      (joined _ _ _ _ (react_none a [] h) (same (reacted c a [] h)))
 
-bundle_step_none : (c : List Rule) (again : Bool) (first : Option ℕ) (flags : Text) (skip : ℕ) (h : Held)
-    (fault : Text → ℕ → Held → Kinds) (passes : Text → ℕ → Held → Bool)
-    → ((rest : Text) (n : ℕ) (k : Held) → none (fault rest n k) ≡ passes rest n k)
-    → none (bundle_step_fault c again first flags skip h fault) ≡ bundle_step_passes c again first flags skip h passes
-bundle_step_none c again None flags skip h fault passes same = refl
-bundle_step_none c again (Some x) flags zero h fault passes same =
-    short_none c again (arg_by_short c x) _ h _ _ (same (drop (length (encode_utf8 x)) flags) 0)
-bundle_step_none c again (Some x) flags (suc skip) h fault passes same = same _ skip h
+  bundle_step_none : (first : Option ℕ) (flags : Text) (skip : ℕ) (h : Held) (fault : Text → ℕ → Held → Kinds)
+      (passes : Text → ℕ → Held → Bool) → ((rest : Text) (n : ℕ) (k : Held) → none (fault rest n k) ≡ passes rest n k)
+      → none (bundle_step_fault c again first flags skip h fault) ≡ bundle_step_passes c again first flags skip h passes
+  bundle_step_none None flags skip h fault passes same = refl
+  bundle_step_none (Some x) flags zero h fault passes same =
+      short_none (arg_by_short c x) _ h _ _ (same (drop (length (encode_utf8 x)) flags) 0)
+  bundle_step_none (Some x) flags (suc skip) h fault passes same = same _ skip h
 
-flags_none : (c : List Rule) (again : Bool) (n : ℕ) (flags : Text) (skip : ℕ) (h : Held)
-    → none (flags_fault c again n flags skip h) ≡ flags_pass c again n flags skip h
-unfolding flags_fault flags_pass
-flags_none c again zero flags skip h = refl
-flags_none c again (suc n) flags skip h =
-    bundle_step_none c again (slice_get (chars flags) 0) flags skip h _ _ (flags_none c again n)
+  flags_none : (n : ℕ) (flags : Text) (skip : ℕ) (h : Held)
+      → none (flags_fault c again n flags skip h) ≡ flags_pass c again n flags skip h
+  unfolding flags_fault flags_pass
+  flags_none zero flags skip h = refl
+  flags_none (suc n) flags skip h = bundle_step_none (slice_get (chars flags) 0) flags skip h _ _ (flags_none n)
 
-flag_word_none : (c : List Rule) (again : Bool) (named : Option (Text × Option Text)) (word : Text) (h : Held)
-    → none (flag_word_fault c again named word h) ≡ flag_word_passes c again named word h
-flag_word_none c again (Some p) word h = long_none c again (arg_by_long c p.0) p.1 h
-flag_word_none c again None word h = where_some _ _ [] (short_of word) true refl
-    (λ flags _. flags_none c again (length flags) flags h.skip (record h { skip = 0 }))
+  flag_word_none : (named : Option (Text × Option Text)) (word : Text) (h : Held)
+      → none (flag_word_fault c again named word h) ≡ flag_word_passes c again named word h
+  flag_word_none (Some p) word h = long_none (arg_by_long c p.0) p.1 h
+  flag_word_none None word h = where_some _ _ [] (short_of word) true refl
+      (λ flags _. flags_none (length flags) flags h.skip (record h { skip = 0 }))
 
 -- ---- one word
 

@@ -1,22 +1,14 @@
 -- A walk over words that `clap` accepts leaves no row without a value, where no argument may be used without one.
 use Rattle.std.proofs.Common.{◌≡◌, ◌&&◌, ◌||◌, ◌++◌, ℕ, zero, suc, Bool, true, false, not, cond, refl, arith, List, [], ◌∷◌, Option, Some, None, is_some, nat_le, drop, length, codes}
+use Rattle.std.proofs.lemmas.{Bool.and_from, Bool.Decides.nat_tests, List.Folds.list_all-append}
 use Rattle.std.specs.Prelude.{encode_utf8, find, slice_get}
-use Rattle.std.specs.List.{fold, list_all}
-use Rattle.std.specs.Option.{option_map_or}
-use Rattle.std.specs.Str.{bytes_eq, chars}
-use Rattle.std.proofs.lemmas.Bool.{and_from}
-use Rattle.std.proofs.lemmas.Bool.Decides.{nat_tests}
-use Rattle.std.proofs.lemmas.List.Folds.{list_all-append}
-use Rattle.clap.specs.Lexer.{long_of, short_of}
-use Rattle.clap.specs.Values.{is_request}
-use Rattle.clap.specs.Facts.{unwrap_or_range}
+use Rattle.std.specs.{List.fold, List.list_all, Option.option_map_or, Str.bytes_eq, Str.chars}
+use Rattle.clap.specs.{Lexer.long_of, Lexer.short_of, Facts.unwrap_or_range}
+use Rattle.clap.specs.{Values.is_request, Simple.Shape, declared.parser.matches.ValueSource.ValueSource}
 use Rattle.clap.specs.Walk.{Held, Names, Outcome, Row, Rule, Step, Text, Waiting, Walk, action_of, after_flag, after_step, arg_by_id, arg_by_index, arg_by_long, arg_by_short, at_row, attached_value, bundle, bundle_met, bundle_step, default_rows, done, flag_met, has_row, is_pending, long_met, long_or_other, more_values, next, option_met, plain, reacted, reading_by, settled, settled_rows, short_met, short_or_plain, subcommand, subcommand_met, subcommand_or_other, takes_several, takes_values, to_positional, trailing, used, used_as, used_by_id, value, values_or_missing, walk, walk_from, walked, walked_from, with_default, nothing_held, rows_after, with_values, without, word_met}
-use Rattle.clap.specs.Simple.{Shape}
 use Rattle.clap.specs.Takes.{action_passes, is_valid, bundle_passes, bundle_step_passes, flag_word_passes, flags_pass, level_passes, long_passes, option_passes, other_passes, positional_passes, react_passes, settle_passes, short_passes, step_passes, turn_passes, use_passes, walk_passes, word_passes}
-use Rattle.clap.specs.declared.builder.action.ArgAction.{ArgAction}
-use Rattle.clap.specs.declared.parser.matches.ValueSource.{ValueSource}
+use Rattle.clap.specs.declared.builder.{action.ArgAction.ArgAction, value_parser.Reading.Reading}
 use Rattle.clap.specs.declared.parser.matches.ValueSource.TheVariants.{CommandLine, DefaultValue}
-use Rattle.clap.specs.declared.builder.value_parser.Reading.{Reading}
 use Rattle.clap.proofs.WalkLemmas.{both}
 
 -- ---- words
@@ -121,91 +113,84 @@ used_filled again a (v ∷ vs) rows wants passes filled =
 abbrev pub holds_values : Held → Bool
 holds_values h = are_filled h.rows
 
-settled_filled : (c : List Rule) (again : Bool) (h : Held) → want_values c ≡ true → settle_passes c again h ≡ true
-    → holds_values h ≡ true → holds_values (settled c h) ≡ true
-settled_filled c again h wants passes filled = go h.pending passes
-  where
-    by_id : (o : Option Rule) (values : List Text) → ((a : Rule) → o ≡ Some a → wants_value a ≡ true)
-        → option_map_or (λ a. use_passes again a values h.rows) o true ≡ true
-        → are_filled (used_by_id o values h.rows) ≡ true
-    by_id None values wants ok = filled
-    by_id (Some a) values wants ok = used_filled again a values h.rows (wants a refl) ok filled
+module _ (c : List Rule) (again : Bool) (wants : want_values c ≡ true) where
+  settled_filled : (h : Held) → settle_passes c again h ≡ true → holds_values h ≡ true
+      → holds_values (settled c h) ≡ true
+  settled_filled h passes filled = go h.pending passes
+    where
+      by_id : (o : Option Rule) (values : List Text) → ((a : Rule) → o ≡ Some a → wants_value a ≡ true)
+          → option_map_or (λ a. use_passes again a values h.rows) o true ≡ true
+          → are_filled (used_by_id o values h.rows) ≡ true
+      by_id None values each ok = filled
+      by_id (Some a) values each ok = used_filled again a values h.rows (each a refl) ok filled
 
-    go : (pending : Option (Text × List Text))
-        → option_map_or (λ p. option_map_or (λ a. use_passes again a p.1 h.rows) (arg_by_id c p.0) true) pending true
-        ≡ true
-        → are_filled (settled_rows c pending h.rows) ≡ true
-    go None ok = filled
-    go (Some p) ok = by_id (arg_by_id c p.0) p.1 (λ a. found_passes wants_value _ c a wants) ok
+      go : (pending : Option (Text × List Text))
+          → option_map_or (λ p. option_map_or (λ a. use_passes again a p.1 h.rows) (arg_by_id c p.0) true) pending true
+          ≡ true
+          → are_filled (settled_rows c pending h.rows) ≡ true
+      go None ok = filled
+      go (Some p) ok = by_id (arg_by_id c p.0) p.1 (λ a. found_passes wants_value _ c a wants) ok
 
-reacted_filled : (c : List Rule) (again : Bool) (a : Rule) (values : List Text) (h : Held) → want_values c ≡ true
-    → wants_value a ≡ true → react_passes c again a values h ≡ true → holds_values h ≡ true
-    → holds_values (reacted c a values h) ≡ true
-reacted_filled c again a values h wants one passes filled =
-    let parts = both (settle_passes c again h) _ passes in
-    used_filled again a values (settled c h).rows one parts.1 (settled_filled c again h wants parts.0 filled)
+  reacted_filled : (a : Rule) (values : List Text) (h : Held) → wants_value a ≡ true
+      → react_passes c again a values h ≡ true → holds_values h ≡ true → holds_values (reacted c a values h) ≡ true
+  reacted_filled a values h one passes filled =
+      let parts = both (settle_passes c again h) _ passes in
+      used_filled again a values (settled c h).rows one parts.1 (settled_filled h parts.0 filled)
 
--- ---- flags
+  -- ---- flags
 
-option_met_filled : (c : List Rule) (again : Bool) (a : Rule) (v : Option Text) (h : Held) → want_values c ≡ true
-    → wants_value a ≡ true → option_passes c again a v h ≡ true → holds_values h ≡ true
-    → holds_values (option_met c a v h).0 ≡ true
-option_met_filled c again a (Some v) h wants one passes filled =
-    reacted_filled c again a (v ∷ []) h wants one passes filled
-option_met_filled c again a None h wants one passes filled = settled_filled c again h wants passes filled
+  option_met_filled : (a : Rule) (v : Option Text) (h : Held) → wants_value a ≡ true
+      → option_passes c again a v h ≡ true → holds_values h ≡ true → holds_values (option_met c a v h).0 ≡ true
+  option_met_filled a (Some v) h one passes filled = reacted_filled a (v ∷ []) h one passes filled
+  option_met_filled a None h one passes filled = settled_filled h passes filled
 
-long_met_filled : (c : List Rule) (again : Bool) (found : Option Rule) (v : Option Text) (h : Held)
-    → want_values c ≡ true
-    → ((a : Rule) → found ≡ Some a → wants_value a ≡ true) → long_passes c again found v h ≡ true
-    → holds_values h ≡ true
-    → holds_values (long_met c found v h).0 ≡ true
-long_met_filled c again None v h wants one passes filled = filled
-long_met_filled c again (Some a) v h wants one passes filled =
-    picked (λ (met : Held × Outcome). holds_values met.0) (takes_values a) _ _ _ _ passes
-    (λ ok. option_met_filled c again a v h wants (one a refl) ok filled) (flag v)
-  where
-    flag : (v : Option Text) → (not (is_some v) && react_passes c again a [] h) ≡ true
-        → holds_values (flag_met c a v h).0 ≡ true
-    flag None ok = reacted_filled c again a [] h wants (one a refl) ok filled
-    flag (Some v) ok = filled
+  long_met_filled : (found : Option Rule) (v : Option Text) (h : Held)
+      → ((a : Rule) → found ≡ Some a → wants_value a ≡ true) → long_passes c again found v h ≡ true
+      → holds_values h ≡ true → holds_values (long_met c found v h).0 ≡ true
+  long_met_filled None v h one passes filled = filled
+  long_met_filled (Some a) v h one passes filled =
+      picked (λ (met : Held × Outcome). holds_values met.0) (takes_values a) _ _ _ _ passes
+      (λ ok. option_met_filled a v h (one a refl) ok filled) (flag v)
+    where
+      flag : (v : Option Text) → (not (is_some v) && react_passes c again a [] h) ≡ true
+          → holds_values (flag_met c a v h).0 ≡ true
+      flag None ok = reacted_filled a [] h (one a refl) ok filled
+      flag (Some v) ok = filled
 
-short_met_filled : (c : List Rule) (again : Bool) (found : Option Rule) (rest : Text) (h : Held) (ok : Held → Bool)
-    (then : Held → Held × Outcome) → want_values c ≡ true → ((a : Rule) → found ≡ Some a → wants_value a ≡ true)
-    → ((k : Held) → ok k ≡ true → holds_values k ≡ true → holds_values (then k).0 ≡ true)
-    → short_passes c again found rest h ok ≡ true → holds_values h ≡ true
-    → holds_values (short_met c found rest h then).0 ≡ true
-short_met_filled c again None rest h ok then wants one after passes filled = filled
-short_met_filled c again (Some a) rest h ok then wants one after passes filled =
-    picked (λ (met : Held × Outcome). holds_values met.0) (takes_values a) _ _ _ _ passes
-    (λ is. option_met_filled c again a (attached_value rest) h wants (one a refl) is filled)
-    (λ is. let parts = both (react_passes c again a [] h) _ is in
-    after _ parts.1 (reacted_filled c again a [] h wants (one a refl) parts.0 filled))
+  short_met_filled : (found : Option Rule) (rest : Text) (h : Held) (ok : Held → Bool) (then : Held → Held × Outcome)
+      → ((a : Rule) → found ≡ Some a → wants_value a ≡ true)
+      → ((k : Held) → ok k ≡ true → holds_values k ≡ true → holds_values (then k).0 ≡ true)
+      → short_passes c again found rest h ok ≡ true → holds_values h ≡ true
+      → holds_values (short_met c found rest h then).0 ≡ true
+  short_met_filled None rest h ok then one after passes filled = filled
+  short_met_filled (Some a) rest h ok then one after passes filled =
+      picked (λ (met : Held × Outcome). holds_values met.0) (takes_values a) _ _ _ _ passes
+      (λ is. option_met_filled a (attached_value rest) h (one a refl) is filled)
+      (λ is. let parts = both (react_passes c again a [] h) _ is in
+      after _ parts.1 (reacted_filled a [] h (one a refl) parts.0 filled))
 
-bundle_step_filled : (c : List Rule) (again : Bool) (first : Option ℕ) (flags : Text) (skip : ℕ) (so_far : Outcome)
-    (h : Held)
-    (ok : Text → ℕ → Held → Bool) (then : Text → ℕ → Outcome → Held → Held × Outcome) → want_values c ≡ true
-    → ((rest : Text) (n : ℕ) (o : Outcome) (k : Held) → ok rest n k ≡ true → holds_values k ≡ true
-    → holds_values (then rest n o k).0 ≡ true)
-    → bundle_step_passes c again first flags skip h ok ≡ true → holds_values h ≡ true
-    → holds_values (bundle_step c first flags skip so_far h then).0 ≡ true
-bundle_step_filled c again None flags skip so_far h ok then wants after passes filled = filled
-bundle_step_filled c again (Some x) flags zero so_far h ok then wants after passes filled =
-    short_met_filled c again (arg_by_short c x) (drop (length (encode_utf8 x)) flags) h _ _ wants
-    (λ a is. found_passes wants_value _ c a wants is)
-    (λ k. after (drop (length (encode_utf8 x)) flags) 0 done k) passes filled
-bundle_step_filled c again (Some x) flags (suc skip) so_far h ok then wants after passes filled =
-    after (drop (length (encode_utf8 x)) flags) skip so_far h passes filled
+  bundle_step_filled : (first : Option ℕ) (flags : Text) (skip : ℕ) (so_far : Outcome) (h : Held)
+      (ok : Text → ℕ → Held → Bool) (then : Text → ℕ → Outcome → Held → Held × Outcome)
+      → ((rest : Text) (n : ℕ) (o : Outcome) (k : Held) → ok rest n k ≡ true → holds_values k ≡ true
+      → holds_values (then rest n o k).0 ≡ true)
+      → bundle_step_passes c again first flags skip h ok ≡ true → holds_values h ≡ true
+      → holds_values (bundle_step c first flags skip so_far h then).0 ≡ true
+  bundle_step_filled None flags skip so_far h ok then after passes filled = filled
+  bundle_step_filled (Some x) flags zero so_far h ok then after passes filled =
+      short_met_filled (arg_by_short c x) (drop (length (encode_utf8 x)) flags) h _ _
+      (λ a is. found_passes wants_value _ c a wants is)
+      (λ k. after (drop (length (encode_utf8 x)) flags) 0 done k) passes filled
+  bundle_step_filled (Some x) flags (suc skip) so_far h ok then after passes filled =
+      after (drop (length (encode_utf8 x)) flags) skip so_far h passes filled
 
-bundle_met_filled : (c : List Rule) (again : Bool) (n : ℕ) (flags : Text) (skip : ℕ) (so_far : Outcome) (h : Held)
-    → want_values c ≡ true
-    → flags_pass c again n flags skip h ≡ true → holds_values h ≡ true
-    → holds_values (bundle_met c n flags skip so_far h).0 ≡ true
-unfolding flags_pass bundle_met
-bundle_met_filled c again zero flags skip so_far h wants passes filled = filled
-bundle_met_filled c again (suc n) flags skip so_far h wants passes filled =
-    bundle_step_filled c again (slice_get (chars flags) 0) flags skip so_far h (flags_pass c again n)
-    (bundle_met c n) wants
-    (λ rest m o k. bundle_met_filled c again n rest m o k wants) passes filled
+  bundle_met_filled : (n : ℕ) (flags : Text) (skip : ℕ) (so_far : Outcome) (h : Held)
+      → flags_pass c again n flags skip h ≡ true → holds_values h ≡ true
+      → holds_values (bundle_met c n flags skip so_far h).0 ≡ true
+  unfolding flags_pass bundle_met
+  bundle_met_filled zero flags skip so_far h passes filled = filled
+  bundle_met_filled (suc n) flags skip so_far h passes filled =
+      bundle_step_filled (slice_get (chars flags) 0) flags skip so_far h (flags_pass c again n) (bundle_met c n)
+      (λ rest m o k. bundle_met_filled n rest m o k) passes filled
 
 -- ---- one word
 
@@ -231,7 +216,7 @@ flag_word_fine : (s : Shape) (again : Bool) (waiting : Waiting) (word : Text) (n
 flag_word_fine s again waiting word (Some p) h wants passes filled =
     let c = s.rules in
     let met = long_met c (arg_by_long c p.0) p.1 h in
-    after_flag_fine s waiting word met.0 met.1 (long_met_filled c again (arg_by_long c p.0) p.1 h wants
+    after_flag_fine s waiting word met.0 met.1 (long_met_filled c again wants (arg_by_long c p.0) p.1 h
     (λ a is. found_passes wants_value _ c a wants is) passes filled)
 flag_word_fine s again waiting word None h wants passes filled = go (short_of word) passes
   where
@@ -240,7 +225,7 @@ flag_word_fine s again waiting word None h wants passes filled = go (short_of wo
     go None is = after_flag_fine s waiting word h plain filled
     go (Some flags) is =
         after_flag_fine s waiting word (bundle s.rules flags h).0 (bundle s.rules flags h).1
-        (bundle_met_filled s.rules again (length flags) flags h.skip plain (record h { skip = 0 }) wants is filled)
+        (bundle_met_filled s.rules again wants (length flags) flags h.skip plain (record h { skip = 0 }) is filled)
 
 other_fine : (s : Shape) (named : Option Text) (waiting : Waiting) (position : ℕ) (word : Text) (h : Held)
     → want_values s.rules ≡ true → other_passes s named word h ≡ true → holds_values h ≡ true
@@ -279,7 +264,7 @@ after_step_stands s word w h value wants fine passes stop = go (arg_by_index s.r
         → stands s (to_positional s.rules o word w h) ≡ true
     go None ok = cc
     go (Some a) ok = and_from _ _ (or_picked holds_values (is_pending a h.pending && takes_several a) _ _ _ ok
-        (both _ _ fine).0 (λ is. settled_filled s.rules s.args_override_self h wants is (both _ _ fine).0)) refl
+        (both _ _ fine).0 (λ is. settled_filled s.rules s.args_override_self wants h is (both _ _ fine).0)) refl
 
 turn_stands : (s : Shape) (names : Names) (w : Walk) (word : Text) → want_values s.rules ≡ true
     → turn_passes s names w word ≡ true → stands s w ≡ true → stands s (walked s.rules names w word) ≡ true
@@ -339,6 +324,6 @@ level s names words has_subcommand wants passes =
     record {
       stop = stood.1;
       filled = defaults_filled s.rules (settled s.rules end.held).rows
-          (settled_filled s.rules s.args_override_self end.held wants rest.0 stood.0);
+          (settled_filled s.rules s.args_override_self wants end.held rest.0 stood.0);
       valid = (both _ _ rest.1).1;
     }

@@ -1,13 +1,8 @@
 -- A line whose OUT is none of its inputs is kept.
 use Rattle.std.proofs.Common.{◌≡◌, ◌∙◌, true, false, not, List, Contains, Option, Some, None, IfSome, ap, refl, if◌then◌else◌, IsSome, ◌&&◌, ap₂, subst, sym}
-use Rattle.std.specs.Prelude.{option_and_then}
-use Rattle.std.specs.Bool.{Decides}
-use Rattle.std.specs.Option.{option_map_or}
-use Rattle.std.specs.Str.{bytes_eq}
-use Rattle.std.proofs.lemmas.Bool.{not-true}
-use Rattle.std.proofs.lemmas.Bool.Decides.{Decides-by_or}
-use Rattle.std.proofs.lemmas.List.Elements.{Decides-contains}
-use Rattle.std.proofs.lemmas.Slice.Eq.{bytes_eq-Decides}
+use Rattle.std.proofs.lemmas.Bool.{not-true, Decides.Decides-by_or}
+use Rattle.std.proofs.lemmas.{List.Elements.Decides-contains, Slice.Eq.bytes_eq-Decides}
+use Rattle.std.specs.{Prelude.option_and_then, Option.option_map_or, Bool.Decides, Str.bytes_eq}
 use Rattle.clap.specs.Words.{Row, Text}
 use Rattle.command_line.specs.Lines.{KeepsInputs, Line, have_forms, inputs_of, is_path_among, kept, line_in, out_of, overwrites_input}
 use Rattle.command_line.proofs.Accepted.{forms_of_asked}

@@ -1,21 +1,26 @@
 -- What a line that `clap` refuses has for an answer, by the kinds of error that its own definition names.
-use Rattle.std.proofs.Common.{arith, ◌≡◌, ℕ, inl, inr, true, List, [], ◌∷◌, Option, Some, None, Result, Ok, Err, IfOk, Global, IfErr, IsErrAnd, MatchResult, String, ap, is_some, option_map, refl, string_bytes, subst, sym}
-use Rattle.std.specs.Prelude.{option_and_then}
-use Rattle.std.specs.Option.{option_map_or, option_or}
+use Rattle.std.proofs.Common.{arith, ◌≡◌, ◌∙◌, ℕ, inl, inr, true, List, [], ◌∷◌, Option, Some, None, Result, Ok, Err, IfOk, Global, IfErr, IsErrAnd, MatchResult, String, ap, is_some, option_map, refl, string_bytes, subst, sym}
+use Rattle.std.specs.{Prelude.option_and_then, Option.option_map_or, Option.option_or}
 use Rattle.uuid.specs.Text.{parsed}
 use Rattle.archive_words.specs.Words.{address_of, arch_of, digest_of}
 use Rattle.command_line.specs.Arguments.{Amount, Argument, Values, form_of, one, perhaps, several}
 use Rattle.command_line.specs.LineFaults.{out_is_input, unknown_command, without_value, IsHelpUnlessMemory, IsRefusalUnlessMemory, IsRefusedBy, first_other, form_refusal, other_form, other_in, other_word, out_refusal, refusal_among, refusal_at, refusal_in, refusal_of}
 use Rattle.command_line.specs.Lines.{Line, all_spelled, all_values, amount_spelled, line_at, line_in, values_at, inputs_of, is_path_among, out_of, values_spelled, words_by}
-use Rattle.command_line.specs.Table.{Signature, signature_named}
-use Rattle.command_line.specs.declared.commands.Form.{Form}
+use Rattle.command_line.specs.{Table.Signature, Table.signature_named, declared.commands.Form.Form}
+use Rattle.command_line.specs.{Commands.symarch_command, Lines.error_kinds}
+use Rattle.command_line.proofs.Simple.{symarch_free}
+use Rattle.command_line.specs.declared.line_faults.LineFault.{LineFault, TheVariants.OutOfMemory, TheVariants.Refused}
 use Rattle.command_line.specs.declared.commands.Form.TheVariants as forms
-use Rattle.clap.specs.Words.{HasKind, IsAmong, Kinds, Row, Text, kind_of}
-use Rattle.clap.specs.declared.error.Error.{Error}
-use Rattle.clap.specs.declared.error.kind.ErrorKind.{ErrorKind}
+use Rattle.clap.specs.Words.{App, HasKind, IsAmong, Kinds, Row, Text, fault_of, is_simple_and_free, kind_of}
+use Rattle.clap.specs.declared.error.{Error.Error, kind.ErrorKind.ErrorKind}
 use Rattle.clap.specs.declared.error.kind.ErrorKind.TheVariants as kind
-use Rattle.command_line.specs.declared.line_faults.LineFault.{LineFault}
-use Rattle.command_line.specs.declared.line_faults.LineFault.TheVariants.{OutOfMemory, Refused}
+
+-- the kinds of the error of a parse of the program's command
+pub symarch_kinds : (a : App) (words : List Text) (e : Error) → a ≡ symarch_command
+    → (is_simple_and_free a ≡ true → HasKind (fault_of a words) e) → HasKind (error_kinds words) e
+unfolding error_kinds
+symarch_kinds a words e is kinds =
+    subst (λ app. HasKind (fault_of app words) e) is (kinds (ap is_simple_and_free is ∙ symarch_free))
 
 -- where help, or the version, is the only kind, the error is its text or a want of memory
 pub asked_is_help : (e : Error) (fault : LineFault) (kinds : Kinds) (asked : ErrorKind) → HasKind kinds e
@@ -29,17 +34,16 @@ asked_is_help e fault kinds asked has alone memory help = elim (subst (λ ks. Ha
 ]
 
 -- where neither help nor the version is one of the kinds, the error is a refusal or a want of memory
-pub other_is_refusal : (e : Error) (fault : LineFault) (kinds same : Kinds) → HasKind kinds e
-    → kinds ≡ same → ¬ IsAmong kind.DisplayHelp same → ¬ IsAmong kind.DisplayVersion same
+pub other_is_refusal : (e : Error) (fault : LineFault) (kinds : Kinds) → HasKind kinds e
+    → ¬ IsAmong kind.DisplayHelp kinds → ¬ IsAmong kind.DisplayVersion kinds
     → (kind_of e ≡ kind.OutOfMemory → fault ≡ OutOfMemory)
     → (¬ (kind_of e ≡ kind.DisplayHelp) → ¬ (kind_of e ≡ kind.DisplayVersion) → IsRefusalUnlessMemory fault)
     → IsRefusalUnlessMemory fault
-other_is_refusal e fault kinds same has is no_help no_version memory refusal =
-    elim (subst (λ ks. HasKind ks e) is has) [
-      | inl wants ↦ subst IsRefusalUnlessMemory (sym (memory wants)) tt
-      | inr among ↦ refusal (λ is_help. no_help (subst (λ k. IsAmong k same) is_help among))
-          (λ is_version. no_version (subst (λ k. IsAmong k same) is_version among))
-    ]
+other_is_refusal e fault kinds has no_help no_version memory refusal = elim has [
+  | inl wants ↦ subst IsRefusalUnlessMemory (sym (memory wants)) tt
+  | inr among ↦ refusal (λ is_help. no_help (subst (λ k. IsAmong k kinds) is_help among))
+      (λ is_version. no_version (subst (λ k. IsAmong k kinds) is_version among))
+]
 
 pub refused_by : {E : Type 0} (made : Result (String Global) E) (fault : LineFault) (text : List ℕ)
     → IfOk made (λ t. string_bytes t ≡ text)

@@ -1,15 +1,13 @@
 -- A line that is read is one of the table.
 use Rattle.std.proofs.Common.{arith, ◌≡◌, ◌∙◌, true, false, refl, ap, subst, sym, List, [], ◌∷◌, Option, Some, None, option_map}
+use Rattle.std.proofs.lemmas.{Bool.and_from, Option.option_and_then_some}
 use Rattle.std.specs.Option.{option_map_or}
-use Rattle.std.proofs.lemmas.Bool.{and_from}
-use Rattle.std.proofs.lemmas.Option.{option_and_then_some}
 use Rattle.clap.specs.Words.{Row, Text}
 use Rattle.uuid.specs.Text.{parsed}
 use Rattle.archive_words.specs.Words.{address_of, arch_of, digest_of}
 use Rattle.command_line.specs.Arguments.{Amount, Argument, Count, Several, Values, are_values_of, archs, digests, form_of, is_counted, is_formed, numbers, texts, several, uuids}
 use Rattle.command_line.specs.Lines.{all_spelled, all_values, amount_spelled, any_of, if_some, values_at, values_spelled, words_by}
-use Rattle.command_line.specs.Table.{Signature, is_listed, signature_named}
-use Rattle.command_line.specs.declared.commands.Form.{Form}
+use Rattle.command_line.specs.{Table.Signature, Table.is_listed, Table.signature_named, declared.commands.Form.Form}
 use Rattle.command_line.specs.declared.commands.Form.TheVariants as forms
 
 mapped : {X Y : Type 0} (f : X → Y) (o : Option X) (y : Y) (P : Y → Type 0) → option_map f o ≡ Some y

@@ -4,9 +4,8 @@ use Rattle.clap.specs.Words.{Kinds, Text}
 use Rattle.hex.proofs.OnLiterals.{hex_on_literals}
 use Rattle.uuid.proofs.OnLiterals.{uuid_on_literals}
 use Rattle.clap.proofs.OnLiterals.{clap_on_literals}
-use Rattle.command_line.specs.Commands.{symarch_command}
+use Rattle.command_line.specs.{Commands.symarch_command, Samples.EachAsks, Samples.Sample, Samples.samples}
 use Rattle.command_line.specs.Lines.{Line, error_kinds, is_in_order, line_of, named_command}
-use Rattle.command_line.specs.Samples.{EachAsks, Sample, samples}
 
 -- what words have, and ask for
 record Answer : Type 0 where

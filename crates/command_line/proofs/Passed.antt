@@ -1,8 +1,6 @@
 -- Where the arguments or their values are passed, no text is left.
 use Rattle.std.proofs.Common.{◌≡◌, ◌⊎◌, arith, inl, inr, Bool, refl, List, [], ◌∷◌, length, map}
-use Rattle.command_line.specs.Arguments.{Argument, Values}
-use Rattle.command_line.specs.Lines.{texts_by}
-use Rattle.command_line.specs.declared.commands.Role.{Role}
+use Rattle.command_line.specs.{Arguments.Argument, Arguments.Values, Lines.texts_by, declared.commands.Role.Role}
 
 pub none_left : {A B : Type 0} (wants : Role → Bool) (f : A → Argument) (g : B → Values) (xs : List A) (ys : List B)
     → (length xs ≡ 0) ⊎ (length ys ≡ 0) → texts_by wants (map f xs) (map g ys) ≡ []

@@ -1,13 +1,10 @@
 -- Arguments of commands, and their values.
 use Rattle.std.specs.Prelude.{ℕ, Bool, true, false, ◌&&◌, List, [], ◌∷◌, Option}
 use Rattle.clap.specs.Words.{Text}
-use Rattle.archive_core.specs.declared.keys.ArchKey.{ArchKey}
-use Rattle.archive_core.specs.declared.keys.Digest.{Digest}
-use Rattle.command_line.specs.declared.commands.Form.{Form}
+use Rattle.archive_core.specs.declared.keys.{ArchKey.ArchKey, Digest.Digest}
+use Rattle.command_line.specs.declared.commands.{Form.Form, Kind.Kind, Role.Role}
 use Rattle.command_line.specs.declared.commands.Form.TheVariants as forms
-use Rattle.command_line.specs.declared.commands.Kind.{Kind}
 use Rattle.command_line.specs.declared.commands.Kind.TheVariants as kinds
-use Rattle.command_line.specs.declared.commands.Role.{Role}
 use Rattle.command_line.specs.declared.commands.Role.TheVariants as roles
 
 -- how often an argument stands in a line: one word; the last words; the word after an option, at most once; a word after

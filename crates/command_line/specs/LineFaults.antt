@@ -6,15 +6,12 @@ use Rattle.clap.specs.Words.{Row, Text}
 use Rattle.uuid.specs.Text.{parsed}
 use Rattle.archive_words.specs.Words.{address_of, arch_of, digest_of}
 use Rattle.command_line.specs.Arguments.{Amount, Argument, flag, form_of, one, perhaps, several}
-use Rattle.command_line.specs.LineView.{line_view}
+use Rattle.command_line.specs.{LineView.line_view, Shown.shown, Table.signature_named}
 use Rattle.command_line.specs.Lines.{Line, line_in, out_of, overwrites_input, words_by}
-use Rattle.command_line.specs.declared.commands.Form.{Form}
-use Rattle.command_line.specs.declared.commands.Form.TheVariants as forms
-use Rattle.command_line.specs.Shown.{shown}
-use Rattle.command_line.specs.Table.{signature_named}
+use Rattle.command_line.specs.declared.{commands.Form.Form, line_faults.LineFault.LineFault}
 use Rattle.command_line.specs.declared.lines.Line.{Line as LineOfProgram}
-use Rattle.command_line.specs.declared.line_faults.LineFault.{LineFault}
 use Rattle.command_line.specs.declared.line_faults.LineFault.TheVariants.{Refused, OutOfMemory, Help}
+use Rattle.command_line.specs.declared.commands.Form.TheVariants as forms
 
 -- help or the version, or memory was wanting
 abbrev pub IsHelpUnlessMemory : LineFault → Type 0

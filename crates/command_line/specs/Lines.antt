@@ -2,21 +2,16 @@
 use Rattle.std.specs.Prelude.{Bool, true, false, not, ◌&&◌, ◌||◌, List, [], ◌∷◌, ◌++◌, Contains}
 use Rattle.std.specs.Prelude.{Option, Some, None, IfSome, is_some, option_and_then, option_map, slice_get}
 use Rattle.std.specs.Prelude.{if◌then◌else◌, codes, unwrap_or}
-use Rattle.std.specs.List.{list_all, list_any}
-use Rattle.std.specs.Option.{option_map_or}
-use Rattle.std.specs.Str.{bytes_eq}
+use Rattle.std.specs.{List.list_all, List.list_any, Option.option_map_or, Str.bytes_eq}
 use Rattle.clap.specs.Words.{Kinds, Row, Text, all_of, fault_of, first_of, subcommand_of, takes}
 use Rattle.uuid.specs.Text.{parsed}
 use Rattle.archive_words.specs.Words.{address_of, arch_of, digest_of}
-use Rattle.command_line.specs.declared.commands.Form.{Form}
-use Rattle.command_line.specs.declared.commands.Form.TheVariants as forms
-use Rattle.command_line.specs.declared.commands.Kind.{Kind}
-use Rattle.command_line.specs.declared.commands.Role.{Role}
+use Rattle.command_line.specs.declared.commands.{Form.Form, Kind.Kind, Role.Role}
 use Rattle.command_line.specs.Arguments.{Amount, Argument, Count, Flag, Often, Once, Perhaps, Several, Values, archs}
 use Rattle.command_line.specs.Arguments.{digests, flag, form_of, numbers, one, perhaps, reads, reads_kind, several}
-use Rattle.command_line.specs.Arguments.{texts, uuids, writes}
-use Rattle.command_line.specs.Commands.{symarch_command}
+use Rattle.command_line.specs.{Arguments.texts, Arguments.uuids, Arguments.writes, Commands.symarch_command}
 use Rattle.command_line.specs.Table.{Signature, arguments_named, signature_named}
+use Rattle.command_line.specs.declared.commands.Form.TheVariants as forms
 
 -- the command of this name, with the values of its arguments in the order of the table; a path is the word itself
 pub record Line : Type 0 where

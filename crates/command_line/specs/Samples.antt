@@ -4,10 +4,7 @@ use Rattle.clap.specs.Words.{Text}
 use Rattle.archive_words.specs.Words.{arch_key}
 use Rattle.command_line.specs.Arguments.{archs, digests, flag, numbers, one, perhaps, several, text, texts, uuids}
 use Rattle.command_line.specs.Lines.{Line, error_kinds, is_in_order, line_of, line_with}
-use Rattle.command_line.specs.Table.{admit_command, apply_command, delta_command, find_command, frames_command}
-use Rattle.command_line.specs.Table.{index_command, list_command, merge_command, migrate_command, name_command}
-use Rattle.command_line.specs.Table.{extract_command, new_command}
-use Rattle.command_line.specs.Table.{rehearse_command, retire_command, summary_command, symbolicate_command}
+use Rattle.command_line.specs.Table as table
 
 -- words behind the program's name, and a line
 pub record Sample : Type 0 where
@@ -45,46 +42,46 @@ digest_bytes =
 
 abbrev pub samples : List Sample
 samples =
-    sample (codes "new" ∷ codes "o" ∷ []) (line_with new_command (text (codes "o") ∷ []))
+    sample (codes "new" ∷ codes "o" ∷ []) (line_with table.new_command (text (codes "o") ∷ []))
     ∷ sample (codes "admit" ∷ codes "i" ∷ codes "o" ∷ codes "f" ∷ codes "g" ∷ [])
-    (line_with admit_command
+    (line_with table.admit_command
     (text (codes "i") ∷ text (codes "o") ∷ texts (several (codes "f" ∷ codes "g" ∷ [])) ∷ []))
     ∷ sample (codes "retire" ∷ codes "i" ∷ codes "o" ∷ uuid_text ∷ codes "arm64e" ∷ digest_text ∷ [])
-    (line_with retire_command (text (codes "i") ∷ text (codes "o") ∷ uuids (one uuid_bytes)
+    (line_with table.retire_command (text (codes "i") ∷ text (codes "o") ∷ uuids (one uuid_bytes)
     ∷ archs (one (arch_key 0x0100_000c 2)) ∷ digests (one (record { 0 = digest_bytes })) ∷ []))
     ∷ sample (codes "merge" ∷ codes "i" ∷ codes "o" ∷ codes "f" ∷ codes "g" ∷ [])
-    (line_with merge_command
+    (line_with table.merge_command
     (text (codes "i") ∷ text (codes "o") ∷ texts (several (codes "f" ∷ codes "g" ∷ [])) ∷ []))
     ∷ sample (codes "migrate" ∷ codes "i" ∷ codes "o" ∷ [])
-    (line_with migrate_command (text (codes "i") ∷ text (codes "o") ∷ []))
+    (line_with table.migrate_command (text (codes "i") ∷ text (codes "o") ∷ []))
     ∷ sample (codes "apply" ∷ codes "i" ∷ codes "o" ∷ codes "p" ∷ [])
-    (line_with apply_command (text (codes "i") ∷ text (codes "o") ∷ text (codes "p") ∷ []))
+    (line_with table.apply_command (text (codes "i") ∷ text (codes "o") ∷ text (codes "p") ∷ []))
     ∷ sample (codes "find" ∷ codes "--with" ∷ codes "b" ∷ codes "a" ∷ codes "--with=c" ∷ uuid_text ∷ codes "--index"
     ∷ codes "i" ∷ [])
-    (line_with find_command (text (codes "a") ∷ uuids (one uuid_bytes) ∷ texts (several (codes "b" ∷ codes "c" ∷ []))
+    (line_with table.find_command (text (codes "a") ∷ uuids (one uuid_bytes) ∷ texts (several (codes "b" ∷ codes "c" ∷ []))
     ∷ texts (several (codes "i" ∷ [])) ∷ []))
     ∷ sample (codes "list" ∷ codes "a" ∷ codes "--index" ∷ codes "i" ∷ [])
-    (line_with list_command (text (codes "a") ∷ texts (perhaps (Some (codes "i"))) ∷ []))
+    (line_with table.list_command (text (codes "a") ∷ texts (perhaps (Some (codes "i"))) ∷ []))
     ∷ sample (codes "extract" ∷ codes "a" ∷ uuid_text ∷ codes "--digest" ∷ digest_text ∷ codes "arm64e" ∷ codes "o"
     ∷ codes "--index=i" ∷ [])
-    (line_with extract_command (text (codes "a") ∷ uuids (one uuid_bytes) ∷ archs (one (arch_key 0x0100_000c 2))
+    (line_with table.extract_command (text (codes "a") ∷ uuids (one uuid_bytes) ∷ archs (one (arch_key 0x0100_000c 2))
     ∷ text (codes "o") ∷ digests (perhaps (Some (record { 0 = digest_bytes }))) ∷ texts (several [])
     ∷ texts (several (codes "i" ∷ [])) ∷ []))
     ∷ sample (codes "name" ∷ codes "a" ∷ codes "--" ∷ codes "-n" ∷ [])
-    (line_with name_command (text (codes "a") ∷ text (codes "-n") ∷ texts (several []) ∷ []))
+    (line_with table.name_command (text (codes "a") ∷ text (codes "-n") ∷ texts (several []) ∷ []))
     ∷ sample (codes "symbolicate" ∷ codes "a" ∷ uuid_text ∷ codes "x86_64h" ∷ codes "10" ∷ codes "--load=0xfF"
     ∷ codes "--with" ∷ codes "b" ∷ codes "--lines" ∷ codes "0x20" ∷ [])
-    (line_with symbolicate_command (text (codes "a") ∷ uuids (one uuid_bytes) ∷ archs (one (arch_key 0x0100_0007 8))
+    (line_with table.symbolicate_command (text (codes "a") ∷ uuids (one uuid_bytes) ∷ archs (one (arch_key 0x0100_0007 8))
     ∷ numbers (perhaps (Some 255)) ∷ texts (flag true) ∷ texts (several (codes "b" ∷ [])) ∷ texts (several [])
     ∷ numbers (several (0x10 ∷ 0x20 ∷ [])) ∷ []))
     ∷ sample (codes "frames" ∷ codes "f" ∷ codes "a" ∷ codes "b" ∷ codes "--index" ∷ codes "i" ∷ codes "--index"
     ∷ codes "j" ∷ [])
-    (line_with frames_command (text (codes "f") ∷ texts (flag false) ∷ texts (several (codes "i" ∷ codes "j" ∷ []))
+    (line_with table.frames_command (text (codes "f") ∷ texts (flag false) ∷ texts (several (codes "i" ∷ codes "j" ∷ []))
     ∷ texts (several (codes "a" ∷ codes "b" ∷ [])) ∷ []))
     ∷ sample (codes "summary" ∷ codes "a" ∷ codes "o" ∷ [])
-    (line_with summary_command (text (codes "a") ∷ text (codes "o") ∷ texts (perhaps None) ∷ []))
+    (line_with table.summary_command (text (codes "a") ∷ text (codes "o") ∷ texts (perhaps None) ∷ []))
     ∷ sample (codes "index" ∷ codes "a" ∷ codes "o" ∷ [])
-    (line_with index_command (text (codes "a") ∷ text (codes "o") ∷ []))
+    (line_with table.index_command (text (codes "a") ∷ text (codes "o") ∷ []))
     ∷ sample (codes "delta" ∷ codes "a" ∷ codes "s" ∷ codes "o" ∷ [])
-    (line_with delta_command (text (codes "a") ∷ text (codes "s") ∷ text (codes "o") ∷ []))
-    ∷ sample (codes "rehearse" ∷ codes "s" ∷ []) (line_with rehearse_command (text (codes "s") ∷ [])) ∷ []
+    (line_with table.delta_command (text (codes "a") ∷ text (codes "s") ∷ text (codes "o") ∷ []))
+    ∷ sample (codes "rehearse" ∷ codes "s" ∷ []) (line_with table.rehearse_command (text (codes "s") ∷ [])) ∷ []

@@ -1,7 +1,6 @@
 -- A word as it is shown.
 use Rattle.std.specs.Prelude.{ℕ, List, ◌++◌, codes, encode_utf8, flat_map, if◌then◌else◌}
-use Rattle.std.specs.Char.{is_control}
-use Rattle.std.specs.Str.{chars}
+use Rattle.std.specs.{Char.is_control, Str.chars}
 use Rattle.archive_words.specs.Words.{hex_digits}
 
 -- a character as it is shown: of one that a terminal obeys `\x` and its two hex digits

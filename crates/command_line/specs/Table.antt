@@ -1,13 +1,11 @@
 -- The commands: of each its name, and its arguments in the order of the words.
 use Rattle.std.specs.Prelude.{Bool, false, List, [], ◌∷◌, codes, Option, find}
-use Rattle.std.specs.Option.{option_map_or}
-use Rattle.std.specs.Str.{bytes_eq}
+use Rattle.std.specs.{Option.option_map_or, Str.bytes_eq}
 use Rattle.clap.specs.Words.{Text}
 use Rattle.command_line.specs.declared.commands.Form.TheVariants as forms
 use Rattle.command_line.specs.declared.commands.Kind.TheVariants as kinds
 use Rattle.command_line.specs.declared.commands.Role.TheVariants as roles
-use Rattle.command_line.specs.Arguments.{Argument, Flag, Often, Once, Perhaps, Several, Values, are_values_of}
-use Rattle.command_line.specs.Arguments.{argument}
+use Rattle.command_line.specs.Arguments.{Argument, Flag, Often, Once, Perhaps, Several, Values, are_values_of, argument}
 
 pub record Signature : Type 0 where
   pub name : Text

@@ -1,11 +1,9 @@
 -- The table of the program, as definitions see it.
 use Rattle.std.specs.Prelude.{map}
 use Rattle.command_line.specs.Arguments.{Argument, Count, Flag, Often, Once, Perhaps, Several}
-use Rattle.command_line.specs.Table.{Signature}
-use Rattle.command_line.specs.declared.commands.Argument.{Argument as ArgumentOfProgram}
-use Rattle.command_line.specs.declared.commands.Count.{Count as CountOfProgram}
+use Rattle.command_line.specs.{Table.Signature, declared.commands.Signature.Signature as SignatureOfProgram}
+use Rattle.command_line.specs.declared.commands.{Argument.Argument as ArgumentOfProgram, Count.Count as CountOfProgram}
 use Rattle.command_line.specs.declared.commands.Count.TheVariants as counts
-use Rattle.command_line.specs.declared.commands.Signature.{Signature as SignatureOfProgram}
 
 abbrev pub count_in : CountOfProgram → Count
 count_in counts.Once = Once

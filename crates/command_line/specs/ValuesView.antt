@@ -1,12 +1,10 @@
 -- The values of an argument, as definitions see them.
-use Rattle.std.specs.Global.{Global}
-use Rattle.std.specs.Prelude.{None, Some, String, map, string_bytes}
+use Rattle.std.specs.{Global.Global, Prelude.None, Prelude.Some, Prelude.String, Prelude.map, Prelude.string_bytes}
 use Rattle.clap.specs.Words.{Text}
 use Rattle.command_line.specs.Arguments.{Amount, Values, archs, digests, flag, numbers, one, perhaps, several, texts}
 use Rattle.command_line.specs.Arguments.{uuids}
-use Rattle.command_line.specs.declared.values.Amount.{Amount as AmountOfProgram}
+use Rattle.command_line.specs.declared.values.{Amount.Amount as AmountOfProgram, Values.Values as ValuesOfProgram}
 use Rattle.command_line.specs.declared.values.Amount.TheVariants as amounts
-use Rattle.command_line.specs.declared.values.Values.{Values as ValuesOfProgram}
 use Rattle.command_line.specs.declared.values.Values.TheVariants as forms
 
 abbrev pub amount_view : {X : Type 0} → AmountOfProgram X → Amount X

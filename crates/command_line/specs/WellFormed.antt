@@ -1,9 +1,7 @@
 -- Tables of commands that can be told apart.
 use Rattle.std.specs.Prelude.{Bool, true, false, not, ◌&&◌, ◌||◌, List, [], ◌∷◌, map, codes, count_by, flat_map, nat_le}
-use Rattle.std.specs.List.{list_all, list_any}
-use Rattle.std.specs.Str.{bytes_eq}
-use Rattle.clap.specs.Words.{Text}
-use Rattle.clap.specs.Walk.{is_empty}
+use Rattle.std.specs.{List.list_all, List.list_any, Str.bytes_eq}
+use Rattle.clap.specs.{Words.Text, Walk.is_empty}
 use Rattle.command_line.specs.Arguments.{Argument, Count, Flag, Often, Perhaps, Several, reads, writes}
 use Rattle.command_line.specs.Table.{Signature}
 

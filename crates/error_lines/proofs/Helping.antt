@@ -2,11 +2,9 @@
 use Rattle.std.proofs.Common.{◌≡◌, ℕ, true, false, List, [], ◌∷◌, ◌==◌, refl, inl, arith}
 use Rattle.std.proofs.lemmas.Bool.{or_from, or_parts}
 use Rattle.std.specs.List.{list_any}
-use Rattle.command_core.specs.declared.failures.Failure.{Failure}
-use Rattle.command_core.specs.Outputs.{Writer}
+use Rattle.command_core.specs.{declared.failures.Failure.Failure, Outputs.Writer, FaultTexts.failure_text}
 use Rattle.command_line.specs.Lines.{Line}
 use Rattle.error_lines.specs.StandardError.{IsSaid, SaysFailure, has_line_feed, is_control}
-use Rattle.command_core.specs.FaultTexts.{failure_text}
 use Rattle.byte_device.proofs.Known.{Appends-none as nothing_more}
 
 -- what has no control character has no line feed

@@ -1,16 +1,14 @@
 -- The number of an input among all leads to its path.
 use Rattle.std.proofs.Common.{◌≡◌, ◌∙◌, ◌⊎◌, inl, inr, ℕ, zero, suc, Bool, true, false, ◌+◌, ◌-◌, ◌<◌, ◌≤◌, if◌then◌else◌, List, [], ◌∷◌, ◌++◌, get_or, length, refl, ap, sym, arith, Some, None}
-use Rattle.std.specs.Prelude.{slice_get}
 use Rattle.std.proofs.lemmas.Option.{slice_get_cases}
+use Rattle.std.specs.Prelude.{slice_get}
 use Rattle.clap.specs.Words.{Text}
 use Rattle.command_core.specs.declared.faults.InputName.{InputName}
 use Rattle.command_core.specs.declared.faults.InputName.TheVariants.{Archive, File, Ops, Summary, Script, Frames, Index}
 use Rattle.command_line.specs.Arguments.{Argument, Values, reads, reads_kind}
 use Rattle.command_line.specs.Lines.{Line, inputs_of, inputs_of_kind, texts_by, texts_of}
-use Rattle.command_line.specs.Table.{arguments_named}
-use Rattle.command_line.specs.declared.commands.Kind.{Kind}
+use Rattle.command_line.specs.{Table.arguments_named, declared.commands.Kind.Kind, declared.commands.Role.Role}
 use Rattle.command_line.specs.declared.commands.Kind.TheVariants as kinds
-use Rattle.command_line.specs.declared.commands.Role.{Role}
 use Rattle.command_line.specs.declared.commands.Role.TheVariants as roles
 use Rattle.error_lines.specs.Hints.{path_at}
 use Rattle.error_lines.specs.Numbers.{number_at, numbers_by, numbers_from, numbers_of_kind}

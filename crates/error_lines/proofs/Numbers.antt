@@ -3,9 +3,7 @@ use Rattle.std.proofs.Common.{◌≡◌, ◌∙◌, ◌⊎◌, inl, inr, ℕ, ze
 use Rattle.std.specs.Prelude.{slice_get}
 use Rattle.clap.specs.Words.{Text}
 use Rattle.command_line.specs.Arguments.{Argument, Values, reads, reads_kind}
-use Rattle.command_line.specs.Lines.{texts_by, texts_of}
-use Rattle.command_line.specs.declared.commands.Kind.{Kind}
-use Rattle.command_line.specs.declared.commands.Role.{Role}
+use Rattle.command_line.specs.{Lines.texts_by, Lines.texts_of, declared.commands.Kind.Kind, declared.commands.Role.Role}
 use Rattle.error_lines.specs.Numbers.{numbers_by, numbers_from}
 
 -- one of a kind is an input

@@ -2,25 +2,19 @@
 use Rattle.std.specs.Prelude.{ℕ, List, [], ◌++◌, codes, Option, Some, None, option_map, slice_get, Result, Ok, Err, ⊤}
 use Rattle.std.specs.Fmt.{decimal}
 use Rattle.clap.specs.Words.{Text}
-use Rattle.command_core.specs.declared.failures.Failure.{Failure}
+use Rattle.command_core.specs.{declared.failures.Failure.Failure, FaultTexts.name_text}
 use Rattle.command_core.specs.declared.failures.Failure.TheVariants.{Command, CannotCreate, CannotReplace}
 use Rattle.command_core.specs.declared.faults.CommandFault.TheVariants.{Input, Output, Report, OutOfMemory}
-use Rattle.command_core.specs.declared.faults.CommandFault.{CommandFault}
-use Rattle.command_core.specs.declared.faults.InputName.{InputName}
+use Rattle.command_core.specs.declared.faults.{CommandFault.CommandFault, InputName.InputName, Status.Status, Why.Why}
 use Rattle.command_core.specs.declared.faults.InputName.TheVariants.{Archive, File, Ops, Summary, Script, Frames, Index}
-use Rattle.command_core.specs.declared.faults.Status.{Status}
-use Rattle.command_core.specs.declared.faults.Why.{Why}
 use Rattle.command_core.specs.declared.faults.Why.TheVariants.{CannotOpen, Device, Record, Take}
 use Rattle.command_core.specs.declared.faults.Why.TheVariants.{Script as ScriptFaulty, BadFrame, OldArchive, TooLong}
 use Rattle.command_core.specs.declared.faults.Why.TheVariants.{Index as IndexFaulty, Damaged, NoArchive, NoIndex, NoLines, Stale}
-use Rattle.command_core.specs.FaultTexts.{name_text}
 use Rattle.command_line.specs.Lines.{Line, inputs_of_kind, out_of}
 use Rattle.command_line.specs.declared.commands.Kind.TheVariants as kinds
-use Rattle.error_lines.specs.declared.flaws.FaultyLine.{FaultyLine}
+use Rattle.error_lines.specs.declared.{flaws.FaultyLine.FaultyLine, hints.Hint.Hint, hints.Subject.Subject}
 use Rattle.error_lines.specs.declared.flaws.Flaw.TheVariants as flaw
-use Rattle.error_lines.specs.declared.hints.Hint.{Hint}
 use Rattle.error_lines.specs.declared.hints.Hint.TheVariants as hint
-use Rattle.error_lines.specs.declared.hints.Subject.{Subject}
 use Rattle.error_lines.specs.declared.hints.Subject.TheVariants as subject
 use Rattle.exchange_script.specs.declared.numbers.NumberFlaw.{NumberFlaw}
 use Rattle.exchange_script.specs.declared.numbers.NumberFlaw.TheVariants.{NotDecimal, LeadingZeros, TooLarge}

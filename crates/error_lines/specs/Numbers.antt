@@ -4,9 +4,7 @@ use Rattle.clap.specs.Words.{Text}
 use Rattle.command_core.specs.declared.faults.InputName.{InputName}
 use Rattle.command_core.specs.declared.faults.InputName.TheVariants.{Archive, File, Ops, Summary, Script, Frames, Index}
 use Rattle.command_line.specs.Arguments.{Argument, Values, reads, reads_kind}
-use Rattle.command_line.specs.Lines.{Line, texts_of}
-use Rattle.command_line.specs.Table.{arguments_named}
-use Rattle.command_line.specs.declared.commands.Kind.{Kind}
+use Rattle.command_line.specs.{Lines.Line, Lines.texts_of, Table.arguments_named, declared.commands.Kind.Kind}
 use Rattle.command_line.specs.declared.commands.Kind.TheVariants as kinds
 
 -- the numbers of these inputs, the first of which has this one

@@ -5,12 +5,9 @@ use Rattle.std.specs.List.{ends_with, flat_map, list_any, starts_with}
 use Rattle.clap.specs.Words.{Text}
 use Rattle.command_line.specs.Lines.{Line}
 use Rattle.report_text.specs.Report.{line}
-use Rattle.command_core.specs.declared.failures.Failure.{Failure}
-use Rattle.command_core.specs.declared.faults.Status.{Status}
-use Rattle.command_core.specs.FaultTexts.{failure_text}
-use Rattle.command_core.specs.Outputs.{FailsBehind, Takes, Writer}
-use Rattle.archive_writing.specs.Notes.{note_text}
-use Rattle.archive_writing.specs.declared.notes.Note.{Note}
+use Rattle.command_core.specs.declared.{failures.Failure.Failure, faults.Status.Status}
+use Rattle.command_core.specs.{FaultTexts.failure_text, Outputs.FailsBehind, Outputs.Takes, Outputs.Writer}
+use Rattle.archive_writing.specs.{Notes.note_text, declared.notes.Note.Note}
 use Rattle.error_lines.specs.Hints.{file_of, subject_of}
 
 -- the line of want of memory

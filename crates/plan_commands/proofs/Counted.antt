@@ -3,13 +3,12 @@ use Rattle.std.proofs.Common.{◌≡◌, ◌≤◌, ◌+◌, ◌&&◌, ℕ, suc,
 use Rattle.std.specs.Option.{option_map_or}
 use Rattle.clap.proofs.WalkLemmas.{both}
 use Rattle.clap.specs.Words.{Text}
-use Rattle.command_line.specs.Arguments.{Argument, Count, Flag, Often, Once, Perhaps, Several, Values, are_values_of, form_of, is_formed, reads, reads_kind}
+use Rattle.command_line.specs.Arguments.{Argument, Count, Once, Several, Values, are_values_of, form_of, is_formed, reads, reads_kind}
 use Rattle.command_line.specs.Lines.{Line, inputs_of, texts_by, texts_of}
 use Rattle.command_line.specs.Table.{Signature, arguments_named, frames_command, index_paths, is_listed, lines_flag, signature_named}
+use Rattle.command_line.specs.declared.commands.{Kind.Kind, Role.Role}
 use Rattle.command_line.specs.declared.commands.Form.TheVariants as forms
-use Rattle.command_line.specs.declared.commands.Kind.{Kind}
 use Rattle.command_line.specs.declared.commands.Kind.TheVariants as kinds
-use Rattle.command_line.specs.declared.commands.Role.{Role}
 use Rattle.command_line.specs.declared.commands.Role.TheVariants as roles
 use Rattle.plan_commands.specs.Plans.{IsPlanOf, has_to_stand, least_inputs, least_of}
 use Rattle.plan_commands.specs.declared.plans.Plan.{Plan}
@@ -37,14 +36,9 @@ few (a ∷ rest) (v ∷ vs) are =
         omega (arith, more, one_there Once v refl formed, length-append (texts_of v) (texts_by reads rest vs))
     go (roles.Reads kind) Several formed more =
         omega (arith, more, one_there Several v refl formed, length-append (texts_of v) (texts_by reads rest vs))
-    go (roles.Reads kind) (Perhaps option) formed more =
+    go (roles.Reads kind) count formed more =
         omega (arith, more, length-append (texts_of v) (texts_by reads rest vs))
-    go (roles.Reads kind) (Often option) formed more =
-        omega (arith, more, length-append (texts_of v) (texts_by reads rest vs))
-    go (roles.Reads kind) (Flag option) formed more =
-        omega (arith, more, length-append (texts_of v) (texts_by reads rest vs))
-    go roles.Writes count formed more = more
-    go (roles.Says form) count formed more = more
+    go role count formed more = more
 
 -- of one kind there are no more than of all
 few_of_kind : (kind : Kind) (arguments : List Argument) (vs : List Values)

@@ -1,21 +1,18 @@
 -- Archives and indexes that are handed on, and the query that they make.
-use Rattle.std.proofs.Common.{◌≡◌, ℕ, ◌<◌, List, [], ◌∷◌, ◌++◌, length, take, drop, Option, Result, Bool, false, Err, refl, ap, sym, subst, arith, inl, inr}
-use Rattle.std.proofs.KnownBytes.{Appends-nil}
-use Rattle.std.proofs.lemmas.Bool.{le-ltb, lt-ltb}
-use Rattle.std.proofs.lemmas.Bool.Decides.{nat_tests}
-use Rattle.std.proofs.Math.Seq.{drop-append_seam, take-append_seam}
+use Rattle.std.proofs.Common.{◌≡◌, ℕ, ◌<◌, List, [], ◌∷◌, ◌++◌, length, take, drop, Option, Result, Bool, false, Ok, Err, refl, ap, sym, subst, arith, inl, inr}
+use Rattle.std.proofs.{KnownBytes.Appends-nil, Math.Seq.drop-append_seam, Math.Seq.take-append_seam}
+use Rattle.std.proofs.lemmas.Bool.{le-ltb, lt-ltb, Decides.nat_tests}
 use Rattle.std.specs.Prelude.{◌==◌}
-use Rattle.command_core.specs.Ends.{EndsReport, Query}
-use Rattle.command_core.specs.Outputs.{Writer, writer}
-use Rattle.command_core.specs.declared.faults.CommandFault.{CommandFault}
-use Rattle.command_core.specs.declared.faults.Status.{Status}
+use Rattle.command_core.specs.{Ends.EndsReport, Ends.Query, Outputs.Writer, Outputs.writer}
+use Rattle.command_core.specs.declared.faults.{CommandFault.CommandFault, CommandFault.TheVariants.Input, Status.Status}
+use Rattle.command_core.specs.declared.faults.InputName.{InputName, TheVariants.Archive, TheVariants.Index}
+use Rattle.command_core.specs.declared.faults.Why.{Why, TheVariants.NoArchive, TheVariants.NoIndex}
+use Rattle.command_core.specs.Inputs.{Reader, reader, readers}
 use Rattle.byte_device.specs.declared.disks.CannotOpen.{CannotOpen}
 use Rattle.archive_core.specs.declared.keys.SliceKey.{SliceKey}
-use Rattle.command_core.specs.Inputs.{Reader, reader, readers}
 use Rattle.command_core.proofs.Readers.{readers_long}
 use Rattle.indexed_queries.specs.Find.{find_together}
-use Rattle.indexed_symbols.specs.Frames.{frames_at}
-use Rattle.indexed_symbols.specs.Symbolicate.{symbolicate_at}
+use Rattle.indexed_symbols.specs.{Frames.frames_at, Symbolicate.symbolicate_at}
 use Rattle.plan_commands.specs.QueryDispatch.{IsAlone, find_of, frames_of, if_paired, paired, symbolicate_of}
 
 -- ---- inputs in two parts
@@ -32,19 +29,16 @@ module _ {S : Type 0} (left : S → Option (List ℕ)) (failures : S → ℕ) wh
   joined (x ∷ a) b (y ∷ c) d is = ap (λ rest. reader left failures x y ∷ rest) (joined a b c d (omega arith))
   joined a b c d is = absurd (omega arith)
 
-  -- the first part, between its states
-  pub taken : (n : ℕ) (a b c d : List (Result S CannotOpen)) → length a ≡ n → length c ≡ length a
-      → take n (readers left failures (a ++ b) (c ++ d)) ≡ readers left failures a c
-  taken n a b c d is same =
-      rw (← is, ← readers_long left failures a c same, joined a b c d same)
-      (take-append_seam (readers left failures a c) (readers left failures b d))
-
-  -- the second part
-  pub dropped : (n : ℕ) (a b c d : List (Result S CannotOpen)) → length a ≡ n → length c ≡ length a
-      → drop n (readers left failures (a ++ b) (c ++ d)) ≡ readers left failures b d
-  dropped n a b c d is same =
-      rw (← is, ← readers_long left failures a c same, joined a b c d same)
-      (drop-append_seam (readers left failures a c) (readers left failures b d))
+  -- the parts, between their states
+  pub parts : (n : ℕ) (a b c d : List (Result S CannotOpen)) → length a ≡ n → length c ≡ length a
+      → (take n (readers left failures (a ++ b) (c ++ d)) ≡ readers left failures a c)
+      × (drop n (readers left failures (a ++ b) (c ++ d)) ≡ readers left failures b d)
+  parts n a b c d is same =
+      let first = readers left failures a c in
+      let second = readers left failures b d in (
+        rw (← is, ← readers_long left failures a c same, joined a b c d same) (take-append_seam first second),
+        rw (← is, ← readers_long left failures a c same, joined a b c d same) (drop-append_seam first second),
+      )
 
 -- ---- queries by indexes
 
@@ -79,60 +73,59 @@ find_by archives places indexes uuid some several = refl
 
 -- ---- how they end
 
--- one of them has no fellow
-refused_by : {W : Type 0} (held : W → Option (List ℕ)) (failures : W → ℕ) (report : W) (archives indexes : ℕ)
-    (query : Query) (fault : CommandFault) → IsAlone archives indexes fault
-    → EndsReport (if_paired (paired archives indexes) query) (writer held failures report report) (Err fault)
-refused_by held failures report archives indexes query fault (inl more) =
-    rw (more.1, lt-ltb archives indexes more.0) (refl, (Appends-nil (held report), refl))
-refused_by held failures report archives indexes query fault (inr fewer) =
-    rw (fewer.1, le-ltb archives indexes (omega (arith, fewer.0)), lt-ltb indexes archives fewer.0)
-    (refl, (Appends-nil (held report), refl))
+-- one of them has no fellow, and is refused for that
+alone : (archives indexes : ℕ) (fault : CommandFault) → IsAlone archives indexes fault
+    → (at : InputName) × (why : Why) × (fault ≡ Input at why) × (paired archives indexes ≡ Err (Input at why))
+alone archives indexes fault (inl more) =
+    (Index archives, NoArchive, more.1, rw (lt-ltb archives indexes more.0) refl)
+alone archives indexes fault (inr fewer) =
+    let not_more = le-ltb archives indexes (omega (arith, fewer.0)) in
+    (Archive indexes, NoIndex, fewer.1, rw (not_more, lt-ltb indexes archives fewer.0) refl)
+
+-- each has one
+all_paired : (archives indexes : ℕ) → indexes ≡ archives → paired archives indexes ≡ Ok tt
+all_paired archives indexes same =
+    rw (le-ltb archives indexes (omega (arith, same)), le-ltb indexes archives (omega (arith, same))) refl
 
 -- they are not one each
 pub apart : (archives indexes : ℕ) (fault : CommandFault) → IsAlone archives indexes fault → archives ≡ 1 → indexes ≡ 1 → ⊥
 apart archives indexes fault (inl more) one single = omega (arith, more.0, one, single)
 apart archives indexes fault (inr fewer) one single = omega (arith, fewer.0, one, single)
 
--- each has one
-kept_by : (archives indexes : ℕ) (query : Query) (report : Writer) (result : Result Status CommandFault)
-    → indexes ≡ archives → EndsReport query report result
-    → EndsReport (if_paired (paired archives indexes) query) report result
-kept_by archives indexes query report result same ends =
-    rw (le-ltb archives indexes (omega (arith, same)), le-ltb indexes archives (omega (arith, same))) ends
+-- the same of archives and indexes that are handed on
+module _ {S : Type 0} (left whole : S → Option (List ℕ)) (failures place_failures : S → ℕ) where
+  pub readers_alone : (archives ix : List (Result S CannotOpen)) (fault : CommandFault)
+      → IsAlone (length archives) (length ix) fault
+      → (at : InputName) × (why : Why) × (fault ≡ Input at why)
+      × (paired (length (readers left failures archives archives)) (length (readers whole place_failures ix ix))
+      ≡ Err (Input at why))
+  readers_alone archives ix fault is =
+      alone (length (readers left failures archives archives)) (length (readers whole place_failures ix ix)) fault
+      (rw (readers_long left failures archives archives refl, readers_long whole place_failures ix ix refl) is)
 
--- of any query that is made of indexes and archives so
-module _ {S W : Type 0} (left whole : S → Option (List ℕ)) (failures place_failures : S → ℕ)
-    (held : W → Option (List ℕ)) (write_failures : W → ℕ) (make : List (Reader S) → List (Reader S) → Query) where
-  pub alone_refused : (archives ix : List (Result S CannotOpen)) (query : Query) (report : W) (fault : CommandFault)
+  pub readers_paired : (a c ix iy : List (Result S CannotOpen)) → length ix ≡ length a → length c ≡ length a
+      → length iy ≡ length ix
+      → paired (length (readers left failures a c)) (length (readers whole place_failures ix iy)) ≡ Ok tt
+  readers_paired a c ix iy as_many same indexes =
+      all_paired (length (readers left failures a c)) (length (readers whole place_failures ix iy))
+      (omega (arith, readers_long left failures a c same, readers_long whole place_failures ix iy indexes, as_many))
+
+  -- and of any query that is made of them
+  pub alone_refused : {W : Type 0} (held : W → Option (List ℕ)) (write_failures : W → ℕ)
+      (archives ix : List (Result S CannotOpen)) (query made : Query) (report : W) (fault : CommandFault)
       → IsAlone (length archives) (length ix) fault
       → query ≡ if_paired
-      (paired (length (readers left failures archives archives)) (length (readers whole place_failures ix ix)))
-      (make (readers whole place_failures ix ix) (readers whole place_failures archives archives))
+      (paired (length (readers left failures archives archives)) (length (readers whole place_failures ix ix))) made
       → EndsReport query (writer held write_failures report report) (Err fault)
-  alone_refused archives ix query report fault alone by =
-      let known = readers left failures archives archives in
-      let named = readers whole place_failures ix ix in
-      let many = readers_long left failures archives archives refl in
-      let numbered = readers_long whole place_failures ix ix refl in
+  alone_refused held write_failures archives ix query made report fault is by =
+      let refused = readers_alone archives ix fault is in
       subst (λ (q : Query). EndsReport q (writer held write_failures report report) (Err fault)) (sym by)
-      (refused_by held write_failures report (length known) (length named)
-      (make named (readers whole place_failures archives archives)) fault
-      (subst (λ (m : ℕ). IsAlone m (length named) fault) (sym many)
-      (subst (λ (n : ℕ). IsAlone (length archives) n fault) (sym numbered) alone)))
+      (rw (refused.2, refused.3) (refl, (Appends-nil (held report), refl)))
 
-  pub paired_kept : (a c ix iy : List (Result S CannotOpen)) (query : Query) (report : Writer)
+  pub paired_kept : (a c ix iy : List (Result S CannotOpen)) (query made : Query) (report : Writer)
       (result : Result Status CommandFault) → length ix ≡ length a → length c ≡ length a → length iy ≡ length ix
       → query ≡ if_paired
-      (paired (length (readers left failures a c)) (length (readers whole place_failures ix iy)))
-      (make (readers whole place_failures ix iy) (readers whole place_failures a c))
-      → EndsReport (make (readers whole place_failures ix iy) (readers whole place_failures a c)) report result
-      → EndsReport query report result
-  paired_kept a c ix iy query report result as_many same indexes by ends =
-      let known = readers left failures a c in
-      let named = readers whole place_failures ix iy in
-      let many = readers_long left failures a c same in
-      let numbered = readers_long whole place_failures ix iy indexes in
-      subst (λ (q : Query). EndsReport q report result) (sym by)
-      (kept_by (length known) (length named) (make named (readers whole place_failures a c)) report result
-      (omega (arith, many, numbered, as_many)) ends)
+      (paired (length (readers left failures a c)) (length (readers whole place_failures ix iy))) made
+      → EndsReport made report result → EndsReport query report result
+  paired_kept a c ix iy query made report result as_many same indexes by ends =
+      rw (by, readers_paired a c ix iy as_many same indexes) ends

@@ -1,25 +1,16 @@
 -- How `extract` ends over archives and indexes that are handed on.
-use Rattle.std.proofs.Common.{◌≡◌, ◌∙◌, ℕ, ◌<◌, List, [], ◌∷◌, length, Option, Result, true, ◌==◌, true≢false, Err, refl, ap, sym, subst, arith, inl, inr}
-use Rattle.std.proofs.KnownBytes.{Appends-nil}
-use Rattle.std.proofs.lemmas.Bool.{le-ltb, lt-ltb, ne_eqb}
+use Rattle.std.proofs.Common.{◌≡◌, ◌∙◌, ℕ, ◌<◌, List, [], ◌∷◌, length, Option, Result, true, ◌==◌, true≢false, Err, refl, ap, sym, subst, arith, inl}
+use Rattle.std.proofs.{KnownBytes.Appends-nil, lemmas.Bool.ne_eqb}
 use Rattle.std.specs.Io.KnownBytes.{Appends}
-use Rattle.archive_core.specs.declared.keys.Digest.{Digest}
-use Rattle.archive_core.specs.declared.keys.SliceKey.{SliceKey}
+use Rattle.archive_core.specs.declared.keys.{Digest.Digest, SliceKey.SliceKey}
 use Rattle.byte_device.specs.declared.disks.CannotOpen.{CannotOpen}
-use Rattle.command_core.specs.Inputs.{Reader, reader, readers}
+use Rattle.command_core.specs.{Inputs.Reader, Inputs.reader, Inputs.readers, declared.outputs.Output.Output as Out}
 use Rattle.command_core.specs.Outputs.{Outs, Takes, Writer, out_of}
-use Rattle.command_core.specs.declared.faults.CommandFault.{CommandFault}
-use Rattle.command_core.specs.declared.faults.CommandFault.TheVariants.{Input}
-use Rattle.command_core.specs.declared.faults.InputName.{InputName}
-use Rattle.command_core.specs.declared.faults.InputName.TheVariants.{Archive, Index}
-use Rattle.command_core.specs.declared.faults.Why.{Why}
-use Rattle.command_core.specs.declared.faults.Why.TheVariants.{NoArchive, NoIndex}
-use Rattle.command_core.specs.declared.faults.Status.{Status}
-use Rattle.command_core.specs.declared.outputs.Output.{Output as Out}
-use Rattle.slice_extraction.specs.Extract.{Extraction, Extracts, extract}
-use Rattle.slice_extraction.specs.Indexed.{extract_at}
+use Rattle.command_core.specs.declared.faults.CommandFault.{CommandFault, TheVariants.Input}
+use Rattle.command_core.specs.declared.faults.{Status.Status, Why.Why, InputName.InputName}
+use Rattle.slice_extraction.specs.{Extract.Extraction, Extract.Extracts, Extract.extract, Indexed.extract_at}
 use Rattle.plan_commands.specs.QueryDispatch.{IsAlone, extract_of, extraction_if_paired, paired}
-use Rattle.command_core.proofs.Readers.{readers_long}
+use Rattle.plan_commands.proofs.Dispatched.{readers_alone, readers_paired}
 
 -- with an index
 extract_by : {S : Type 0} (archives places indexes : List (Reader S)) (key : SliceKey) (digest : Option Digest)
@@ -53,23 +44,6 @@ module _ {D T : Type 0} (out : Outs D T) (report : Writer) where
         unreported = unreported;
       })
 
-  -- one of archives and indexes has no fellow
-  stopped_by : (archives indexes : ℕ) (command : Extraction) (fault : CommandFault) → IsAlone archives indexes fault
-      → out.new ≡ out.old → Takes report []
-      → Extracts (extraction_if_paired (paired archives indexes) (out_of out).draft command) out report (Err fault)
-  stopped_by archives indexes command fault (inl more) same unreported =
-      rw (more.1, lt-ltb archives indexes more.0) (stopped (Index archives) NoArchive command same unreported)
-  stopped_by archives indexes command fault (inr fewer) same unreported =
-      rw (fewer.1, le-ltb archives indexes (omega (arith, fewer.0)), lt-ltb indexes archives fewer.0)
-      (stopped (Archive indexes) NoIndex command same unreported)
-
-  -- each has one
-  extracted_by : (archives indexes : ℕ) (command : Extraction) (result : Result Status CommandFault)
-      → indexes ≡ archives → Extracts command out report result
-      → Extracts (extraction_if_paired (paired archives indexes) (out_of out).draft command) out report result
-  extracted_by archives indexes command result same ends =
-      rw (le-ltb archives indexes (omega (arith, same)), le-ltb indexes archives (omega (arith, same))) ends
-
 module _ {S : Type 0} (left whole : S → Option (List ℕ)) (failures place_failures : S → ℕ) (key : SliceKey)
     (digest : Option Digest) where
   -- without an index
@@ -92,15 +66,13 @@ module _ {S : Type 0} (left whole : S → Option (List ℕ)) (failures place_fai
       → Extracts (extract_of (readers left failures archives archives) (readers whole place_failures archives archives)
       (readers whole place_failures ix ix) key digest (out_of out).draft) out report (Err fault)
   alone_stopped archives ix out report fault alone some same unreported =
-      let known = readers left failures archives archives in
+      let places = readers whole place_failures archives archives in
       let named = readers whole place_failures ix ix in
-      let many = readers_long left failures archives archives refl in
-      let numbered = readers_long whole place_failures ix ix refl in
+      let refused = readers_alone left whole failures place_failures archives ix fault alone in
       subst (λ (e : Extraction). Extracts e out report (Err fault))
-      (sym (extract_by known (readers whole place_failures archives archives) named key digest (out_of out).draft some))
-      (stopped_by out report (length known) (length named) _ fault
-      (subst (λ (m : ℕ). IsAlone m (length named) fault) (sym many)
-      (subst (λ (n : ℕ). IsAlone (length archives) n fault) (sym numbered) alone)) same unreported)
+      (sym (extract_by (readers left failures archives archives) places named key digest (out_of out).draft some))
+      (rw (refused.2, refused.3)
+      (stopped out report refused.0 refused.1 (extract_at named places key digest (out_of out).draft) same unreported))
 
   pub paired_extracted : {D T : Type 0} (a c ix iy : List (Result S CannotOpen)) (out : Outs D T) (report : Writer)
       (result : Result Status CommandFault) → length ix ≡ length a → length c ≡ length a → length iy ≡ length ix
@@ -110,10 +82,7 @@ module _ {S : Type 0} (left whole : S → Option (List ℕ)) (failures place_fai
       → Extracts (extract_of (readers left failures a c) (readers whole place_failures a c)
       (readers whole place_failures ix iy) key digest (out_of out).draft) out report result
   paired_extracted a c ix iy out report result as_many same indexes some ends =
-      let named = readers whole place_failures ix iy in
-      let known = readers left failures a c in
-      let many = readers_long left failures a c same in
-      let numbered = readers_long whole place_failures ix iy indexes in
-      subst (λ (e : Extraction). Extracts e out report result)
-      (sym (extract_by known (readers whole place_failures a c) named key digest (out_of out).draft some))
-      (extracted_by out report (length known) (length named) _ result (omega (arith, many, numbered, as_many)) ends)
+      let by = extract_by (readers left failures a c) (readers whole place_failures a c)
+      (readers whole place_failures ix iy) key digest (out_of out).draft some in
+      subst (λ (e : Extraction). Extracts e out report result) (sym by)
+      (rw (readers_paired left whole failures place_failures a c ix iy as_many same indexes) ends)

@@ -1,17 +1,13 @@
 -- What is in place of OUT, by what is known of it.
 use Rattle.std.proofs.Common.{◌≡◌, ◌∙◌, ℕ, Bool, true, false, List, [], ◌∷◌, ◌++◌, length, take, drop, get_or, suc, Option, Some, None, Result, OnOk, refl, ap, sym, subst, inl, inr, append-nil, append_assoc, arith, string_bytes}
-use Rattle.std.proofs.lemmas.List.{append_cancel_left}
-use Rattle.std.proofs.Math.Seq.{take-append_seam}
-use Rattle.std.proofs.lemmas.Grind.{not_there}
+use Rattle.std.proofs.{lemmas.List.append_cancel_left, lemmas.Grind.not_there, Math.Seq.take-append_seam}
 use mathlib.Core.Logic.{∥∥₁_map}
 use Rattle.std.specs.Io.KnownBytes.{Appends}
 use Rattle.clap.specs.Words.{Text}
-use Rattle.archive_files.specs.InputStates.{AreFirstAsked}
-use Rattle.archive_files.specs.FileCalls.{FileCall, bytes_in}
+use Rattle.archive_files.specs.{InputStates.AreFirstAsked, FileCalls.FileCall, FileCalls.bytes_in}
 use Rattle.archive_files.specs.OutFiles.{Stage, draft_account, has_calls, is_settled, published_account, publishing_calls}
 use Rattle.archive_files.specs.Publishing.{IsPath, IsPublished, IsRemoved, account, number_of, place, took_nothing}
-use Rattle.archive_files.specs.declared.replaceable.Replaces.{Replaces}
-use Rattle.archive_files.specs.declared.published.Published.{Published}
+use Rattle.archive_files.specs.declared.{replaceable.Replaces.Replaces, published.Published.Published}
 
 -- what is known tells the path
 place_first : (p q : Option (List ℕ)) (xs ys : List ℕ) → place p ++ xs ≡ place q ++ ys → p ≡ q

@@ -4,11 +4,9 @@ use Rattle.std.proofs.KnownBytes.{Appends-nil}
 use Rattle.std.specs.Io.KnownBytes.{Appends}
 use Rattle.command_line.specs.Lines.{Line}
 use Rattle.archive_writing.specs.declared.notes.Note.{Note}
-use Rattle.command_core.specs.declared.failures.Failure.{Failure}
-use Rattle.command_core.specs.declared.faults.CommandFault.{CommandFault}
+use Rattle.command_core.specs.declared.{failures.Failure.Failure, outputs.Output.Output as Out}
+use Rattle.command_core.specs.declared.faults.{CommandFault.CommandFault, Status.Status}
 use Rattle.command_core.specs.declared.faults.CommandFault.TheVariants.{Input, Output, OutOfMemory}
-use Rattle.command_core.specs.declared.faults.Status.{Status}
-use Rattle.command_core.specs.declared.outputs.Output.{Output as Out}
 use Rattle.command_core.specs.Outputs.{IsKept, Outs, Writer, out_of as known_of}
 use Rattle.plan_commands.specs.Files.{Calls, IsCarriedOut, IsNotPut, IsOutcome, IsPut, outs_in}
 use Rattle.plan_commands.proofs.OutPublished.{called_nowhere}

@@ -1,10 +1,8 @@
 -- What stands behind the front of a text, and before its end.
 use Rattle.std.proofs.Common.{◌≡◌, ◌∙◌, ◌+◌, ◌-◌, ℕ, List, true, false, Some, None, arith, ap, sym, subst, length, drop, take, if◌then◌else◌}
+use Rattle.std.proofs.lemmas.{Bool.cond-false, Bool.cond-true, Str.Pattern.ends_text, Str.Pattern.starts_text}
 use Rattle.std.specs.List.{ends_with, starts_with}
-use Rattle.std.specs.Str.{IsCharBoundary}
-use Rattle.std.specs.Str.Pattern.{FindsTextPrefix, FindsTextSuffix}
-use Rattle.std.proofs.lemmas.Bool.{cond-false, cond-true}
-use Rattle.std.proofs.lemmas.Str.Pattern.{ends_text, starts_text}
+use Rattle.std.specs.Str.{IsCharBoundary, Pattern.FindsTextPrefix, Pattern.FindsTextSuffix}
 use lib.Dec.{eqb}
 
 -- what a text that begins so goes on with

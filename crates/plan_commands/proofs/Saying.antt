@@ -2,9 +2,7 @@
 use Rattle.std.proofs.Common.{◌≡◌, ◌⊎◌, ℕ, true, List, [], ◌∷◌, ◌++◌, Option, None, refl, string_bytes, inl, inr}
 use Rattle.clap.specs.Words.{IsAmong, Text}
 use Rattle.clap.specs.declared.error.kind.ErrorKind.TheVariants.{DisplayHelp, DisplayVersion}
-use Rattle.archive_files.specs.FileCalls.{FileCall}
-use Rattle.archive_files.specs.OutFiles.{publishing_calls}
-use Rattle.archive_files.specs.declared.published.Published.{Published}
+use Rattle.archive_files.specs.{FileCalls.FileCall, OutFiles.publishing_calls, declared.published.Published.Published}
 use Rattle.command_line.specs.LineFaults.{IsHelpUnlessMemory, IsRefusalUnlessMemory, IsRefusedBy, refusal_of}
 use Rattle.command_line.specs.Lines.{error_kinds, is_in_order, named_command}
 use Rattle.command_line.specs.declared.line_faults.LineFault.{LineFault}

@@ -5,18 +5,13 @@ use Rattle.archive_files.specs.InputStates.{AreAtTurn, AreWaiting, Told, unopene
 use Rattle.archive_files.specs.declared.input_state.Unopened.{Unopened}
 use Rattle.archive_files.specs.declared.input_state.Unopened.TheVariants as unopened
 use Rattle.command_line.specs.Lines.{Line, inputs_of}
-use Rattle.command_core.specs.declared.faults.CommandFault.{CommandFault}
+use Rattle.command_core.specs.declared.faults.{CommandFault.CommandFault, InputName.InputName, Status.Status}
 use Rattle.command_core.specs.declared.faults.CommandFault.TheVariants.{Input, Output, Report, OutOfMemory}
-use Rattle.command_core.specs.declared.faults.InputName.{InputName}
-use Rattle.command_core.specs.declared.faults.Status.{Status}
-use Rattle.command_core.specs.declared.faults.Why.{Why}
-use Rattle.command_core.specs.declared.faults.Why.TheVariants.{CannotOpen as NotOpened}
-use Rattle.command_core.specs.Inputs.{readers}
-use Rattle.command_core.specs.Outputs.{Outs, Writer}
+use Rattle.command_core.specs.declared.faults.Why.{Why, TheVariants.CannotOpen as NotOpened}
+use Rattle.command_core.specs.{Inputs.readers, Outputs.Outs, Outputs.Writer}
 use Rattle.error_lines.specs.Numbers.{number_at}
 use Rattle.archive_writing.specs.declared.notes.Note.{Note}
-use Rattle.plan_commands.specs.Plans.{Executes, IsPlanOf, Notes}
-use Rattle.plan_commands.specs.declared.plans.Plan.{Plan}
+use Rattle.plan_commands.specs.{Plans.Executes, Plans.IsPlanOf, Plans.Notes, declared.plans.Plan.Plan}
 
 -- why an input was not opened at its turn, if it was not
 abbrev pub unopened_of : {S : Type 0} → Told S → Option (Result S CannotOpen) → Option Unopened

@@ -3,14 +3,11 @@ use Rattle.std.specs.Prelude.{◌≡◌, ◌≢◌, ◌⊎◌, ℕ, Bool, true, 
 use Rattle.std.specs.declared.alloc.Global.{Global}
 use Rattle.clap.specs.Words.{IsAmong, Text}
 use Rattle.clap.specs.declared.error.kind.ErrorKind.TheVariants.{DisplayHelp, DisplayVersion}
-use Rattle.command_line.specs.LineFaults.{IsRefusedBy, refusal_of}
+use Rattle.command_line.specs.{LineFaults.IsRefusedBy, LineFaults.refusal_of, declared.line_faults.LineFault.LineFault}
 use Rattle.command_line.specs.Lines.{Line, error_kinds, is_in_order, line_of, named_command}
-use Rattle.command_line.specs.declared.line_faults.LineFault.{LineFault}
 use Rattle.command_line.specs.declared.line_faults.LineFault.TheVariants as fault
-use Rattle.command_core.specs.declared.failures.Failure.{Failure}
-use Rattle.command_core.specs.declared.faults.Status.{Status}
-use Rattle.command_core.specs.Outputs.{Takes, Writer}
-use Rattle.command_core.specs.Statuses.{status_of}
+use Rattle.command_core.specs.declared.{failures.Failure.Failure, faults.Status.Status}
+use Rattle.command_core.specs.{Outputs.Takes, Outputs.Writer, Statuses.status_of}
 use Rattle.archive_writing.specs.declared.notes.Note.{Note}
 use Rattle.plan_commands.specs.Files.{Calls, IsDone}
 use Rattle.error_lines.specs.StandardError.{IsPushed, SaysEnd, SaysRefused, SaysWanting, reason_in}

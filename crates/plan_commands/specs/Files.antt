@@ -1,30 +1,22 @@
 -- A line that is carried out over files of the system.
 use Rattle.std.specs.Prelude.{◌≡◌, ◌≢◌, ◌⊎◌, ℕ, List, OnOk, [], ◌++◌, length, Option, Some, None, Result, Ok, Err}
 use Rattle.std.specs.Io.KnownBytes.{Appends}
-use Rattle.std.specs.declared.io.traits.Read.{Ghosts as Reads}
-use Rattle.std.specs.declared.io.traits.Seek.{Ghosts as Seeks}
-use Rattle.std.specs.declared.io.traits.Write.{Ghosts as Writes}
+use Rattle.std.specs.declared.io.traits.{Read.Ghosts as Reads, Seek.Ghosts as Seeks, Write.Ghosts as Writes}
 use Rattle.clap.specs.Words.{Text}
 use Rattle.command_line.specs.Lines.{Line, inputs_of, out_of}
-use Rattle.command_core.specs.declared.failures.Failure.{Failure}
+use Rattle.command_core.specs.declared.{failures.Failure.Failure, outputs.Output.Output as Out}
 use Rattle.command_core.specs.declared.failures.Failure.TheVariants.{Command, CannotCreate, CannotReplace}
-use Rattle.command_core.specs.declared.faults.CommandFault.{CommandFault}
+use Rattle.command_core.specs.declared.faults.{CommandFault.CommandFault, Status.Status}
 use Rattle.command_core.specs.declared.faults.CommandFault.TheVariants.{Input, Output, Report, OutOfMemory}
-use Rattle.command_core.specs.declared.faults.Status.{Status}
-use Rattle.command_core.specs.declared.outputs.Output.{Output as Out}
-use Rattle.command_core.specs.Outputs.{IsKept, IsPublished as Publishes, Outs, Writer, out_of as known_of, outs}
-use Rattle.archive_files.specs.FileCalls.{FileCall, bytes_in}
+use Rattle.command_core.specs.Outputs.{IsKept, IsPublished as IsOutPublished, Outs, Writer, out_of as known_of, outs}
+use Rattle.archive_files.specs.{FileCalls.FileCall, FileCalls.bytes_in, InputStates.AreFirstAsked, InputStates.Told}
 use Rattle.archive_files.specs.OutFiles.{fault_of, publishing_calls, stage_of}
 use Rattle.archive_files.specs.Publishing.{IsPath, IsPublished, IsRemoved, account}
-use Rattle.archive_files.specs.InputStates.{AreFirstAsked, Told}
-use Rattle.archive_files.specs.declared.replaceable.OutFault.{OutFault}
-use Rattle.archive_files.specs.declared.replaceable.Replaces.{Replaces}
-use Rattle.archive_files.specs.declared.replaceable.OutFault.TheVariants as fault
+use Rattle.archive_files.specs.declared.replaceable.{OutFault.OutFault, Replaces.Replaces}
 use Rattle.archive_files.specs.declared.system_files.SystemFiles.{SystemFiles}
+use Rattle.archive_files.specs.declared.replaceable.OutFault.TheVariants as fault
 use Rattle.archive_writing.specs.declared.notes.Note.{Note}
-use Rattle.plan_commands.specs.Disks.{Carried}
-use Rattle.plan_commands.specs.Plans.{replaces_of}
-use Rattle.plan_commands.specs.declared.plans.Plan.{Plan}
+use Rattle.plan_commands.specs.{Disks.Carried, Plans.replaces_of, declared.plans.Plan.Plan}
 use Rattle.byte_device.specs.declared.disks.CannotOpen.{CannotOpen}
 
 -- why OUT failed after it took so many bytes
@@ -51,7 +43,7 @@ pub record IsNotPut {D T : Type 0} (out : Outs D T) (ended : Result Status Comma
 
 -- A text was published, or OUT is as it was, since the command has none.
 abbrev pub IsPut : {D T : Type 0} → Outs D T → Type 0
-IsPut out = ((text : List ℕ) × Publishes (known_of out) text) ⊎ (out.new ≡ out.old)
+IsPut out = ((text : List ℕ) × IsOutPublished (known_of out) text) ⊎ (out.new ≡ out.old)
 
 -- A text is published where the command ended well, or failed only to report it; else nothing is.
 abbrev pub IsOutcome : {D T : Type 0} → Outs D T → Result Status CommandFault → Type 0
@@ -127,7 +119,7 @@ pub record IsCarriedOut {S D T : Type 0} (calls : Calls S D T) (line : Line) (re
   pub replaces_is : out_of line ≢ None → replaces ≡ replaces_of plan
   pub notes_are : OnOk told (notes ≡ noted)
   pub outcome : IsOutcome (outs_in calls begun done) ended
-  pub published : (text : List ℕ) → Publishes (known_of (outs_in calls begun done)) text
+  pub published : (text : List ℕ) → IsOutPublished (known_of (outs_in calls begun done)) text
       → (p : List ℕ) × (path ≡ Some p) × ∥ IsPublished p replaces text calls.called ∥₁
   pub removed : (not_put : IsNotPut (outs_in calls begun done) ended)
       → ∥ IsRemoved path calls.called ∥₁ × (bytes_in calls.called ≡ not_put.bytes)

@@ -1,45 +1,31 @@
 -- What a line asks for, and how its command ends.
 use Rattle.std.specs.Prelude.{◌≡◌, ⊤, ℕ, suc, Bool, true, false, ◌&&◌, List, [], ◌∷◌, codes, length, take, drop}
-use Rattle.std.specs.Prelude.{if◌then◌else◌}
-use Rattle.std.specs.Prelude.{Option, Some, None, Result}
+use Rattle.std.specs.{Prelude.if◌then◌else◌, Prelude.Option, Prelude.Some, Prelude.None, Prelude.Result, Str.bytes_eq}
 use Rattle.std.specs.FinSet as set
-use Rattle.std.specs.Str.{bytes_eq}
 use Rattle.clap.specs.Words.{Text}
 use Rattle.command_line.specs.Arguments.{Argument, Count, Once, Several, Values, archs, digests, flag, numbers, one}
 use Rattle.command_line.specs.Arguments.{perhaps, reads, several, text, texts, uuids}
-use Rattle.command_line.specs.Lines.{Line, inputs_of_kind}
-use Rattle.command_line.specs.declared.commands.Kind.{Kind}
+use Rattle.command_line.specs.{Lines.Line, Lines.inputs_of_kind, declared.commands.Kind.Kind}
+use Rattle.command_line.specs.Table.{Signature, arguments_named}
+use Rattle.command_line.specs.Table as table
 use Rattle.command_line.specs.declared.commands.Kind.TheVariants as kinds
-use Rattle.command_line.specs.Table.{admit_command, apply_command, delta_command, extract_command, find_command}
-use Rattle.command_line.specs.Table.{frames_command, index_command, list_command, merge_command, migrate_command, name_command}
-use Rattle.command_line.specs.Table.{Signature, arguments_named, new_command}
-use Rattle.command_line.specs.Table.{rehearse_command, retire_command, summary_command, symbolicate_command}
-use Rattle.archive_core.specs.declared.keys.ArchKey.{ArchKey}
-use Rattle.archive_core.specs.declared.keys.SliceKey.{SliceKey}
+use Rattle.archive_core.specs.declared.keys.{ArchKey.ArchKey, SliceKey.SliceKey}
 use Rattle.archive_records.specs.Text.{written}
-use Rattle.command_core.specs.declared.faults.CommandFault.{CommandFault}
-use Rattle.command_core.specs.declared.faults.Status.{Status}
+use Rattle.command_core.specs.{declared.faults.CommandFault.CommandFault, declared.faults.Status.Status, Inputs.Reader}
+use Rattle.command_core.specs.Ends.{Command, Ends, EndsReport, EndsStreamed, Query, Streamed}
+use Rattle.command_core.specs.Outputs.{Outs, Publishes, Writer, draft_of, out_of, report_of}
 use Rattle.archive_files.specs.declared.replaceable.Replaces.{Replaces}
 use Rattle.archive_files.specs.declared.replaceable.Replaces.TheVariants.{OwnFiles, ArchivesBelow, SameBytes}
-use Rattle.archive_writing.specs.Admit.{admit_as_it_comes}
-use Rattle.archive_writing.specs.Apply.{apply_as_it_comes}
-use Rattle.archive_writing.specs.Delta.{delta_as_it_comes}
-use Rattle.command_core.specs.Ends.{Command, Ends, EndsReport, EndsStreamed, Query, Streamed}
+use Rattle.archive_writing.specs.{Admit.admit_as_it_comes, Apply.apply_as_it_comes, Delta.delta_as_it_comes}
+use Rattle.archive_writing.specs.{Summary.summary, Notes.NotesMissing, Notes.NotesRetired, Retire.retire_as_it_comes}
+use Rattle.archive_writing.specs.{MergeStreams.merge_as_it_comes, Migrate.migrate_as_it_comes, declared.notes.Note.Note}
 use Rattle.indexed_queries.specs.Summary.{summary_at}
 use Rattle.plan_commands.specs.QueryDispatch.{NotesUnderscored, extract_of, find_of, frames_of, list_of, symbolicate_of}
-use Rattle.command_core.specs.Inputs.{Reader}
-use Rattle.archive_writing.specs.MergeStreams.{merge_as_it_comes}
-use Rattle.archive_writing.specs.Migrate.{migrate_as_it_comes}
-use Rattle.archive_writing.specs.Notes.{NotesMissing, NotesRetired}
-use Rattle.archive_writing.specs.declared.notes.Note.{Note}
+use Rattle.plan_commands.specs.declared.plans.Plan.{Plan}
 use Rattle.archive_queries.specs.Name.{name}
-use Rattle.command_core.specs.Outputs.{Outs, Publishes, Writer, draft_of, out_of, report_of}
 use Rattle.rehearse.specs.Rehearse.{rehearse}
-use Rattle.archive_writing.specs.Retire.{retire_as_it_comes}
-use Rattle.archive_writing.specs.Summary.{summary}
 use Rattle.index_writing.specs.Index.{index}
 use Rattle.slice_extraction.specs.Extract.{Extraction, Extracts}
-use Rattle.plan_commands.specs.declared.plans.Plan.{Plan}
 use Rattle.plan_commands.specs.declared.plans.Plan.TheVariants as plan
 
 -- the values of the argument of this name
@@ -57,22 +43,22 @@ count_of kind line = length (inputs_of_kind kind line)
 
 -- the command of a plan
 abbrev pub command_of : Plan → Signature
-command_of plan.New = new_command
-command_of plan.Admit = admit_command
-command_of (plan.Retire _ _) = retire_command
-command_of plan.Merge = merge_command
-command_of plan.Migrate = migrate_command
-command_of plan.Apply = apply_command
-command_of (plan.Find _ _) = find_command
-command_of plan.List = list_command
-command_of (plan.Extract _ _ _) = extract_command
-command_of (plan.Name _) = name_command
-command_of (plan.Symbolicate _ _ _ _ _) = symbolicate_command
-command_of (plan.Frames _ _) = frames_command
-command_of plan.Summary = summary_command
-command_of plan.Index = index_command
-command_of plan.Delta = delta_command
-command_of plan.Rehearse = rehearse_command
+command_of plan.New = table.new_command
+command_of plan.Admit = table.admit_command
+command_of (plan.Retire _ _) = table.retire_command
+command_of plan.Merge = table.merge_command
+command_of plan.Migrate = table.migrate_command
+command_of plan.Apply = table.apply_command
+command_of (plan.Find _ _) = table.find_command
+command_of plan.List = table.list_command
+command_of (plan.Extract _ _ _) = table.extract_command
+command_of (plan.Name _) = table.name_command
+command_of (plan.Symbolicate _ _ _ _ _) = table.symbolicate_command
+command_of (plan.Frames _ _) = table.frames_command
+command_of plan.Summary = table.summary_command
+command_of plan.Index = table.index_command
+command_of plan.Delta = table.delta_command
+command_of plan.Rehearse = table.rehearse_command
 
 -- A line has the values of a plan at its names, and as many inputs as the plan says.
 abbrev pub HasValues : Plan → Line → Type 0

@@ -1,29 +1,18 @@
 -- Queries of archives, which are read by their indexes, or whole; and what `name` notes.
 use Rattle.std.specs.Prelude.{◌≡◌, ◌<◌, ◌⊎◌, ℕ, List, [], ◌∷◌, ◌++◌, Bool, true, false, nat_lt, length, Option, Some, None}
 use Rattle.std.specs.Prelude.{if◌then◌else◌, Result, Ok, Err}
-use Rattle.archive_core.specs.declared.keys.Digest.{Digest}
-use Rattle.archive_core.specs.declared.keys.SliceKey.{SliceKey}
-use Rattle.command_core.specs.declared.faults.CommandFault.{CommandFault}
-use Rattle.command_core.specs.declared.faults.CommandFault.TheVariants.{Input}
+use Rattle.archive_core.specs.declared.keys.{Digest.Digest, SliceKey.SliceKey}
+use Rattle.command_core.specs.declared.faults.CommandFault.{CommandFault, TheVariants.Input}
 use Rattle.command_core.specs.declared.faults.InputName.TheVariants.{Archive, Index}
 use Rattle.command_core.specs.declared.faults.Why.TheVariants.{NoArchive, NoIndex}
-use Rattle.command_core.specs.Archives.{HoldTogether}
-use Rattle.command_core.specs.Ends.{Query}
-use Rattle.command_core.specs.Inputs.{Reader}
-use Rattle.command_core.specs.Outputs.{Takes, Writer}
-use Rattle.archive_queries.specs.Find.{find}
-use Rattle.address_queries.specs.Frames.{frames}
-use Rattle.archive_queries.specs.List.{list}
-use Rattle.archive_queries.specs.Name.{SaysUnderscored}
-use Rattle.address_queries.specs.Symbolicate.{symbolicate}
+use Rattle.command_core.specs.{Archives.HoldTogether, Ends.Query, Inputs.Reader, Outputs.Takes, Outputs.Writer}
+use Rattle.archive_queries.specs.{Find.find, List.list, Name.SaysUnderscored}
+use Rattle.address_queries.specs.{Frames.frames, Symbolicate.symbolicate}
 use Rattle.archive_writing.specs.declared.notes.Note.{Note}
 use Rattle.archive_writing.specs.declared.notes.Note.TheVariants.{Retired, Missing, Underscored}
-use Rattle.indexed_queries.specs.Find.{find_at, find_together}
-use Rattle.indexed_queries.specs.List.{list_at}
-use Rattle.indexed_symbols.specs.Frames.{frames_at}
-use Rattle.indexed_symbols.specs.Symbolicate.{symbolicate_at}
-use Rattle.slice_extraction.specs.Extract.{Extraction, extract}
-use Rattle.slice_extraction.specs.Indexed.{extract_at}
+use Rattle.indexed_queries.specs.{Find.find_at, Find.find_together, List.list_at}
+use Rattle.indexed_symbols.specs.{Frames.frames_at, Symbolicate.symbolicate_at}
+use Rattle.slice_extraction.specs.{Extract.Extraction, Extract.extract, Indexed.extract_at}
 
 -- the fault of the index of this number, which has no archive, and of the archive that has no index
 abbrev pub no_archive : ℕ → CommandFault

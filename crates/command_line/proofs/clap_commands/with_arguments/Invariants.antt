@@ -1,8 +1,6 @@
 use Rattle.std.proofs.Common.{◌≡◌, drop, false, map}
-use Rattle.clap.specs.Words.{app_of}
-use Rattle.clap.specs.declared.builder.command.Command.TheViews.{out-Command}
-use Rattle.command_line.specs.Commands.{rule_for, with_rules}
-use Rattle.command_line.specs.TableView.{argument_in}
+use Rattle.clap.specs.{Words.app_of, declared.builder.command.Command.TheViews.out-Command}
+use Rattle.command_line.specs.{Commands.rule_for, Commands.with_rules, TableView.argument_in}
 use Rattle.command_line.proofs.clap_commands.with_arguments.Given as goal
 
 -- what is left to add gives what all of them give

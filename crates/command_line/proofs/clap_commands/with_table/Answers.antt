@@ -1,8 +1,7 @@
 use Rattle.std.proofs.Common.{◌∙◌, ◌+◌, ◌||◌, ap, ap₂, arith, drop, map, sym}
 use Rattle.std.proofs.lemmas.List.{at_drop_more}
 use Rattle.clap.specs.Words.{app_of, with_subcommand}
-use Rattle.command_line.specs.Commands.{command_for, with_commands}
-use Rattle.command_line.specs.TableView.{signature_in}
+use Rattle.command_line.specs.{Commands.command_for, Commands.with_commands, TableView.signature_in}
 use Rattle.command_line.proofs.clap_commands.with_table.Goals as goal
 
 pub table-preserved : goal.table-preserved

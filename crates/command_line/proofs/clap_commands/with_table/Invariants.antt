@@ -1,8 +1,6 @@
 use Rattle.std.proofs.Common.{◌≡◌, drop, false, map}
-use Rattle.clap.specs.Words.{app_of}
-use Rattle.clap.specs.declared.builder.command.Command.TheViews.{out-Command}
-use Rattle.command_line.specs.Commands.{command_for, with_commands}
-use Rattle.command_line.specs.TableView.{signature_in}
+use Rattle.clap.specs.{Words.app_of, declared.builder.command.Command.TheViews.out-Command}
+use Rattle.command_line.specs.{Commands.command_for, Commands.with_commands, TableView.signature_in}
 use Rattle.command_line.proofs.clap_commands.with_table.Given as goal
 
 -- what is left to add gives what all of them give

@@ -1,7 +1,6 @@
 use Rattle.std.proofs.Common.{◌≡◌, drop, find, map}
 use Rattle.std.specs.Str.{bytes_eq}
-use Rattle.command_line.specs.TableView.{signature_in}
-use Rattle.command_line.specs.Table.{signature_named}
+use Rattle.command_line.specs.{TableView.signature_in, Table.signature_named}
 use Rattle.command_line.proofs.commands.signature_named.Given as goal
 
 -- the first of this name is not yet passed

@@ -1,6 +1,5 @@
 use Rattle.std.proofs.Common.{◌∙◌, ◌∷◌, [], ap, flat_map, arith}
-use Rattle.std.proofs.lemmas.Grind.{common_steps}
-use Rattle.std.proofs.lemmas.Str.{chars_from_encodes, encodes-append}
+use Rattle.std.proofs.lemmas.{Grind.common_steps, Str.chars_from_encodes, Str.encodes-append}
 use Rattle.command_line.specs.Shown.{shown, shown_character}
 use Rattle.command_line.proofs.escapes.shown.Goals as goal
 

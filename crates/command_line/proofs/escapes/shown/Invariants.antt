@@ -1,6 +1,5 @@
 use Rattle.std.proofs.Common.{◌≡◌, ◌++◌, flat_map, string_bytes}
-use Rattle.std.specs.Str.Iter.{chars_rest}
-use Rattle.std.specs.Prelude.{encode_utf8_all}
+use Rattle.std.specs.{Str.Iter.chars_rest, Prelude.encode_utf8_all}
 use Rattle.command_line.specs.Shown.{shown_character}
 use Rattle.command_line.proofs.escapes.shown.Given as goal
 

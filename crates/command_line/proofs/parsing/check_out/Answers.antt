@@ -1,6 +1,5 @@
 use Rattle.std.proofs.Common.{◌∙◌, ℕ, Bor, List, ap, map, sym}
-use Rattle.command_line.specs.LineView.{line_view}
-use Rattle.command_line.specs.Lines.{is_path_among}
+use Rattle.command_line.specs.{LineView.line_view, Lines.is_path_among}
 use Rattle.command_line.proofs.LineFaultLemmas.{out_refused}
 use Rattle.command_line.proofs.parsing.check_out.Goals as goal
 

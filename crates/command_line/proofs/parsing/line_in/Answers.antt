@@ -1,8 +1,6 @@
 use Rattle.std.proofs.Common.{◌≡◌, map, subst, sym, true}
 use Rattle.clap.specs.Words.{found_of, rows_of}
-use Rattle.command_line.specs.TableView.{signature_in}
-use Rattle.command_line.specs.ValuesView.{values_view}
-use Rattle.command_line.specs.Table.{is_listed}
+use Rattle.command_line.specs.{TableView.signature_in, Table.is_listed, ValuesView.values_view}
 use Rattle.command_line.proofs.Listed.{listed}
 use Rattle.command_line.proofs.parsing.line_in.Goals as goal
 

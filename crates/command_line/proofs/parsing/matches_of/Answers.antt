@@ -2,7 +2,7 @@ use Rattle.std.proofs.Common.{◌∙◌, ap, map, sym}
 use Rattle.clap.specs.Words.{fault_of, is_simple, is_simple_and_free, subcommand_of, takes}
 use Rattle.command_line.specs.Lines.{are_accepted, error_kinds, named_command}
 use Rattle.command_line.proofs.Simple.{symarch_free, symarch_simple}
-use Rattle.command_line.proofs.LineFaultLemmas.{asked_is_help, other_is_refusal}
+use Rattle.command_line.proofs.LineFaultLemmas.{asked_is_help, other_is_refusal, symarch_kinds}
 use Rattle.command_line.proofs.parsing.matches_of.Goals as goal
 
 pub returns-in-Ok-clause-ok : goal.returns-in-Ok-clause-ok
@@ -33,28 +33,19 @@ returns-in-Err-clause-err g c = λ accepted.
     (c.in-Err.ensures.passes (ap (λ a. takes a (map g.S.AsStr.text c.args.words.now)) is ∙ accepted))
 
 pub returns-in-Err-clause-help : goal.returns-in-Err-clause-help
-unfolding error_kinds
 returns-in-Err-clause-help g c = λ alone.
-    let is = c.in_ok-command.ensures.app in
     asked_is_help c.in-Err.error c.parse_fault.result _ _
-    (c.in-Err.ensures.kinds (ap is_simple_and_free is ∙ symarch_free))
-    (ap (λ a. fault_of a (map g.S.AsStr.text c.args.words.now)) is ∙ alone)
+    (symarch_kinds _ _ c.in-Err.error c.in_ok-command.ensures.app c.in-Err.ensures.kinds) alone
     c.parse_fault.ensures.memory c.parse_fault.ensures.help
 
 pub returns-in-Err-clause-version : goal.returns-in-Err-clause-version
-unfolding error_kinds
 returns-in-Err-clause-version g c = λ alone.
-    let is = c.in_ok-command.ensures.app in
     asked_is_help c.in-Err.error c.parse_fault.result _ _
-    (c.in-Err.ensures.kinds (ap is_simple_and_free is ∙ symarch_free))
-    (ap (λ a. fault_of a (map g.S.AsStr.text c.args.words.now)) is ∙ alone)
+    (symarch_kinds _ _ c.in-Err.error c.in_ok-command.ensures.app c.in-Err.ensures.kinds) alone
     c.parse_fault.ensures.memory c.parse_fault.ensures.version
 
 pub returns-in-Err-clause-refusal : goal.returns-in-Err-clause-refusal
-unfolding error_kinds
 returns-in-Err-clause-refusal g c = λ no_help no_version.
-    let is = c.in_ok-command.ensures.app in
-    other_is_refusal c.in-Err.error c.parse_fault.result _ _
-    (c.in-Err.ensures.kinds (ap is_simple_and_free is ∙ symarch_free))
-    (ap (λ a. fault_of a (map g.S.AsStr.text c.args.words.now)) is) no_help no_version
+    other_is_refusal c.in-Err.error c.parse_fault.result _
+    (symarch_kinds _ _ c.in-Err.error c.in_ok-command.ensures.app c.in-Err.ensures.kinds) no_help no_version
     c.parse_fault.ensures.memory c.parse_fault.ensures.refusal

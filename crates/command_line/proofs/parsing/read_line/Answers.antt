@@ -2,15 +2,12 @@ use Rattle.std.proofs.Common.{◌≡◌, ◌∙◌, List, Option, Some, None, Is
 use Rattle.std.specs.Prelude.{option_and_then}
 use Rattle.clap.specs.Words.{Row, Text, found_of, rows_of}
 use Rattle.clap.proofs.WalkLemmas.{both}
-use Rattle.command_line.specs.LineView.{line_view}
-use Rattle.command_line.specs.Lines.{line_in, named_command}
-use Rattle.command_line.specs.declared.line_faults.LineFault.{LineFault}
-use Rattle.command_line.specs.declared.line_faults.LineFault.TheVariants.{OutOfMemory}
+use Rattle.command_line.specs.{LineView.line_view, Lines.line_in, Lines.named_command}
+use Rattle.command_line.specs.declared.line_faults.LineFault.{LineFault, TheVariants.OutOfMemory}
 use Rattle.command_line.specs.LineFaults.{IsRefusedBy, refusal_of}
-use Rattle.command_line.proofs.Exactly.{accepted_if_faultless}
+use Rattle.command_line.proofs.{Exactly.accepted_if_faultless, Accepted.accepted_line}
 use Rattle.command_line.proofs.LineFaultLemmas.{handed_on, in_told, memory_told, out_told, refused_by}
 use Rattle.command_line.proofs.KeptInputs.{in_order_apart, in_order_of, keeps_inputs, kept_line}
-use Rattle.command_line.proofs.Accepted.{accepted_line}
 use Rattle.command_line.proofs.parsing.read_line.Goals as goal
 
 -- a line that asks for something names a command

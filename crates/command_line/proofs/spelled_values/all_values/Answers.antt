@@ -1,9 +1,7 @@
 use Rattle.std.proofs.Common.{arith, ◌+◌, drop, map, subst, sym}
-use Rattle.std.proofs.lemmas.Grind.{common_steps}
-use Rattle.std.proofs.lemmas.List.{at_drop_more}
+use Rattle.std.proofs.lemmas.{Grind.common_steps, List.at_drop_more}
 use Rattle.clap.specs.Words.{found_of, rows_of}
-use Rattle.command_line.specs.LineFaults.{IsRefusedBy, refusal_among}
-use Rattle.command_line.specs.TableView.{argument_in}
+use Rattle.command_line.specs.{LineFaults.IsRefusedBy, LineFaults.refusal_among, TableView.argument_in}
 use Rattle.command_line.proofs.LineFaultLemmas.{among_next}
 use Rattle.command_line.proofs.spelled_values.all_values.Goals as goal
 

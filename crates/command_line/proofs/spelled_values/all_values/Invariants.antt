@@ -1,10 +1,8 @@
 use Rattle.std.proofs.Common.{◌≡◌, ◌++◌, drop, map, option_map}
 use Rattle.clap.specs.Words.{found_of, rows_of}
-use Rattle.command_line.specs.TableView.{argument_in}
-use Rattle.command_line.specs.ValuesView.{values_view}
+use Rattle.command_line.specs.{TableView.argument_in, Lines.all_values, ValuesView.values_view}
 use Rattle.command_line.specs.LineFaults.{IsRefusedBy, refusal_among}
 use Rattle.command_line.specs.declared.line_faults.LineFault.{LineFault}
-use Rattle.command_line.specs.Lines.{all_values}
 use Rattle.command_line.proofs.spelled_values.all_values.Given as goal
 
 -- what is left gives what all of them give, and what is told of what is left is told of all

@@ -1,6 +1,5 @@
 use Rattle.std.proofs.Common.{◌≡◌, ◌++◌, drop, map, option_map}
-use Rattle.command_line.specs.LineFaults.{first_other}
-use Rattle.command_line.specs.Lines.{all_spelled}
+use Rattle.command_line.specs.{LineFaults.first_other, Lines.all_spelled}
 use Rattle.command_line.proofs.spelled_values.each_spelled.Given as goal
 
 abbrev pub invariant-words : goal.invariant-words

@@ -1,14 +1,11 @@
 use Rattle.std.proofs.Common.{◌≡◌, ◌∙◌, ◌+◌, ◌-◌, ◌<◌, ◌≤◌, ◌^◌, ap, inl, inr, length, map, min, string_bytes, subst, sym}
 use Rattle.std.proofs.lemmas.List.{length-map}
 use Rattle.std.specs.Prelude.{slice_get}
-use Rattle.command_line.specs.Arguments.{reads_kind}
-use Rattle.command_line.specs.Lines.{texts_of}
-use Rattle.command_line.specs.TableView.{argument_in}
-use Rattle.command_line.specs.ValuesView.{values_view}
+use Rattle.command_line.specs.{Arguments.reads_kind, Lines.texts_of, TableView.argument_in, ValuesView.values_view}
 use Rattle.command_line.proofs.Passed.{none_left}
 use Rattle.error_lines.proofs.Numbers.{Left, found, no_number, passed, same_path}
-use Rattle.error_lines.proofs.line_inputs.input_of.Goals as goal
 use Rattle.error_lines.proofs.line_inputs.input_of.Goals.{then-is_input_of+in_default, else-is_input_of}
+use Rattle.error_lines.proofs.line_inputs.input_of.Goals as goal
 
 pub returns-in-Some-get-clause-number : goal.returns-in-Some-get-clause-number
 returns-in-Some-get-clause-number c = λ few.

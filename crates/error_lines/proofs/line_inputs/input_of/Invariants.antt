@@ -1,10 +1,7 @@
 use Rattle.std.proofs.Common.{◌≡◌, ◌<◌, ◌+◌, ◌^◌, length, map}
 use Rattle.std.specs.Prelude.{slice_get}
-use Rattle.command_line.specs.Arguments.{reads, reads_kind}
-use Rattle.command_line.specs.LineView.{line_view}
-use Rattle.command_line.specs.TableView.{argument_in}
-use Rattle.command_line.specs.ValuesView.{values_view}
-use Rattle.command_line.specs.Lines.{inputs_of, inputs_of_kind, texts_by}
+use Rattle.command_line.specs.{Arguments.reads, Arguments.reads_kind, LineView.line_view, TableView.argument_in}
+use Rattle.command_line.specs.{ValuesView.values_view, Lines.inputs_of, Lines.inputs_of_kind, Lines.texts_by}
 use Rattle.error_lines.specs.Numbers.{numbers_by, numbers_of_kind}
 use Rattle.error_lines.proofs.line_inputs.input_of.Given as goal
 

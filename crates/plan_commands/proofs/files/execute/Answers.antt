@@ -1,65 +1,32 @@
-use Rattle.std.proofs.Common.{◌≡◌, ◌∙◌, ℕ, List, [], ◌++◌, Some, None, refl, ap, inl, option_map, string_bytes, subst, sym, append-nil}
+use Rattle.std.proofs.Common.{◌≡◌, ◌∙◌, ℕ, List, [], ◌++◌, Some, None, refl, ap, option_map, string_bytes, subst, sym, append-nil}
 use mathlib.Core.Logic.{∥∥₁_map}
-use Rattle.std.proofs.lemmas.Result.{err_from_is_err_and}
 use Rattle.std.specs.Io.KnownBytes.{Appends}
-use Rattle.archive_files.specs.FileCalls.{bytes_in}
+use Rattle.archive_files.specs.{FileCalls.bytes_in, Publishing.IsPublished, Publishing.IsRemoved, Publishing.account}
 use Rattle.archive_files.specs.OutFiles.{draft_account, is_settled, published_account, publishing_calls, Untouched, stage_of}
-use Rattle.archive_files.specs.Publishing.{IsPublished, IsRemoved, account}
-use Rattle.command_line.specs.LineView.{line_view}
-use Rattle.command_line.specs.Lines.{inputs_of}
+use Rattle.command_line.specs.{LineView.line_view, Lines.inputs_of}
 use Rattle.plan_commands.specs.Files.{command_fault_of}
 use Rattle.plan_commands.proofs.OutPublished.{draft_took, first_from, none_asked, nothing_taken, nothing_there, published_there, settled_of, settled_without_calls}
-use Rattle.plan_commands.proofs.Noting.{told_done}
-use Rattle.plan_commands.proofs.Outcomes.{carried_outcome}
-use Rattle.plan_commands.proofs.Saying.{none_called}
+use Rattle.plan_commands.proofs.{Noting.told_done, Noting.unbegun, Saying.none_called, Outcomes.carried_outcome}
 use Rattle.plan_commands.proofs.files.execute.Goals as goal
-use Rattle.archive_writing.proofs.Taking.{always as on_any}
 
 pub returns-in_err-heap : goal.returns-in_err-heap
-returns-in_err-heap g c =
-    let wanting = err_from_is_err_and c.from_residual.result c.from_residual.ensures.1 in
-    rw (wanting.1, wanting.2) (inl (record {
-      wanting = refl;
-      asked = none_asked _ _;
-      uncalled = none_called _ _ c.requires.files.7 c.requires.files.6;
-      report_same = refl;
-      report_unfailed = refl;
-    }))
+returns-in_err-heap g c = unbegun (λ notes. notes.items) _ _ _ c.from_residual.result c.from_residual.ensures.1
+    (none_asked _ _) (none_called _ _ c.requires.files.7 c.requires.files.6) refl refl
 
 pub returns-in_err-clone : goal.returns-in_err-clone
-returns-in_err-clone g c =
-    let wanting = err_from_is_err_and c.from_residual-in_err-clone.result c.from_residual-in_err-clone.ensures.1 in
-    rw (wanting.1, wanting.2) (inl (record {
-      wanting = refl;
-      asked = none_asked _ _;
-      uncalled = none_called _ _ c.requires.files.7 c.requires.files.6;
-      report_same = refl;
-      report_unfailed = refl;
-    }))
+returns-in_err-clone g c = unbegun (λ notes. notes.items) _ _ _ c.from_residual-in_err-clone.result
+    c.from_residual-in_err-clone.ensures.1 (none_asked _ _) (none_called _ _ c.requires.files.7 c.requires.files.6) refl refl
 
 pub returns-in_err-begin : goal.returns-in_err-begin
-returns-in_err-begin g c =
-    let wanting = err_from_is_err_and c.from_residual-in_err-begin.result c.from_residual-in_err-begin.ensures.1 in
-    rw (wanting.1, wanting.2) (inl (record {
-      wanting = refl;
-      asked = (0, c.begin.ensures.asked ∙ sym (append-nil _));
-      uncalled = none_called _ _ c.begin.ensures.published c.begin.ensures.calls;
-      report_same = refl;
-      report_unfailed = refl;
-    }))
+returns-in_err-begin g c = unbegun (λ notes. notes.items) _ _ _ c.from_residual-in_err-begin.result
+    c.from_residual-in_err-begin.ensures.1 (0, c.begin.ensures.asked ∙ sym (append-nil _))
+    (none_called _ _ c.begin.ensures.published c.begin.ensures.calls) refl refl
 
 pub returns-in_err-inputs : goal.returns-in_err-inputs
-returns-in_err-inputs g c =
-    let wanting = err_from_is_err_and c.from_residual-in_err-inputs.result c.from_residual-in_err-inputs.ensures.1 in
-    rw (wanting.1, wanting.2) (inl (record {
-      wanting = refl;
-      asked = first_from _ _ _ _ c.begin.ensures.asked c.inputs_for.ensures.first;
-      uncalled = none_called _ _
-          (ap (λ out. out.target.published) c.inputs_for.ensures.out ∙ c.begin.ensures.published)
-          (ap (λ out. out.draft.calls.entries) c.inputs_for.ensures.out ∙ c.begin.ensures.calls);
-      report_same = refl;
-      report_unfailed = refl;
-    }))
+returns-in_err-inputs g c = unbegun (λ notes. notes.items) _ _ _ c.from_residual-in_err-inputs.result
+    c.from_residual-in_err-inputs.ensures.1 (first_from _ _ _ _ c.begin.ensures.asked c.inputs_for.ensures.first)
+    (none_called _ _ (ap (λ out. out.target.published) c.inputs_for.ensures.out ∙ c.begin.ensures.published)
+    (ap (λ out. out.draft.calls.entries) c.inputs_for.ensures.out ∙ c.begin.ensures.calls)) refl refl
 
 pub returns : goal.returns
 returns g c =
@@ -97,7 +64,8 @@ returns g c =
     (c.discard.ensures.failures ∙ as_often ∙ unfailed)) in
     let noted = c.execute_on-ended.new.notes.items in
     let carried = rw c.new-notes.ensures.items at c.execute_on-ended.ensures in
-    told_done (λ notes. notes.items) _ _ _ c.fault.result c.execute_on-ended.result noted c.told_with.result c.told_with.ensures (record {
+    told_done (λ notes. notes.items) _ _ _ c.fault.result c.execute_on-ended.result noted c.told_with.result c.told_with.ensures
+    (λ told notes same_told alike. record {
       path = path;
       replaces = rule;
       begun = before;
@@ -116,7 +84,7 @@ returns g c =
       noted = noted;
       plan = c.args.plan.now;
       carried = carried;
-      notes_are = on_any (command_fault_of c.fault.result c.execute_on-ended.result) refl;
+      notes_are = alike;
       outcome = carried_outcome _ _ _ _ _ _ _ _ _ _ carried;
       published = λ text is.
           let there = published_there path rule done.target.published text
@@ -142,5 +110,5 @@ returns g c =
           );
       untouched = λ kept.
           let is = took [] kept.0.0 in none_called is.1 kept.0.1 kept.1.0;
-      told_is = ap (λ fault. command_fault_of fault c.execute_on-ended.result) c.fault.ensures;
+      told_is = same_told ∙ ap (λ fault. command_fault_of fault c.execute_on-ended.result) c.fault.ensures;
     })

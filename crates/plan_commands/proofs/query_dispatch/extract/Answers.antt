@@ -1,5 +1,4 @@
-use Rattle.std.proofs.Common.{refl}
-use Rattle.std.proofs.lemmas.Result.{err_from_is_err_and}
+use Rattle.std.proofs.{Common.refl, lemmas.Result.err_from_is_err_and}
 use Rattle.byte_device.proofs.Known.{Appends-none}
 use Rattle.plan_commands.proofs.Dispatched.{not_none, some_read}
 use Rattle.plan_commands.proofs.Extracted.{alone_stopped, paired_extracted, whole_extracted}

@@ -1,5 +1,4 @@
-use Rattle.std.proofs.Common.{refl}
-use Rattle.std.proofs.KnownBytes.{Appends-nil}
+use Rattle.std.proofs.{Common.refl, KnownBytes.Appends-nil}
 use Rattle.plan_commands.proofs.runs.refuse_words.Goals as goal
 
 pub returns-else-eq-clause-text : goal.returns-else-eq-clause-text

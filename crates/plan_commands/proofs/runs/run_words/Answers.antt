@@ -1,8 +1,7 @@
 use Rattle.std.proofs.Common.{inl, inr, map, string_bytes, refl}
 use Rattle.command_line.specs.LineView.{line_view}
 use Rattle.command_line.proofs.Exactly.{accepted_if_faultless}
-use Rattle.plan_commands.proofs.Noting.{ran}
-use Rattle.plan_commands.proofs.Saying.{no_plan, none_called}
+use Rattle.plan_commands.proofs.{Noting.ran, Saying.no_plan, Saying.none_called}
 use Rattle.plan_commands.proofs.runs.run_words.Goals as goal
 
 pub returns-in-Ok : goal.returns-in-Ok

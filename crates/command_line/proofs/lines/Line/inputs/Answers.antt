@@ -1,7 +1,5 @@
 use Rattle.std.proofs.Common.{◌∙◌, ◌++◌, append-nil, ap, inl, inr, map, sym}
-use Rattle.command_line.specs.Arguments.{reads}
-use Rattle.command_line.specs.TableView.{argument_in}
-use Rattle.command_line.specs.ValuesView.{values_view}
+use Rattle.command_line.specs.{Arguments.reads, TableView.argument_in, ValuesView.values_view}
 use Rattle.command_line.proofs.Passed.{none_left}
 use Rattle.command_line.proofs.lines.Line.inputs.Goals as goal
 

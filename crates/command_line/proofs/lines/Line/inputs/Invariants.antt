@@ -1,9 +1,6 @@
 use Rattle.std.proofs.Common.{◌≡◌, ◌++◌, map}
-use Rattle.command_line.specs.Arguments.{reads}
-use Rattle.command_line.specs.LineView.{line_view}
-use Rattle.command_line.specs.TableView.{argument_in}
-use Rattle.command_line.specs.ValuesView.{values_view}
-use Rattle.command_line.specs.Lines.{inputs_of, texts_by}
+use Rattle.command_line.specs.{Arguments.reads, LineView.line_view, Lines.inputs_of, Lines.texts_by}
+use Rattle.command_line.specs.{TableView.argument_in, ValuesView.values_view}
 use Rattle.command_line.proofs.lines.Line.inputs.Given as goal
 
 -- the paths of what is passed, and those of what is left

@@ -1,8 +1,6 @@
 use Rattle.std.proofs.Common.{◌∙◌, ap, inl, inr, sym}
 use Rattle.std.specs.Prelude.{slice_get}
-use Rattle.command_line.specs.Arguments.{writes}
-use Rattle.command_line.specs.TableView.{argument_in}
-use Rattle.command_line.specs.ValuesView.{values_view}
+use Rattle.command_line.specs.{Arguments.writes, TableView.argument_in, ValuesView.values_view}
 use Rattle.command_line.proofs.Passed.{none_left}
 use Rattle.command_line.proofs.lines.Line.out_path.Goals as goal
 

@@ -1,10 +1,7 @@
 use Rattle.std.proofs.Common.{◌≡◌, map}
 use Rattle.std.specs.Prelude.{slice_get}
-use Rattle.command_line.specs.Arguments.{writes}
-use Rattle.command_line.specs.LineView.{line_view}
-use Rattle.command_line.specs.TableView.{argument_in}
-use Rattle.command_line.specs.ValuesView.{values_view}
-use Rattle.command_line.specs.Lines.{out_of, texts_by}
+use Rattle.command_line.specs.{Arguments.writes, LineView.line_view, Lines.out_of, Lines.texts_by}
+use Rattle.command_line.specs.{TableView.argument_in, ValuesView.values_view}
 use Rattle.command_line.proofs.lines.Line.out_path.Given as goal
 
 -- OUT is not passed
