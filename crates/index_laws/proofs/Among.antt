@@ -1,5 +1,5 @@
 -- Entries of several indexes, and the slices that answer by them.
-use Rattle.std.proofs.Common.{◌≡◌, ℕ, zero, suc, ◌<◌, true, false, ◌||◌, ◌&&◌, not, eqb, List, [], ◌∷◌, ◌++◌, length, take, drop, get_or, refl, sym, ap, ◌∙◌}
+use Rattle.std.proofs.Common.{◌≡◌, ◌↔◌, ℕ, zero, suc, ◌<◌, true, false, ◌||◌, ◌&&◌, not, eqb, List, [], ◌∷◌, ◌++◌, length, take, drop, get_or, refl, sym, ap, ◌∙◌}
 use Rattle.std.proofs.Common.{subst, inl, inr, arith, Some, slice_get}
 use Rattle.std.specs.List.{AllByRecursion, AllZip, Contains, list_any}
 use Rattle.std.specs.Str.{bytes_eq}
@@ -34,22 +34,14 @@ use Rattle.index_laws.proofs.OfContent.{of_slice, rest_of, retires_by_tag, tag_o
 
 -- ---- an entry and its key
 
-module _ (text slice e : List ℕ) (is : IsEntryOfSlice text slice e) (key : SliceKey) (is_key : IsKey key) where
-  key_there : take (length (key_bytes key)) (drop 1 e) ≡ key_bytes (key_of slice)
-  key_there =
-      ap (λ (n : ℕ). take n (drop 1 e)) (length_key_bytes key is_key.uuid)
-      ∙ key_in e (key_bytes (key_of slice)) (sha256 slice) (length-key_of slice is.valid) is.prefix
-
-  pub under_key : is_under (key_bytes key) e ≡ true → key_of slice ≡ key
-  unfolding is_under
-  under_key h =
-      let same : key_bytes key ≡ take (length (key_bytes key)) (drop 1 e) = (bytes_eq-Decides (key_bytes key) (take (length (key_bytes key)) (drop 1 e))).0 h in
-      sym (same_key key (key_of slice) is_key is.is_key (same ∙ key_there))
-
-  pub is_under_key : key_of slice ≡ key → is_under (key_bytes key) e ≡ true
-  unfolding is_under
-  is_under_key under =
-      (bytes_eq-Decides (key_bytes key) (take (length (key_bytes key)) (drop 1 e))).1 (ap key_bytes (sym under) ∙ sym key_there)
+-- an entry is under a key if its slice is
+under_key : (text slice e : List ℕ) → IsEntryOfSlice text slice e → (key : SliceKey) → IsKey key → (is_under (key_bytes key) e ≡ true) ↔ (key_of slice ≡ key)
+unfolding is_under
+under_key text slice e is key is_key =
+    let front : take (length (key_bytes key)) (drop 1 e) ≡ key_bytes (key_of slice) =
+    ap (λ (n : ℕ). take n (drop 1 e)) (length_key_bytes key is_key.uuid) ∙ key_in e (key_bytes (key_of slice)) (sha256 slice) (length-key_of slice is.valid) is.prefix in
+    let same = bytes_eq-Decides (key_bytes key) (take (length (key_bytes key)) (drop 1 e)) in
+    (λ h. sym (same_key key (key_of slice) is_key is.is_key (same.0 h ∙ front)), λ under. same.1 (ap key_bytes (sym under) ∙ sym front))
 
 -- ---- contents, texts and entries at one place
 
@@ -215,7 +207,7 @@ module _ (os : List Operations) (texts : List (List ℕ)) (indexes : List (List 
       pub lives_if : (x : EntryAt) (slice : List ℕ) → IsOfSlice os texts indexes x slice → lives_under prefix every x.entry ≡ true → IsLive (all_joined os) key slice
       lives_if x slice of h =
           let parts = and_parts (admits_under prefix x.entry) (not (list_any (covers x.entry) every)) h in
-          let under : key_of slice ≡ key = under_key of.of.text slice x.entry of.is key is_key (and_parts (is_admission x.entry) (is_under prefix x.entry) parts.0).1 in
+          let under : key_of slice ≡ key = (under_key of.of.text slice x.entry of.is key is_key).0 (and_parts (is_admission x.entry) (is_under prefix x.entry) parts.0).1 in
           let none : list_any (covers x.entry) every ≡ false = not-true (list_any (covers x.entry) every) parts.1 in
           let free : has_any os (retirement_record (key_of slice) (sha256 slice)) ≡ false = false_from_ne_true (has_any os (retirement_record (key_of slice) (sha256 slice))) (λ there.
           true≢false (sym (covered_by of.of.text slice x.entry of.is there) ∙ none)) in
@@ -225,7 +217,7 @@ module _ (os : List Operations) (texts : List (List ℕ)) (indexes : List (List 
       pub lives_then : (x : EntryAt) (slice : List ℕ) → IsOfSlice os texts indexes x slice → IsLive (all_joined os) key slice → lives_under prefix every x.entry ≡ true
       lives_then x slice of live =
           let tag : is_admission x.entry ≡ true = ap (λ (n : ℕ). eqb n 2) (tag_of x.entry (2 ∷ (key_bytes (key_of slice) ++ sha256 slice)) of.is.prefix) in
-          let under : is_under prefix x.entry ≡ true = is_under_key of.of.text slice x.entry of.is key is_key live.under in
+          let under : is_under prefix x.entry ≡ true = (under_key of.of.text slice x.entry of.is key is_key).1 live.under in
           let free : has_any os (retirement_record (key_of slice) (sha256 slice)) ≡ false = ap (λ k. has_any os (retirement_record k (sha256 slice))) live.under ∙ free_if_live os key slice live in
           let none : list_any (covers x.entry) every ≡ false = false_from_ne_true (list_any (covers x.entry) every) (λ there.
           let f = any_of (covers x.entry) every there in

@@ -35,10 +35,9 @@ use Rattle.address_queries.specs.Sources.{AreFramesAt, AreShown, IsSourced}
 use Rattle.indexed_answers.specs.AmongTold.{AreFramesToldAt, AreShownAmong, IsAnswerAmong, IsToldOfAmong, IsToldRowAt}
 use Rattle.indexed_answers.specs.AmongAsked.{HasNoTable, IsDamagedAt, IsLinelessAt}
 use Rattle.indexed_answers.specs.Contents.{IsSliceOf}
-use Rattle.indexed_answers.specs.Told.{IsToldBy}
 use Rattle.index_laws.specs.Indexes.{AnswersUnder, AreIndexes, AreTiedSlices, DigestsTell, IsIndexFile, all_joined}
 use Rattle.index_laws.proofs.Among.{IsOfSlice, IsRecordOf, answers_if, answers_then, entry_if_live, held, is_held, listed_at, slice_of_entry}
-use Rattle.index_laws.proofs.Joined.{joined_alone}
+use Rattle.index_laws.proofs.Joined.{joined_alone, tells_alone}
 use Rattle.index_laws.proofs.OfContent.{IsAt, in_turn, one_place, shorter_first}
 
 -- ---- lists place by place
@@ -72,11 +71,6 @@ pub zip_empty : {X Y : Type 0} (R : X → Y → Type 0) (xs : List X) (ys : List
 zip_empty R [] [] none all = refl
 zip_empty R [] (y ∷ ys) none all = absurd all
 zip_empty R (x ∷ xs) ys none all = cc (none)
-
--- ---- what is told of slices
-
-own_right : (text slice e : List ℕ) (asked : Where) (own : Option FoundRecord) → IsSliceOf text slice e → IsToldBy text (claim_in e) asked own → IsOwn slice asked own
-own_right text slice e asked own is told = told slice is.table is.bytes is.is_table (may_be text is.table (claim_in e) is.stored)
 
 module _ (os : List Operations) (texts : List (List ℕ)) (indexes : List (List (List ℕ))) where
   -- ---- two entries of one index
@@ -150,7 +144,9 @@ module _ (os : List Operations) (texts : List (List ℕ)) (indexes : List (List 
   row_right : (key : SliceKey) (asked : Where) (x : EntryAt) (slice : List ℕ) (row : OwnRow) → IsAnsweringSlice key x slice → IsToldRowAt texts asked x row → IsOwnRow asked slice row
   row_right key asked x slice row is told = record {
     digest_is = told.digest_is ∙ is.of.is.is.digest_is;
-    own_is = own_right is.of.of.text slice x.entry asked row.own is.of.is.is (told.own_is is.of.of.text is.of.of.file.text_at);
+    own_is =
+        let its = is.of.is.is in
+        told.own_is is.of.of.text is.of.of.file.text_at slice its.table its.bytes its.is_table (may_be is.of.of.text its.table (claim_in x.entry) its.stored);
   }
 
   one_slice : (key : SliceKey) (asked : Where) (x : EntryAt) (row : OwnRow) (own : Option FoundRecord) (ss : List (List ℕ)) → AllZip (IsAnsweringSlice key) (x ∷ []) ss → row.own ≡ own → IsToldRowAt texts asked x row
@@ -306,5 +302,5 @@ pub right_alone : (o : Operations) (text : List ℕ) (entries : List (List ℕ))
     → IsAnswerAmong (text ∷ []) (entries ∷ []) (key_bytes key) lines asked answer frames → IsSourced o key lines asked answer frames
 right_alone o text entries key lines asked answer frames file read is_key is =
     let all : AreIndexes (o ∷ []) (text ∷ []) (entries ∷ []) = record { files = (file, tt); read = (read, tt) } in
-    let tell : DigestsTell (o ∷ []) = λ several. absurd (omega (arith, several)) in
-    subst (λ made. IsSourced made key lines asked answer frames) (joined_alone o file.content.itself) (right (o ∷ []) (text ∷ []) (entries ∷ []) all key is_key lines asked answer frames tell is)
+    subst (λ made. IsSourced made key lines asked answer frames) (joined_alone o file.content.itself)
+    (right (o ∷ []) (text ∷ []) (entries ∷ []) all key is_key lines asked answer frames (tells_alone o) is)

@@ -197,13 +197,10 @@ entry_claim place at r table is admitted fits small =
     ap (λ c. claim_in (placed_entry place r ++ claim_bytes c)) (claim_admitted at r table admitted)
     ∙ claim_read (placed_entry place r) (claim_at at table) (entry_long place r is) fits small
 
-take_front : (front behind : List ℕ) → length front ≡ 74 → take 57 (front ++ behind) ≡ take 57 front
-take_front front behind long = take-append-le 57 front behind (omega (arith, long))
-
 pub entry_begins : (place at : ℕ) (r table : List ℕ) → IsRecord r → take 57 (table_entry place at r table) ≡ entry r
 unfolding table_entry
 entry_begins place at r table is =
-    take_front (placed_entry place r) (claim_bytes (claim_of at r table)) (entry_long place r is) ∙ entry_front place r is
+    take-append-le 57 (placed_entry place r) (claim_bytes (claim_of at r table)) (omega (arith, entry_long place r is)) ∙ entry_front place r is
 
 -- ---- what an entry tells, where the table of a slice is stored
 

@@ -21,7 +21,7 @@ use Rattle.archive_index.specs.Text.{index_magic}
 use Rattle.indexed_tables.specs.Content.{IsTableOf, front_of, table_entries, table_entry, tables_text}
 use Rattle.table_index.specs.Entry.{entry_bytes}
 use Rattle.table_index.specs.declared.entry.TableEntry.{TableEntry}
-use Rattle.indexed_tables.specs.InnerMaking.{AreTabled, HasPut, HasPutAll, BlamesMaking, HasStoppedMaking, StopsRecord}
+use Rattle.indexed_tables.specs.InnerMaking.{HasPut, HasPutAll, BlamesMaking, HasStoppedMaking, StopsRecord}
 use Rattle.indexed_tables.specs.Making.{HasBegun, IsBegun}
 use Rattle.indexed_tables.proofs.Contents.{near_push}
 use Rattle.byte_device.specs.Devices.{FailedIn}
@@ -56,18 +56,6 @@ front_push tables t =
     append_assoc index_magic (tables_text tables) (stored t)
     ∙ ap (λ (x : List ℕ). index_magic ++ x) (sym (flat_map-append stored tables (t ∷ []) ∙ ap (λ (x : List ℕ). tables_text tables ++ x) (append-nil (stored t))))
 
--- the entry and the table of one record more
-pub tabled_more : (records tables : List (List ℕ)) (before after : List TableEntry) (e : TableEntry) (r t : List ℕ) (offset done : ℕ) → AreTabled records tables before → after ≡ before ++ e ∷ [] → IsTableOf r t → offset ≡ 8 + length (concat records) → offset < 2 ^ 64 → done ≡ 8 + length (tables_text tables) → done < 2 ^ 64
-    → entry_bytes e ≡ table_entry offset done r t → AreTabled (records ++ r ∷ []) (tables ++ t ∷ []) after
-tabled_more records tables before after e r t offset done are grown table o near d close is = record {
-  near = near_push 8 8 records tables r t are.each are.near (omega (arith, o, near)) (omega (arith, d, close));
-  each = AllZip-push IsTableOf records tables r t are.each table;
-  entries_are =
-      ap (map entry_bytes) grown ∙ map-append entry_bytes before (e ∷ [])
-      ∙ (λ i. are.entries_are i ++ (is ∙ (λ j. table_entry (o j) (d j) r t)) i ∷ [])
-      ∙ sym (entries_push 8 8 records tables r t are.each);
-}
-
 -- nothing was read behind the magic, and nothing written behind it
 pub put_none : {W : Type 0} (a b : Option (List ℕ)) (held : W → Option (List ℕ)) (failures : W → ℕ) (old new : W) (position : Position) (done : ℕ) → HasRead Archive a b [] position → IsPut held failures old new 0 (front_of []) done → HasPut a b held failures old new [] position done
 put_none a b held failures old new position done read put = record { records = []; tables = []; read = read; tabled = record { near = tt; each = tt; entries_are = refl }; put = put }
@@ -85,8 +73,16 @@ module _ {W : Type 0} (a b c : Option (List ℕ)) (held : W → Option (List ℕ
     tables = h.tables ++ t ∷ [];
     read = HasRead-grows Archive a b c h.records before after h.read passes;
     tabled =
-        tabled_more h.records h.tables entries more e after.last t before.offset done h.tabled grown table h.read.offset_is near.0
-        (omega (arith, h.put.size_is, length-append index_magic (tables_text h.tables))) near.1 is;
+        let start : before.offset ≡ 8 + length (concat h.records) = h.read.offset_is in
+        let here : done ≡ 8 + length (tables_text h.tables) = omega (arith, h.put.size_is, length-append index_magic (tables_text h.tables)) in
+        record {
+          near = near_push 8 8 h.records h.tables after.last t h.tabled.each h.tabled.near (omega (arith, start, near.0)) (omega (arith, here, near.1));
+          each = AllZip-push IsTableOf h.records h.tables after.last t h.tabled.each table;
+          entries_are =
+              ap (map entry_bytes) grown ∙ map-append entry_bytes entries (e ∷ [])
+              ∙ (λ i. h.tabled.entries_are i ++ (is ∙ (λ j. table_entry (start j) (here j) after.last t)) i ∷ [])
+              ∙ sym (entries_push 8 8 h.records h.tables after.last t h.tabled.each);
+        };
     put = front_then t end put;
   }
 

@@ -18,7 +18,7 @@ use Rattle.command_core.specs.declared.faults.Why.{Why}
 use Rattle.crash_frames.specs.declared.frame.Frame.{Frame}
 use Rattle.table_index.specs.Text.{IsIndexText}
 use Rattle.index_laws.specs.Indexes.{AreIndexes, DigestsTell, IsIndexFile, all_joined}
-use Rattle.index_laws.proofs.Joined.{joined_alone}
+use Rattle.index_laws.proofs.Joined.{joined_alone, tells_alone}
 use Rattle.index_laws.proofs.Right as told
 use Rattle.indexed_answers.specs.Among.{EntryAt}
 use Rattle.index_inputs.specs.Together.{AreReadWith, IsReadWith}
@@ -87,21 +87,18 @@ module _ {I P : Type 0} (inputs : List (Reader I)) (archives : List (Reader P)) 
 -- ---- one index
 
 module _ {I P : Type 0} (input : Reader I) (archive : Reader P) (o : Operations) (is : IsIndexGiven input o) where
-  tells_alone : DigestsTell (o ∷ [])
-  tells_alone several = absurd (omega (arith, several))
-
   joined_one : all_joined (o ∷ []) ≡ o
   joined_one = joined_alone o is.2.content.itself
 
   pub told_alone : (key : SliceKey) (load : Option ℕ) (lines : Bool) (addresses : List ℕ) (status : Status) (text : List ℕ) → IsKey key → TellsByTables (input ∷ []) (archive ∷ []) key load lines addresses status text → TellsAddresses o key load lines addresses status text
   told_alone key load lines addresses status text is_key by =
       subst (λ (made : Operations). TellsAddresses made key load lines addresses status text) joined_one
-      (told_by_tables (input ∷ []) (archive ∷ []) (o ∷ []) (is, tt) tells_alone key load lines addresses status text is_key by)
+      (told_by_tables (input ∷ []) (archive ∷ []) (o ∷ []) (is, tt) (tells_alone o) key load lines addresses status text is_key by)
 
   pub framed_alone : (lines : Bool) (listed : List Frame) (status : Status) (text : List ℕ) → ((frame : Frame) → Contains listed frame → IsKey frame.key) → TellsFramesByTables lines (input ∷ []) (archive ∷ []) listed status text → TellsFrames lines o listed status text
   framed_alone lines listed status text keys by =
       subst (λ (made : Operations). TellsFrames lines made listed status text) joined_one
-      (framed_by_tables (input ∷ []) (archive ∷ []) (o ∷ []) (is, tt) tells_alone lines listed status text keys by)
+      (framed_by_tables (input ∷ []) (archive ∷ []) (o ∷ []) (is, tt) (tells_alone o) lines listed status text keys by)
 
 -- ---- by slices
 

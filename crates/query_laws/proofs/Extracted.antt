@@ -25,7 +25,7 @@ use Rattle.command_core.specs.Inputs.{IsGiven, Reader}
 use Rattle.command_core.specs.Outputs.{Writer}
 use Rattle.index_laws.specs.Indexes.{AreIndexes, DigestsTell, all_joined}
 use Rattle.index_laws.proofs.Among.{IsOfSlice, admission_if, lives_if, slice_of_entry, entry_if_live, lives_then}
-use Rattle.index_laws.proofs.Joined.{joined_alone}
+use Rattle.index_laws.proofs.Joined.{joined_alone, tells_alone}
 use Rattle.index_laws.proofs.Right.{IsAnsweringSlice, slices_right, zip_empty, zip_through}
 use Rattle.indexed_answers.specs.Among.{EntryAt}
 use Rattle.index_inputs.specs.Together.{AreLater, IsOneOf}
@@ -126,11 +126,11 @@ under_key o key None slice is = ((is.exactly slice).0 (in_front slice [])).live.
 under_key o key (Some digest) slice is = is.0.under
 
 module _ {I P : Type 0} (inputs : List (Reader I)) (archives : List (Reader P)) (os : List Operations) (own : AreOwnIndexes inputs archives os) where
-  texts : AreTextsOf inputs os
-  texts = texts_of inputs os (first_third IsOwnIndex IsIndexGiven inputs archives os (λ x y z is. is.0) own)
+  own_texts : AreTextsOf inputs os
+  own_texts = texts_of inputs os (first_third IsOwnIndex IsIndexGiven inputs archives os (λ x y z is. is.0) own)
 
   -- what its archive has at its place is the slice of the entry
-  sent_is : (all : List (List (List ℕ))) (later : List (Reader P)) (x : EntryAt) (archive : Reader P) (slice sent : List ℕ) → AreLater archives later → IsOneOf later x.input archive → IsOfSlice os texts.texts all x slice → HoldsSlice archive x sent
+  sent_is : (all : List (List (List ℕ))) (later : List (Reader P)) (x : EntryAt) (archive : Reader P) (slice sent : List ℕ) → AreLater archives later → IsOneOf later x.input archive → IsOfSlice os own_texts.texts all x slice → HoldsSlice archive x sent
       → sent ≡ slice
   sent_is all later x archive slice sent are one of holds =
       let given : IsGiven archive (written of.of.o) = own_at inputs archives os later x.input archive of.of.o own are one.is of.of.file.content_at in
@@ -141,8 +141,8 @@ module _ {I P : Type 0} (inputs : List (Reader I)) (archives : List (Reader P)) 
   pub extracted_by_entry : (key : SliceKey) (digest : Option Digest) (slice told : List ℕ) → DigestsTell os → IsKey key → MakesEntry inputs archives key digest slice told → IsWanted (all_joined os) key digest slice × (told ≡ slice_line slice)
   extracted_by_entry key digest slice told tell is_key makes =
       let from = makes.from in
-      let files = indexes_are inputs archives from.all from.read os texts.texts texts.given texts.files in
-      let wanted = wanted_of os texts.texts from.all key digest makes.x files is_key tell from.chosen in
+      let files = indexes_are inputs archives from.all from.read os own_texts.texts own_texts.given own_texts.files in
+      let wanted = wanted_of os own_texts.texts from.all key digest makes.x files is_key tell from.chosen in
       let same = sent_is from.all from.later makes.x makes.archive wanted.0 slice from.are_later from.archive_is wanted.1 makes.holds in
       let is = subst (IsWanted (all_joined os) key digest) (sym same) wanted.2 in
       (is, makes.told_is ∙ ap (λ (k : SliceKey). written_line k slice) (sym (under_key (all_joined os) key digest slice is)))
@@ -162,8 +162,7 @@ module _ {I P : Type 0} (inputs : List (Reader I)) (archives : List (Reader P)) 
 pub extracted_alone : {I P : Type 0} (input : Reader I) (archive : Reader P) (o : Operations) (key : SliceKey) (digest : Option Digest) (slice told : List ℕ) → IsOwnIndex input archive o → IsKey key
     → MakesEntry (input ∷ []) (archive ∷ []) key digest slice told → IsWanted o key digest slice × (told ≡ slice_line slice)
 extracted_alone input archive o key digest slice told own is_key makes =
-    let tell : DigestsTell (o ∷ []) = λ several. absurd (omega (arith, several)) in
-    let is = extracted_by_entry (input ∷ []) (archive ∷ []) (o ∷ []) (own, tt) key digest slice told tell is_key makes in
+    let is = extracted_by_entry (input ∷ []) (archive ∷ []) (o ∷ []) (own, tt) key digest slice told (tells_alone o) is_key makes in
     (subst (λ (made : Operations). IsWanted made key digest slice) (joined_alone o own.0.2.content.itself) is.0, is.1)
 
 -- ---- rows
@@ -212,16 +211,16 @@ undecided_of os texts all key (Some digest) xs rows told files is_key tell are r
 module _ {I P : Type 0} (inputs : List (Reader I)) (archives : List (Reader P)) (os : List Operations) (given : AreIndexesGiven inputs os) where
   pub undecided_by_entries : (key : SliceKey) (digest : Option Digest) (told : List ℕ) → DigestsTell os → IsKey key → LacksEntry inputs archives key digest told → TellsUndecided (all_joined os) key digest told
   undecided_by_entries key digest told tell is_key lacks =
-      let texts = texts_of inputs os given in
-      let files = indexes_are inputs archives lacks.all lacks.read os texts.texts texts.given texts.files in
-      undecided_of os texts.texts lacks.all key digest lacks.answering lacks.rows told files is_key tell lacks.are lacks.rows_are lacks.told_is
+      let its_texts = texts_of inputs os given in
+      let files = indexes_are inputs archives lacks.all lacks.read os its_texts.texts its_texts.given its_texts.files in
+      undecided_of os its_texts.texts lacks.all key digest lacks.answering lacks.rows told files is_key tell lacks.are lacks.rows_are lacks.told_is
 
   pub undecided_with_digest : (key : SliceKey) (digest : Digest) (told : List ℕ) → IsKey key → LacksEntry inputs archives key (Some digest) told → AreUndecided (all_joined os) key (Some digest) [] × (told ≡ slices_text [])
   undecided_with_digest key digest told is_key lacks =
-      let texts = texts_of inputs os given in
-      let files = indexes_are inputs archives lacks.all lacks.read os texts.texts texts.given texts.files in
+      let its_texts = texts_of inputs os given in
+      let files = indexes_are inputs archives lacks.all lacks.read os its_texts.texts its_texts.given its_texts.files in
       let no_rows = zip_empty IsRowAt lacks.answering lacks.rows lacks.are.0 lacks.rows_are in
-      ((refl, none_live os texts.texts lacks.all key digest files is_key lacks.are.1), lacks.told_is ∙ ap find_lines no_rows)
+      ((refl, none_live os its_texts.texts lacks.all key digest files is_key lacks.are.1), lacks.told_is ∙ ap find_lines no_rows)
 
 -- also where entries are tied
 pub undecided_either : {I P : Type 0} (inputs : List (Reader I)) (archives : List (Reader P)) (os : List Operations) (key : SliceKey) (digest : Option Digest) (draft : Writer) (told : List ℕ) → AreOwnIndexes inputs archives os → DigestsTell os → IsKey key
@@ -245,9 +244,8 @@ undecided_either inputs archives os key digest draft told own tell is_key (inr (
 pub undecided_alone : {I P : Type 0} (input : Reader I) (archive : Reader P) (o : Operations) (key : SliceKey) (digest : Option Digest) (told : List ℕ) → IsIndexGiven input o → IsKey key
     → LacksEntry (input ∷ []) (archive ∷ []) key digest told → TellsUndecided o key digest told
 undecided_alone input archive o key digest told given is_key lacks =
-    let tell : DigestsTell (o ∷ []) = λ several. absurd (omega (arith, several)) in
     subst (λ (made : Operations). TellsUndecided made key digest told) (joined_alone o given.2.content.itself)
-    (undecided_by_entries (input ∷ []) (archive ∷ []) (o ∷ []) (given, tt) key digest told tell is_key lacks)
+    (undecided_by_entries (input ∷ []) (archive ∷ []) (o ∷ []) (given, tt) key digest told (tells_alone o) is_key lacks)
 
 -- ---- the lines
 
